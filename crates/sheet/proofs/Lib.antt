@@ -1,4 +1,5 @@
 pub mod Steps
+pub mod Each
 pub mod Form
 pub mod Scanning
 pub mod Blocks

@@ -70,7 +70,10 @@ pub fn outside(k: Numbers) -> bool
     if k.repeats < least_repeats(k.rounds) {
         return true;
     }
-    256 < k.repeats
+    if 256 < k.repeats {
+        return true;
+    }
+    false
 }
 
 // Refusal 4: 2N does not divide q - 1, or (1 + 2^d) D is not below (q - 1)/2.
@@ -81,5 +84,8 @@ pub fn unsound(k: Numbers) -> bool
     if (k.modulus - 1) % (2 * k.ring) != 0 {
         return true;
     }
-    (k.modulus - 1) / 2 <= (1 + power(k.drown)) * noise_bound(k.ring)
+    if (k.modulus - 1) / 2 <= (1 + power(k.drown)) * noise_bound(k.ring) {
+        return true;
+    }
+    false
 }
