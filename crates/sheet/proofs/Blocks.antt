@@ -7,9 +7,10 @@ use native.Mathlib.Numerals.{add-one}
 use native.Mathlib.Omega.{arith}
 use borrow.Author.Tests.{lt-ltb, le-ltb}
 use lib.Dec.{eqb, ltb}
-use lib.ListN.{length, take, drop, getD, set, length-append, length-map, drop-of-length-le}
-use lib.Seq.{take-all, take-suc-set, drop-cons}
+use lib.ListN.{length, take, drop, getD, set, length-append, length-drop, drop-of-length-le}
+use lib.Seq.{length-take-le, take-all, take-suc-set, drop-cons, getD-take, getD-drop}
 use Rattle.codec.specs.Bytes.{Bytes}
+use Rattle.sheet.specs.Form.{numberKeys, listKeys}
 use Rattle.sheet.specs.Reader.{Found, missing, found, line, Block, broken, block, after, onward, rows}
 use Rattle.sheet.specs.Seen.{largest, Summed, bad, sum, summed, Outline, none, outline, outlined, seen}
 use Rattle.sheet.specs.declared.Lines.{Lines}
@@ -79,6 +80,14 @@ module _ (ks : List Bytes) (text : Bytes) (at : ℕ) where
     unfolding rows
     all h hc ht =
         rw (p .same, drop-of-length-le ks h, append-nil (p .rs), ← (p .counted), ← (p .most), take-all i counts hc, take-all i tops ht)
+
+-- five of the ten keys
+module _ (from : ℕ) (h : from + 5 ≤ 10) where
+  pub five-keys : length (take 5 (drop from (numberKeys ++ listKeys))) ≡ 5
+  five-keys = length-take-le 5 (drop from (numberKeys ++ listKeys)) (simp length-drop (omega arith))
+
+  pub key-at : (i : ℕ) → i < 5 → getD (take 5 (drop from (numberKeys ++ listKeys))) i [] ≡ getD (numberKeys ++ listKeys) (from + i) []
+  key-at i l = getD-take 5 (drop from (numberKeys ++ listKeys)) i [] l ∙ getD-drop from (numberKeys ++ listKeys) i []
 
 -- ---- two blocks
 

@@ -101,17 +101,22 @@ fn scan_key(text: &[u8], at: usize, k: usize) -> Scan
     requires { ⌜ k < 10 ⌝ }
     ensures { λ r. ⌜ scanned (now (text .entry)) r ≡ summed (line (getD (numberKeys ++ listKeys) k []) (drop at (now (text .entry)))) ⌝ }
 {
-    match k {
-        0 => scan_line(text, at, b"ring="),
-        1 => scan_line(text, at, b"modulus="),
-        2 => scan_line(text, at, b"drown="),
-        3 => scan_line(text, at, b"rounds="),
-        4 => scan_line(text, at, b"repeats="),
-        5 => scan_line(text, at, b"a="),
-        6 => scan_line(text, at, b"b="),
-        7 => scan_line(text, at, b"k1="),
-        8 => scan_line(text, at, b"k2="),
-        _ => scan_line(text, at, b"k3="),
+    if k < 5 {
+        match k {
+            0 => scan_line(text, at, b"ring="),
+            1 => scan_line(text, at, b"modulus="),
+            2 => scan_line(text, at, b"drown="),
+            3 => scan_line(text, at, b"rounds="),
+            _ => scan_line(text, at, b"repeats="),
+        }
+    } else {
+        match k {
+            5 => scan_line(text, at, b"a="),
+            6 => scan_line(text, at, b"b="),
+            7 => scan_line(text, at, b"k1="),
+            8 => scan_line(text, at, b"k2="),
+            _ => scan_line(text, at, b"k3="),
+        }
     }
 }
 
