@@ -107,6 +107,7 @@ rows-append (k ∷ ks) ls t {rs} {u} e = by-line (line k t) e (λ w ss v f. rows
         let a : r ∷ ss ≡ rs = cc in
         let b : v ≡ u = cc in
         rw (h ss v f, ← a, ← b) (after-after (r ∷ []) ss (rows ls v))
+
     by-line : (f : Found) → onward f (rows ks) ≡ block rs u
         → ((w : Bytes) (ss : List (List ℕ)) (v : Bytes) → rows ks w ≡ block ss v → rows (ks ++ ls) w ≡ after ss (rows ls v))
         → onward f (rows (ks ++ ls)) ≡ after rs (rows ls u)
@@ -122,6 +123,7 @@ rows-broken (k ∷ ks) ls t e = by-line (line k t) e (λ w f. rows-broken ks ls 
         → after (r ∷ []) (rows (ks ++ ls) w) ≡ broken
     by-rest r w broken f e h = rw (h f)
     by-rest r w (block ss v) f e h = never-block (sym e)
+
     by-line : (f : Found) → onward f (rows ks) ≡ broken → ((w : Bytes) → rows ks w ≡ broken → rows (ks ++ ls) w ≡ broken) → onward f (rows (ks ++ ls)) ≡ broken
     by-line missing e h = refl
     by-line (found r w) e h = by-rest r w (rows ks w) refl e (h w)

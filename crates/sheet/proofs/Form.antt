@@ -117,7 +117,7 @@ data Before : Place → Bytes → Type 0 where
   nothing : Before fresh []
   begun : {v : ℕ} {s : Bytes} → v < 10 ^ 17 → s ≡ decimal 17 v → Before (within v) s
 
-no-more : (xs : List ℕ) (p : Place) → values xs p [] ≡ missing
+pub no-more : (xs : List ℕ) (p : Place) → values xs p [] ≡ missing
 unfolding values
 no-more xs p = refl
 
@@ -222,11 +222,12 @@ lined (k ∷ ks) text {rs} {t} e = by-line (line k text) refl e (λ u ss w g. li
         let l = h ss w refl in
         relined e (record {
           is =
-            y .is ∙ rw (l .is)
-            (sym (append-assoc k (listed r ++ 10 ∷ lines ks ss) w ∙ ap (λ (x : Bytes). k ++ x) (append-assoc (listed r) (10 ∷ lines ks ss) w)));
+              y .is ∙ rw (l .is)
+              (sym (append-assoc k (listed r ++ 10 ∷ lines ks ss) w ∙ ap (λ (x : Bytes). k ++ x) (append-assoc (listed r) (10 ∷ lines ks ss) w)));
           plain = (y .plain, l .plain);
           count = ap suc (l .count);
         })
+
     by-line : (f : Found) → line k text ≡ f → onward f (rows ks) ≡ block rs t
         → ((u : Bytes) (ss : List (List ℕ)) (w : Bytes) → rows ks u ≡ block ss w → Lined ks u ss w) → Lined (k ∷ ks) text rs t
     by-line missing f e h = never-block e
@@ -295,6 +296,7 @@ form-exactly text s = (to, back)
   where
     to : (formed text ≡ true) × (sheetOf text ≡ s) → (text ≡ written s) × AllPlain (rowsOf s)
     to p = rw (p .1) at (written-is text (p .0))
+
     back : (text ≡ written s) × AllPlain (rowsOf s) → (formed text ≡ true) × (sheetOf text ≡ s)
     back p = rw (p .0) (written-read s (p .1))
 

@@ -8,3 +8,5 @@ pub mod Least
 pub mod Ranges
 pub mod Writing
 pub mod Order
+pub mod Filling
+pub mod Taken

@@ -31,7 +31,7 @@ every-map : (f : ℕ → Bool) (g : List ℕ → ℕ) (rs : List (List ℕ)) →
 every-map f g [] = refl
 every-map f g (r ∷ rs) = ap (λ (b : Bool). f (g r) && b) (every-map f g rs)
 
-every-at : (f : List ℕ → Bool) (rs : List (List ℕ)) (i : ℕ) → every f rs ≡ true → i < length rs → f (getD rs i []) ≡ true
+pub every-at : (f : List ℕ → Bool) (rs : List (List ℕ)) (i : ℕ) → every f rs ≡ true → i < length rs → f (getD rs i []) ≡ true
 every-at f [] i e h = absurd (not-suc-le-zero h)
 every-at f (r ∷ rs) zero e h = both (f r) (every f rs) e .0
 every-at f (r ∷ rs) (suc i) e h = every-at f rs i (both (f r) (every f rs) e .1) (le-of-suc-le-suc h)

@@ -7,8 +7,8 @@ use Prim.Native.Nat.{ℕ, _+_, _*_, _≤_}
 use lib.Dec.{ltb, eqb}
 use lib.ListN.{length, drop}
 use Rattle.codec.specs.Bytes.{Bytes, put}
-use Rattle.sheet.specs.Reader.{Found, missing, found, Block, broken, block, every}
-use Rattle.sheet.specs.Sheet.{encoded, outside, unsound}
+use Rattle.sheet.specs.Reader.{Found, missing, found, Block, broken, block, every, formed, sheetOf}
+use Rattle.sheet.specs.Sheet.{encoded, outside, unsound, unfit}
 use Rattle.sheet.specs.declared.Scan.{Scan}
 use Rattle.sheet.specs.declared.Scan.the-variants as scan
 use Rattle.sheet.specs.declared.Lines.{Lines}
@@ -65,6 +65,13 @@ pub record Ready (f : Found) (from : ℕ) (d : Bytes) : Type 0 where
 pub record Writes (f : Found) (from : ℕ) (d : Bytes) (t out : Bytes) : Type 0 where
   pub wrote : out ≡ put d from (encoded (numbersIn f))
   pub goes-on : t ≡ rest f
+
+-- a text of the form, whose lists have n numbers each, and room for them in d
+pub record Fitting (text : Bytes) (n : ℕ) (d : Bytes) : Type 0 where
+  pub form : formed text ≡ true
+  pub ring : sheetOf text .numbers .ring ≡ n
+  pub fit : unfit (sheetOf text) ≡ false
+  pub space : 40 * n ≤ length d
 
 -- the refusals 3, 4 and 5, by the counts and the largest coefficients of the lists
 abbrev pub judged : ℕ → Numbers → List ℕ → List ℕ → Reading

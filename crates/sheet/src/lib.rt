@@ -1,7 +1,7 @@
 // The parameter sheet (document 01, "Sheet"): its reader, its numbers with their bounds, and its polynomials.
 mod bounds;
-mod repeats;
 mod reader;
+mod repeats;
 mod writer;
 
 ghost use mathlib.Core.Path.{_≡_};
@@ -14,7 +14,6 @@ ghost use Rattle.sheet.specs.Reader.{every};
 ghost use Rattle.sheet.specs.Seen.{judged};
 ghost use Rattle.sheet.specs.Sheet.{reading, filled, polynomials};
 ghost use Rattle.sheet.specs.declared.Reading.the-variants.{Taken};
-
 pub use bounds::mask_bound;
 pub use bounds::noise_bound;
 pub use bounds::unknowns;

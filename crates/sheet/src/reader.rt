@@ -135,7 +135,8 @@ pub fn scan_lines(text: &[u8], at: usize, from: usize) -> Lines
             count: n,
             largest: top,
             next: e,
-        } = s else {
+        } = s
+        else {
             return Lines {
                 whole: false,
                 counts,

@@ -2,15 +2,14 @@
 use crate::reader::digit_of;
 use crate::reader::scan_lines;
 ghost use mathlib.Core.Path.{_≡_};
-ghost use mathlib.Core.Bool.{true, false};
-ghost use mathlib.Core.List.{[], _++_};
-ghost use Prim.Native.Nat.{_+_, _*_, _≤_, _<_};
+ghost use mathlib.Core.List.{[]};
+ghost use Prim.Native.Nat.{_<_};
 ghost use lib.ListN.{length, drop, getD};
 ghost use Rattle.codec.specs.Bytes.{put};
 ghost use Rattle.sheet.specs.Form.{listKeys};
-ghost use Rattle.sheet.specs.Reader.{fresh, values, line, missing, formed, sheetOf};
-ghost use Rattle.sheet.specs.Seen.{Writes, Ready, numbersIn, rest};
-ghost use Rattle.sheet.specs.Sheet.{encoded, polynomials, unfit};
+ghost use Rattle.sheet.specs.Reader.{fresh, values};
+ghost use Rattle.sheet.specs.Seen.{Writes, Ready, Fitting};
+ghost use Rattle.sheet.specs.Sheet.{polynomials};
 
 // Puts the numbers from a place of the text up to LF into out, from an index on. Answers where the text goes on.
 fn write_values(text: &[u8], at: usize, out: &mut [u8], from: usize) -> usize
@@ -38,9 +37,20 @@ fn write_values(text: &[u8], at: usize, out: &mut [u8], from: usize) -> usize
     i
 }
 
+// The length of the key of one of the five lists, with its =.
+fn key_length(k: usize) -> usize
+    requires { ⌜ k < 5 ⌝ }
+    ensures { λ r. ⌜ r ≡ length (getD listKeys k []) ⌝ }
+{
+    if k < 2 {
+        return 2;
+    }
+    3
+}
+
 // Puts the five lists of a text that is taken, n numbers each, at the head of out.
 pub fn write_lists(text: &[u8], n: u64, out: &mut [u8])
-    requires { ⌜ (formed (now text) ≡ true) × (unfit (sheetOf (now text)) ≡ false) × (sheetOf (now text) .numbers .ring ≡ n) × (40 * n ≤ length (now out)) ⌝ }
+    requires { ⌜ Fitting (now text) n (now out) ⌝ }
     ensures { λ _. ⌜ now (out .exit) ≡ put (now (out .entry)) 0 (polynomials (now (text .entry))) ⌝ }
 {
     let head = scan_lines(text, 0, 0);
@@ -48,8 +58,7 @@ pub fn write_lists(text: &[u8], n: u64, out: &mut [u8])
     let mut o = 0;
     let mut i = 0;
     while i < 5 {
-        let skip = if i < 2 { 2 } else { 3 };
-        at = write_values(text, at + skip, out, o);
+        at = write_values(text, at + key_length(i), out, o);
         o += 8 * (n as usize);
         i += 1;
     }

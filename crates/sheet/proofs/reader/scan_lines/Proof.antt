@@ -45,7 +45,7 @@ loop-again c =
       simp length-set (l .inv .1),
       simp length-set (l .inv .2),
       goes-on (keys (a .from)) (a .text .now) (a .at) (l .i) (l .next) (l .counts) (l .tops) (l .inv .3) (omega arith) (omega arith) (omega arith) _ _ _
-      (rw (key-at (a .from) (s .pre) (l .i) (omega arith)) (sym (ap (scanned (a .text .now)) (c .before .s .given .1)) ∙ c .before .before .before .scan-key .ensures)),
+          (rw (key-at (a .from) (s .pre) (l .i) (omega arith)) (sym (ap (scanned (a .text .now)) (c .before .s .given .1)) ∙ c .before .before .before .scan-key .ensures)),
     )
 
 returns-2 : tie.Need-returns-2 Inv-loop μ-loop
