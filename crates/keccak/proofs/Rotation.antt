@@ -10,7 +10,7 @@ use native.Mathlib.Nat.{mul-div-cancel, mul-mod-left, add-zero}
 use Rattle.keccak.specs.Keccak.{rotate}
 
 -- what is shifted out at the top is gone
-kept : (x n m : ℕ) → x * 2 ^ n % 2 ^ (m + n) ≡ (x % 2 ^ m) * 2 ^ n
+pub kept : (x n m : ℕ) → x * 2 ^ n % 2 ^ (m + n) ≡ (x % 2 ^ m) * 2 ^ n
 kept x n m =
     ap (λ (k : ℕ). x * 2 ^ n % k) (pow-add 2 m n)
     ∙ mod-mul (x * 2 ^ n) (pow-pos m) (pow-pos n)
