@@ -7,7 +7,7 @@ use native.Mathlib.Nat.{le-of-suc-le-suc, not-suc-le-zero}
 use native.Mathlib.Omega.{arith}
 use borrow.Author.Tests.{eqb-true, eqb-false, ltb-true, ltb-false, not-false}
 use lib.Dec.{ltb, eqb}
-use lib.ListN.{length, getD}
+use lib.ListN.{length, getD, length-append}
 use Rattle.codec.specs.Bytes.{Bytes}
 use Rattle.codec.specs.Reply.{Test, test, first, None}
 use Rattle.codec.specs.declared.Reply.{Reply}
@@ -15,12 +15,13 @@ use Rattle.codec.specs.declared.Reply.the-variants as reply
 use Rattle.codec.proofs.Replies.{taken-exactly}
 use Rattle.sheet.specs.Form.{Sheet, written}
 use Rattle.sheet.specs.Reader.{every, formed, sheetOf}
-use Rattle.sheet.specs.Sheet.{fits, lists, unfit, order, replyOf, readingBy, reading, polynomials}
+use Rattle.sheet.specs.Sheet.{fits, lists, unfit, order, replyOf, readingBy, reading, joined, polynomials}
 use Rattle.sheet.specs.declared.Numbers.{Numbers}
 use Rattle.sheet.specs.declared.Reading.{Reading}
 use Rattle.sheet.specs.declared.Reading.the-variants.{Taken, Refused}
 use Rattle.sheet.proofs.Form.{both, written-is}
 use Rattle.sheet.proofs.Ranges.{InRange, in-range, Sound, is-sound}
+use Rattle.sheet.proofs.Writing.{length-encoded}
 
 -- ---- the order of a call that is lent the sheet
 
@@ -125,6 +126,27 @@ lists-taken p text {k} e =
     let t = taken p text e in
     let h : 0 < sheetOf text .numbers .modulus = rw (t .numbers) (omega (arith, t .ranged .modulus-low)) in
     rw (t .numbers) at (all-polynomials (sheetOf text .numbers .ring) (sheetOf text .numbers .modulus) h (lists (sheetOf text)) (not-false _ (t .fit)))
+
+-- they fill 40N bytes
+pub length-polynomials : (p : ℕ) (text : Bytes) {k : Numbers} → reading p text ≡ Taken k → length (polynomials text) ≡ 40 * k .ring
+unfolding polynomials joined
+length-polynomials p text e =
+    let l = lists-taken p text e in
+    let s = sheetOf text in
+    simp length-append
+    (omega (
+      arith,
+      length-encoded (s .a),
+      length-encoded (s .b),
+      length-encoded (s .k1),
+      length-encoded (s .k2),
+      length-encoded (s .k3),
+      l .0 .count,
+      l .1 .0 .count,
+      l .1 .1 .0 .count,
+      l .1 .1 .1 .0 .count,
+      l .1 .1 .1 .1 .0 .count,
+    ))
 
 -- ---- the form is canonical: two texts that are taken with the same numbers and the same lists are one text
 

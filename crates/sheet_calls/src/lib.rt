@@ -1,0 +1,77 @@
+// The sheet as a call: N, D, B and L in 32 bytes, or its five polynomials in 40N. No call asks anything of its caller.
+use codec::Reply;
+use sheet::Numbers;
+use sheet::Reading;
+ghost use mathlib.Core.Path.{_≡_};
+ghost use mathlib.Core.Bool.{false};
+ghost use lib.ListN.{length};
+ghost use Rattle.codec.specs.Reply.{packed};
+ghost use Rattle.sheet.specs.Sheet.{outside};
+ghost use Rattle.sheet_calls.specs.Calls.{description, describeReply, describeOut, polynomialsReply, polynomialsOut};
+
+// Writes N, D, B and L.
+fn write_description(k: Numbers, out: &mut [u8])
+    requires { ⌜ (outside k ≡ false) × (length (now out) ≡ 32) ⌝ }
+    ensures { λ _. ⌜ now (out .exit) ≡ description 2 k ⌝ }
+{
+    codec::write64(out, 0, k.ring);
+    codec::write64(out, 8, sheet::noise_bound(k.ring));
+    codec::write64(out, 16, sheet::mask_bound(k.ring, k.drown));
+    codec::write64(out, 24, sheet::unknowns(k.ring));
+}
+
+// Reads a sheet, and writes N, D, B and L into 32 lent bytes.
+pub fn describe(text: &[u8], out: &mut [u8]) -> Reply
+    ensures reply { λ r. ⌜ r ≡ describeReply 2 (now (text .entry)) (now (out .entry)) ⌝ }
+    ensures output { λ _. ⌜ now (out .exit) ≡ describeOut 2 (now (text .entry)) (now (out .entry)) ⌝ }
+{
+    let r = sheet::read(text);
+    match r {
+        Reading::Refused { number } => Reply::Refused { number, place: 0 },
+        Reading::Taken(k) => {
+            if out.len() != 32 {
+                return Reply::Refused { number: 1, place: 0 };
+            }
+            write_description(k, out);
+            Reply::Taken
+        }
+    }
+}
+
+// Reads a sheet, and writes its polynomials into 40N lent bytes.
+pub fn polynomials(text: &[u8], out: &mut [u8]) -> Reply
+    ensures reply { λ r. ⌜ r ≡ polynomialsReply 2 (now (text .entry)) (now (out .entry)) ⌝ }
+    ensures output { λ _. ⌜ now (out .exit) ≡ polynomialsOut 2 (now (text .entry)) (now (out .entry)) ⌝ }
+{
+    let mut buffer = [0u8; 81920];
+    let r = sheet::open(text, &mut buffer);
+    match r {
+        Reading::Refused { number } => Reply::Refused { number, place: 0 },
+        Reading::Taken(k) => {
+            let m = 40 * (k.ring as usize);
+            if out.len() != m {
+                return Reply::Refused { number: 1, place: 0 };
+            }
+            codec::copy(out, 0, &buffer[..m]);
+            Reply::Taken
+        }
+    }
+}
+
+// `describe` for the C host.
+#[no_mangle]
+pub extern "C" fn sheet_describe(text: &[u8], out: &mut [u8]) -> u64
+    ensures reply { λ r. ⌜ r ≡ packed (describeReply 2 (now (text .entry)) (now (out .entry))) ⌝ }
+    ensures output { λ _. ⌜ now (out .exit) ≡ describeOut 2 (now (text .entry)) (now (out .entry)) ⌝ }
+{
+    codec::pack(describe(text, out))
+}
+
+// `polynomials` for the C host.
+#[no_mangle]
+pub extern "C" fn sheet_polynomials(text: &[u8], out: &mut [u8]) -> u64
+    ensures reply { λ r. ⌜ r ≡ packed (polynomialsReply 2 (now (text .entry)) (now (out .entry))) ⌝ }
+    ensures output { λ _. ⌜ now (out .exit) ≡ polynomialsOut 2 (now (text .entry)) (now (out .entry)) ⌝ }
+{
+    codec::pack(polynomials(text, out))
+}
