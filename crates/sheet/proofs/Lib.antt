@@ -10,3 +10,4 @@ pub mod Writing
 pub mod Order
 pub mod Filling
 pub mod Taken
+pub mod Examples

@@ -2,7 +2,7 @@
 use mathlib.Core.Path.{_≡_, refl, sym, ap, ap₂, _∙_}
 use mathlib.Core.Bool.{Bool, true, false, cond, not, _&&_, _||_}
 use mathlib.Core.List.{List, [], _∷_, _++_}
-use Prim.Native.Nat.{ℕ, zero, suc, _*_, _≤_, _<_}
+use Prim.Native.Nat.{ℕ, zero, suc, _+_, _*_, _≤_, _<_}
 use native.Mathlib.Nat.{le-of-suc-le-suc, not-suc-le-zero}
 use native.Mathlib.Omega.{arith}
 use borrow.Author.Tests.{eqb-true, eqb-false, ltb-true, ltb-false, not-false}
@@ -15,7 +15,7 @@ use Rattle.codec.specs.declared.Reply.the-variants as reply
 use Rattle.codec.proofs.Replies.{taken-exactly}
 use Rattle.sheet.specs.Form.{Sheet, written}
 use Rattle.sheet.specs.Reader.{every, formed, sheetOf}
-use Rattle.sheet.specs.Sheet.{fits, lists, unfit, order, replyOf, readingBy, reading, joined, polynomials}
+use Rattle.sheet.specs.Sheet.{encoded, fits, lists, unfit, order, replyOf, readingBy, reading, joined, polynomials}
 use Rattle.sheet.specs.declared.Numbers.{Numbers}
 use Rattle.sheet.specs.declared.Reading.{Reading}
 use Rattle.sheet.specs.declared.Reading.the-variants.{Taken, Refused}
@@ -128,25 +128,18 @@ lists-taken p text {k} e =
     rw (t .numbers) at (all-polynomials (sheetOf text .numbers .ring) (sheetOf text .numbers .modulus) h (lists (sheetOf text)) (not-false _ (t .fit)))
 
 -- they fill 40N bytes
+size : {n q : ℕ} {xs : List ℕ} → Polynomial n q xs → length (encoded xs) ≡ 8 * n
+size {n} {q} {xs} e = length-encoded xs ∙ ap (λ (m : ℕ). 8 * m) (e .count)
+
+five-sizes : (n : ℕ) → 8 * n + (8 * n + (8 * n + (8 * n + (8 * n + 0)))) ≡ 40 * n
+five-sizes n = omega arith
+
 pub length-polynomials : (p : ℕ) (text : Bytes) {k : Numbers} → reading p text ≡ Taken k → length (polynomials text) ≡ 40 * k .ring
 unfolding polynomials joined
-length-polynomials p text e =
+length-polynomials p text {k} e =
     let l = lists-taken p text e in
-    let s = sheetOf text in
     simp length-append
-    (omega (
-      arith,
-      length-encoded (s .a),
-      length-encoded (s .b),
-      length-encoded (s .k1),
-      length-encoded (s .k2),
-      length-encoded (s .k3),
-      l .0 .count,
-      l .1 .0 .count,
-      l .1 .1 .0 .count,
-      l .1 .1 .1 .0 .count,
-      l .1 .1 .1 .1 .0 .count,
-    ))
+    (rw (size (l .0), size (l .1 .0), size (l .1 .1 .0), size (l .1 .1 .1 .0), size (l .1 .1 .1 .1 .0)) (five-sizes (k .ring)))
 
 -- ---- the form is canonical: two texts that are taken with the same numbers and the same lists are one text
 

@@ -1,5 +1,6 @@
 -- `read` meets its contract. Assumes nothing.
 use mathlib.Core.Path.{_≡_, sym, ap, _∙_}
+use mathlib.Core.Bool.{true}
 use Prim.Native.Nat.{_≤_}
 use native.Mathlib.Omega.{arith}
 use borrow.Author.Needs.{needs}
@@ -53,8 +54,8 @@ returns-7 c =
     let t = c .before .before .before .before .before .before .before .before .before .before .before .before .before .before .before .before .before .before .args .text .now in
     let h = c .before .before .before .before .before .before .before .before .before .before .before .before .before .before .scan-lines in
     let l = c .before .before .before .before .before .before .before .before .before .before .before .scan-lines2 in
-    let w = not-false _ (c .before .before .before .before .before .before .before .before .before .before .before .before .if3 .left) in
-    let x = not-false _ (c .before .before .before .before .before .before .before .before .before .if4 .left) in
+    let w : h .result .whole ≡ true = not-false _ (c .before .before .before .before .before .before .before .before .before .before .before .before .if3 .left) in
+    let x : l .result .whole ≡ true = not-false _ (c .before .before .before .before .before .before .before .before .before .if4 .left) in
     let z : length t ≤ l .result .next = omega arith in
     let y = sym (c .before .before .before .before .before .all-are .ensures) ∙ not-false _ (c .before .before .before .before .if6 .left) in
     c .judge .ensures
