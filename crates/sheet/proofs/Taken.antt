@@ -15,7 +15,7 @@ use Rattle.codec.specs.declared.Reply.the-variants as reply
 use Rattle.codec.proofs.Replies.{taken-exactly}
 use Rattle.sheet.specs.Form.{Sheet, written}
 use Rattle.sheet.specs.Reader.{every, formed, sheetOf}
-use Rattle.sheet.specs.Sheet.{encoded, fits, lists, unfit, order, replyOf, readingBy, reading, joined, polynomials}
+use Rattle.sheet.specs.Sheet.{encoded, outside, fits, lists, unfit, order, replyOf, readingBy, reading, joined, polynomials}
 use Rattle.sheet.specs.declared.Numbers.{Numbers}
 use Rattle.sheet.specs.declared.Reading.{Reading}
 use Rattle.sheet.specs.declared.Reading.the-variants.{Taken, Refused}
@@ -66,6 +66,7 @@ pub record Taking (p : ℕ) (text : Bytes) (k : Numbers) : Type 0 where
   pub few : length text ≤ 262144
   pub form : formed text ≡ true
   pub numbers : sheetOf text .numbers ≡ k
+  pub inside : outside k ≡ false
   pub ranged : InRange k
   pub sound : Sound p k
   pub fit : unfit (sheetOf text) ≡ false
@@ -89,6 +90,7 @@ taken p text {k} e = by (first (order p text)) refl e
           few = ltb-false 262144 (length text) (l .1);
           form = not-false (formed text) (n .1 .0);
           numbers = q;
+          inside = rw q at (n .1 .1 .0);
           ranged = rw q at (in-range (sheetOf text .numbers) (n .1 .1 .0));
           sound = rw q at (is-sound p (sheetOf text .numbers) (n .1 .1 .1 .0));
           fit = n .1 .1 .1 .1 .0;

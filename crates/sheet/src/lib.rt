@@ -110,7 +110,7 @@ pub fn read(text: &[u8]) -> Reading
 }
 
 // Reads a sheet and puts its polynomials a, b, k1, k2, k3, in 40N bytes, at the head of the lent bytes. A refusal leaves them as they are.
-pub fn open(text: &[u8], out: &mut [u8; 81920]) -> Reading
+pub fn load(text: &[u8], out: &mut [u8; 81920]) -> Reading
     ensures { λ r. ⌜ (r ≡ reading 2 (now (text .entry))) × (now (out .exit) ≡ filled r (now (text .entry)) (now (out .entry))) ⌝ }
 {
     let r = read(text);

@@ -15,7 +15,7 @@ use Rattle.sheet.specs.declared.Numbers.{Numbers}
 -- N, D, B and L, 8 bytes each
 unfoldable pub description : ℕ → Numbers → Bytes
 description p k =
-    bytes 8 (k .ring) ++ (bytes 8 (noise p (k .ring)) ++ (bytes 8 (mask p (k .ring) (k .drown)) ++ bytes 8 (unknowns (k .ring))))
+    bytes 8 (k .ring) ++ bytes 8 (noise p (k .ring)) ++ bytes 8 (mask p (k .ring) (k .drown)) ++ bytes 8 (unknowns (k .ring))
 
 -- the reply of a call that is lent a sheet and an output of n bytes
 unfoldable pub sheetReply : ℕ → Bytes → ℕ → Bytes → Reply

@@ -30,7 +30,10 @@ pub fn describe(text: &[u8], out: &mut [u8]) -> Reply
         Reading::Refused { number } => Reply::Refused { number, place: 0 },
         Reading::Taken(k) => {
             if out.len() != 32 {
-                return Reply::Refused { number: 1, place: 0 };
+                return Reply::Refused {
+                    number: 1,
+                    place: 0,
+                };
             }
             write_description(k, out);
             Reply::Taken
@@ -44,13 +47,16 @@ pub fn polynomials(text: &[u8], out: &mut [u8]) -> Reply
     ensures output { λ _. ⌜ now (out .exit) ≡ polynomialsOut 2 (now (text .entry)) (now (out .entry)) ⌝ }
 {
     let mut buffer = [0u8; 81920];
-    let r = sheet::open(text, &mut buffer);
+    let r = sheet::load(text, &mut buffer);
     match r {
         Reading::Refused { number } => Reply::Refused { number, place: 0 },
         Reading::Taken(k) => {
             let m = 40 * (k.ring as usize);
             if out.len() != m {
-                return Reply::Refused { number: 1, place: 0 };
+                return Reply::Refused {
+                    number: 1,
+                    place: 0,
+                };
             }
             codec::copy(out, 0, &buffer[..m]);
             Reply::Taken

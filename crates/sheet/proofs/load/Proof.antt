@@ -1,11 +1,11 @@
--- `open` meets its contract. Assumes nothing.
+-- `load` meets its contract. Assumes nothing.
 use mathlib.Core.Path.{_≡_, sym, ap, _∙_}
 use native.Mathlib.Omega.{arith}
 use borrow.Author.Needs.{needs}
 use Rattle.sheet.specs.declared.Numbers.{Numbers}
 use Rattle.sheet.proofs.Taken.{taken}
-use Rattle.sheet.proofs.open.Statement.{statement}
-use Rattle.sheet.proofs.open.Tie as tie
+use Rattle.sheet.proofs.load.Statement.{statement}
+use Rattle.sheet.proofs.load.Tie as tie
 
 write-lists-requires : tie.Need-write-lists-requires
 write-lists-requires c κs =
@@ -15,5 +15,5 @@ write-lists-requires c κs =
 returns : tie.Need-returns
 returns c = (sym (c .before .before .before .r .given .1) ∙ c .before .before .before .before .before .read .ensures, c .write-lists .ensures)
 
-pub open-spec : {M : Type 1} → statement M
-open-spec = tie.close (tie.spec (λ c κs. search needs) (λ c. search needs) write-lists-requires (λ c. search needs) returns (λ c. search needs))
+pub load-spec : {M : Type 1} → statement M
+load-spec = tie.close (tie.spec (λ c κs. search needs) (λ c. search needs) write-lists-requires (λ c. search needs) returns (λ c. search needs))
