@@ -2,11 +2,13 @@
 mod digest;
 mod random;
 mod sha3;
+mod sheet;
 mod tally;
 
 fn main() {
     let mut tally = tally::Tally::default();
     sha3::run(&mut tally);
     digest::run(&mut tally);
+    sheet::run(&mut tally);
     std::process::exit(tally.finish());
 }

@@ -1,18 +1,16 @@
 -- Lines one after the other: the state of `scan_lines`, and what two blocks of five lines say of a text. Assumes nothing.
-use mathlib.Core.Path.{_≡_, refl, sym, ap, ap₂, _∙_}
-use mathlib.Core.Bool.{Bool, true, false, cond, _&&_}
+use mathlib.Core.Path.{_≡_, refl, sym, ap, _∙_}
+use mathlib.Core.Bool.{true, false}
 use mathlib.Core.List.{List, [], _∷_, _++_, map, append-assoc, append-nil}
-use Prim.Native.Nat.{ℕ, zero, suc, _+_, _≤_, _<_}
+use Prim.Native.Nat.{ℕ, _+_, _≤_, _<_}
 use native.Mathlib.Numerals.{add-one}
 use native.Mathlib.Omega.{arith}
-use borrow.Author.Tests.{lt-ltb, le-ltb}
-use lib.Dec.{eqb, ltb}
-use lib.ListN.{length, take, drop, getD, set, length-append, length-drop, drop-of-length-le}
+use lib.ListN.{length, take, drop, getD, set, length-drop, drop-of-length-le}
 use lib.Seq.{length-take-le, take-all, take-suc-set, drop-cons, getD-take, getD-drop}
 use Rattle.codec.specs.Bytes.{Bytes}
 use Rattle.sheet.specs.Form.{numberKeys, listKeys}
 use Rattle.sheet.specs.Reader.{Found, missing, found, line, Block, broken, block, after, onward, rows}
-use Rattle.sheet.specs.Seen.{largest, Summed, bad, sum, summed, Outline, none, outline, outlined, seen}
+use Rattle.sheet.specs.Seen.{largest, bad, sum, summed, none, outline, outlined, seen}
 use Rattle.sheet.specs.declared.Lines.{Lines}
 use Rattle.sheet.proofs.Form.{never-block}
 

@@ -1,15 +1,14 @@
 -- The state of `write_lists`: the lists of a text that fits, put one after the other. Assumes nothing.
 use mathlib.Core.Path.{_≡_, refl, sym, ap, ap₂, _∙_}
 use mathlib.Core.Logic.{⊎-elim}
-use mathlib.Core.Bool.{Bool, true, false, cond, not, _&&_}
+use mathlib.Core.Bool.{Bool, true, false, cond}
 use mathlib.Core.List.{List, [], _∷_, _++_, append-assoc, append-nil}
 use Prim.Native.Nat.{ℕ, zero, suc, _+_, _*_, _-_, _≤_, _<_}
-use native.Mathlib.Nat.{zero-add}
 use native.Mathlib.Numerals.{add-one}
 use native.Mathlib.Omega.{arith}
 use borrow.Author.Tests.{eqb-true, not-false}
 use lib.Dec.{eqb, ltb}
-use lib.ListN.{length, take, drop, getD, length-append, length-drop, take-append-drop, drop-of-length-le}
+use lib.ListN.{length, take, drop, getD, length-append, take-append-drop, drop-of-length-le}
 use lib.Seq.{take-suc, take-all, drop-cons, drop-drop, drop-at}
 use Rattle.codec.specs.Bytes.{Bytes, put}
 use Rattle.codec.proofs.Laws.{length-put, put-none, put-append}
@@ -19,7 +18,8 @@ use Rattle.sheet.specs.Seen.{none, outline, outlined, seen, Ready, Write
 use Rattle.sheet.specs.Sheet.{encoded, joined, polynomials, fits, lists, unfit}
 use Rattle.sheet.specs.declared.Lines.{Lines}
 use Rattle.sheet.proofs.Steps.{le-or, never-found}
-use Rattle.sheet.proofs.Form.{both, no-more, lined, never-block, has-rows}
+use Rattle.sheet.proofs.Each.{both}
+use Rattle.sheet.proofs.Form.{no-more, lined, never-block, has-rows}
 use Rattle.sheet.proofs.Blocks.{rows-append, rows-broken}
 use Rattle.sheet.proofs.Order.{every-at}
 use Rattle.sheet.proofs.Writing.{length-encoded}

@@ -7,12 +7,13 @@ use Prim.Native.Nat.{ℕ, zero, suc, _+_, _*_, _/_, _%_, _^_, _≤_, _<_}
 use native.Mathlib.Nat.{pow-suc}
 use native.Mathlib.Omega.{arith}
 use borrow.Author.Tests.{le-ltb, lt-ltb, eq-eqb, eqb-true}
-use lib.Dec.{ltb, eqb}
+use lib.Dec.{eqb}
 use lib.ListN.{length, take, getD}
 use lib.Seq.{append-snoc}
 use Rattle.codec.specs.Bytes.{Bytes}
 use Rattle.sheet.specs.Form.{Sheet, decimal, listed, lines, numberKeys, listKeys, rowsOf, written, Plain, AllPlain}
 use Rattle.sheet.specs.Reader.{digit, Place, fresh, within, Found, missing, found, values, line, Block, broken, block, after, onward, rows, every, whole, formed, said, sheetFrom, sheetOf}
+use Rattle.sheet.proofs.Each.{both}
 use Rattle.sheet.proofs.Steps.{same-or, le-or, never-found, digit-is, digit-of, begins, no-number, grows, leading-zero, too-long, comma, ends, neither}
 
 -- ---- decimals
@@ -239,10 +240,6 @@ pub one : (r : List ℕ) → eqb (length r) 1 ≡ true → r ≡ getD r 0 0 ∷ 
 one [] e = absurd (omega (arith, eqb-true 0 1 e))
 one (v ∷ []) e = refl
 one (v ∷ w ∷ r) e = absurd (omega (arith, eqb-true (suc (suc (length r))) 1 e))
-
-pub both : (a b : Bool) → (a && b) ≡ true → (a ≡ true) × (b ≡ true)
-both true b e = (refl, e)
-both false b e = absurd (let z : _≡_ {A = ℕ} 0 1 = cc in omega arith)
 
 abbrev pub single : List ℕ → Bool
 single r = eqb (length r) 1

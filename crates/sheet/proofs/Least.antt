@@ -1,16 +1,16 @@
 -- The least repeats: the rule of the table, by one computed test of its 128 entries. Assumes nothing.
 use mathlib.Core.Path.{_≡_, refl, sym, ap, _∙_}
 use mathlib.Core.Logic.{⊎-elim}
-use mathlib.Core.Bool.{Bool, true, false}
+use mathlib.Core.Bool.{Bool, true, _&&_}
 use mathlib.Core.List.{List, [], _∷_}
-use Prim.Native.Nat.{ℕ, zero, suc, _+_, _*_, _-_, _≤_, _<_, _^_}
+use Prim.Native.Nat.{ℕ, zero, suc, _+_, _-_, _≤_, _<_, _^_}
 use native.Mathlib.Nat.{pow-suc, add-suc, eq-or-lt-of-le, le-of-suc-le-suc, not-suc-le-zero}
 use native.Mathlib.Omega.{arith}
-use borrow.Author.Tests.{le-leb, lt-leb}
-use lib.Dec.{T, leb, leb→le}
-use lib.ListN.{length, getD}
+use borrow.Author.Tests.{le-leb, lt-leb, leb-true}
+use lib.Dec.{leb}
+use lib.ListN.{getD}
 use Rattle.sheet.specs.Bounds.{most, least}
-use Rattle.sheet.proofs.Table.{both, both-left, both-right, every, at}
+use Rattle.sheet.proofs.Each.{both, below, holds}
 
 -- for the rounds k + 1: met at m, missed at m + 1; and m is at most 256
 abbrev met : ℕ → ℕ → Bool
@@ -19,8 +19,8 @@ met k m = leb (3 ^ m) (2 ^ (k + 1 + m))
 abbrev over : ℕ → ℕ → Bool
 over k m = leb (suc (2 ^ (k + 1 + suc m))) (3 ^ suc m)
 
-unfoldable pub right : ℕ → ℕ → Bool
-right k m = both (met k m) (both (over k m) (leb m 256))
+unfoldable right : ℕ → ℕ → Bool
+right k m = met k m && (over k m && leb m 256)
 
 -- missed once, missed from there on
 missed-next : (r m : ℕ) → 2 ^ (r + m) < 3 ^ m → 2 ^ (r + suc m) < 3 ^ suc m
@@ -54,31 +54,30 @@ table =
     182 ∷ 184 ∷ 186 ∷ 188 ∷ 189 ∷ 191 ∷ 193 ∷ 194 ∷ 196 ∷ 198 ∷ 200 ∷ 201 ∷ 203 ∷ 205 ∷ 206 ∷ 208 ∷ 210 ∷ 211 ∷ 213 ∷
     215 ∷ 217 ∷ 218 ∷ []
 
-passes : T (every right 0 table)
+passes : below (λ k. right k (getD table k 0)) 128 ≡ true
 unfolding table right
-passes = tt
+passes = refl
 
 module _ (k : ℕ) (h : k < 128) where
   abbrev m : ℕ
   m = getD table k 0
 
-  tested : T (right k m)
-  unfolding table
-  tested = at right table passes k h
+  tested : right k m ≡ true
+  tested = holds (λ j. right j (getD table j 0)) 128 k passes h
 
   table-met : 3 ^ m ≤ 2 ^ (k + 1 + m)
   unfolding right
-  table-met = leb→le (3 ^ m) (2 ^ (k + 1 + m)) (both-left (met k m) (both (over k m) (leb m 256)) tested)
+  table-met = leb-true (3 ^ m) (2 ^ (k + 1 + m)) (both (met k m) (over k m && leb m 256) tested .0)
+
+  rest : (over k m ≡ true) × (leb m 256 ≡ true)
+  unfolding right
+  rest = both (over k m) (leb m 256) (both (met k m) (over k m && leb m 256) tested .1)
 
   table-over : 2 ^ (k + 1 + suc m) < 3 ^ suc m
-  unfolding right
-  table-over =
-      leb→le (suc (2 ^ (k + 1 + suc m))) (3 ^ suc m)
-      (both-left (over k m) (leb m 256) (both-right (met k m) (both (over k m) (leb m 256)) tested))
+  table-over = leb-true (suc (2 ^ (k + 1 + suc m))) (3 ^ suc m) (rest .0)
 
   table-few : m ≤ 256
-  unfolding right
-  table-few = leb→le m 256 (both-right (over k m) (leb m 256) (both-right (met k m) (both (over k m) (leb m 256)) tested))
+  table-few = leb-true m 256 (rest .1)
 
   pub entry : getD table k 0 ≡ least (k + 1)
   unfolding least

@@ -3,7 +3,6 @@ pub mod Each
 pub mod Form
 pub mod Scanning
 pub mod Blocks
-pub mod Table
 pub mod Least
 pub mod Ranges
 pub mod Writing

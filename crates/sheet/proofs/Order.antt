@@ -1,19 +1,19 @@
 -- What is said of a text, from what the code saw of its ten lines. Assumes nothing.
-use mathlib.Core.Path.{_≡_, refl, sym, ap, ap₂, _∙_}
-use mathlib.Core.Bool.{Bool, true, false, cond, not, _&&_, _||_}
+use mathlib.Core.Path.{_≡_, refl, sym, ap, _∙_}
+use mathlib.Core.Bool.{Bool, true, false, cond, not, _&&_}
 use mathlib.Core.List.{List, [], _∷_, _++_, map}
 use Prim.Native.Nat.{ℕ, zero, suc, _+_, _≤_, _<_}
 use native.Mathlib.Nat.{le-of-suc-le-suc, not-suc-le-zero}
 use native.Mathlib.Omega.{arith}
 use borrow.Author.Tests.{eq-eqb, ne-eqb, le-ltb, lt-ltb}
 use lib.Dec.{ltb, eqb}
-use lib.ListN.{length, take, drop, getD, drop-of-length-le, List·getD-append, List·getD-map}
+use lib.ListN.{length, drop, getD, drop-of-length-le, List·getD-append, List·getD-map}
 use lib.Seq.{take-at, getD-append-add}
 use Rattle.codec.specs.Bytes.{Bytes}
 use Rattle.codec.specs.Reply.{first}
 use Rattle.codec.specs.declared.Reply.the-variants as reply
 use Rattle.sheet.specs.Form.{Sheet, numberKeys, listKeys}
-use Rattle.sheet.specs.Reader.{Block, broken, block, after, rows, every, whole, formed, said, sheetFrom, sheetOf}
+use Rattle.sheet.specs.Reader.{block, after, rows, every, whole, formed, said, sheetFrom, sheetOf}
 use Rattle.sheet.specs.Seen.{largest, outlined, seen, judged}
 use Rattle.sheet.specs.Sheet.{outside, unsound, fits, lists, unfit, readingBy, reading}
 use Rattle.sheet.specs.declared.Lines.{Lines}
@@ -21,7 +21,8 @@ use Rattle.sheet.specs.declared.Numbers.{Numbers}
 use Rattle.sheet.specs.declared.Reading.{Reading}
 use Rattle.sheet.specs.declared.Reading.the-variants.{Taken, Refused}
 use Rattle.sheet.proofs.Steps.{unroll}
-use Rattle.sheet.proofs.Form.{both, single, one, lined}
+use Rattle.sheet.proofs.Each.{both}
+use Rattle.sheet.proofs.Form.{single, one, lined}
 use Rattle.sheet.proofs.Blocks.{rows-append, rows-broken, Five, five, not-five}
 use Rattle.sheet.proofs.Ranges.{in-range, fits-all}
 

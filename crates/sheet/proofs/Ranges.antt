@@ -1,37 +1,26 @@
 -- What the conditions on a sheet's numbers and lists say in plain terms, and the bounds of what is computed from them. Assumes nothing.
-use mathlib.Core.Path.{_≡_, refl, sym, ap, _∙_}
+use mathlib.Core.Path.{_≡_, refl, sym, _∙_}
 use mathlib.Core.Logic.{⊎-elim}
 use mathlib.Core.Bool.{Bool, true, false, cond, not, _&&_, _||_}
 use mathlib.Core.List.{List, [], _∷_, map}
 use Prim.Native.Nat.{ℕ, zero, suc, _+_, _*_, _-_, _/_, _%_, _≤_, _<_, _^_}
-use native.Mathlib.Nat.{le-refl, le-trans, eq-or-lt-of-le, le-of-suc-le-suc, not-suc-le-zero, mul-le-mul}
+use native.Mathlib.Nat.{eq-or-lt-of-le, le-of-suc-le-suc, not-suc-le-zero, mul-le-mul}
 use native.Mathlib.Omega.{arith}
-use borrow.Author.Tests.{eq-eqb, ne-eqb, eqb-true, le-ltb, lt-ltb, ltb-true, ltb-false, leb-false, not-false}
-use lib.Dec.{T, ltb, leb, eqb, eqb→eq}
+use borrow.Author.Tests.{eqb-true, le-ltb, lt-ltb, ltb-true, ltb-false, leb-false, not-false}
+use lib.Dec.{ltb, eqb}
 use lib.ListN.{length, getD}
 use Rattle.sheet.specs.Bounds.{noise, least, power}
 use Rattle.sheet.specs.Reader.{every}
 use Rattle.sheet.specs.Seen.{bigger, largest}
 use Rattle.sheet.specs.Sheet.{any, ranges, outside, conditions, unsound, fits}
 use Rattle.sheet.specs.declared.Numbers.{Numbers}
-use Rattle.sheet.proofs.Form.{both}
+use Rattle.sheet.proofs.Each.{below, holds}
 
 -- (1 + 2^d) D at its largest
 pub times : (x y : ℕ) → x ≤ 1099511627777 → y ≤ 8195 → x * y ≤ 1099511627777 * 8195
 times x y h k = mul-le-mul h k
 
 -- ---- a ring is a power of two
-
--- a test that holds below n
-abbrev below : (ℕ → Bool) → ℕ → Bool
-below f zero = true
-below f (suc n) = f n && below f n
-
-holds : (f : ℕ → Bool) (n i : ℕ) → below f n ≡ true → i < n → f i ≡ true
-holds f zero i t h = absurd (not-suc-le-zero h)
-holds f (suc n) i t h =
-    let p = both (f n) (below f n) t in
-    ⊎-elim (λ e. rw e (p .0)) (λ l. holds f n i (p .1) l) (eq-or-lt-of-le (le-of-suc-le-suc h))
 
 -- from 4 to 2048, a power of two and a divisor of 2048 are the same
 alike : ℕ → Bool
@@ -110,6 +99,10 @@ is-sound p k e = record {
 
 -- ---- lists
 
+and-assoc : (a b c : Bool) → (a && b && c) ≡ (a && (b && c))
+and-assoc true b c = refl
+and-assoc false b c = refl
+
 -- each number is below q exactly if the largest is
 module _ (q : ℕ) where
   bigger-below : (a b : ℕ) → ltb (bigger a b) q ≡ (ltb a q && ltb b q)
@@ -130,10 +123,6 @@ module _ (q : ℕ) where
           by : (u : Bool) → ltb a q ≡ u → u ≡ (u && ltb b q)
           by true f = sym (lt-ltb b q (omega (arith, ltb-false a b e, ltb-true a q f)))
           by false f = refl
-
-  and-assoc : (a b c : Bool) → (a && b && c) ≡ (a && (b && c))
-  and-assoc true b c = refl
-  and-assoc false b c = refl
 
   largest-below : (m : ℕ) (xs : List ℕ) → ltb (largest m xs) q ≡ (ltb m q && every (λ x. ltb x q) xs)
   unfolding largest

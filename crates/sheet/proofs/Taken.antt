@@ -1,9 +1,8 @@
 -- What a reading says of its text: the order of a call that is lent the sheet, and what holds of a sheet that is taken. Assumes nothing.
 use mathlib.Core.Path.{_≡_, refl, sym, ap, ap₂, _∙_}
-use mathlib.Core.Bool.{Bool, true, false, cond, not, _&&_, _||_}
+use mathlib.Core.Bool.{Bool, true, false, _||_}
 use mathlib.Core.List.{List, [], _∷_, _++_}
 use Prim.Native.Nat.{ℕ, zero, suc, _+_, _*_, _≤_, _<_}
-use native.Mathlib.Nat.{le-of-suc-le-suc, not-suc-le-zero}
 use native.Mathlib.Omega.{arith}
 use borrow.Author.Tests.{eqb-true, eqb-false, ltb-true, ltb-false, not-false}
 use lib.Dec.{ltb, eqb}
@@ -19,7 +18,8 @@ use Rattle.sheet.specs.Sheet.{encoded, outside, fits, lists, unfit, orde
 use Rattle.sheet.specs.declared.Numbers.{Numbers}
 use Rattle.sheet.specs.declared.Reading.{Reading}
 use Rattle.sheet.specs.declared.Reading.the-variants.{Taken, Refused}
-use Rattle.sheet.proofs.Form.{both, written-is}
+use Rattle.sheet.proofs.Each.{both}
+use Rattle.sheet.proofs.Form.{written-is}
 use Rattle.sheet.proofs.Ranges.{InRange, in-range, Sound, is-sound}
 use Rattle.sheet.proofs.Writing.{length-encoded}
 

@@ -3,16 +3,16 @@ use mathlib.Core.Path.{_≡_, refl, sym, ap, _∙_}
 use mathlib.Core.Logic.{⊎-elim}
 use mathlib.Core.Bool.{Bool, true, false, cond}
 use mathlib.Core.List.{List, [], _∷_, _++_, append-assoc, append-nil}
-use Prim.Native.Nat.{ℕ, zero, suc, _+_, _*_, _^_, _≤_, _<_}
+use Prim.Native.Nat.{ℕ, _+_, _*_, _^_, _≤_, _<_}
 use native.Mathlib.Nat.{le-refl, le-trans}
 use native.Mathlib.Omega.{arith}
 use lib.Dec.{ltb, leb, eqb}
-use lib.ListN.{length, take, drop, getD, length-append, drop-of-length-le}
+use lib.ListN.{length, drop, getD, length-append, drop-of-length-le}
 use Rattle.codec.specs.Bytes.{Bytes, bytes, put}
 use Rattle.codec.proofs.Laws.{length-put, put-none, put-append}
 use Rattle.codec.proofs.Numbers.{length-bytes}
 use Rattle.sheet.specs.Reader.{digit, Place, fresh, within, Found, missing, found, Step, stop, on, done, step, follow, values}
-use Rattle.sheet.specs.Seen.{numbersIn, rest, Ready, Writes}
+use Rattle.sheet.specs.Seen.{numbersIn, Ready, Writes}
 use Rattle.sheet.specs.Sheet.{encoded}
 use Rattle.sheet.proofs.Steps.{unroll, same-or, le-or, begins, no-number, grows, leading-zero, too-long, comma, ends, neither}
 

@@ -1,12 +1,11 @@
 -- Document 01, "Sheet": the reader of a text, byte by byte. It undoes `written` of specs/Form.antt and refuses any other text. Assumes nothing.
-use mathlib.Core.Bool.{Bool, true, false, cond, _&&_, _||_}
+use mathlib.Core.Bool.{Bool, true, false, cond, _&&_}
 use mathlib.Core.List.{List, [], _∷_, _++_}
 use Prim.Native.Nat.{ℕ, _+_, _*_, _-_, _^_}
 use lib.Dec.{ltb, leb, eqb}
-use lib.ListN.{length, take, drop, getD}
+use lib.ListN.{length, take, getD}
 use Rattle.codec.specs.Bytes.{Bytes}
 use Rattle.sheet.specs.Form.{Sheet, numberKeys, listKeys}
-use Rattle.sheet.specs.declared.Numbers.{Numbers}
 
 -- a digit's value; 10 for any other byte
 unfoldable pub digit : ℕ → ℕ

@@ -1,8 +1,8 @@
 -- The code's answers on lines of the text. Of a line the code keeps how many numbers it has, the largest, and the place where the text goes on;
 -- `summed` and `outlined` say the same of what the reader finds, with the text from there on. Assumes nothing.
 use mathlib.Core.Path.{_≡_}
-use mathlib.Core.Bool.{Bool, true, false, cond, _&&_}
-use mathlib.Core.List.{List, [], _∷_, _++_, map}
+use mathlib.Core.Bool.{true, false, cond, _&&_}
+use mathlib.Core.List.{List, [], _∷_, map}
 use Prim.Native.Nat.{ℕ, _+_, _*_, _≤_}
 use lib.Dec.{ltb, eqb}
 use lib.ListN.{length, drop}

@@ -1,5 +1,5 @@
 -- Document 01, "Sheet" and the refusals 1 to 5: which sheet is taken, and what is handed out of it, for the plaintext modulus p. Assumes nothing.
-use mathlib.Core.Bool.{Bool, true, false, cond, not, _&&_, _||_}
+use mathlib.Core.Bool.{Bool, false, not, _&&_, _||_}
 use mathlib.Core.List.{List, [], _∷_, _++_}
 use Prim.Native.Nat.{ℕ, _+_, _*_, _-_, _/_, _%_, _^_}
 use lib.Dec.{ltb, leb, eqb}

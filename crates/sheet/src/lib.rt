@@ -5,12 +5,6 @@ mod repeats;
 mod writer;
 
 ghost use mathlib.Core.Path.{_≡_};
-ghost use Prim.Native.Nat.{_*_, _≤_};
-ghost use mathlib.Core.Bool.{true};
-ghost use mathlib.Core.List.{[], _∷_};
-ghost use lib.ListN.{length, take};
-ghost use Rattle.codec.specs.Bytes.{put};
-ghost use Rattle.sheet.specs.Reader.{every};
 ghost use Rattle.sheet.specs.Seen.{judged};
 ghost use Rattle.sheet.specs.Sheet.{reading, filled, polynomials};
 ghost use Rattle.sheet.specs.declared.Reading.the-variants.{Taken};

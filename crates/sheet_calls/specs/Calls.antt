@@ -1,6 +1,6 @@
 -- The sheet as a call: the sheet's own order, then 1 for an output of another length (document 01, "Refused because of the input"). Assumes nothing.
 use mathlib.Core.Bool.{not}
-use mathlib.Core.List.{List, [], _∷_, _++_}
+use mathlib.Core.List.{[], _∷_, _++_}
 use Prim.Native.Nat.{ℕ, _*_}
 use lib.Dec.{eqb}
 use lib.ListN.{length}

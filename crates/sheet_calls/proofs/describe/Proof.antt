@@ -1,8 +1,7 @@
 -- `sheet_calls::describe` meets its contract. Assumes nothing.
-use mathlib.Core.Path.{_≡_, sym, ap, _∙_}
+use mathlib.Core.Path.{sym, ap, _∙_}
 use borrow.Author.Needs.{needs}
 use Rattle.codec.specs.Reply.{leaves}
-use Rattle.sheet.specs.declared.Numbers.{Numbers}
 use Rattle.sheet.proofs.Taken.{taken}
 use Rattle.sheet_calls.specs.Calls.{description, describeReply, describeOut}
 use Rattle.sheet_calls.proofs.Answers.{refused, wrong-length, is-taken}

@@ -1,15 +1,14 @@
 -- `sheet_calls::polynomials` meets its contract. Assumes nothing.
-use mathlib.Core.Path.{_≡_, sym, ap, _∙_}
-use Prim.Native.Nat.{ℕ, _*_}
+use mathlib.Core.Path.{sym, ap, _∙_}
+use Prim.Native.Nat.{_*_}
 use native.Mathlib.Omega.{arith}
 use borrow.Author.Needs.{needs}
-use lib.ListN.{length}
 use Rattle.codec.specs.Reply.{leaves}
 use Rattle.codec.proofs.Laws.{put-whole}
 use Rattle.sheet.specs.declared.Numbers.{Numbers}
 use Rattle.sheet.proofs.Taken.{taken}
-use Rattle.sheet_calls.specs.Calls.{sheetReply, polynomialsReply, polynomialsOut}
-use Rattle.sheet_calls.proofs.Answers.{refused, wrong-length, is-taken, Loaded, loaded}
+use Rattle.sheet_calls.specs.Calls.{polynomialsReply, polynomialsOut}
+use Rattle.sheet_calls.proofs.Answers.{refused, wrong-length, is-taken, loaded}
 use Rattle.sheet_calls.proofs.polynomials.Statement.{statement}
 use Rattle.sheet_calls.proofs.polynomials.Tie as tie
 

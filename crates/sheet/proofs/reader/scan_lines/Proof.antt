@@ -7,8 +7,7 @@ use borrow.Author.Needs.{needs}
 use lib.ListN.{length, take, drop, length-set}
 use Rattle.codec.specs.Bytes.{Bytes}
 use Rattle.sheet.specs.Form.{numberKeys, listKeys}
-use Rattle.sheet.specs.Reader.{line}
-use Rattle.sheet.specs.Seen.{summed, scanned}
+use Rattle.sheet.specs.Seen.{scanned}
 use Rattle.sheet.proofs.Blocks.{Passed, starts, stops, goes-on, all, five-keys, key-at}
 use Rattle.sheet.proofs.reader.scan_lines.Statement.{statement}
 use Rattle.sheet.proofs.reader.scan_lines.Tie as tie
