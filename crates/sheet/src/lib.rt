@@ -6,11 +6,13 @@ mod writer;
 
 ghost use mathlib.Core.Path.{_≡_};
 ghost use Rattle.sheet.specs.Seen.{judged};
-ghost use Rattle.sheet.specs.Sheet.{reading, filled, polynomials};
-ghost use Rattle.sheet.specs.declared.Reading.the-variants.{Taken};
+ghost use Rattle.sheet.specs.Sheet.{reading, filled};
+
 pub use bounds::mask_bound;
 pub use bounds::noise_bound;
+pub use bounds::outside;
 pub use bounds::unknowns;
+pub use bounds::unsound;
 pub use repeats::least_repeats;
 
 // The sheet's numbers before a.
@@ -29,7 +31,7 @@ pub enum Reading {
 }
 
 // What stands at a place of the text: a line with how many numbers, the largest, and where the text goes on; or no such line.
-pub enum Scan {
+enum Scan {
     Broken,
     Line {
         count: u64,
@@ -39,11 +41,11 @@ pub enum Scan {
 }
 
 // Five lines: whether they are there, and for each how many numbers it has and the largest; and where the text goes on.
-pub struct Lines {
-    pub whole: bool,
-    pub counts: [u64; 5],
-    pub largest: [u64; 5],
-    pub next: usize,
+struct Lines {
+    whole: bool,
+    counts: [u64; 5],
+    largest: [u64; 5],
+    next: usize,
 }
 
 // The refusals 3, 4 and 5 in their order, by the numbers and by the counts and the largest coefficients of the lists.
