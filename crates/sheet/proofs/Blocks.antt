@@ -6,12 +6,13 @@ use Prim.Native.Nat.{ℕ, _+_, _≤_, _<_}
 use native.Mathlib.Numerals.{add-one}
 use native.Mathlib.Omega.{arith}
 use lib.ListN.{length, take, drop, getD, set, length-drop, drop-of-length-le}
-use lib.Seq.{length-take-le, take-all, take-suc-set, drop-cons, getD-take, getD-drop}
+use lib.Seq.{length-take-le, take-all, take-suc-set, getD-take, getD-drop}
 use Rattle.codec.specs.Bytes.{Bytes}
 use Rattle.sheet.specs.Form.{numberKeys, listKeys}
 use Rattle.sheet.specs.Reader.{Found, missing, found, line, Block, broken, block, after, onward, rows}
 use Rattle.sheet.specs.Seen.{largest, bad, sum, summed, none, outline, outlined, seen}
 use Rattle.sheet.specs.declared.Lines.{Lines}
+use Rattle.sheet.proofs.Steps.{unroll}
 use Rattle.sheet.proofs.Form.{never-block}
 
 after-none : (b : Block) → after [] b ≡ b
@@ -57,7 +58,7 @@ module _ (ks : List Bytes) (text : Bytes) (at : ℕ) where
   module _ (i next : ℕ) (counts tops : List ℕ) (p : Passed ks text at i next counts tops) where
     row : i < length ks → rows ks (drop at text) ≡ after (p .rs) (onward (line (getD ks i []) (drop next text)) (rows (drop (i + 1) ks)))
     unfolding rows
-    row h = p .same ∙ rw (drop-cons ks i [] h, add-one)
+    row h = p .same ∙ rw (unroll [] ks i h)
 
     pub stops : i < length ks → bad ≡ summed (line (getD ks i []) (drop next text)) → none ≡ outlined (rows ks (drop at text))
     stops h e = rw (row h, unmet (line (getD ks i []) (drop next text)) e)

@@ -17,7 +17,7 @@ use Rattle.sheet.specs.Reader.{Found, missing, found, fresh, values, lin
 use Rattle.sheet.specs.Seen.{none, outline, outlined, seen, Ready, Writes, Fitting}
 use Rattle.sheet.specs.Sheet.{encoded, joined, polynomials, fits, lists, unfit}
 use Rattle.sheet.specs.declared.Lines.{Lines}
-use Rattle.sheet.proofs.Steps.{le-or, never-found}
+use Rattle.sheet.proofs.Steps.{unroll, le-or, never-found}
 use Rattle.sheet.proofs.Each.{both}
 use Rattle.sheet.proofs.Form.{no-more, lined, never-block, has-rows}
 use Rattle.sheet.proofs.Blocks.{rows-append, rows-broken}
@@ -52,9 +52,6 @@ skip (k ∷ ks) (c ∷ t) {xs} {r} e = go (eqb c k) e (skip ks t)
     go false e f = never-found e
 
 -- ---- the first of lines that are there
-
-unrolled : {A : Type 0} (d : A) (l : List A) (i : ℕ) → i < length l → drop i l ≡ getD l i d ∷ drop (i + 1) l
-unrolled d l i h = rw (add-one, drop-cons l i d)
 
 record First (k : Bytes) (ks : List Bytes) (t : Bytes) (r : List ℕ) (rs : List (List ℕ)) (u : Bytes) : Type 0 where
   next : Bytes
@@ -158,7 +155,7 @@ module _ (text : Bytes) (n : ℕ) (d : Bytes) (ok : Fitting text n d) where
       row : First key (drop (i + 1) listKeys) (drop at text) l (drop (i + 1) ls) []
       row =
           first-row key (drop (i + 1) listKeys) (drop at text)
-          (ap (λ (ks : List Bytes). rows ks (drop at text)) (sym (unrolled [] listKeys i h)) ∙ f .ahead ∙ ap (λ (x : List (List ℕ)). block x []) (unrolled [] ls i h))
+          (ap (λ (ks : List Bytes). rows ks (drop at text)) (sym (unroll [] listKeys i h)) ∙ f .ahead ∙ ap (λ (x : List (List ℕ)). block x []) (unroll [] ls i h))
 
       found-at : values [] fresh (drop (at + length key) text) ≡ found l (row .next)
       found-at = rw (drop-drop (length key) at text) at (skip key (drop at text) (row .is))

@@ -87,7 +87,7 @@ module _ (text : Bytes) (head : Lines) (sh : seen text head ≡ outlined (rows n
       -- text after the last line
       pub more-text : tail .next < length text → formed text ≡ false
       unfolding formed
-      more-text h = rw (all-rows, unroll text (tail .next) h)
+      more-text h = rw (all-rows, unroll 0 text (tail .next) h)
 
       head-five : length (H .rs) ≡ 5
       head-five = lined numberKeys text (H .is) .count

@@ -48,7 +48,7 @@ module _ (text : Bytes) (at : ℕ) where
       t = drop (i + 1) text
 
       met : {p : Place} → placeOf begun v ≡ p → values [] fresh (drop at text) ≡ values (r .xs) p (c ∷ t)
-      met b = r .same ∙ rw (b, unroll text i h)
+      met b = r .same ∙ rw (b, unroll 0 text i h)
 
       -- a byte after which there is no line
       broken : {p : Place} → placeOf begun v ≡ p → values (r .xs) p (c ∷ t) ≡ missing → bad ≡ summed (values [] fresh (drop at text))
@@ -93,15 +93,15 @@ module _ (key text : Bytes) (j i : ℕ) where
   pub key-byte : j < length key → i < length text → getD text i 0 ≡ getD key j 0
       → line (drop j key) (drop i text) ≡ line (drop (j + 1) key) (drop (i + 1) text)
   unfolding line
-  key-byte h k e = rw (unroll key j h, unroll text i k, eq-eqb (getD text i 0) (getD key j 0) e)
+  key-byte h k e = rw (unroll 0 key j h, unroll 0 text i k, eq-eqb (getD text i 0) (getD key j 0) e)
 
   pub key-ends : j < length key → length text ≤ i → line (drop j key) (drop i text) ≡ missing
   unfolding line
-  key-ends h k = rw (unroll key j h, drop-of-length-le text k)
+  key-ends h k = rw (unroll 0 key j h, drop-of-length-le text k)
 
   pub key-other : j < length key → i < length text → (getD text i 0 ≡ getD key j 0 → ⊥) → line (drop j key) (drop i text) ≡ missing
   unfolding line
-  key-other h k e = rw (unroll key j h, unroll text i k, ne-eqb (getD text i 0) (getD key j 0) e)
+  key-other h k e = rw (unroll 0 key j h, unroll 0 text i k, ne-eqb (getD text i 0) (getD key j 0) e)
 
   pub key-over : length key ≤ j → line (drop j key) (drop i text) ≡ values [] fresh (drop i text)
   unfolding line

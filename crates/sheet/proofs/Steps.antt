@@ -13,10 +13,10 @@ use lib.Seq.{drop-cons}
 use Rattle.codec.specs.Bytes.{Bytes}
 use Rattle.sheet.specs.Reader.{digit, fresh, within, missing, found, step, values}
 
--- ---- a text from a place on
+-- ---- a list from a place on
 
-pub unroll : (s : Bytes) (i : ℕ) → i < length s → drop i s ≡ getD s i 0 ∷ drop (i + 1) s
-unroll s i h = rw (add-one, drop-cons s i 0)
+pub unroll : {A : Type 0} (d : A) (s : List A) (i : ℕ) → i < length s → drop i s ≡ getD s i d ∷ drop (i + 1) s
+unroll d s i h = rw (add-one, drop-cons s i d)
 
 -- ---- the cases
 

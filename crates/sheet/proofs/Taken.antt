@@ -2,26 +2,26 @@
 use mathlib.Core.Path.{_≡_, refl, sym, ap, ap₂, _∙_}
 use mathlib.Core.Bool.{Bool, true, false, _||_}
 use mathlib.Core.List.{List, [], _∷_, _++_}
-use Prim.Native.Nat.{ℕ, zero, suc, _+_, _*_, _≤_, _<_}
+use Prim.Native.Nat.{ℕ, zero, suc, _*_, _≤_, _<_}
 use native.Mathlib.Omega.{arith}
 use borrow.Author.Tests.{eqb-true, eqb-false, ltb-true, ltb-false, not-false}
 use lib.Dec.{ltb, eqb}
-use lib.ListN.{length, getD, length-append}
-use Rattle.codec.specs.Bytes.{Bytes}
+use lib.ListN.{length, getD, length-replicate}
+use Rattle.codec.specs.Bytes.{Bytes, zeros}
 use Rattle.codec.specs.Reply.{Test, test, first, None}
 use Rattle.codec.specs.declared.Reply.{Reply}
 use Rattle.codec.specs.declared.Reply.the-variants as reply
 use Rattle.codec.proofs.Replies.{taken-exactly}
 use Rattle.sheet.specs.Form.{Sheet, written}
 use Rattle.sheet.specs.Reader.{every, formed, sheetOf}
-use Rattle.sheet.specs.Sheet.{encoded, outside, fits, lists, unfit, order, replyOf, readingBy, reading, joined, polynomials}
+use Rattle.sheet.specs.Sheet.{outside, fits, lists, unfit, order, replyOf, readingBy, reading, polynomials}
 use Rattle.sheet.specs.declared.Numbers.{Numbers}
 use Rattle.sheet.specs.declared.Reading.{Reading}
 use Rattle.sheet.specs.declared.Reading.the-variants.{Taken, Refused}
 use Rattle.sheet.proofs.Each.{both}
 use Rattle.sheet.proofs.Form.{written-is}
 use Rattle.sheet.proofs.Ranges.{InRange, in-range, Sound, is-sound}
-use Rattle.sheet.proofs.Writing.{length-encoded}
+use Rattle.sheet.proofs.Filling.{all-size}
 
 -- ---- the order of a call that is lent the sheet
 
@@ -130,18 +130,12 @@ lists-taken p text {k} e =
     rw (t .numbers) at (all-polynomials (sheetOf text .numbers .ring) (sheetOf text .numbers .modulus) h (lists (sheetOf text)) (not-false _ (t .fit)))
 
 -- they fill 40N bytes
-size : {n q : ℕ} {xs : List ℕ} → Polynomial n q xs → length (encoded xs) ≡ 8 * n
-size {n} {q} {xs} e = length-encoded xs ∙ ap (λ (m : ℕ). 8 * m) (e .count)
-
-five-sizes : (n : ℕ) → 8 * n + (8 * n + (8 * n + (8 * n + (8 * n + 0)))) ≡ 40 * n
-five-sizes n = omega arith
-
 pub length-polynomials : (p : ℕ) (text : Bytes) {k : Numbers} → reading p text ≡ Taken k → length (polynomials text) ≡ 40 * k .ring
-unfolding polynomials joined
+unfolding polynomials
 length-polynomials p text {k} e =
-    let l = lists-taken p text e in
-    simp length-append
-    (rw (size (l .0), size (l .1 .0), size (l .1 .1 .0), size (l .1 .1 .1 .0), size (l .1 .1 .1 .1 .0)) (five-sizes (k .ring)))
+    let t = taken p text e in
+    all-size text (k .ring) (zeros (40 * k .ring))
+    (record { form = t .form; ring = ap (λ (n : Numbers). n .ring) (t .numbers); fit = t .fit; space = omega (arith, length-replicate {A = ℕ} (40 * k .ring) 0) })
 
 -- ---- the form is canonical: two texts that are taken with the same numbers and the same lists are one text
 

@@ -143,7 +143,7 @@ module _ (text : Bytes) (at from : ℕ) (d : Bytes) where
       t = drop (i + 1) text
 
       met : values [] fresh (drop at text) ≡ values (w .xs) (w .p) (c ∷ t)
-      met = w .same ∙ rw (unroll text i h)
+      met = w .same ∙ rw (unroll 0 text i h)
 
       there : values (w .xs) (w .p) (c ∷ t) ≡ missing → ⊥
       there m = ok .there (met ∙ m)

@@ -7,7 +7,6 @@ mod writer;
 ghost use mathlib.Core.Path.{_≡_};
 ghost use Rattle.sheet.specs.Seen.{judged};
 ghost use Rattle.sheet.specs.Sheet.{reading, filled};
-
 pub use bounds::mask_bound;
 pub use bounds::noise_bound;
 pub use bounds::outside;
