@@ -1,5 +1,5 @@
--- The code's answers on lines of the text. Of a line the code keeps how many numbers it has, the largest, and the place where the text goes on;
--- `summed` and `outlined` say the same of what the reader finds, with the text from there on. Assumes nothing.
+-- For the contracts of the crate's inner functions: what the code keeps of the lines of a text. Of a line that is how many numbers it has, the
+-- largest, and the place where the text goes on; `summed` and `outlined` say the same of what the reader finds. Assumes nothing.
 use mathlib.Core.Path.{_≡_}
 use mathlib.Core.Bool.{true, false, cond, _&&_}
 use mathlib.Core.List.{List, [], _∷_, map}

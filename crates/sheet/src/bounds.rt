@@ -1,4 +1,4 @@
-// The bounds that a sheet's numbers give, and the refusals 3 and 4. p is 2.
+// The bounds that a sheet's numbers give, and the refusals 3 and 4.
 use crate::Numbers;
 use crate::repeats::least_repeats;
 ghost use mathlib.Core.Path.{_≡_};
@@ -6,6 +6,9 @@ ghost use Prim.Native.Nat.{_^_, _≤_};
 ghost use mathlib.Core.Bool.{false};
 ghost use Rattle.sheet.specs.Bounds as def;
 ghost use Rattle.sheet.specs.Sheet as rule;
+
+// The plaintext modulus p.
+const P: u64 = 2;
 
 // 2^d.
 pub fn power(d: u64) -> u64
@@ -20,7 +23,7 @@ pub fn noise_bound(n: u64) -> u64
     requires { ⌜ n ≤ 2048 ⌝ }
     ensures { λ r. ⌜ r ≡ def.noise 2 n ⌝ }
 {
-    2 * (2 * n + 1) + 1
+    P * (2 * n + 1) + P - 1
 }
 
 // The mask bound B.
@@ -28,7 +31,7 @@ pub fn mask_bound(n: u64, d: u64) -> u64
     requires { ⌜ (n ≤ 2048) × (d ≤ 40) ⌝ }
     ensures { λ r. ⌜ r ≡ def.mask 2 n d ⌝ }
 {
-    power(d) * noise_bound(n) / 4
+    power(d) * noise_bound(n) / (2 * P)
 }
 
 // The unknowns of the shortness argument, L.

@@ -12,4 +12,4 @@ returns : tie.Need-returns
 returns c = rw (c .noise-bound .ensures, c .before .power .ensures .0)
 
 pub mask-bound-spec : {M : Type 1} → statement M
-mask-bound-spec = tie.close (tie.spec (λ c κs. search needs) (λ c κs. search needs) mul-result returns)
+mask-bound-spec = tie.close (tie.spec (λ c κs. search needs) (λ c κs. search needs) mul-result (λ c. search needs) (λ c. search needs) returns)
