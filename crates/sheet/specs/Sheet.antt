@@ -91,3 +91,6 @@ polynomials text = joined (lists (sheetOf text))
 abbrev pub filled : Reading → Bytes → Bytes → Bytes
 filled (Taken k) text d = put d 0 (polynomials text)
 filled (Refused n) text d = d
+
+unfoldable pub loaded : ℕ → Bytes → Bytes → Bytes
+loaded p text d = filled (reading p text) text d

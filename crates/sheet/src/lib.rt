@@ -6,7 +6,7 @@ mod writer;
 
 ghost use mathlib.Core.Path.{_≡_};
 ghost use Rattle.sheet.specs.Seen.{judged};
-ghost use Rattle.sheet.specs.Sheet.{reading, filled};
+ghost use Rattle.sheet.specs.Sheet.{reading, loaded};
 pub use bounds::mask_bound;
 pub use bounds::noise_bound;
 pub use bounds::outside;
@@ -106,7 +106,8 @@ pub fn read(text: &[u8]) -> Reading
 
 // Reads a sheet and puts its polynomials a, b, k1, k2, k3, in 40N bytes, at the head of the lent bytes. A refusal leaves them as they are.
 pub fn load(text: &[u8], out: &mut [u8; 81920]) -> Reading
-    ensures { λ r. ⌜ (r ≡ reading 2 (now (text .entry))) × (now (out .exit) ≡ filled r (now (text .entry)) (now (out .entry))) ⌝ }
+    ensures result { λ r. ⌜ r ≡ reading 2 (now (text .entry)) ⌝ }
+    ensures output { λ _. ⌜ now (out .exit) ≡ loaded 2 (now (text .entry)) (now (out .entry)) ⌝ }
 {
     let r = read(text);
     match r {

@@ -12,7 +12,7 @@ use Rattle.codec.specs.Reply.{test, first}
 use Rattle.codec.specs.declared.Reply.{Reply}
 use Rattle.codec.specs.declared.Reply.the-variants as reply
 use Rattle.codec.proofs.Laws.{length-put, part-put, put-append, put-whole}
-use Rattle.sheet.specs.Sheet.{reading, polynomials, filled}
+use Rattle.sheet.specs.Sheet.{reading, polynomials, loaded}
 use Rattle.sheet.specs.declared.Numbers.{Numbers}
 use Rattle.sheet.specs.declared.Reading.{Reading}
 use Rattle.sheet.specs.declared.Reading.the-variants.{Taken, Refused}
@@ -41,11 +41,11 @@ pub record Loaded (text : Bytes) (k : Numbers) (b : Bytes) : Type 0 where
   pub head : take (40 * k .ring) b ≡ polynomials text
   pub size : length (take (40 * k .ring) b) ≡ 40 * k .ring
 
-pub loaded : (p : ℕ) (text : Bytes) {k : Numbers} (r : Reading) (d b : Bytes) → r ≡ reading p text → r ≡ Taken k → b ≡ filled r text d → 81920 ≤ length d → Loaded text k b
-loaded p text {k} r d b e f g h =
-    let t : reading p text ≡ Taken k = sym e ∙ f in
+pub load-taken : (p : ℕ) (text : Bytes) {k : Numbers} (d b : Bytes) → reading p text ≡ Taken k → b ≡ loaded p text d → 81920 ≤ length d → Loaded text k b
+unfolding loaded
+load-taken p text {k} d b t g h =
     let l = length-polynomials p text t in
-    let w : b ≡ put d 0 (polynomials text) = g ∙ ap (λ (x : Reading). filled x text d) f in
+    let w : b ≡ put d 0 (polynomials text) = g ∙ rw t in
     let m : 0 + length (polynomials text) ≤ length d = omega (arith, taken p text t .ranged .ring-high) in
     let a : take (40 * k .ring) b ≡ polynomials text = rw (← l, w) (part-put d 0 (polynomials text) m) in
     record { fits = rw (w, length-put d 0 (polynomials text) m) (omega arith); head = a; size = ap length a ∙ l }

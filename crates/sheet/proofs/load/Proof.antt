@@ -2,6 +2,7 @@
 use mathlib.Core.Path.{sym, ap, _∙_}
 use native.Mathlib.Omega.{arith}
 use borrow.Author.Needs.{needs}
+use Rattle.sheet.specs.Sheet.{loaded}
 use Rattle.sheet.specs.declared.Numbers.{Numbers}
 use Rattle.sheet.proofs.Taken.{taken}
 use Rattle.sheet.proofs.load.Statement.{statement}
@@ -13,7 +14,16 @@ write-lists-requires c κs =
     record { form = t .form; ring = ap (λ (k : Numbers). k .ring) (t .numbers); fit = t .fit; space = omega (arith, t .ranged .ring-high) }
 
 returns : tie.Need-returns
-returns c = (sym (c .before .before .before .r .given .1) ∙ c .before .before .before .before .before .read .ensures, c .write-lists .ensures)
+unfolding loaded
+returns c =
+    let e = sym (c .before .before .before .before .before .read .ensures) ∙ c .before .before .before .r .given .1 in
+    (sym e, rw e (c .write-lists .ensures))
+
+returns-2 : tie.Need-returns-2
+unfolding loaded
+returns-2 c =
+    let e = sym (c .before .before .read .ensures) ∙ c .enum-told .given .1 in
+    (c .before .before .read .ensures, rw e)
 
 pub load-spec : {M : Type 1} → statement M
-load-spec = tie.close (tie.spec (λ c κs. search needs) (λ c. search needs) write-lists-requires (λ c. search needs) returns (λ c. search needs))
+load-spec = tie.close (tie.spec (λ c κs. search needs) (λ c. search needs) write-lists-requires (λ c. search needs) returns returns-2)

@@ -8,7 +8,7 @@ use Rattle.codec.proofs.Laws.{put-whole}
 use Rattle.sheet.specs.declared.Numbers.{Numbers}
 use Rattle.sheet.proofs.Taken.{taken}
 use Rattle.sheet_calls.specs.Calls.{polynomialsReply, polynomialsOut}
-use Rattle.sheet_calls.proofs.Answers.{refused, wrong-length, is-taken, loaded}
+use Rattle.sheet_calls.proofs.Answers.{refused, wrong-length, is-taken, load-taken}
 use Rattle.sheet_calls.proofs.polynomials.Statement.{statement}
 use Rattle.sheet_calls.proofs.polynomials.Tie as tie
 
@@ -27,17 +27,17 @@ returns c =
 array-share-prefix-buffer : tie.Need-array-share-prefix-buffer
 array-share-prefix-buffer c =
     let l = c .before .before .before .before .before .load in
-    loaded 2 _ (l .result) _ _ (l .ensures .0) (c .before .before .before .r2 .given .1) (l .ensures .1) (omega arith) .fits
+    load-taken 2 _ _ _ (sym (l .ensures .0) ∙ c .before .before .before .r2 .given .1) (l .ensures .1) (omega arith) .fits
 
 slice-aggregate-copy : tie.Need-slice-aggregate-copy
 slice-aggregate-copy c =
     let l = c .before .before .before .before .before .before .load in
-    sym (loaded 2 _ (l .result) _ _ (l .ensures .0) (c .before .before .before .before .r2 .given .1) (l .ensures .1) (omega arith) .size)
+    sym (load-taken 2 _ _ _ (sym (l .ensures .0) ∙ c .before .before .before .before .r2 .given .1) (l .ensures .1) (omega arith) .size)
 
 copy-requires : tie.Need-copy-requires
 copy-requires c κs =
     let l = c .before .before .before .before .before .before .load in
-    let s = loaded 2 _ (l .result) _ _ (l .ensures .0) (c .before .before .before .before .r2 .given .1) (l .ensures .1) (omega arith) .size in
+    let s = load-taken 2 _ _ _ (sym (l .ensures .0) ∙ c .before .before .before .before .r2 .given .1) (l .ensures .1) (omega arith) .size in
     omega (arith, s, c .before .before .if1 .left)
 
 returns-2 : tie.Need-returns-2
@@ -56,7 +56,7 @@ returns-3 c =
     let n = taken 2 (a .text .now) r .numbers in
     let i = c .before .before .before .before .before .if1 .left in
     let e = is-taken 2 (a .text .now) _ (a .out .now) r (i ∙ sym (ap (λ (k : Numbers). 40 * k .ring) n)) in
-    let s = loaded 2 (a .text .now) (l .result) _ _ (l .ensures .0) (c .before .before .before .before .before .before .before .r2 .given .1) (l .ensures .1) (omega arith) in
+    let s = load-taken 2 (a .text .now) _ _ r (l .ensures .1) (omega arith) in
     (sym e, rw e (c .before .before .copy .ensures ∙ put-whole (a .out .now) _ (s .size ∙ sym i) ∙ s .head))
 
 pub polynomials-spec : {M : Type 1} → statement M
