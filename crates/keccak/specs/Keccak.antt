@@ -27,6 +27,10 @@ five f = f 0 ∷ f 1 ∷ f 2 ∷ f 3 ∷ f 4 ∷ []
 abbrev pub lanes : (ℕ → ℕ → ℕ) → State
 lanes f = five (λ y. five (λ x. f x y))
 
+-- bit z of a lane
+unfoldable pub bit : ℕ → ℕ → ℕ
+bit l z = l / 2 ^ z % 2
+
 -- a lane rotated left by n of its 64 places
 unfoldable pub rotate : ℕ → ℕ → ℕ
 rotate l n = l * 2 ^ n % 2 ^ 64 + l / 2 ^ (64 - n)

@@ -1,2 +1,3 @@
+pub mod Complemented
 pub mod Keccak
 pub mod Tables

@@ -1,7 +1,8 @@
 // The permutation Keccak-f[1600] of FIPS 202, section 3: five rows of five lanes, by value.
 ghost use mathlib.Core.Path.{_≡_};
 ghost use Prim.Native.Nat.{_<_};
-ghost use Rattle.keccak.specs.Keccak.{rotate, xorRow, parity, effect, theta, rho, rhoRow, pi, chi, chiRow, iota, round, keccak, Offsets};
+ghost use Rattle.keccak.specs.Keccak.{rotate, xorRow, parity, effect, theta, rho, rhoRow, pi, iota, keccak, Offsets};
+ghost use Rattle.keccak.specs.Complemented.{flipped, six, chiRow0, chiRow1, chiRow2, chiRow3, chiRow4, chiFlipped, roundFlipped};
 
 // The rotation offsets of FIPS 202, table 2, modulo 64: row y, column x.
 const OFFSETS: [[u32; 5]; 5] = [
@@ -94,27 +95,76 @@ fn theta_step(s: [[u64; 5]; 5]) -> [[u64; 5]; 5]
     ]
 }
 
-fn chi_row(r: [u64; 5]) -> [u64; 5]
-    ensures { λ q. ⌜ q ≡ chiRow r ⌝ }
+// Chi on the five rows of a state whose lanes stand complemented as theta, rho and pi leave them.
+fn chi_row0(r: [u64; 5]) -> [u64; 5]
+    ensures { λ q. ⌜ q ≡ chiRow0 r ⌝ }
+{
+    [
+        r[0] ^ (r[1] | r[2]),
+        r[1] ^ (!r[2] | r[3]),
+        r[2] ^ (r[3] & r[4]),
+        r[3] ^ (r[4] | r[0]),
+        r[4] ^ (r[0] & r[1]),
+    ]
+}
+
+fn chi_row1(r: [u64; 5]) -> [u64; 5]
+    ensures { λ q. ⌜ q ≡ chiRow1 r ⌝ }
+{
+    [
+        r[0] ^ (r[1] | r[2]),
+        r[1] ^ (r[2] & r[3]),
+        r[2] ^ (r[3] | !r[4]),
+        r[3] ^ (r[4] | r[0]),
+        r[4] ^ (r[0] & r[1]),
+    ]
+}
+
+fn chi_row2(r: [u64; 5]) -> [u64; 5]
+    ensures { λ q. ⌜ q ≡ chiRow2 r ⌝ }
+{
+    [
+        r[0] ^ (r[1] | r[2]),
+        r[1] ^ (r[2] & r[3]),
+        r[2] ^ (!r[3] & r[4]),
+        !r[3] ^ (r[4] | r[0]),
+        r[4] ^ (r[0] & r[1]),
+    ]
+}
+
+fn chi_row3(r: [u64; 5]) -> [u64; 5]
+    ensures { λ q. ⌜ q ≡ chiRow3 r ⌝ }
+{
+    [
+        r[0] ^ (r[1] & r[2]),
+        r[1] ^ (r[2] | r[3]),
+        r[2] ^ (!r[3] | r[4]),
+        !r[3] ^ (r[4] & r[0]),
+        r[4] ^ (r[0] | r[1]),
+    ]
+}
+
+fn chi_row4(r: [u64; 5]) -> [u64; 5]
+    ensures { λ q. ⌜ q ≡ chiRow4 r ⌝ }
 {
     [
         r[0] ^ (!r[1] & r[2]),
-        r[1] ^ (!r[2] & r[3]),
-        r[2] ^ (!r[3] & r[4]),
-        r[3] ^ (!r[4] & r[0]),
-        r[4] ^ (!r[0] & r[1]),
+        !r[1] ^ (r[2] | r[3]),
+        r[2] ^ (r[3] & r[4]),
+        r[3] ^ (r[4] | r[0]),
+        r[4] ^ (r[0] & r[1]),
     ]
 }
 
 fn chi_step(s: [[u64; 5]; 5]) -> [[u64; 5]; 5]
-    ensures { λ r. ⌜ r ≡ chi s ⌝ }
+    ensures { λ r. ⌜ r ≡ chiFlipped s ⌝ }
 {
     [
-        chi_row(s[0]),
-        chi_row(s[1]),
-        chi_row(s[2]),
-        chi_row(s[3]),
-        chi_row(s[4]),
+        chi_row0(s[0]),
+        chi_row1(s[1]),
+        chi_row2(s[2]),
+        chi_row3(s[3]),
+        chi_row4(s[4]),
     ]
 }
 
@@ -163,11 +213,24 @@ fn iota_step(s: [[u64; 5]; 5], c: u64) -> [[u64; 5]; 5]
     t
 }
 
-// A round, with its constant c.
+// A round, with its constant c, of a state with six lanes complemented.
 fn round_step(s: [[u64; 5]; 5], c: u64) -> [[u64; 5]; 5]
-    ensures { λ r. ⌜ r ≡ round s c ⌝ }
+    ensures { λ r. ⌜ r ≡ roundFlipped s c ⌝ }
 {
     iota_step(chi_step(pi_step(rho_step(theta_step(s)))), c)
+}
+
+// The six lanes complemented: chi then takes 8 complements in a round and not 25.
+fn complemented(s: [[u64; 5]; 5]) -> [[u64; 5]; 5]
+    ensures { λ r. ⌜ r ≡ flipped six s ⌝ }
+{
+    [
+        [s[0][0], !s[0][1], !s[0][2], s[0][3], s[0][4]],
+        [s[1][0], s[1][1], s[1][2], !s[1][3], s[1][4]],
+        [s[2][0], s[2][1], !s[2][2], s[2][3], s[2][4]],
+        [s[3][0], s[3][1], !s[3][2], s[3][3], s[3][4]],
+        [!s[4][0], s[4][1], s[4][2], s[4][3], s[4][4]],
+    ]
 }
 
 // The permutation Keccak-f[1600].
@@ -175,12 +238,12 @@ pub fn permute(s: [[u64; 5]; 5]) -> [[u64; 5]; 5]
     ensures { λ r. ⌜ r ≡ keccak s ⌝ }
 {
     let table = CONSTANTS;
-    let mut t = s;
+    let mut t = complemented(s);
     let mut k = 0;
     while k < 24 {
         let u = round_step(t, table[k]);
         t = u;
         k += 1;
     }
-    t
+    complemented(t)
 }

@@ -5,11 +5,12 @@ use mathlib.Core.List.{List, [], _∷_}
 use Prim.Native.Nat.{ℕ, zero, suc, _+_, _-_, _*_, _%_, _^_, _<_}
 use native.Mathlib.Omega.{arith}
 use lib.Dec.{eqb}
-use lib.ListN.{length, getD}
+use lib.ListN.{getD}
 use Rattle.keccak.specs.Keccak as lanes
 use Rattle.keccak.specs.Keccak.{State, lane, offsets, constants, keccak}
-use Rattle.keccak_bits.specs.Bits.{Bits, bit, view, _⊕_, columnParity, theta, rho, pi, chi, iota, round, rounds}
-use Rattle.keccak_bits.proofs.Steps.{Words, below, below-at, theta-words, theta-bits, rho-words, rho-bits, pi-words, pi-bits, chi-words, chi-bits, iota-words, iota-bits}
+use Rattle.keccak_bits.specs.Bits.{Bits, view, _⊕_, columnParity, theta, rho, pi, chi, iota, round, rounds}
+use Rattle.keccak.proofs.Lanes.{Words, constant-lt, theta-words, rho-words, pi-words, before-iota, rounds-words}
+use Rattle.keccak_bits.proofs.Steps.{theta-bits, rho-bits, pi-bits, chi-bits, iota-bits}
 
 -- two state arrays agree within the state
 pub record Agree (A B : Bits) : Type 0 where
@@ -57,57 +58,32 @@ round-agree e c = iota-agree (chi-agree (pi-agree (rho-agree (theta-agree e)))) 
 
 -- ---- a round
 
-chi-rows : (s : State) → 0 < length (lanes.chi s)
-unfolding lanes.chi
-chi-rows s = omega arith
-
-chi-columns : (s : State) → 0 < length (getD (lanes.chi s) 0 [])
-unfolding lanes.chi lanes.chiRow
-chi-columns s = omega arith
-
-module _ (s : State) (w : Words s) (c : ℕ) (hc : c < 2 ^ 64) where
-  wt : Words (lanes.theta s)
-  wt = theta-words s w
-
-  wr : Words (lanes.rho (lanes.theta s))
-  wr = rho-words (lanes.theta s) wt
-
-  wp : Words (lanes.pi (lanes.rho (lanes.theta s)))
-  wp = pi-words (lanes.rho (lanes.theta s)) wr
-
-  wc : Words (lanes.chi (lanes.pi (lanes.rho (lanes.theta s))))
-  wc = chi-words (lanes.pi (lanes.rho (lanes.theta s))) wp
-
-  round-words : Words (lanes.round s c)
-  unfolding lanes.round
-  round-words = iota-words _ wc c hc (chi-rows _) (chi-columns _)
-
-  round-bits : Agree (view (lanes.round s c)) (round (view s) c)
-  unfolding lanes.round round
-  round-bits =
-      let bt : Agree (view (lanes.theta s)) (theta (view s)) = record { same = theta-bits s w } in
-      let br : Agree (view (lanes.rho (lanes.theta s))) (rho (theta (view s))) = chain (record { same = rho-bits (lanes.theta s) wt }) (rho-agree bt) in
-      let bp : Agree (view (lanes.pi (lanes.rho (lanes.theta s)))) (pi (rho (theta (view s)))) =
-      chain (record { same = pi-bits (lanes.rho (lanes.theta s)) wr }) (pi-agree br) in
-      let bc : Agree (view (lanes.chi (lanes.pi (lanes.rho (lanes.theta s))))) (chi (pi (rho (theta (view s))))) =
-      chain (record { same = chi-bits (lanes.pi (lanes.rho (lanes.theta s))) wp }) (chi-agree bp) in
-      chain (record { same = λ x y z hx hy hz. iota-bits _ wc c hc (chi-rows _) (chi-columns _) x y z }) (iota-agree bc c)
+round-bits : (s : State) → Words s → (c : ℕ) → c < 2 ^ 64 → Agree (view (lanes.round s c)) (round (view s) c)
+unfolding lanes.round round
+round-bits s w c hc =
+    let t = lanes.theta s in
+    let r = lanes.rho t in
+    let p = lanes.pi r in
+    let wt = theta-words s w in
+    let wr = rho-words t wt in
+    let wp = pi-words r wr in
+    let b = before-iota s w in
+    let bt : Agree (view t) (theta (view s)) = record { same = theta-bits s w } in
+    let br : Agree (view r) (rho (theta (view s))) = chain (record { same = rho-bits t wt }) (rho-agree bt) in
+    let bp : Agree (view p) (pi (rho (theta (view s)))) = chain (record { same = pi-bits r wr }) (pi-agree br) in
+    let bc : Agree (view (lanes.chi p)) (chi (pi (rho (theta (view s))))) = chain (record { same = chi-bits p wp }) (chi-agree bp) in
+    chain (record { same = λ x y z hx hy hz. iota-bits (lanes.chi p) (b .words) c hc (b .rows) (b .columns) x y z }) (iota-agree bc c)
 
 -- ---- the permutation
 
-constant-lt : (n : ℕ) → getD constants n 0 < 2 ^ 64
-unfolding below
-constant-lt n = below-at (2 ^ 64) (omega arith) constants refl n
-
-rounds-both : (n : ℕ) (s : State) → Words s → Words (lanes.rounds n s) × Agree (view (lanes.rounds n s)) (rounds n (view s))
+rounds-bits : (n : ℕ) (s : State) → Words s → Agree (view (lanes.rounds n s)) (rounds n (view s))
 unfolding lanes.rounds rounds
-rounds-both zero s w = (w, record { same = λ x y z hx hy hz. refl })
-rounds-both (suc n) s w =
-    let r = rounds-both n s w in
+rounds-bits zero s w = record { same = λ x y z hx hy hz. refl }
+rounds-bits (suc n) s w =
     let c = getD constants n 0 in
-    (round-words (lanes.rounds n s) (r .0) c (constant-lt n), chain (round-bits (lanes.rounds n s) (r .0) c (constant-lt n)) (round-agree (r .1) c))
+    chain (round-bits (lanes.rounds n s) (rounds-words n s w) c (constant-lt n)) (round-agree (rounds-bits n s w) c)
 
 -- for every state of 64-bit lanes
 pub keccak-bits : (s : State) → Words s → Agree (view (keccak s)) (rounds 24 (view s))
 unfolding keccak
-keccak-bits s w = rounds-both 24 s w .1
+keccak-bits s w = rounds-bits 24 s w

@@ -1,11 +1,11 @@
 -- `keccak::chi_step` meets its contract. Assumes nothing.
 use borrow.Author.Needs.{needs}
-use Rattle.keccak.specs.Keccak.{chi}
+use Rattle.keccak.specs.Complemented.{chiFlipped}
 use Rattle.keccak.proofs.chi_step.Statement.{statement}
 use Rattle.keccak.proofs.chi_step.Tie as tie
 
 returns : tie.Need-returns
-unfolding chi
+unfolding chiFlipped
 returns c = cc
 
 pub chi-step-spec : {M : Type 1} → statement M

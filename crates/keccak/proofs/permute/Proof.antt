@@ -1,37 +1,51 @@
 -- `keccak::permute` meets its contract. Assumes nothing.
-use mathlib.Core.Path.{_≡_, refl, sym, ap, _∙_}
-use Prim.Native.Nat.{ℕ, _≤_, _-_, _+_}
-use native.Mathlib.Omega.{arith}
+use mathlib.Core.Path.{_≡_, refl, sym, ap, ap₂, subst⁻¹, _∙_}
+use Prim.Native.Nat.{ℕ, _≤_, _-_}
 use native.Mathlib.Numerals.{add-one}
+use native.Mathlib.Omega.{arith}
 use borrow.Author.Needs.{needs}
-use lib.ListN.{getD}
-use Rattle.keccak.specs.Keccak.{State, round, rounds, constants, keccak}
+use Rattle.keccak.specs.Keccak.{State, rounds, keccak}
+use Rattle.keccak.specs.Complemented.{flipped, six}
+use Rattle.keccak.proofs.Flips.{back, undone, next-flipped}
+use Rattle.keccak.proofs.Lanes.{Words, rounds-words}
+use Rattle.keccak.proofs.Shape.{array-shape, array-words, keccak-shape}
 use Rattle.keccak.proofs.permute.Statement.{statement}
 use Rattle.keccak.proofs.permute.Tie as tie
 
+-- t has the six lanes of k rounds complemented; t₀ has those of the state that was passed
 abbrev Inv-loop : tie.InvT-loop
-Inv-loop table t₀ k₀ t k = (k ≤ 24) × (t ≡ rounds k t₀)
+Inv-loop table t₀ k₀ t k = (k ≤ 24) × (t ≡ flipped six (rounds k (flipped six t₀))) × Words (flipped six t₀)
 
 abbrev μ-loop : tie.MeasureT-loop
 μ-loop table t₀ k₀ t k = 24 - k
 
 loop-holds : tie.Need-loop-holds Inv-loop μ-loop
 unfolding rounds
-loop-holds c = (omega arith, refl)
+loop-holds c =
+    let s = c .before .args .s in
+    let w : Words s = record { word = λ x y hx hy. array-words s _ (c .before .good .0) x y } in
+    let e = undone s (c .complemented .result) w (array-shape _ _ s _ (c .before .good .0)) (c .complemented .ensures) in
+    (omega arith, c .complemented .ensures ∙ ap (flipped six) (sym e), subst⁻¹ Words e w)
 
 loop-again : tie.Need-loop-again Inv-loop μ-loop
-unfolding rounds
 loop-again c =
-    let k = c .before .before .loop .k in
-    (omega arith, rw (add-one k) (c .round-step .ensures ∙ ap (λ (s : State). round s (getD constants k 0)) (c .before .before .loop .inv .1)))
+    let l = c .before .before .loop in
+    let t₀ = c .before .before .before .complemented .result in
+    (omega arith, rw (add-one (l .k)) (next-flipped (l .k) (flipped six t₀) (l .t) _ (l .inv .2) (l .inv .1) (c .round-step .ensures)), l .inv .2)
 
 returns : tie.Need-returns Inv-loop μ-loop
 unfolding keccak
 returns c =
-    let e : c .before .loop .k ≡ 24 = omega arith in
-    c .before .loop .inv .1 ∙ ap (λ (k : ℕ). rounds k (c .before .before .args .s)) e
+    let st = c .before .before .before .before in
+    let s = st .args .s in
+    let w : Words s = record { word = λ x y hx hy. array-words s _ (st .good .0) x y } in
+    let d = c .before .before .before .complemented in
+    let e = undone s (d .result) w (array-shape _ _ s _ (st .good .0)) (d .ensures) in
+    let l = c .before .before .loop in
+    let n : l .k ≡ 24 = omega arith in
+    c .complemented2 .ensures
+    ∙ ap (flipped six) (l .inv .1 ∙ ap₂ (λ (k : ℕ) (x : State). flipped six (rounds k x)) n e)
+    ∙ back six (rounds 24 s) (rounds-words 24 s w) (keccak-shape s)
 
 pub permute-spec : {M : Type 1} → statement M
-permute-spec =
-    tie.close
-    (tie.spec Inv-loop μ-loop loop-holds (λ c. omega arith) (λ c. omega arith) (λ c κs. search needs) (λ c. omega arith) (λ c. omega arith) loop-again returns)
+permute-spec = tie.close (tie.spec Inv-loop μ-loop (λ c κs. search needs) loop-holds (λ c. search needs) (λ c. search needs) (λ c κs. search needs) (λ c. search needs) (λ c. search needs) loop-again (λ c κs. search needs) returns)

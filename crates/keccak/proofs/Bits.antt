@@ -7,9 +7,8 @@ use native.Mathlib.Omega.{arith}
 use lib.Arith.{digits-lt}
 use lib.Bits.{bitXor, bitAnd, xor-shr, xor-mod, and-shr, and-mod}
 use lib.Pow.{pow-pos, pow-add, shr-shr, shr-lt, field, split, high, mod-mod-pow}
-use Rattle.keccak.specs.Keccak.{rotate, complement}
+use Rattle.keccak.specs.Keccak.{bit, rotate, complement}
 use Rattle.keccak.proofs.Rotation.{kept}
-use Rattle.keccak_bits.specs.Bits.{bit, _⊕_}
 
 xor-bits : (a b : ℕ) → a < 2 → b < 2 → bitXor a b ≡ (a + b) % 2
 xor-bits zero zero ha hb = refl
@@ -29,7 +28,7 @@ and-bits (suc zero) (suc zero) ha hb = refl
 and-bits (suc zero) (suc (suc b)) ha hb = absurd (omega arith)
 and-bits (suc (suc a)) b ha hb = absurd (omega arith)
 
-pub bit-xor : (a b z : ℕ) → bit (bitXor a b) z ≡ bit a z ⊕ bit b z
+pub bit-xor : (a b z : ℕ) → bit (bitXor a b) z ≡ (bit a z + bit b z) % 2
 unfolding bit
 bit-xor a b z =
     ap (λ (n : ℕ). n % 2) (xor-shr a b z) ∙ xor-mod (a / 2 ^ z) (b / 2 ^ z) 1 ∙ xor-bits (a / 2 ^ z % 2) (b / 2 ^ z % 2) (omega arith) (omega arith)
@@ -47,7 +46,7 @@ flipped l h r c P Q e hr s =
     let m : c * P + h * P + P ≡ 2 * Q * P = sym (add-mul (c + h) 1 P ∙ ap₂ (λ (x y : ℕ). x + y) (add-mul c h P) (one-mul P)) ∙ ap (λ (x : ℕ). x * P) s in
     omega arith
 
-pub bit-complement : (l z : ℕ) → l < 2 ^ 64 → z < 64 → bit (complement l) z ≡ bit l z ⊕ 1
+pub bit-complement : (l z : ℕ) → l < 2 ^ 64 → z < 64 → bit (complement l) z ≡ (bit l z + 1) % 2
 unfolding bit complement
 bit-complement l z hl hz =
     let P = 2 ^ z in
