@@ -5,36 +5,58 @@ use sheet::Numbers;
 use sheet::Reading;
 ghost use mathlib.Core.Path.{_≡_};
 ghost use mathlib.Core.Bool.{false};
+ghost use Prim.Native.Nat.{_+_, _≤_};
+ghost use lib.ListN.{length, take};
+ghost use Rattle.io.specs.Counts.{Counts};
 ghost use Rattle.sheet.specs.Sheet.{outside};
+ghost use Rattle.sheet.specs.declared.Reading.the-variants.{Taken};
+ghost use Rattle.sheet_program.specs.Print.{line, printedBy, printed, Puts};
 
-// Writes a line: a key with its =, and a number.
-fn line(key: &[u8], n: u64) {
-    io::write_all(STDOUT_FILENO, key);
-    io::print_decimal(STDOUT_FILENO, n);
-    io::write_all(STDOUT_FILENO, b"\n");
+// Puts a line into out at a place: a key with its =, and a number. Answers the place after it.
+fn put_line(out: &mut [u8], at: usize, key: &[u8], n: u64) -> usize
+    requires { ⌜ at + (length (now key) + 21) ≤ length (now out) ⌝ }
+    ensures line { λ r. ⌜ Puts (now (out .entry)) at (line (now (key .entry)) n) r (now (out .exit)) ⌝ }
+    ensures room { λ r. ⌜ r ≤ at + (length (now (key .entry)) + 21) ⌝ }
+{
+    let mut digits = [0u8; 20];
+    let k = io::decimal(n, &mut digits);
+    codec::copy(out, at, key);
+    codec::copy(out, at + key.len(), &digits[..k]);
+    codec::write8(out, at + key.len() + k, 10);
+    at + key.len() + k + 1
 }
 
-// The lines of a sheet that is taken.
-fn show(k: Numbers)
-    requires { ⌜ outside k ≡ false ⌝ }
+// The lines of a sheet that is taken, at the head of out.
+fn show(k: Numbers, out: &mut [u8]) -> usize
+    requires { ⌜ (outside k ≡ false) × (length (now out) ≡ 160) ⌝ }
+    ensures { λ r. ⌜ Puts (now (out .entry)) 0 (printedBy 2 (Taken k)) r (now (out .exit)) ⌝ }
 {
-    line(b"verdict=", 0);
-    line(b"ring=", k.ring);
-    line(b"noise=", sheet::noise_bound(k.ring));
-    line(b"mask=", sheet::mask_bound(k.ring, k.drown));
-    line(b"unknowns=", sheet::unknowns(k.ring));
+    let a1 = put_line(out, 0, b"verdict=", 0);
+    let a2 = put_line(out, a1, b"ring=", k.ring);
+    let a3 = put_line(out, a2, b"noise=", sheet::noise_bound(k.ring));
+    let a4 = put_line(out, a3, b"mask=", sheet::mask_bound(k.ring, k.drown));
+    put_line(out, a4, b"unknowns=", sheet::unknowns(k.ring))
+}
+
+// Puts what the program prints at the head of out, and answers how many bytes that is.
+fn report(text: &[u8], out: &mut [u8; 160]) -> usize
+    ensures count { λ r. ⌜ Counts r (now (out .exit)) ⌝ }
+    ensures output { λ r. ⌜ take r (now (out .exit)) ≡ printed 2 (now (text .entry)) ⌝ }
+{
+    if 65536 < text.len() {
+        return put_line(out, 0, b"verdict=", 1);
+    }
+    let r = sheet::read(text);
+    match r {
+        Reading::Taken(k) => show(k, out),
+        Reading::Refused { number } => put_line(out, 0, b"verdict=", number as u64),
+    }
 }
 
 fn main() {
     let mut text = [0u8; 65537];
     let n = io::read_full(STDIN_FILENO, &mut text);
-    if 65536 < n {
-        line(b"verdict=", 1);
-        return;
-    }
-    let r = sheet::read(&text[..n]);
-    match r {
-        Reading::Taken(k) => show(k),
-        Reading::Refused { number } => line(b"verdict=", number as u64),
-    }
+    let mut out = [0u8; 160];
+    let m = report(&text[..n], &mut out);
+    io::write_all(STDOUT_FILENO, &out[..m]);
 }
