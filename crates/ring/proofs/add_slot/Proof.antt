@@ -8,7 +8,7 @@ use Rattle.ring.proofs.add_slot.Statement.{statement}
 use Rattle.ring.proofs.add_slot.Tie as tie
 
 returns : tie.Need-returns
-returns c = 
+returns c =
     let a = c .before .before .before .before .before .args in
     c .before .before .combine-slot .ensures ∙ ap (λ (f : Poly). store (a .q) (a .n) (a .work .now) (a .at) (plus (slot (a .work .now) (a .at)) f)) (scale-one (slot (a .work .now) (a .from)))
 

@@ -21,13 +21,13 @@ loop-holds c = (omega arith, columns-none _ _ 0 0 0 0)
 
 loop-again : tie.Need-loop-again Inv-loop μ-loop
 unfolding slot
-loop-again c = 
+loop-again c =
     let p = c .before .before .before .before .before .pre .1 in
     let l = c .before .before .before .loop in (
       omega arith,
       columns-more _ _ (l .j) _ _ _ (l .inv .1) (c .before .read64 .result) (c .read642 .result) (c .before .read64 .ensures) (c .read642 .ensures)
-      (rw (c .before .read64 .ensures) (p .0 .at (l .j) (omega arith)))
-      (rw (c .read642 .ensures) (p .1 .at (l .j) (omega arith))),
+          (rw (c .before .read64 .ensures) (p .0 .at (l .j) (omega arith)))
+          (rw (c .read642 .ensures) (p .1 .at (l .j) (omega arith))),
     )
 
 mul-lo : tie.Need-mul-lo Inv-loop μ-loop
@@ -55,7 +55,7 @@ add-hi : tie.Need-add-hi Inv-loop μ-loop
 add-hi c = record { fits = columns-room _ _ _ _ _ _ (loop-again c .1) (omega arith) .2 }
 
 returns : tie.Need-returns Inv-loop μ-loop
-returns c = 
+returns c =
     let a = c .before .before .before .args in
     let l = c .before .loop in
     let e : l .j ≡ a .n = omega arith in

@@ -10,7 +10,7 @@ returns : tie.Need-returns
 returns c = rw (c .before .if1 .taken) (c .subtract .ensures)
 
 returns-2 : tie.Need-returns-2
-returns-2 c = 
+returns-2 c =
     let a = c .before .before .args in
     rw (c .before .if1 .left) (c .add .ensures ∙ ap (λ (n : ℕ). (a .x + n) % a .q) (sym (one-mul (a .y))))
 

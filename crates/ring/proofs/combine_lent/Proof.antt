@@ -31,14 +31,14 @@ loop-holds : tie.Need-loop-holds Inv-loop μ-loop
 loop-holds c = (omega arith, refl, filled-none _ _ _)
 
 combine-requires : tie.Need-combine-requires Inv-loop μ-loop
-combine-requires c κs = 
+combine-requires c κs =
     let p = c .before .before .before .before .before .before .before .pre in
     let i = c .before .before .before .before .loop .i in
     (rw (x-is c) (p .3 .at i (omega arith)), rw (y-is c) (p .4 .at i (omega arith)), omega arith)
 
 loop-again : tie.Need-loop-again Inv-loop μ-loop
 unfolding modulo plus scale
-loop-again c = 
+loop-again c =
     let a = c .before .before .before .before .before .before .before .before .before .before .before .before .args in
     let l = c .before .before .before .before .before .before .before .before .before .loop in (
       omega arith,
@@ -51,7 +51,7 @@ same-length c = c .before .loop .inv .1
 
 returns : tie.Need-returns Inv-loop μ-loop
 unfolding store
-returns c = 
+returns c =
     let a = c .before .before .before .before .args in
     let l = c .before .loop in
     let e : l .i ≡ a .n = omega arith in

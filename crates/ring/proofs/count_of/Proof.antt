@@ -25,7 +25,7 @@ unfolding count
 loop-holds c = (omega arith, omega arith, refl)
 
 loop-again : tie.Need-loop-again Inv-loop μ-loop
-loop-again c = 
+loop-again c =
     let a = c .before .before .before .before .args in
     let l = c .before .before .before .loop in
     let m = count-more (a .v) (a .t .now) (l .i) (omega arith) in (

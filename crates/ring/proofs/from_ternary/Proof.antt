@@ -16,14 +16,14 @@ returns c = rw (eq-eqb (c .before .args .b) 1 (c .if1 .taken)) (sym (mod-eq-of-l
 
 returns-2 : tie.Need-returns-2
 unfolding remainder meaning
-returns-2 c = 
+returns-2 c =
     let q = c .before .before .args .q in
     rw (ne-eqb (c .before .before .args .b) 1 (c .before .if1 .left), eq-eqb (c .before .before .args .b) 2 (c .if2 .taken), mod-eq-of-lt {n = 1} {m = q} (omega arith))
     (sym (mod-eq-of-lt {n = q - 1} {m = q} (omega arith)))
 
 returns-3 : tie.Need-returns-3
 unfolding remainder meaning
-returns-3 c = 
+returns-3 c =
     let q = c .before .before .args .q in
     rw (ne-eqb (c .before .before .args .b) 1 (c .before .if1 .left), ne-eqb (c .before .before .args .b) 2 (c .if2 .left))
     (sym (mod-eq-of-lt {n = 0} {m = q} (omega arith)))

@@ -20,7 +20,7 @@ loop-holds c = (omega arith, refl, filled-none _ _ _)
 
 loop-again : tie.Need-loop-again Inv-loop μ-loop
 unfolding ternary
-loop-again c = 
+loop-again c =
     let a = c .before .before .before .before .before .before .before .before .before .before .args in
     let l = c .before .before .before .before .before .before .before .loop in (
       omega arith,
@@ -32,7 +32,7 @@ same-length : tie.Need-same-length Inv-loop μ-loop
 same-length c = c .before .loop .inv .1
 
 returns : tie.Need-returns Inv-loop μ-loop
-returns c = 
+returns c =
     let a = c .before .before .before .before .args in
     let l = c .before .loop in
     let e : l .i ≡ length (a .t .now) = omega arith in

@@ -21,7 +21,7 @@ loop-holds c = (omega arith, refl, filled-none _ _ _)
 
 loop-again : tie.Need-loop-again Inv-loop μ-loop
 unfolding modulo
-loop-again c = 
+loop-again c =
     let a = c .before .before .before .before .before .before .before .before .before .args in
     let l = c .before .before .before .before .before .before .loop in (
       omega arith,
@@ -34,7 +34,7 @@ same-length c = c .before .loop .inv .1
 
 returns : tie.Need-returns Inv-loop μ-loop
 unfolding store
-returns c = 
+returns c =
     let a = c .before .before .before .before .args in
     let l = c .before .loop in
     let e : l .j ≡ 2 * a .n = omega arith in

@@ -16,7 +16,7 @@ negate-requires c κs = (rw (c .read642 .ensures) (c .before .before .before .pr
 
 returns : tie.Need-returns
 unfolding poly
-returns c = 
+returns c =
     let a = c .before .before .before .args in
     let l : a .n - 1 - a .j < a .n = omega arith in
     c .read64 .ensures ∙ sym (mod-eq-of-lt (c .before .before .before .pre .3 .at (a .n - 1 - a .j) l))
@@ -24,7 +24,7 @@ returns c =
 
 returns-2 : tie.Need-returns-2
 unfolding poly
-returns-2 c = 
+returns-2 c =
     let a = c .before .before .before .before .args in
     let e : 2 * a .n - 1 - a .j ≡ a .n + (a .n - 1) - a .j = omega arith in
     c .negate .ensures ∙ ap (λ (x : ℕ). (a .q - 1) * x % a .q) (c .before .read642 .ensures ∙ ap (λ (k : ℕ). number (part (a .a .now) (8 * k) 8)) e)
