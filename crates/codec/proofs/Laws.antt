@@ -2,15 +2,15 @@
 use mathlib.Core.Path.{_≡_, refl, sym, ap, ap₂, _∙_}
 use mathlib.Core.Bool.{Bool, true, false, _&&_}
 use mathlib.Core.List.{List, [], _∷_, _++_, append-nil, append-assoc}
-use Prim.Native.Nat.{ℕ, zero, suc, _+_, _-_, _≤_, _<_}
+use Prim.Native.Nat.{ℕ, zero, suc, _+_, _-_, min, _≤_, _<_}
 use native.Mathlib.Nat.{add-assoc, zero-add, add-zero, suc-add}
 use native.Mathlib.Numerals.{add-one}
 use native.Mathlib.Omega.{arith}
 use borrow.Author.Tests.{eqb-true, eq-eqb}
 use lib.Dec.{eqb}
-use lib.ListN.{length, take, drop, getD, set, length-append, length-take, length-drop, take-append-drop}
-use lib.Seq.{paste, length-take-le, take-length, take-all, drop-length, drop-drop, take-take, take-add, take-nil, take-at, drop-at, take-append-le, drop-append-le, take-append-add, drop-append-add, set-split}
-use Rattle.codec.specs.Bytes.{Bytes, part, put, same}
+use lib.ListN.{length, take, drop, getD, set, length-append, length-take, length-drop, take-append-drop, drop-of-length-le, length-replicate, getD-replicate}
+use lib.Seq.{paste, length-take-le, take-length, take-all, drop-length, drop-drop, take-take, take-add, take-nil, take-at, drop-at, take-append-le, drop-append-le, take-append-add, drop-append-add, set-split, getD-take, getD-drop}
+use Rattle.codec.specs.Bytes.{Bytes, Octets, part, put, zeros, same}
 
 -- ---- parts
 
@@ -21,7 +21,7 @@ length-part s at n h = length-take-le n (drop at s) (simp length-drop (omega ari
 pub part-append : (s : Bytes) (at k n : ℕ) → part s at (k + n) ≡ part s at k ++ part s (at + k) n
 part-append s at k n = take-add k n (drop at s) ∙ ap (λ (t : Bytes). part s at k ++ take n t) (drop-drop k at s)
 
-drop-take : (k n : ℕ) (s : Bytes) → drop k (take (k + n) s) ≡ take n (drop k s)
+pub drop-take : (k n : ℕ) (s : Bytes) → drop k (take (k + n) s) ≡ take n (drop k s)
 drop-take zero n s = rw zero-add
 drop-take (suc k) n [] = rw suc-add (sym (take-nil n))
 drop-take (suc k) n (b ∷ s) = rw suc-add (drop-take k n s)
@@ -35,8 +35,36 @@ part-part s at n k m h =
     ∙ take-take m (n - k) (drop k (drop at s)) (omega arith)
     ∙ ap (take m) (drop-drop k at s)
 
+-- past the end there is nothing
+pub part-none : (s : Bytes) (at n : ℕ) → length s ≤ at → part s at n ≡ []
+part-none s at n h = ap (take n) (drop-of-length-le s h) ∙ take-nil n
+
 pub part-whole : (s : Bytes) → part s 0 (length s) ≡ s
 part-whole s = take-length s
+
+-- ---- bytes are below 256
+
+pub octets-one : (b : ℕ) → b < 256 → Octets (b ∷ [])
+octets-one b l zero h = l
+octets-one b l (suc i) h = absurd (omega arith)
+
+pub octets-zeros : (n : ℕ) → Octets (zeros n)
+octets-zeros n i h = rw (getD-replicate {A = ℕ} n i 0 0 (rw (length-replicate {A = ℕ} n 0) at h)) (omega arith)
+
+pub octets-drop : (s : Bytes) (n : ℕ) → Octets s → Octets (drop n s)
+octets-drop s n o i h =
+    let l : i < length s - n = rw (length-drop n s) at h in
+    rw (getD-drop n s i 0) (o (n + i) (omega arith))
+
+pub octets-part : (s : Bytes) (at n : ℕ) → Octets s → Octets (part s at n)
+octets-part s at n o i h =
+    let l : i < min n (length (drop at s)) = rw (length-take n (drop at s)) at h in
+    rw (getD-take n (drop at s) i 0 (omega arith)) (octets-drop s at o i (omega arith))
+
+pub octets-append : (s t : Bytes) → Octets s → Octets t → Octets (s ++ t)
+octets-append [] t os ot i h = ot i h
+octets-append (b ∷ s) t os ot zero h = os 0 (omega arith)
+octets-append (b ∷ s) t os ot (suc i) h = octets-append s t (λ j l. os (suc j) (omega arith)) ot i (omega arith)
 
 -- ---- a part put in place
 

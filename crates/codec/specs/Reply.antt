@@ -49,3 +49,8 @@ pub record Decides (number place : ℕ) (ts : List Test) : Type 0 where
   pub holds : test .holds ≡ true
   pub number-is : test .number ≡ number
   pub place-is : test .place ≡ place
+
+-- what a call leaves where it writes: what it writes if it is taken, else what was there
+unfoldable pub leaves : {A : Type 0} → Reply → A → A → A
+leaves Taken written kept = written
+leaves (Refused number place) written kept = kept

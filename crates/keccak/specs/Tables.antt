@@ -1,0 +1,46 @@
+-- FIPS 202's own rules for the two tables of `Keccak.antt`, and that the tables are what they give: both sides are computed. Assumes nothing.
+use mathlib.Core.Path.{_≡_, refl}
+use mathlib.Core.List.{List, [], _∷_, _++_}
+use Prim.Native.Nat.{ℕ, zero, suc, _+_, _*_, _/_, _%_, _^_}
+use lib.Bits.{bitXor}
+use lib.ListN.{getD, set}
+use Rattle.keccak.specs.Keccak.{State, lanes, offsets, constants}
+
+-- ---- 3.2.2, the offsets: from (x, y) = (1, 0), step t gives the offset (t + 1)(t + 2)/2 and goes on to (y, 2x + 3y)
+
+unfoldable pub walk : ℕ → ℕ → ℕ → ℕ → State → State
+walk zero t x y o = o
+walk (suc n) t x y o = walk n (t + 1) y ((2 * x + 3 * y) % 5) (set o y (set (getD o y []) x ((t + 1) * (t + 2) / 2 % 64)))
+
+pub offsets-rule : walk 24 0 1 0 (lanes (λ x y. 0)) ≡ offsets
+unfolding walk
+offsets-rule = refl
+
+-- ---- 3.2.5, algorithm 5: a register of eight bits, R[0] lowest, that is shifted up; where R[8] is set, R[0], R[4], R[5] and R[6] change
+
+unfoldable pub reduce : ℕ → ℕ → ℕ
+reduce zero r = r
+reduce (suc top) r = bitXor r 0x71
+
+unfoldable pub register : ℕ → ℕ
+register zero = 1
+register (suc t) = let r = register t in reduce (r / 128) (r * 2 % 256)
+
+-- rc(t), the lowest bit after t steps
+unfoldable pub rc : ℕ → ℕ
+rc t = register t % 2
+
+-- algorithm 6: bit 2^j - 1 of round k's constant is rc(j + 7k), j = 0 .. 6
+unfoldable pub constant : ℕ → ℕ
+constant k =
+    rc (7 * k) * 2 ^ 0 + rc (1 + 7 * k) * 2 ^ 1 + rc (2 + 7 * k) * 2 ^ 3 + rc (3 + 7 * k) * 2 ^ 7 + rc (4 + 7 * k) * 2 ^ 15
+    + rc (5 + 7 * k) * 2 ^ 31 + rc (6 + 7 * k) * 2 ^ 63
+
+-- f at 0 .. n - 1
+unfoldable pub upto : ℕ → (ℕ → ℕ) → List ℕ
+upto zero f = []
+upto (suc n) f = upto n f ++ (f n ∷ [])
+
+pub constants-rule : upto 24 constant ≡ constants
+unfolding upto constant rc register reduce
+constants-rule = refl

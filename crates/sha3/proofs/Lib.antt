@@ -1,0 +1,5 @@
+pub mod Absorbing
+pub mod Blocks
+pub mod Lanes
+pub mod Parts
+pub mod Squeezing

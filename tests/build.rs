@@ -1,0 +1,9 @@
+//! Links the proved libraries that `rt staticlib` wrote.
+fn main() {
+    let libraries = concat!(env!("CARGO_MANIFEST_DIR"), "/../target/staticlib");
+    println!("cargo:rustc-link-search=native={libraries}");
+    for name in ["jackdawnail"] {
+        println!("cargo:rustc-link-lib=static={name}");
+        println!("cargo:rerun-if-changed={libraries}/lib{name}.a");
+    }
+}

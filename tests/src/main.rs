@@ -1,0 +1,12 @@
+//! Compares the library, over its C interface, with independent implementations. The last line is `N passed, M failed`.
+mod digest;
+mod random;
+mod sha3;
+mod tally;
+
+fn main() {
+    let mut tally = tally::Tally::default();
+    sha3::run(&mut tally);
+    digest::run(&mut tally);
+    std::process::exit(tally.finish());
+}

@@ -1,0 +1,130 @@
+//! SHA3-256 written from FIPS 202's bit-level text: state array A[x][y][z] of single bits, the step mappings of section 3.2,
+//! the constants from the shift register of 3.2.5, the sponge of section 4 with pad10*1.
+use crate::tally::{Comparison, Tally};
+
+type Bits = [[[bool; 64]; 5]; 5];
+
+fn theta(a: &Bits) -> Bits {
+    let parity = |x: usize, z: usize| (0..5).fold(false, |p, y| p ^ a[x][y][z]);
+    let mut r = *a;
+    for x in 0..5 {
+        for z in 0..64 {
+            let d = parity((x + 4) % 5, z) ^ parity((x + 1) % 5, (z + 63) % 64);
+            for y in 0..5 {
+                r[x][y][z] ^= d;
+            }
+        }
+    }
+    r
+}
+
+fn rho(a: &Bits) -> Bits {
+    let mut r = *a;
+    let (mut x, mut y) = (1, 0);
+    for t in 0..24 {
+        let offset = (t + 1) * (t + 2) / 2 % 64;
+        for z in 0..64 {
+            r[x][y][z] = a[x][y][(z + 64 - offset) % 64];
+        }
+        (x, y) = (y, (2 * x + 3 * y) % 5);
+    }
+    r
+}
+
+fn pi(a: &Bits) -> Bits {
+    let mut r = *a;
+    for x in 0..5 {
+        for y in 0..5 {
+            r[x][y] = a[(x + 3 * y) % 5][x];
+        }
+    }
+    r
+}
+
+fn chi(a: &Bits) -> Bits {
+    let mut r = *a;
+    for x in 0..5 {
+        for y in 0..5 {
+            for z in 0..64 {
+                r[x][y][z] ^= !a[(x + 1) % 5][y][z] & a[(x + 2) % 5][y][z];
+            }
+        }
+    }
+    r
+}
+
+/// Algorithm 5: bit t of the shift register's output.
+fn rc(t: usize) -> bool {
+    let mut r: u16 = 1;
+    for _ in 0..t % 255 {
+        r <<= 1;
+        if r & 0x100 != 0 {
+            r ^= 0x171;
+        }
+    }
+    r & 1 == 1
+}
+
+fn iota(a: &mut Bits, round: usize) {
+    for j in 0..=6 {
+        a[0][0][(1 << j) - 1] ^= rc(j + 7 * round);
+    }
+}
+
+fn keccak(bits: &mut [bool; 1600]) {
+    let mut a: Bits = [[[false; 64]; 5]; 5];
+    for (i, bit) in bits.iter().enumerate() {
+        a[i / 64 % 5][i / 320][i % 64] = *bit;
+    }
+    for round in 0..24 {
+        a = chi(&pi(&rho(&theta(&a))));
+        iota(&mut a, round);
+    }
+    for (i, bit) in bits.iter_mut().enumerate() {
+        *bit = a[i / 64 % 5][i / 320][i % 64];
+    }
+}
+
+pub fn sha3_256(message: &[u8]) -> [u8; 32] {
+    const RATE: usize = 1088;
+    let mut padded: Vec<bool> = message.iter().flat_map(|b| (0..8).map(move |i| b >> i & 1 == 1)).collect();
+    padded.extend([false, true, true]);
+    while padded.len() % RATE != RATE - 1 {
+        padded.push(false);
+    }
+    padded.push(true);
+    let mut state = [false; 1600];
+    for block in padded.chunks(RATE) {
+        for (s, b) in state.iter_mut().zip(block) {
+            *s ^= b;
+        }
+        keccak(&mut state);
+    }
+    let mut digest = [0; 32];
+    for (i, bit) in state[..256].iter().enumerate() {
+        digest[i / 8] |= u8::from(*bit) << (i % 8);
+    }
+    digest
+}
+
+pub fn hex(bytes: &[u8]) -> String {
+    bytes.iter().map(|b| format!("{b:02x}")).collect()
+}
+
+/// The independent implementation against the published digests, so that what it is compared with can be trusted.
+pub fn run(tally: &mut Tally) {
+    let mut c = Comparison::default();
+    let published: [(&[u8], &str); 4] = [
+        (b"", "a7ffc6f8bf1ed76651c14756a061d662f580ff4de43b49fa82d80a4b80f8434a"),
+        (b"abc", "3a985da74fe225b2045c172d6bd390bd855f086e3e9d525b46bfe24511431532"),
+        (
+            b"abcdbcdecdefdefgefghfghighijhijkijkljklmklmnlmnomnopnopq",
+            "41c0dba2a9d6240849100376a8235e2c82e1b9998a999e21db32dd97496d3376",
+        ),
+        (&[0xA3; 200], "79f38adec5c20307a98ef76e8324afbfd46cfd81b22e3973c65fa1bd9de31787"),
+    ];
+    for (message, digest) in published {
+        c.same(|| format!("{} bytes", message.len()), hex(&sha3_256(message)), digest.to_string());
+    }
+    c.claim(tally, "the independent SHA3-256 has the published digests");
+}
