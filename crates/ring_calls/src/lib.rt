@@ -184,7 +184,14 @@ fn compute(operation: u64, work: &mut [u8], a: &[u8], b: &[u8], n: usize, q: u64
 // uint64_t ring_polynomials(uint64_t operation, uint8_t *work, size_t, const uint8_t *a, size_t, const uint8_t *b, size_t, size_t n, uint64_t q);
 // 0 a + b, 1 a - b, 2 a * b modulo X^n + 1, into the first 8n of the 32n bytes of work.
 #[no_mangle]
-pub extern "C" fn ring_polynomials(operation: u64, work: &mut [u8], a: &[u8], b: &[u8], n: usize, q: u64) -> u64
+pub extern "C" fn ring_polynomials(
+    operation: u64,
+    work: &mut [u8],
+    a: &[u8],
+    b: &[u8],
+    n: usize,
+    q: u64,
+) -> u64
     ensures reply { λ r. ⌜ r ≡ packed (polynomialsReply operation n q (now (work .entry)) (now (a .entry)) (now (b .entry))) ⌝ }
     ensures output { λ _. ⌜ now (work .exit) ≡ polynomialsOut operation n q (now (work .entry)) (now (a .entry)) (now (b .entry)) ⌝ }
 {

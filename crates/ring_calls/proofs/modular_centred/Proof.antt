@@ -10,19 +10,19 @@ use Rattle.ring_calls.proofs.modular_centred.Tie as tie
 
 returns : tie.Need-returns
 unfolding first leaves
-returns c = 
+returns c =
     let a = c .before .args in
     rw (le-leb 72057594037927936 (a .q) (c .if1 .taken))
 
 returns-2 : tie.Need-returns-2
 unfolding first leaves
-returns-2 c = 
+returns-2 c =
     let a = c .before .before .args in
     rw (lt-leb 72057594037927936 (a .q) (c .before .if1 .left), le-leb (a .q) (a .x) (c .if2 .taken))
 
 returns-3 : tie.Need-returns-3
 unfolding first leaves
-returns-3 c = 
+returns-3 c =
     let a = c .before .before .before .args in
     rw (lt-leb 72057594037927936 (a .q) (c .before .before .if1 .left), lt-leb (a .q) (a .x) (c .before .if2 .left)) (toZ-ofZ w64 (c .centred .result) (record { sfits = c .centred .ok }) ∙ c .centred .ensures)
 

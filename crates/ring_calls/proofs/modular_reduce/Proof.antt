@@ -18,13 +18,13 @@ value c = c .reduce .ensures ∙ ap (remainder (c .before .before .before .args 
 
 returns : tie.Need-returns
 unfolding answer first leaves
-returns c = 
+returns c =
     let a = c .before .args in
     rw (eq-eqb (a .q) 0 (c .if1 .taken))
 
 returns-2 : tie.Need-returns-2
 unfolding answer first leaves
-returns-2 c = 
+returns-2 c =
     let a = c .before .before .args in
     rw (ne-eqb (a .q) 0 (c .before .if1 .left), le-leb 72057594037927936 (a .q) (c .if2 .taken))
 
@@ -33,7 +33,7 @@ mul-result c = let l = remainder-lt (c .before .before .before .args .q) (c .bef
 
 returns-3 : tie.Need-returns-3
 unfolding answer first leaves
-returns-3 c = 
+returns-3 c =
     let a = c .before .before .before .args in
     rw (ne-eqb (a .q) 0 (c .before .before .if1 .left), lt-leb 72057594037927936 (a .q) (c .before .if2 .left)) (ap (λ (v : ℕ). 256 * v) (value c))
 
