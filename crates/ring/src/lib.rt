@@ -197,7 +197,7 @@ fn mirrored(a: &[u8], j: usize, n: usize, q: u64) -> u64
     if j < n {
         codec::read64(a, 8 * (n - 1 - j))
     } else {
-        modular::negate(codec::read64(a, 8 * (2 * n - 1 - j)), q)
+        modular::subtract(0, codec::read64(a, 8 * (2 * n - 1 - j)), q)
     }
 }
 
