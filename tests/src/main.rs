@@ -1,6 +1,7 @@
 //! Compares the library, over its C interface, with independent implementations. The last line is `N passed, M failed`.
 mod digest;
 mod random;
+mod ring;
 mod sha3;
 mod tally;
 
@@ -8,5 +9,6 @@ fn main() {
     let mut tally = tally::Tally::default();
     sha3::run(&mut tally);
     digest::run(&mut tally);
+    ring::run(&mut tally);
     std::process::exit(tally.finish());
 }
