@@ -1,9 +1,8 @@
 -- The centred form: congruent, at most (q - 1) / 2 in size, the only such number; sums that do not wrap. No proof calculates in ℤ: a whole number
 -- is the difference of two natural numbers. Assumes nothing.
-use mathlib.Core.Path.{_≡_, refl, sym, ap, _∙_}
-use mathlib.Core.Bool.{cond}
+use mathlib.Core.Path.{_≡_, sym, ap, _∙_}
 use Prim.Native.Nat.{ℕ, zero, suc, _+_, _-_, _*_, _/_, _%_, _≤_, _<_}
-use native.Mathlib.Nat.{add-zero, zero-add, mul-zero, mod-lt, mod-mod, mod-eq-of-lt}
+use native.Mathlib.Nat.{add-zero, zero-add, mul-zero, mod-lt, mod-mod}
 use native.Mathlib.Decide.{decLe, decLt}
 use native.Mathlib.Omega.{arith}
 use borrow.Author.Tests.{le-leb, lt-leb, lt-ltb, le-ltb}

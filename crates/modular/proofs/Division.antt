@@ -1,11 +1,11 @@
 -- Division by p modulo q, where p and q have no common factor: it undoes multiplication by p. Assumes nothing.
-use mathlib.Core.Path.{_≡_, refl, sym, ap, ap₂, _∙_}
+use mathlib.Core.Path.{_≡_, refl, sym, ap, _∙_}
 use mathlib.Core.Bool.{Bool, true, false, cond}
-use Prim.Native.Nat.{ℕ, zero, suc, _+_, _-_, _*_, _/_, _%_, _≤_, _<_}
-use native.Mathlib.Nat.{add-assoc, add-comm, add-left-comm, mul-assoc, mul-comm, mul-left-comm, mul-add, add-mul, mul-zero, mul-one, one-mul, mod-lt, mod-mod, mod-eq-of-lt, mod-self, div-add-mod', add-zero, mul-add-mod-self-right, mod-one, zero-mod, mod-zero, zero-mul, mul-le-mul}
-use native.Mathlib.Decide.{ℕ-discrete, decLe}
+use Prim.Native.Nat.{ℕ, zero, suc, _+_, _-_, _*_, _/_, _%_, _<_}
+use native.Mathlib.Nat.{mul-assoc, mul-comm, mul-left-comm, mul-add, add-mul, mul-zero, mul-one, one-mul, mod-lt, mod-mod, mod-eq-of-lt, mod-self, div-add-mod', mod-one, zero-mod, mod-zero, zero-mul}
+use native.Mathlib.Decide.{ℕ-discrete}
 use native.Mathlib.Omega.{arith}
-use borrow.Author.Tests.{eqb-true, eqb-false, eq-eqb}
+use borrow.Author.Tests.{eqb-true, eqb-false}
 use lib.Dec.{eqb}
 use Rattle.modular.specs.Modulo.{Same}
 use Rattle.modular.specs.Division.{Coprime, multiplier, inverse, divide}

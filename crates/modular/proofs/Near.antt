@@ -1,5 +1,5 @@
 -- Sums and products of small numbers modulo q are small. Assumes nothing.
-use mathlib.Core.Path.{_≡_, sym, _∙_}
+use mathlib.Core.Path.{_≡_, _∙_}
 use Prim.Native.Nat.{ℕ, _+_, _-_, _*_, _/_, _%_, _≤_, _<_}
 use native.Mathlib.Nat.{add-assoc, add-comm, add-left-comm, mul-comm, mul-left-comm, mul-add, add-mul, mul-le-mul}
 use native.Mathlib.Omega.{arith}

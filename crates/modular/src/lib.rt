@@ -1,6 +1,6 @@
 // Numbers modulo q, for q below 2^56 (document 01, "Ring and scheme"). -x modulo q is (q - 1) * x in contracts.
 ghost use mathlib.Core.Path.{_≡_};
-ghost use Prim.Native.Nat.{_+_, _-_, _*_, _%_, _^_, _≤_, _<_};
+ghost use Prim.Native.Nat.{_+_, _-_, _*_, _%_, _^_, _<_};
 ghost use lib.Dec.{leb};
 ghost use lib.IntN.{natAbs};
 ghost use Rattle.modular.specs.Modulo.{centre, remainder};

@@ -6,11 +6,11 @@ use Prim.Native.Nat.{ℕ, zero, suc, _+_, _-_, _*_, _%_, _^_, _≤_, _<_}
 use native.Mathlib.Nat.{mod-lt, zero-add}
 use native.Mathlib.Numerals.{add-one}
 use native.Mathlib.Omega.{arith}
-use lib.ListN.{length, take, drop, getD, length-append, length-take, length-drop, take-append-drop}
-use lib.Seq.{length-take-le, take-all, take-add, take-append-add, take-take, take-at, drop-at, take-append-le, drop-append-le, drop-drop, getD-take, getD-drop, getD-at, ext-getD}
-use Rattle.codec.specs.Bytes.{Bytes, Octets, bytes, number, part, put}
-use Rattle.codec.proofs.Laws.{length-part, part-part, length-put, before-put, drop-put, part-put, part-put-before, part-put-after}
-use Rattle.codec.proofs.Numbers.{length-bytes, number-bytes, bytes-number, bytes-octets}
+use lib.ListN.{length, take, drop, getD, length-append, length-replicate, length-take, length-drop, take-append-drop}
+use lib.Seq.{length-take-le, take-all, take-add, take-append-add, take-take, drop-at, take-append-le, drop-append-le, drop-drop, getD-take, getD-drop, getD-at, ext-getD}
+use Rattle.codec.specs.Bytes.{Bytes, Octets, bytes, number, part, put, zeros}
+use Rattle.codec.proofs.Laws.{length-part, part-part, length-put, put-put, before-put, drop-put, part-put, part-put-before, part-put-after}
+use Rattle.codec.proofs.Numbers.{length-bytes, number-bytes, bytes-number}
 use Rattle.ring.specs.Poly.{Poly, modulo, Alike, Below}
 use Rattle.ring.specs.Slots.{poly, slot, list, words, encode, store}
 use Rattle.ring.proofs.Sums.{side}
@@ -176,6 +176,35 @@ module _ (q n : ℕ) (w : Bytes) (at : ℕ) (a : Poly) (h : at + 8 * n ≤ lengt
 pub store-alike : {q n : ℕ} (w : Bytes) (at : ℕ) {a b : Poly} → Alike q n a b → store q n w at a ≡ store q n w at b
 unfolding store
 store-alike w at e = ap (put w at) (encode-alike e)
+
+-- a later polynomial in the same slot counts
+pub store-store : (q n : ℕ) (w : Bytes) (at : ℕ) (a b : Poly) → at + 8 * n ≤ length w → store q n (store q n w at a) at b ≡ store q n w at b
+unfolding store
+store-store q n w at a b h =
+    put-put w at (encode n (modulo q a)) (encode n (modulo q b)) (omega (arith, length-encode n (modulo q a))) (length-encode n (modulo q b) ∙ sym (length-encode n (modulo q a)))
+
+-- what `multiply` leaves: the product in its slot, and the room behind it zero
+module _ (q n : ℕ) (w : Bytes) (at room : ℕ) (a : Poly) (before : at + 8 * n ≤ room) (fits : room + 24 * n ≤ length w) where
+  abbrev pub after-multiply : Bytes
+  after-multiply = put (store q n w at a) room (zeros (24 * n))
+
+  in-store : room + length (zeros (24 * n)) ≤ length (store q n w at a)
+  in-store = omega (arith, length-store q n w at a (omega arith), length-replicate {A = ℕ} (24 * n) 0)
+
+  pub length-multiplied : length after-multiply ≡ length w
+  length-multiplied = length-put (store q n w at a) room (zeros (24 * n)) in-store ∙ length-store q n w at a (omega arith)
+
+  pub slot-multiplied : 0 < q → q ≤ 2 ^ 64 → (k : ℕ) → k < n → slot after-multiply at k ≡ a k % q
+  slot-multiplied p b k l = slot-put-before (store q n w at a) room (zeros (24 * n)) at k in-store (omega arith) ∙ slot-store q n w at a (omega arith) p b k l
+
+  -- another slot before the room is as it was
+  pub slot-beside : (from k : ℕ) → from + 8 * k + 8 ≤ room → (from + 8 * k + 8 ≤ at) ⊎ (at + 8 * n ≤ from + 8 * k) → slot after-multiply from k ≡ slot w from k
+  unfolding store
+  slot-beside from k l side = slot-put-before (store q n w at a) room (zeros (24 * n)) from k in-store l ∙ go side
+    where
+      go : (from + 8 * k + 8 ≤ at) ⊎ (at + 8 * n ≤ from + 8 * k) → slot (store q n w at a) from k ≡ slot w from k
+      go (inl h) = slot-put-before w at (encode n (modulo q a)) from k (omega (arith, length-encode n (modulo q a))) h
+      go (inr h) = slot-put-after w at (encode n (modulo q a)) from k (omega (arith, length-encode n (modulo q a))) (omega (arith, length-encode n (modulo q a)))
 
 -- ---- two writes that do not meet
 

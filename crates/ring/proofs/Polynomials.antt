@@ -2,12 +2,10 @@
 -- condition, so that `simp` over them sorts sums of products; only x - x = 0 needs the remainder modulo q, and is said of `Alike`. Assumes nothing.
 use mathlib.Core.Path.{_≡_, refl, sym, ap, ap₂, _∙_}
 use mathlib.Core.Bool.{Bool, true, false, cond}
-use Prim.Native.Nat.{ℕ, _+_, _-_, _*_, _%_, _<_}
-use native.Mathlib.Nat.{add-assoc, add-comm, add-left-comm, mul-assoc, mul-left-comm, mul-add, mul-zero, zero-mul, one-mul, add-zero, mod-lt, mod-eq-of-lt}
-use native.Mathlib.Omega.{arith}
+use Prim.Native.Nat.{ℕ, _+_, _-_, _*_, _<_}
+use native.Mathlib.Nat.{add-assoc, add-comm, add-left-comm, mul-assoc, mul-left-comm, mul-add, mul-zero, one-mul, add-zero, mod-lt, mod-eq-of-lt}
 use borrow.Author.Tests.{ltb-true, lt-ltb}
 use lib.Dec.{ltb}
-use Rattle.modular.specs.Modulo.{Same}
 use Rattle.modular.proofs.Congruence.{same-refl, same-eq, same-sym, _then_, same-mod, same-add, same-mul, same-opposite, same-cancel, same-minus}
 use Rattle.ring.specs.Poly.{Poly, coefficient, mul, plus, minus, scale, zero-poly, one-poly, modulo, Alike, Below}
 use Rattle.ring.proofs.Product.{coefficient-cong, coefficient-comm, coefficient-left-comm, coefficient-one, coefficient-add-right, coefficient-scale, coefficient-same}

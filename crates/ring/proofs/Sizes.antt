@@ -1,16 +1,15 @@
 -- Sizes of centred coefficients: sums and products of small polynomials are small, and a ternary polynomial times any grows it at most N-fold. Assumes nothing.
-use mathlib.Core.Path.{_≡_, refl, ap, _∙_}
+use mathlib.Core.Path.{_≡_, ap}
 use mathlib.Core.Logic.{_⊎_, inl, inr}
 use mathlib.Core.Bool.{Bool, true, false, cond}
 use Prim.Native.Nat.{ℕ, zero, suc, _+_, _-_, _*_, _/_, _%_, _≤_, _<_}
 use native.Mathlib.Nat.{suc-mul, zero-mul, one-mul, mod-eq-of-lt}
 use native.Mathlib.Omega.{arith}
-use borrow.Author.Tests.{eqb-true, eq-eqb, ne-eqb}
 use lib.Dec.{eqb}
 use lib.IntN.{natAbs}
 use lib.ListN.{getD}
 use Rattle.codec.specs.Bytes.{Bytes}
-use Rattle.modular.specs.Modulo.{Same, centre, remainder}
+use Rattle.modular.specs.Modulo.{centre, remainder}
 use Rattle.modular.proofs.Congruence.{same-refl, same-eq, _then_, same-more}
 use Rattle.modular.proofs.Centring.{Near, near-centre, near-size}
 use Rattle.modular.proofs.Near.{near-le, near-add, near-negative, near-mul}

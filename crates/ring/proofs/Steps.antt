@@ -1,5 +1,5 @@
 -- The steps of `multiply`: the row and the factor laid into the room, the coefficients taken from them, the room wiped. Assumes nothing.
-use mathlib.Core.Path.{_≡_, refl, sym, ap, ap₂, _∙_}
+use mathlib.Core.Path.{_≡_, sym, ap, _∙_}
 use mathlib.Core.Logic.{_⊎_, inl, inr}
 use mathlib.Core.List.{_++_}
 use Prim.Native.Nat.{ℕ, _+_, _-_, _*_, _%_, _^_, _≤_, _<_}
@@ -8,7 +8,6 @@ use native.Mathlib.Omega.{arith}
 use lib.ListN.{length, length-append, length-replicate}
 use Rattle.codec.specs.Bytes.{Bytes, put, zeros}
 use Rattle.codec.proofs.Laws.{length-put, put-append, put-put}
-use Rattle.modular.specs.Modulo.{Same}
 use Rattle.modular.proofs.Congruence.{same-eq, _then_, same-mod, same-mul}
 use Rattle.ring.specs.Poly.{Poly, sum, turn, coefficient, mul, modulo, Alike, Below}
 use Rattle.ring.specs.Slots.{slot, encode, store, Slots}

@@ -4,7 +4,7 @@
 ghost use mathlib.Core.Path.{_≡_};
 ghost use Prim.Native.Nat.{_+_, _-_, _*_, _/_, _%_, _^_, _≤_, _<_};
 ghost use lib.ListN.{length};
-ghost use Rattle.codec.specs.Bytes.{put, zeros, signed};
+ghost use Rattle.codec.specs.Bytes.{put, zeros};
 ghost use Rattle.modular.specs.Modulo.{remainder};
 ghost use Rattle.ring.specs.Poly.{sum, turn, mul, plus, minus, scale, Below};
 ghost use Rattle.ring.specs.Slots.{poly, slot, list, encode, store, Slots, allBelow};

@@ -5,7 +5,7 @@ use mathlib.Core.List.{List, [], _∷_, _++_, append-nil}
 use Prim.Native.Nat.{ℕ, _+_, _*_, _/_, _^_, _≤_, _<_}
 use native.Mathlib.Omega.{arith}
 use borrow.Author.Tests.{ltb-false, leb-false, eqb-true, eqb-false, not-false}
-use lib.ListN.{length, take, drop, length-append, length-replicate, replicate-append-replicate}
+use lib.ListN.{length, drop, length-append, length-replicate, replicate-append-replicate}
 use lib.Seq.{take-at, drop-at, drop-length}
 use Rattle.codec.specs.Bytes.{Bytes, put, zeros}
 use Rattle.codec.specs.Reply.{Test, first, None, leaves, packed}

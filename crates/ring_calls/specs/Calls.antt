@@ -1,13 +1,13 @@
 -- What the calls for tests answer: 0 taken, 1 a slice of wrong length, 5 a number out of range; a number that is answered stands above the low byte.
 -- Assumes nothing.
 use mathlib.Core.Bool.{cond, not}
-use mathlib.Core.List.{List, [], _∷_, _++_}
+use mathlib.Core.List.{[], _∷_, _++_}
 use Prim.Native.Nat.{ℕ, _+_, _-_, _*_, _/_, _%_, _^_}
 use lib.Dec.{eqb, leb, ltb}
 use lib.IntN.{natAbs}
 use lib.ListN.{length}
 use Rattle.codec.specs.Bytes.{Bytes, zeros}
-use Rattle.codec.specs.Reply.{Test, test, first, leaves, packed}
+use Rattle.codec.specs.Reply.{test, first, leaves, packed}
 use Rattle.codec.specs.declared.Reply.{Reply}
 use Rattle.modular.specs.Modulo.{centre, remainder}
 use Rattle.modular.specs.Division.{divide}

@@ -2,10 +2,9 @@
 // Each answers 0 where it is taken, 1 for a slice of wrong length, 5 for a number out of range, and a refusal leaves every byte as it was.
 // A number is answered above the low byte, as 256 * value. In C a slice is `uint8_t *, size_t`, and `const` where it is lent to be read.
 ghost use mathlib.Core.Path.{_≡_};
-ghost use Prim.Native.Nat.{_+_, _*_, _/_, _%_, _≤_, _<_, _^_};
+ghost use Prim.Native.Nat.{_+_, _*_, _%_, _≤_, _<_, _^_};
 ghost use lib.IntN.{pos};
-ghost use lib.Dec.{ltb, leb, eqb};
-ghost use mathlib.Core.Bool.{cond};
+ghost use lib.Dec.{leb, eqb};
 ghost use mathlib.Core.List.{[], _∷_, _++_};
 ghost use Rattle.codec.specs.Bytes.{zeros};
 ghost use lib.ListN.{length};

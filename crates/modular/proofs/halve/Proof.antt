@@ -2,7 +2,6 @@
 use Prim.Native.Nat.{_%_}
 use native.Mathlib.Nat.{mul-le-mul}
 use native.Mathlib.Omega.{arith}
-use borrow.Author.Needs.{needs}
 use Rattle.modular.proofs.Division.{half}
 use Rattle.modular.proofs.halve.Statement.{statement}
 use Rattle.modular.proofs.halve.Tie as tie

@@ -1,10 +1,10 @@
 -- `ring::combine_lent` meets its contract. Assumes nothing.
-use mathlib.Core.Path.{_≡_, refl, sym, ap, ap₂, _∙_}
+use mathlib.Core.Path.{_≡_, refl, ap, ap₂, _∙_}
 use Prim.Native.Nat.{ℕ, _+_, _-_, _*_, _%_, _≤_}
 use native.Mathlib.Omega.{arith}
 use borrow.Author.Needs.{needs}
 use lib.ListN.{length}
-use Rattle.ring.proofs.Filling.{filled, filled-none, filled-all, filled-more, read-later, read-other}
+use Rattle.ring.proofs.Filling.{filled, filled-none, filled-all, filled-more, read-later}
 use Rattle.ring.specs.Method.{sign}
 use Rattle.ring.specs.Poly.{plus, scale, modulo}
 use Rattle.ring.specs.Slots.{poly, slot, store}

@@ -1,10 +1,10 @@
 -- `ring::copy_slot` meets its contract. Assumes nothing.
-use mathlib.Core.Path.{_≡_, refl, sym, ap, ap₂, _∙_}
-use Prim.Native.Nat.{ℕ, _+_, _-_, _*_, _%_, _≤_}
+use mathlib.Core.Path.{_≡_, refl, ap, _∙_}
+use Prim.Native.Nat.{_-_, _≤_}
 use native.Mathlib.Omega.{arith}
 use borrow.Author.Needs.{needs}
 use lib.ListN.{length}
-use Rattle.ring.proofs.Filling.{filled, filled-none, filled-all, filled-more, read-later, read-other}
+use Rattle.ring.proofs.Filling.{filled, filled-none, filled-all, filled-more, read-other}
 use Rattle.ring.specs.Slots.{slot}
 use Rattle.ring.proofs.copy_slot.Statement.{statement}
 use Rattle.ring.proofs.copy_slot.Tie as tie

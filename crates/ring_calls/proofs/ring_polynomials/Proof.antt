@@ -1,8 +1,8 @@
 -- `ring_calls::ring_polynomials` meets its contract. Assumes nothing.
-use mathlib.Core.Path.{_≡_, sym, _∙_}
+use mathlib.Core.Path.{sym, _∙_}
 use borrow.Author.Needs.{needs}
 use Rattle.ring_calls.proofs.Outcome.{kept, Fine, fine, written}
-use Rattle.ring_calls.specs.Calls.{polynomialsReply, polynomialsOut}
+use Rattle.ring_calls.specs.Calls.{polynomialsOut}
 use Rattle.ring_calls.proofs.ring_polynomials.Statement.{statement}
 use Rattle.ring_calls.proofs.ring_polynomials.Tie as tie
 
