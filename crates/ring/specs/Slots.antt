@@ -5,12 +5,17 @@ use mathlib.Core.Logic.{_⊎_}
 use Prim.Native.Nat.{ℕ, zero, suc, _+_, _*_, _≤_}
 use lib.Dec.{ltb}
 use lib.ListN.{length}
-use Rattle.codec.specs.Bytes.{Bytes, bytes, number, part, put}
+use Rattle.codec.specs.Bytes.{Bytes, bytes, number, signed, part, put}
+use Rattle.modular.specs.Modulo.{remainder}
 use Rattle.ring.specs.Poly.{Poly, modulo}
 
 -- the polynomial that bytes hold: coefficient i is the 8 bytes at 8 * i, the least first
 unfoldable pub poly : Bytes → Poly
 poly s i = number (part s (8 * i) 8)
+
+-- the polynomial modulo q of signed 64-bit numbers in two's complement, as masks are lent
+unfoldable pub fromSigned : ℕ → Bytes → Poly
+fromSigned q s i = remainder q (signed (poly s i))
 
 -- the polynomial that stands in a slot, from a place of the scratch on
 unfoldable pub slot : Bytes → ℕ → Poly

@@ -7,7 +7,7 @@ ghost use lib.ListN.{length};
 ghost use Rattle.codec.specs.Bytes.{put, zeros};
 ghost use Rattle.modular.specs.Modulo.{remainder};
 ghost use Rattle.ring.specs.Poly.{sum, turn, mul, plus, minus, scale, Below};
-ghost use Rattle.ring.specs.Slots.{poly, slot, list, encode, store, Slots, allBelow};
+ghost use Rattle.ring.specs.Slots.{poly, fromSigned, slot, list, encode, store, Slots, allBelow};
 ghost use Rattle.ring.specs.Ternary.{meaning, ternary, count};
 ghost use Rattle.ring.specs.Method.{sign, Columns};
 
@@ -81,6 +81,20 @@ pub fn load_ternary(work: &mut [u8], at: usize, t: &[u8], q: u64)
     let mut i = 0;
     while i < t.len() {
         let v = from_ternary(t[i], q);
+        codec::write64(work, at + 8 * i, v);
+        i += 1;
+    }
+}
+
+// Loads signed 64-bit numbers into a slot, each reduced modulo q.
+pub fn load_signed(work: &mut [u8], at: usize, e: &[u8], n: usize, q: u64)
+    requires { ⌜ (0 < q) × (at + 8 * n ≤ length (now work)) × (8 * n ≤ length (now e)) ⌝ }
+    ensures { λ _. ⌜ now (work .exit) ≡ put (now (work .entry)) at (encode n (fromSigned q (now (e .entry)))) ⌝ }
+{
+    let mut i = 0;
+    while i < n {
+        let x = codec::read_signed(e, 8 * i);
+        let v = modular::reduce(x, q);
         codec::write64(work, at + 8 * i, v);
         i += 1;
     }
