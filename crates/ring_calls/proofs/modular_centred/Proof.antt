@@ -1,7 +1,7 @@
 -- `ring_calls::modular_centred` meets its contract. Assumes nothing.
 use mathlib.Core.Path.{_∙_}
 use borrow.Author.Needs.{needs}
-use borrow.Author.Tests.{le-leb, lt-leb}
+use borrow.Author.Tests.{le-ltb, lt-ltb, le-leb, lt-leb, eq-eqb, ne-eqb}
 use mir.Syntax.{w64}
 use mir.ValLaws.{toZ-ofZ}
 use Rattle.codec.specs.Reply.{first, leaves}
@@ -10,15 +10,11 @@ use Rattle.ring_calls.proofs.modular_centred.Tie as tie
 
 returns : tie.Need-returns
 unfolding first leaves
-returns c =
-    let a = c .before .args in
-    rw (le-leb 72057594037927936 (a .q) (c .if1 .taken))
+returns c = search (needs, le-ltb, lt-ltb, le-leb, lt-leb, eq-eqb, ne-eqb)
 
 returns-2 : tie.Need-returns-2
 unfolding first leaves
-returns-2 c =
-    let a = c .before .before .args in
-    rw (lt-leb 72057594037927936 (a .q) (c .before .if1 .left), le-leb (a .q) (a .x) (c .if2 .taken))
+returns-2 c = search (needs, le-ltb, lt-ltb, le-leb, lt-leb, eq-eqb, ne-eqb)
 
 returns-3 : tie.Need-returns-3
 unfolding first leaves

@@ -11,33 +11,23 @@ use Rattle.ring_calls.proofs.modular_numbers.Tie as tie
 
 returns : tie.Need-returns
 unfolding numbersReply answer first leaves
-returns c =
-    let a = c .before .args in
-    rw (lt-ltb 6 (a .operation) (c .if1 .taken))
+returns c = search (needs, le-ltb, lt-ltb, le-leb, lt-leb, eq-eqb, ne-eqb)
 
 returns-2 : tie.Need-returns-2
 unfolding numbersReply answer first leaves
-returns-2 c =
-    let a = c .before .before .args in
-    rw (le-ltb 6 (a .operation) (c .before .if1 .left), le-leb 72057594037927936 (a .q) (c .if2 .taken))
+returns-2 c = search (needs, le-ltb, lt-ltb, le-leb, lt-leb, eq-eqb, ne-eqb)
 
 returns-3 : tie.Need-returns-3
 unfolding numbersReply answer first leaves
-returns-3 c =
-    let a = c .before .before .before .args in
-    rw (le-ltb 6 (a .operation) (c .before .before .if1 .left), lt-leb 72057594037927936 (a .q) (c .before .if2 .left), ne-eqb (a .q % 2) 1 (c .if3 .taken))
+returns-3 c = search (needs, le-ltb, lt-ltb, le-leb, lt-leb, eq-eqb, ne-eqb)
 
 returns-4 : tie.Need-returns-4
 unfolding numbersReply answer first leaves
-returns-4 c =
-    let a = c .before .before .before .before .args in
-    rw (le-ltb 6 (a .operation) (c .before .before .before .if1 .left), lt-leb 72057594037927936 (a .q) (c .before .before .if2 .left), eq-eqb (a .q % 2) 1 (c .before .if3 .left), le-leb (a .q) (a .x) (c .if4 .taken))
+returns-4 c = search (needs, le-ltb, lt-ltb, le-leb, lt-leb, eq-eqb, ne-eqb)
 
 returns-5 : tie.Need-returns-5
 unfolding numbersReply answer first leaves
-returns-5 c =
-    let a = c .before .before .before .before .before .args in
-    rw (le-ltb 6 (a .operation) (c .before .before .before .before .if1 .left), lt-leb 72057594037927936 (a .q) (c .before .before .before .if2 .left), eq-eqb (a .q % 2) 1 (c .before .before .if3 .left), lt-leb (a .q) (a .x) (c .before .if4 .left), le-leb (a .q) (a .y) (c .if5 .taken))
+returns-5 c = search (needs, le-ltb, lt-ltb, le-leb, lt-leb, eq-eqb, ne-eqb)
 
 mul-result : tie.Need-mul-result
 mul-result c = let l = c .on-numbers .ensures .1 in omega arith

@@ -3,7 +3,7 @@ use mathlib.Core.Path.{_≡_, ap, _∙_}
 use Prim.Native.Nat.{ℕ, _*_}
 use native.Mathlib.Omega.{arith}
 use borrow.Author.Needs.{needs}
-use borrow.Author.Tests.{le-leb, lt-leb, eq-eqb, ne-eqb}
+use borrow.Author.Tests.{le-ltb, lt-ltb, le-leb, lt-leb, eq-eqb, ne-eqb}
 use mir.Syntax.{w64}
 use mir.ValLaws.{toZ-ofZ}
 use Rattle.codec.specs.Reply.{first, leaves}
@@ -18,15 +18,11 @@ value c = c .reduce .ensures ∙ ap (remainder (c .before .before .before .args 
 
 returns : tie.Need-returns
 unfolding answer first leaves
-returns c =
-    let a = c .before .args in
-    rw (eq-eqb (a .q) 0 (c .if1 .taken))
+returns c = search (needs, le-ltb, lt-ltb, le-leb, lt-leb, eq-eqb, ne-eqb)
 
 returns-2 : tie.Need-returns-2
 unfolding answer first leaves
-returns-2 c =
-    let a = c .before .before .args in
-    rw (ne-eqb (a .q) 0 (c .before .if1 .left), le-leb 72057594037927936 (a .q) (c .if2 .taken))
+returns-2 c = search (needs, le-ltb, lt-ltb, le-leb, lt-leb, eq-eqb, ne-eqb)
 
 mul-result : tie.Need-mul-result
 mul-result c = let l = remainder-lt (c .before .before .before .args .q) (c .before .before .before .args .e) (omega arith) in omega (arith, value c)

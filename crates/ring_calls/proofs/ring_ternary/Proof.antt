@@ -2,8 +2,7 @@
 use mathlib.Core.Path.{sym, _∙_}
 use Prim.Native.Nat.{_*_}
 use borrow.Author.Needs.{needs}
-use borrow.Author.Tests.{le-ltb, lt-ltb, eq-eqb, ne-eqb}
-use borrow.Author.Tests.{not-true, not-false}
+use borrow.Author.Tests.{le-ltb, lt-ltb, le-leb, lt-leb, eq-eqb, ne-eqb, not-true, not-false}
 use lib.ListN.{length}
 use Rattle.codec.proofs.Laws.{put-whole}
 use Rattle.codec.specs.Reply.{first, leaves}
@@ -14,21 +13,15 @@ use Rattle.ring_calls.proofs.ring_ternary.Tie as tie
 
 returns : tie.Need-returns
 unfolding ternaryReply first leaves
-returns c =
-    let a = c .before .before .before .args in
-    (rw (lt-ltb (a .q) 2 (c .if1 .taken)), rw (lt-ltb (a .q) 2 (c .if1 .taken)))
+returns c = search (needs, le-ltb, lt-ltb, le-leb, lt-leb, eq-eqb, ne-eqb)
 
 returns-2 : tie.Need-returns-2
 unfolding ternaryReply first leaves
-returns-2 c =
-    let a = c .before .before .before .before .args in
-    (rw (le-ltb (a .q) 2 (c .before .if1 .left), lt-ltb 2048 (length (a .t .now)) (c .if2 .taken)), rw (le-ltb (a .q) 2 (c .before .if1 .left), lt-ltb 2048 (length (a .t .now)) (c .if2 .taken)))
+returns-2 c = search (needs, le-ltb, lt-ltb, le-leb, lt-leb, eq-eqb, ne-eqb)
 
 returns-3 : tie.Need-returns-3
 unfolding ternaryReply first leaves
-returns-3 c =
-    let a = c .before .before .before .before .before .args in
-    (rw (le-ltb (a .q) 2 (c .before .before .if1 .left), le-ltb 2048 (length (a .t .now)) (c .before .if2 .left), ne-eqb (length (a .work .now)) (8 * length (a .t .now)) (c .if3 .taken)), rw (le-ltb (a .q) 2 (c .before .before .if1 .left), le-ltb 2048 (length (a .t .now)) (c .before .if2 .left), ne-eqb (length (a .work .now)) (8 * length (a .t .now)) (c .if3 .taken)))
+returns-3 c = search (needs, le-ltb, lt-ltb, le-leb, lt-leb, eq-eqb, ne-eqb)
 
 returns-4 : tie.Need-returns-4
 unfolding ternaryReply first leaves
