@@ -10,9 +10,11 @@ use borrow.Author.Tests.{ltb-true, lt-ltb}
 use lib.Dec.{ltb, eqb}
 use lib.ListN.{length, take, getD}
 use lib.Seq.{take-suc}
+use Rattle.codec.specs.Bytes.{Bytes, signed}
+use Rattle.modular.proofs.Centring.{remainder-lt}
 use Rattle.ring.specs.Poly.{Poly, Below}
-use Rattle.ring.specs.Slots.{list, allBelow}
-use Rattle.ring.specs.Ternary.{count}
+use Rattle.ring.specs.Slots.{poly, fromSigned, list, allBelow}
+use Rattle.ring.specs.Ternary.{meaning, ternary, count}
 use Rattle.ring.proofs.Bridge.{length-list, getD-list}
 
 -- ---- a range test is sound and complete
@@ -51,6 +53,15 @@ below-complete q n a h =
 
 pub not-below : (q n : ℕ) (a : Poly) (k : ℕ) → k < n → q ≤ a k → allBelow q (list n a) ≡ false
 not-below q n a k l h = not-allBelow q (list n a) k (omega (arith, length-list n a)) (rw (getD-list n a k l) h)
+
+-- what is loaded from ternary bytes or from signed numbers is below q
+pub below-ternary : (q n : ℕ) (t : Bytes) → 0 < q → Below q n (ternary q t)
+unfolding ternary
+below-ternary q n t h = record { at = λ k l. remainder-lt q (meaning (getD t k 0)) h }
+
+pub below-signed : (q n : ℕ) (s : Bytes) → 0 < q → Below q n (fromSigned q s)
+unfolding fromSigned
+below-signed q n s h = record { at = λ k l. remainder-lt q (signed (poly s k)) h }
 
 -- ---- counts
 
