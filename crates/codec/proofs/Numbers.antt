@@ -1,13 +1,13 @@
 -- Laws of little-endian numbers. Assumes nothing.
 use mathlib.Core.Path.{_≡_, refl, sym, ap, ap₂, _∙_}
-use mathlib.Core.List.{List, [], _∷_, _++_}
+use mathlib.Core.List.{List, [], _∷_, _++_, append-nil, append-assoc}
 use Prim.Native.Nat.{ℕ, zero, suc, _+_, _*_, _/_, _%_, _^_, _≤_, _<_}
 use native.Mathlib.Nat.{pow-suc, pow-succ', one-le-pow, zero-add, suc-add, div-one, div-div-eq-div-mul}
 use native.Mathlib.Omega.{arith}
 use lib.Arith.{mod-mul}
-use lib.ListN.{length, take, drop, getD}
+use lib.ListN.{length, take, drop, getD, length-append}
 use lib.Seq.{drop-cons}
-use Rattle.codec.specs.Bytes.{Bytes, Octets, bytes, number, part, put}
+use Rattle.codec.specs.Bytes.{Bytes, Octets, bytes, words, number, part, put}
 use Rattle.codec.proofs.Laws.{length-part, part-append, put-append}
 
 pub length-bytes : (k v : ℕ) → length (bytes k v) ≡ k
@@ -94,3 +94,19 @@ put-join d at j k v h =
     ap (λ (n : ℕ). put (put d at (bytes j (v % 256 ^ j))) (at + n) (bytes k (v / 256 ^ j))) (sym l)
     ∙ put-append d at (bytes j (v % 256 ^ j)) (bytes k (v / 256 ^ j)) (omega arith)
     ∙ ap (put d at) (bytes-append j k v)
+
+-- ---- lists of 8-byte numbers
+
+pub length-words : (xs : List ℕ) → length (words xs) ≡ 8 * length xs
+unfolding words
+length-words [] = refl
+length-words (x ∷ xs) = simp length-append (omega (arith, length-bytes 8 x, length-words xs))
+
+pub words-append : (xs ys : List ℕ) → words (xs ++ ys) ≡ words xs ++ words ys
+unfolding words
+words-append [] ys = refl
+words-append (x ∷ xs) ys = rw (words-append xs ys) (sym (append-assoc (bytes 8 x) (words xs) (words ys)))
+
+pub words-one : (v : ℕ) → words (v ∷ []) ≡ bytes 8 v
+unfolding words
+words-one v = append-nil (bytes 8 v)

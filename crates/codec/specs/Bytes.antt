@@ -18,6 +18,11 @@ unfoldable pub bytes : ℕ → ℕ → Bytes
 bytes zero v = []
 bytes (suc k) v = v % 256 ∷ bytes k (v / 256)
 
+-- the numbers of a list in 8 bytes each
+unfoldable pub words : List ℕ → Bytes
+words [] = []
+words (x ∷ xs) = bytes 8 x ++ words xs
+
 -- the number that bytes hold, the least first
 unfoldable pub number : Bytes → ℕ
 number [] = 0

@@ -8,11 +8,11 @@ use native.Mathlib.Numerals.{add-one}
 use native.Mathlib.Omega.{arith}
 use lib.ListN.{length, take, drop, getD, length-append, length-replicate, length-take, length-drop, take-append-drop}
 use lib.Seq.{length-take-le, take-all, take-add, take-append-add, take-take, drop-at, take-append-le, drop-append-le, drop-drop, getD-take, getD-drop, getD-at, ext-getD}
-use Rattle.codec.specs.Bytes.{Bytes, Octets, bytes, number, part, put, zeros}
+use Rattle.codec.specs.Bytes.{Bytes, Octets, bytes, words, number, part, put, zeros}
 use Rattle.codec.proofs.Laws.{length-part, part-part, length-put, put-put, before-put, drop-put, part-put, part-put-before, part-put-after}
-use Rattle.codec.proofs.Numbers.{length-bytes, number-bytes, bytes-number}
+use Rattle.codec.proofs.Numbers.{length-bytes, number-bytes, bytes-number, length-words, words-append}
 use Rattle.ring.specs.Poly.{Poly, modulo, Alike, Below}
-use Rattle.ring.specs.Slots.{poly, slot, list, words, encode, store}
+use Rattle.ring.specs.Slots.{poly, slot, list, encode, store}
 use Rattle.ring.proofs.Sums.{side}
 
 -- ---- coefficients and lists
@@ -44,16 +44,6 @@ list-getD xs =
     (λ k h. getD-list (length xs) (λ k. getD xs k 0) k (omega (arith, length-list (length xs) (λ k. getD xs k 0))))
 
 -- ---- lists and bytes
-
-pub length-words : (xs : List ℕ) → length (words xs) ≡ 8 * length xs
-unfolding words
-length-words [] = refl
-length-words (x ∷ xs) = simp length-append (omega (arith, length-bytes 8 x, length-words xs))
-
-pub words-append : (xs ys : List ℕ) → words (xs ++ ys) ≡ words xs ++ words ys
-unfolding words
-words-append [] ys = refl
-words-append (x ∷ xs) ys = ap (λ (t : Bytes). bytes 8 x ++ t) (words-append xs ys) ∙ sym (append-assoc (bytes 8 x) (words xs) (words ys))
 
 -- ---- coefficients and bytes
 

@@ -5,7 +5,7 @@ use mathlib.Core.Logic.{_⊎_}
 use Prim.Native.Nat.{ℕ, zero, suc, _+_, _*_, _≤_}
 use lib.Dec.{ltb}
 use lib.ListN.{length}
-use Rattle.codec.specs.Bytes.{Bytes, bytes, number, signed, part, put}
+use Rattle.codec.specs.Bytes.{Bytes, words, number, signed, part, put}
 use Rattle.modular.specs.Modulo.{remainder}
 use Rattle.ring.specs.Poly.{Poly, modulo}
 
@@ -25,11 +25,6 @@ slot w at i = number (part w (at + 8 * i) 8)
 unfoldable pub list : ℕ → Poly → List ℕ
 list zero a = []
 list (suc n) a = list n a ++ (a n ∷ [])
-
--- the numbers of a list in 8 bytes each
-unfoldable pub words : List ℕ → Bytes
-words [] = []
-words (x ∷ xs) = bytes 8 x ++ words xs
 
 -- the 8n bytes of a polynomial
 unfoldable pub encode : ℕ → Poly → Bytes

@@ -10,19 +10,19 @@ use borrow.Author.Tests.{eqb-true, not-false}
 use lib.Dec.{eqb, ltb}
 use lib.ListN.{length, take, drop, getD, length-append, take-append-drop, drop-of-length-le}
 use lib.Seq.{take-suc, take-all, drop-cons, drop-drop, drop-at}
-use Rattle.codec.specs.Bytes.{Bytes, put}
+use Rattle.codec.specs.Bytes.{Bytes, words, put}
 use Rattle.codec.proofs.Laws.{length-put, put-none, put-append}
 use Rattle.sheet.specs.Form.{Sheet, numberKeys, listKeys, rowsOf}
 use Rattle.sheet.specs.Reader.{Found, missing, found, fresh, values, line, Block, broken, block, after, onward, rows, every, formed, sheetOf}
 use Rattle.sheet.specs.Seen.{none, outline, outlined, seen, Ready, Writes, Fitting}
-use Rattle.sheet.specs.Sheet.{encoded, joined, polynomials, fits, lists, unfit}
+use Rattle.codec.proofs.Numbers.{length-words}
+use Rattle.sheet.specs.Sheet.{joined, polynomials, fits, lists, unfit}
 use Rattle.sheet.specs.declared.Lines.{Lines}
 use Rattle.sheet.proofs.Steps.{unroll, le-or, never-found}
 use Rattle.sheet.proofs.Each.{both}
 use Rattle.sheet.proofs.Form.{no-more, lined, never-block, has-rows}
 use Rattle.sheet.proofs.Blocks.{rows-append, rows-broken}
 use Rattle.sheet.proofs.Order.{every-at}
-use Rattle.sheet.proofs.Writing.{length-encoded}
 
 -- ---- keys
 
@@ -102,11 +102,11 @@ lists-from-rows text (block rs u) e f head s = go (head .whole) s (rows listKeys
 joined-append : (xs ys : List (List ℕ)) → joined (xs ++ ys) ≡ joined xs ++ joined ys
 unfolding joined
 joined-append [] ys = refl
-joined-append (x ∷ xs) ys = rw (joined-append xs ys) (sym (append-assoc (encoded x) (joined xs) (joined ys)))
+joined-append (x ∷ xs) ys = rw (joined-append xs ys) (sym (append-assoc (words x) (joined xs) (joined ys)))
 
-joined-one : (x : List ℕ) → joined (x ∷ []) ≡ encoded x
+joined-one : (x : List ℕ) → joined (x ∷ []) ≡ words x
 unfolding joined
-joined-one x = append-nil (encoded x)
+joined-one x = append-nil (words x)
 
 -- i lists of the text were put into d, up to o, and the text goes on at `at`
 pub record Filling (text d : Bytes) (i at o : ℕ) (out : Bytes) : Type 0 where
@@ -127,8 +127,8 @@ module _ (text : Bytes) (n : ℕ) (d : Bytes) (ok : Fitting text n d) where
       (both (eqb (length (getD ls i [])) (sheetOf text .numbers .ring)) (every (λ x. ltb x (sheetOf text .numbers .modulus)) (getD ls i [])) e .0)
       ∙ ok .ring
 
-  size : (i : ℕ) → i < 5 → length (encoded (getD ls i [])) ≡ 8 * n
-  size i h = length-encoded (getD ls i []) ∙ omega (arith, count i h)
+  size : (i : ℕ) → i < 5 → length (words (getD ls i [])) ≡ 8 * n
+  size i h = length-words (getD ls i []) ∙ omega (arith, count i h)
 
   pub all-size : length (joined ls) ≡ 40 * n
   unfolding joined
@@ -176,8 +176,8 @@ module _ (text : Bytes) (n : ℕ) (d : Bytes) (ok : Fitting text n d) where
           let e : length (joined (take i ls)) + length (joined (drop i ls)) ≡ 40 * n =
           sym (length-append (joined (take i ls)) (joined (drop i ls))) ∙ ap length (sym (joined-append (take i ls) (drop i ls)))
           ∙ ap (λ (x : List (List ℕ)). length (joined x)) (take-append-drop i ls) ∙ all-size in
-          let g : length (joined (drop i ls)) ≡ length (encoded l) + length (joined (drop (suc i) ls)) =
-          ap (λ (x : List (List ℕ)). length (joined x)) (drop-cons ls i [] h) ∙ length-append (encoded l) (joined (drop (suc i) ls)) in
+          let g : length (joined (drop i ls)) ≡ length (words l) + length (joined (drop (suc i) ls)) =
+          ap (λ (x : List (List ℕ)). length (joined x)) (drop-cons ls i [] h) ∙ length-append (words l) (joined (drop (suc i) ls)) in
           omega (arith, f .place, size i h, ok .space)
 
       same-size : length out ≡ length d
@@ -197,21 +197,21 @@ module _ (text : Bytes) (n : ℕ) (d : Bytes) (ok : Fitting text n d) where
           w' : Writes (found l (row .next)) o out (drop r text) s
           w' = rw (e, found-at) at w
 
-          one-more : joined (take (i + 1) ls) ≡ joined (take i ls) ++ encoded l
+          one-more : joined (take (i + 1) ls) ≡ joined (take i ls) ++ words l
           one-more = rw (add-one, take-suc ls i [] h) (joined-append (take i ls) (l ∷ []) ∙ rw (joined-one l))
 
           wrote : s ≡ put d 0 (joined (take (i + 1) ls))
           wrote =
               let z : o ≡ 0 + length (joined (take i ls)) = omega (arith, f .place) in
               w' .wrote ∙ rw (f .wrote, z, one-more)
-              (put-append d 0 (joined (take i ls)) (encoded l) (omega (arith, f .place, room, size i h)))
+              (put-append d 0 (joined (take i ls)) (words l) (omega (arith, f .place, room, size i h)))
 
           ahead : rows (drop (i + 1) listKeys) (drop r text) ≡ block (drop (i + 1) ls) []
           ahead = rw (w' .goes-on) (row .others)
 
           place : o + 8 * n ≡ length (joined (take (i + 1) ls))
-          place = rw (one-more, length-append (joined (take i ls)) (encoded l)) (omega (arith, f .place, size i h))
+          place = rw (one-more, length-append (joined (take i ls)) (words l)) (omega (arith, f .place, size i h))
 
           size-kept : length s ≡ length d
           size-kept =
-              ap length (w' .wrote) ∙ length-put out o (encoded l) (omega (arith, same-size, room, size i h)) ∙ same-size
+              ap length (w' .wrote) ∙ length-put out o (words l) (omega (arith, same-size, room, size i h)) ∙ same-size

@@ -8,29 +8,14 @@ use native.Mathlib.Nat.{le-refl, le-trans}
 use native.Mathlib.Omega.{arith}
 use lib.Dec.{ltb, leb, eqb}
 use lib.ListN.{length, drop, getD, length-append, drop-of-length-le}
-use Rattle.codec.specs.Bytes.{Bytes, bytes, put}
+use Rattle.codec.specs.Bytes.{Bytes, bytes, words, put}
 use Rattle.codec.proofs.Laws.{length-put, put-none, put-append}
-use Rattle.codec.proofs.Numbers.{length-bytes}
+use Rattle.codec.proofs.Numbers.{length-bytes, length-words, words-append, words-one}
 use Rattle.sheet.specs.Reader.{digit, Place, fresh, within, Found, missing, found, Step, stop, on, done, step, follow, values}
 use Rattle.sheet.specs.Seen.{numbersIn, Ready, Writes}
-use Rattle.sheet.specs.Sheet.{encoded}
 use Rattle.sheet.proofs.Steps.{unroll, same-or, le-or, begins, no-number, grows, leading-zero, too-long, comma, ends, neither}
 
 -- ---- polynomials in bytes
-
-pub length-encoded : (xs : List ℕ) → length (encoded xs) ≡ 8 * length xs
-unfolding encoded
-length-encoded [] = refl
-length-encoded (x ∷ xs) = length-append (bytes 8 x) (encoded xs) ∙ omega (arith, length-bytes 8 x, length-encoded xs)
-
-pub encoded-append : (xs ys : List ℕ) → encoded (xs ++ ys) ≡ encoded xs ++ encoded ys
-unfolding encoded
-encoded-append [] ys = refl
-encoded-append (x ∷ xs) ys = rw (encoded-append xs ys) (sym (append-assoc (bytes 8 x) (encoded xs) (encoded ys)))
-
-encoded-one : (v : ℕ) → encoded (v ∷ []) ≡ bytes 8 v
-unfolding encoded
-encoded-one v = append-nil (bytes 8 v)
 
 -- ---- a line has no fewer numbers than were read
 
@@ -119,12 +104,12 @@ pub record Writing (text : Bytes) (at from : ℕ) (d : Bytes) (i v o : ℕ) (out
   pub p : Place
   pub stands : At v p
   pub same : values [] fresh (drop at text) ≡ values xs p (drop i text)
-  pub wrote : out ≡ put d from (encoded xs)
+  pub wrote : out ≡ put d from (words xs)
   pub place : o ≡ from + 8 * length xs
 
 module _ (text : Bytes) (at from : ℕ) (d : Bytes) where
   pub starts : Writing text at from d at 0 from d
-  unfolding encoded
+  unfolding words
   starts = record { xs = []; p = fresh; stands = before; same = refl; wrote = sym (put-none d from); place = omega arith }
 
   module _ (ok : Ready (values [] fresh (drop at text)) from d) (i v o : ℕ) (out : Bytes) (w : Writing text at from d i v o out) where
@@ -167,18 +152,18 @@ module _ (text : Bytes) (at from : ℕ) (d : Bytes) where
           grown-le (rw met (room-step (w .xs) c t (w .stands) there (rw e at l))) (ok .there) in
           let n : length (w .xs) + 1 ≤ length (numbersIn (values [] fresh (drop at text))) = simp length-append at k in (
             omega (arith, w .place, ok .room),
-            rw (w .wrote) (length-put d from (encoded (w .xs)) (omega (arith, ok .room, length-encoded (w .xs)))),
+            rw (w .wrote) (length-put d from (words (w .xs)) (omega (arith, ok .room, length-words (w .xs)))),
           )
 
-      put-next : 10 ≤ g → put out o (bytes 8 v) ≡ put d from (encoded (w .xs ++ v ∷ []))
+      put-next : 10 ≤ g → put out o (bytes 8 v) ≡ put d from (words (w .xs ++ v ∷ []))
       put-next l =
-          let m : o ≡ from + length (encoded (w .xs)) = omega (arith, w .place, length-encoded (w .xs)) in
+          let m : o ≡ from + length (words (w .xs)) = omega (arith, w .place, length-words (w .xs)) in
           rw (
             w .wrote,
             m,
-            put-append d from (encoded (w .xs)) (bytes 8 v) (omega (arith, room l .0, length-bytes 8 v)),
-            encoded-append (w .xs) (v ∷ []),
-            encoded-one v,
+            put-append d from (words (w .xs)) (bytes 8 v) (omega (arith, room l .0, length-bytes 8 v)),
+            words-append (w .xs) (v ∷ []),
+            words-one v,
           )
 
       pub length-put-next : 10 ≤ g → length (put out o (bytes 8 v)) ≡ length d

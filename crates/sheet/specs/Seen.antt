@@ -6,9 +6,9 @@ use mathlib.Core.List.{List, [], _∷_, map}
 use Prim.Native.Nat.{ℕ, _+_, _*_, _≤_}
 use lib.Dec.{ltb, eqb}
 use lib.ListN.{length, drop}
-use Rattle.codec.specs.Bytes.{Bytes, put}
+use Rattle.codec.specs.Bytes.{Bytes, words, put}
 use Rattle.sheet.specs.Reader.{Found, missing, found, Block, broken, block, every, formed, sheetOf}
-use Rattle.sheet.specs.Sheet.{encoded, outside, unsound, unfit}
+use Rattle.sheet.specs.Sheet.{outside, unsound, unfit}
 use Rattle.sheet.specs.declared.Scan.{Scan}
 use Rattle.sheet.specs.declared.Scan.the-variants as scan
 use Rattle.sheet.specs.declared.Lines.{Lines}
@@ -63,7 +63,7 @@ pub record Ready (f : Found) (from : ℕ) (d : Bytes) : Type 0 where
 
 -- they were put there, and the text after the line is t
 pub record Writes (f : Found) (from : ℕ) (d : Bytes) (t out : Bytes) : Type 0 where
-  pub wrote : out ≡ put d from (encoded (numbersIn f))
+  pub wrote : out ≡ put d from (words (numbersIn f))
   pub goes-on : t ≡ rest f
 
 -- a text of the form, whose lists have n numbers each, and room for them in d

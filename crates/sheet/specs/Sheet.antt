@@ -4,7 +4,7 @@ use mathlib.Core.List.{List, [], _∷_, _++_}
 use Prim.Native.Nat.{ℕ, _+_, _*_, _-_, _/_, _%_, _^_}
 use lib.Dec.{ltb, leb, eqb}
 use lib.ListN.{length}
-use Rattle.codec.specs.Bytes.{Bytes, bytes, put}
+use Rattle.codec.specs.Bytes.{Bytes, words, put}
 use Rattle.codec.specs.Reply.{Test, test, first}
 use Rattle.codec.specs.declared.Reply.{Reply}
 use Rattle.codec.specs.declared.Reply.the-variants as reply
@@ -74,14 +74,10 @@ readingBy (reply.Refused n place) k = Refused n
 unfoldable pub reading : ℕ → Bytes → Reading
 reading p text = readingBy (first (order p text)) (sheetOf text .numbers)
 
--- polynomials in bytes, 8 to a coefficient
-unfoldable pub encoded : List ℕ → Bytes
-encoded [] = []
-encoded (x ∷ xs) = bytes 8 x ++ encoded xs
-
+-- lists in bytes, 8 to a coefficient
 unfoldable pub joined : List (List ℕ) → Bytes
 joined [] = []
-joined (xs ∷ xss) = encoded xs ++ joined xss
+joined (xs ∷ xss) = words xs ++ joined xss
 
 -- a, b, k1, k2, k3 in 40N bytes
 unfoldable pub polynomials : Bytes → Bytes
