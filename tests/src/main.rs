@@ -1,6 +1,7 @@
 //! Compares the library, over its C interface, with independent implementations. The last line is `N passed, M failed`.
 mod digest;
 mod random;
+mod ring;
 mod sha3;
 mod sheet;
 mod tally;
@@ -9,6 +10,7 @@ fn main() {
     let mut tally = tally::Tally::default();
     sha3::run(&mut tally);
     digest::run(&mut tally);
+    ring::run(&mut tally);
     sheet::run(&mut tally);
     std::process::exit(tally.finish());
 }

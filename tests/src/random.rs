@@ -11,7 +11,6 @@ impl Random {
         z ^ (z >> 31)
     }
 
-    #[allow(dead_code)]
     pub fn below(&mut self, n: u64) -> u64 {
         self.next() % n
     }

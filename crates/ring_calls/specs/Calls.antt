@@ -1,0 +1,66 @@
+-- What the calls for tests answer: 0 taken, 1 a slice of wrong length, 5 a number out of range; a number that is answered stands above the low byte.
+-- Assumes nothing.
+use mathlib.Core.Bool.{cond, not}
+use mathlib.Core.List.{[], _∷_, _++_}
+use Prim.Native.Nat.{ℕ, _+_, _-_, _*_, _/_, _%_, _^_}
+use lib.Dec.{eqb, leb, ltb}
+use lib.IntN.{natAbs}
+use lib.ListN.{length}
+use Rattle.codec.specs.Bytes.{Bytes, zeros}
+use Rattle.codec.specs.Reply.{test, first, leaves, packed}
+use Rattle.codec.specs.declared.Reply.{Reply}
+use Rattle.modular.specs.Modulo.{centre, remainder}
+use Rattle.modular.specs.Division.{divide}
+use Rattle.ring.specs.Poly.{Poly, mul, plus, minus, modulo}
+use Rattle.ring.specs.Slots.{poly, list, encode, allBelow}
+
+-- a number that is answered, or its refusal
+unfoldable pub answer : Reply → ℕ → ℕ
+answer r v = leaves r (256 * v) (packed r)
+
+-- 0 x + y, 1 x - y, 2 x * y, 3 -x, 4 the size of the centred x, 5 its remainder by 2, 6 x / 2
+unfoldable pub onNumbers : (operation x y q : ℕ) → ℕ
+onNumbers operation x y q =
+    cond (eqb operation 0) ((x + y) % q)
+    (cond (eqb operation 1) ((x + (q - 1) * y) % q)
+    (cond (eqb operation 2) (x * y % q)
+    (cond (eqb operation 3) ((q - 1) * x % q)
+    (cond (eqb operation 4) (natAbs (centre q x)) (cond (eqb operation 5) (remainder 2 (centre q x)) (divide q 2 x))))))
+
+unfoldable pub numbersReply : (operation x y q : ℕ) → Reply
+numbersReply operation x y q =
+    first
+    (test 5 0 (ltb 6 operation)
+    ∷ test 5 0 (leb (2 ^ 56) q)
+    ∷ test 5 0 (not (eqb (q % 2) 1))
+    ∷ test 5 0 (leb q x)
+    ∷ test 5 0 (leb q y)
+    ∷ [])
+
+-- 0 a + b, 1 a - b, and else a * b
+unfoldable pub onPolynomials : (operation n q : ℕ) → Poly → Poly → Poly
+onPolynomials operation n q a b = cond (eqb operation 0) (plus a b) (cond (eqb operation 1) (minus q a b) (mul q n a b))
+
+-- two polynomials of n coefficients modulo q, and scratch of four slots
+unfoldable pub polynomialsReply : (operation n q : ℕ) → Bytes → Bytes → Bytes → Reply
+polynomialsReply operation n q w a b =
+    first
+    (test 5 0 (ltb 2 operation)
+    ∷ test 5 0 (ltb 2048 n)
+    ∷ test 5 0 (eqb q 0)
+    ∷ test 5 0 (leb (2 ^ 56) q)
+    ∷ test 1 0 (not (eqb (length w) (32 * n)))
+    ∷ test 1 0 (not (eqb (length a) (8 * n)))
+    ∷ test 1 0 (not (eqb (length b) (8 * n)))
+    ∷ test 5 0 (not (allBelow q (list (length a / 8) (poly a))))
+    ∷ test 5 0 (not (allBelow q (list (length b / 8) (poly b))))
+    ∷ [])
+
+-- the result in the first slot, and zeros in the others
+unfoldable pub polynomialsOut : (operation n q : ℕ) → Bytes → Bytes → Bytes → Bytes
+polynomialsOut operation n q w a b =
+    leaves (polynomialsReply operation n q w a b) (encode n (modulo q (onPolynomials operation n q (poly a) (poly b))) ++ zeros (24 * n)) w
+
+-- ternary bytes modulo q, and scratch of one slot
+unfoldable pub ternaryReply : ℕ → Bytes → Bytes → Reply
+ternaryReply q w t = first (test 5 0 (ltb q 2) ∷ test 5 0 (ltb 2048 (length t)) ∷ test 1 0 (not (eqb (length w) (8 * length t))) ∷ test 5 0 (not (allBelow 3 t)) ∷ [])

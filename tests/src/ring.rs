@@ -1,0 +1,245 @@
+//! Numbers modulo q and polynomials modulo X^n + 1, over the calls of `ring_calls`, against plain 128-bit arithmetic.
+use crate::random::Random;
+use crate::tally::{Comparison, Tally};
+
+extern "C" {
+    fn modular_numbers(operation: u64, x: u64, y: u64, q: u64) -> u64;
+    fn modular_centred(x: u64, q: u64) -> i64;
+    fn modular_reduce(e: i64, q: u64) -> u64;
+    fn ring_count(t: *const u8, t_length: usize, v: u8) -> u64;
+    fn ring_ternary(work: *mut u8, work_length: usize, t: *const u8, t_length: usize, q: u64) -> u64;
+    fn ring_polynomials(
+        operation: u64,
+        work: *mut u8,
+        work_length: usize,
+        a: *const u8,
+        a_length: usize,
+        b: *const u8,
+        b_length: usize,
+        n: usize,
+        q: u64,
+    ) -> u64;
+}
+
+const ADD: u64 = 0;
+const SUBTRACT: u64 = 1;
+const MULTIPLY: u64 = 2;
+
+/// The moduli of the comparisons: document 01's small ring, its example I, one near 2^55 and the largest below 2^56 with 4096 dividing q - 1.
+const MODULI: [u64; 4] = [97, 81, 36_028_797_018_820_609, (1 << 56) - 4095];
+
+/// The independent implementation.
+fn times(x: u64, y: u64, q: u64) -> u64 {
+    (u128::from(x) * u128::from(y) % u128::from(q)) as u64
+}
+
+fn on_numbers(operation: u64, x: u64, y: u64, q: u64) -> u64 {
+    let centred = if x <= (q - 1) / 2 { i128::from(x) } else { i128::from(x) - i128::from(q) };
+    match operation {
+        0 => ((u128::from(x) + u128::from(y)) % u128::from(q)) as u64,
+        1 => (i128::from(x) - i128::from(y)).rem_euclid(i128::from(q)) as u64,
+        2 => times(x, y, q),
+        3 => (-i128::from(x)).rem_euclid(i128::from(q)) as u64,
+        4 => centred.unsigned_abs() as u64,
+        5 => centred.rem_euclid(2) as u64,
+        // 1 / 2 is (q + 1) / 2
+        _ => times(x, q.div_ceil(2), q),
+    }
+}
+
+fn on_polynomials(operation: u64, a: &[u64], b: &[u64], q: u64) -> Vec<u64> {
+    if operation != MULTIPLY {
+        return a.iter().zip(b).map(|(x, y)| on_numbers(operation, *x, *y, q)).collect();
+    }
+    let n = a.len();
+    let mut whole = vec![0; 2 * n];
+    for (i, x) in a.iter().enumerate().filter(|(_, x)| **x != 0) {
+        for (j, y) in b.iter().enumerate() {
+            whole[i + j] = on_numbers(ADD, whole[i + j], times(*x, *y, q), q);
+        }
+    }
+    (0..n).map(|k| on_numbers(SUBTRACT, whole[k], whole[n + k], q)).collect()
+}
+
+fn bytes(a: &[u64]) -> Vec<u8> {
+    a.iter().flat_map(|x| x.to_le_bytes()).collect()
+}
+
+/// A call of ours: its reply, and what it leaves in the scratch that is lent with these bytes.
+fn ours(operation: u64, work: &[u8], a: &[u8], b: &[u8], n: usize, q: u64) -> (u64, Vec<u8>) {
+    let mut work = work.to_vec();
+    // All three slices are live and apart for the call.
+    let reply = unsafe {
+        ring_polynomials(operation, work.as_mut_ptr(), work.len(), a.as_ptr(), a.len(), b.as_ptr(), b.len(), n, q)
+    };
+    (reply, work)
+}
+
+fn compare(c: &mut Comparison, random: &mut Random, operation: u64, a: &[u64], b: &[u64], q: u64) {
+    let n = a.len();
+    let mut expected = bytes(&on_polynomials(operation, a, b, q));
+    expected.resize(32 * n, 0);
+    let work = random.bytes(32 * n);
+    c.same(|| format!("operation {operation}, n {n}, q {q}"), ours(operation, &work, &bytes(a), &bytes(b), n, q), (0, expected));
+}
+
+fn polynomial(random: &mut Random, n: usize, q: u64) -> Vec<u64> {
+    (0..n).map(|_| random.below(q)).collect()
+}
+
+fn term(n: usize, place: usize, value: u64) -> Vec<u64> {
+    (0..n).map(|k| if k == place { value } else { 0 }).collect()
+}
+
+fn numbers(tally: &mut Tally, random: &mut Random) {
+    let mut c = Comparison::default();
+    let mut centred = Comparison::default();
+    for q in MODULI.into_iter().chain([1, 3, (1 << 56) - 1]) {
+        let mut samples: Vec<u64> = [0, 1, 2, (q - 1) / 2, q.div_ceil(2), q.saturating_sub(2), q - 1, q, q + 1, 1 << 56, u64::MAX].into();
+        samples.extend((0..200).map(|_| random.below(q)));
+        for x in &samples {
+            for y in samples.iter().take(16) {
+                for operation in 0..8 {
+                    let expected = if operation < 7 && *x < q && *y < q { 256 * on_numbers(operation, *x, *y, q) } else { 5 };
+                    let reply = unsafe { modular_numbers(operation, *x, *y, q) };
+                    c.same(|| format!("operation {operation}, {x}, {y} modulo {q}"), reply, expected);
+                }
+            }
+            let expected = match *x {
+                x if x >= q => 1 << 62,
+                x if x <= (q - 1) / 2 => x as i64,
+                x => x as i64 - q as i64,
+            };
+            centred.same(|| format!("{x} modulo {q}"), unsafe { modular_centred(*x, q) }, expected);
+        }
+    }
+    for q in [0, 2, 96, 1 << 56, u64::MAX] {
+        c.same(|| format!("modulus {q}"), unsafe { modular_numbers(MULTIPLY, 0, 0, q) }, 5);
+    }
+    // 94 is -3, and by 2 that is 1
+    c.same(|| "94 modulo 97 by 2".into(), unsafe { modular_numbers(5, 94, 0, 97) }, 256);
+    c.claim(tally, "modular: every operation, at and past the ends of the range");
+    centred.claim(tally, "modular: centred");
+
+    let mut c = Comparison::default();
+    for q in MODULI {
+        let ends = [i64::MIN, i64::MIN + 1, -1, 0, 1, i64::MAX - 1, i64::MAX];
+        for e in ends.into_iter().chain((0..300).map(|_| random.next() as i64)) {
+            let expected = 256 * i128::from(e).rem_euclid(i128::from(q)) as u64;
+            c.same(|| format!("{e} modulo {q}"), unsafe { modular_reduce(e, q) }, expected);
+        }
+    }
+    for q in [0, 1 << 56, u64::MAX] {
+        c.same(|| format!("modulus {q}"), unsafe { modular_reduce(7, q) }, 5);
+    }
+    c.claim(tally, "modular: signed numbers reduced, at both ends of 64 bits");
+}
+
+fn ternary(tally: &mut Tally, random: &mut Random) {
+    let mut loaded = Comparison::default();
+    let mut counted = Comparison::default();
+    for q in MODULI {
+        for n in [0, 1, 4, 64, 2048, 2049] {
+            let mut t: Vec<u8> = (0..n).map(|_| random.below(3) as u8).collect();
+            for wrong in [false, true] {
+                if wrong && n > 0 {
+                    let place = random.below(n as u64) as usize;
+                    t[place] = 3 + random.below(253) as u8;
+                }
+                let kept = random.bytes(8 * n);
+                let mut work = kept.clone();
+                let reply = unsafe { ring_ternary(work.as_mut_ptr(), work.len(), t.as_ptr(), t.len(), q) };
+                let refused = n > 2048 || (wrong && n > 0);
+                let expected = if refused { (5, kept) } else { (0, bytes(&t.iter().map(|b| [0, 1, q - 1][*b as usize]).collect::<Vec<_>>())) };
+                loaded.same(|| format!("{n} ternary bytes modulo {q}"), (reply, work), expected);
+                for v in 0..4 {
+                    let count = t.iter().filter(|b| **b == v).count() as u64;
+                    counted.same(|| format!("{v} in {n} bytes"), unsafe { ring_count(t.as_ptr(), t.len(), v) }, count);
+                }
+            }
+        }
+        let kept = random.bytes(31);
+        let mut work = kept.clone();
+        let reply = unsafe { ring_ternary(work.as_mut_ptr(), 31, [0; 4].as_ptr(), 4, q) };
+        loaded.same(|| "scratch of another length".into(), (reply, work), (1, kept));
+    }
+    loaded.claim(tally, "ring: ternary bytes as polynomials, and refused above 2");
+    counted.claim(tally, "ring: counts of a byte");
+}
+
+fn polynomials(tally: &mut Tally, random: &mut Random) {
+    let mut c = Comparison::default();
+    for q in MODULI {
+        for n in [1, 2, 4, 8, 16, 32, 64, 100, 127, 128, 129, 256, 512] {
+            for operation in [ADD, SUBTRACT, MULTIPLY] {
+                let (a, b) = (polynomial(random, n, q), polynomial(random, n, q));
+                compare(&mut c, random, operation, &a, &b, q);
+                compare(&mut c, random, operation, &vec![q - 1; n], &vec![q - 1; n], q);
+                compare(&mut c, random, operation, &vec![q - 1; n], &b, q);
+                compare(&mut c, random, operation, &vec![0; n], &b, q);
+            }
+        }
+    }
+    c.claim(tally, "ring: sums, differences and products, random and all q - 1");
+
+    let mut c = Comparison::default();
+    for q in MODULI {
+        for n in [4, 8, 64] {
+            for i in 0..n {
+                for j in [0, 1, n / 2, n - 1] {
+                    compare(&mut c, random, MULTIPLY, &term(n, i, q - 1), &term(n, j, q - 2), q);
+                }
+            }
+        }
+    }
+    c.claim(tally, "ring: products of single terms");
+
+    let mut c = Comparison::default();
+    for q in MODULI {
+        let (a, b) = (polynomial(random, 2048, q), polynomial(random, 2048, q));
+        compare(&mut c, random, MULTIPLY, &a, &b, q);
+        compare(&mut c, random, MULTIPLY, &vec![q - 1; 2048], &vec![q - 1; 2048], q);
+        compare(&mut c, random, MULTIPLY, &term(2048, 2047, q - 1), &b, q);
+        compare(&mut c, random, SUBTRACT, &a, &b, q);
+    }
+    c.claim(tally, "ring: 2048 coefficients");
+}
+
+fn refusals(tally: &mut Tally, random: &mut Random) {
+    let (n, q) = (8, 97);
+    let (a, b) = (bytes(&polynomial(random, n, q)), bytes(&polynomial(random, n, q)));
+    let mut c = Comparison::default();
+    let mut refused = |what: &str, operation, work: usize, a: &[u8], b: &[u8], n, q, number| {
+        let kept = random.bytes(work);
+        c.same(|| what.to_string(), ours(operation, &kept, a, b, n, q), (number, kept));
+    };
+    for operation in 0..3 {
+        refused("scratch one byte short", operation, 255, &a, &b, n, q, 1);
+        refused("scratch one byte long", operation, 257, &a, &b, n, q, 1);
+        refused("empty scratch", operation, 0, &a, &b, n, q, 1);
+        refused("first polynomial short", operation, 256, &a[..63], &b, n, q, 1);
+        refused("second polynomial long", operation, 256, &a, &[b.clone(), vec![0]].concat(), n, q, 1);
+        refused("modulus 0", operation, 256, &a, &b, n, 0, 5);
+        refused("modulus 2^56", operation, 256, &a, &b, n, 1 << 56, 5);
+        refused("2049 coefficients", operation, 256, &a, &b, 2049, q, 5);
+        refused("as many coefficients as fit 64 bits", operation, 256, &a, &b, usize::MAX, q, 5);
+        for place in 0..n {
+            for wrong in [q, u64::MAX] {
+                let mut damaged = a.clone();
+                damaged[8 * place..8 * place + 8].copy_from_slice(&wrong.to_le_bytes());
+                refused("a coefficient of the first", operation, 256, &damaged, &b, n, q, 5);
+                refused("a coefficient of the second", operation, 256, &a, &damaged, n, q, 5);
+            }
+        }
+    }
+    refused("unknown operation", 3, 256, &a, &b, n, q, 5);
+    c.claim(tally, "ring: every refusal, and nothing written");
+}
+
+pub fn run(tally: &mut Tally) {
+    let mut random = Random(97);
+    numbers(tally, &mut random);
+    ternary(tally, &mut random);
+    polynomials(tally, &mut random);
+    refusals(tally, &mut random);
+}
