@@ -18,11 +18,11 @@ use Rattle.sheet.proofs.Steps.{same-or, le-or, never-found, digit-is, d
 
 -- ---- decimals
 
-decimal-small : (k v : ℕ) → v < 10 → decimal (suc k) v ≡ (48 + v) ∷ []
+pub decimal-small : (k v : ℕ) → v < 10 → decimal (suc k) v ≡ (48 + v) ∷ []
 unfolding decimal
 decimal-small k v h = rw (lt-ltb v 10 h)
 
-decimal-large : (k v : ℕ) → 10 ≤ v → decimal (suc k) v ≡ decimal k (v / 10) ++ (48 + v % 10) ∷ []
+pub decimal-large : (k v : ℕ) → 10 ≤ v → decimal (suc k) v ≡ decimal k (v / 10) ++ (48 + v % 10) ∷ []
 unfolding decimal
 decimal-large k v h = rw (le-ltb v 10 h)
 

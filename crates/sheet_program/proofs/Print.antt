@@ -5,7 +5,7 @@ use mathlib.Core.List.{[], _∷_, _++_, append-assoc}
 use Prim.Native.Nat.{ℕ, zero, suc, _+_, _*_, _-_, _/_, _%_, _^_, _≤_, _<_}
 use native.Mathlib.Nat.{pow-suc, one-le-pow, pow-le-pow-right}
 use native.Mathlib.Omega.{arith}
-use borrow.Author.Tests.{le-ltb, lt-ltb}
+use borrow.Author.Tests.{lt-ltb}
 use lib.ListN.{length, take, length-append}
 use Rattle.codec.specs.Bytes.{Bytes, put}
 use Rattle.codec.proofs.Laws.{length-put, put-append, part-put}
@@ -13,15 +13,8 @@ use Rattle.io.specs.Counts.{Counts}
 use Rattle.io.specs.Digits.{digits, Fewest}
 use Rattle.sheet.specs.Form.{decimal}
 use Rattle.sheet.proofs.Steps.{le-or}
+use Rattle.sheet.proofs.Form.{decimal-small, decimal-large}
 use Rattle.sheet_program.specs.Print.{line, Puts}
-
-decimal-small : (j n : ℕ) → n < 10 → decimal (suc j) n ≡ (48 + n) ∷ []
-unfolding decimal
-decimal-small j n h = rw (lt-ltb n 10 h)
-
-decimal-large : (j n : ℕ) → 10 ≤ n → decimal (suc j) n ≡ decimal j (n / 10) ++ (48 + n % 10) ∷ []
-unfolding decimal
-decimal-large j n h = rw (le-ltb n 10 h)
 
 -- the fewest digits are those of `decimal`
 pub fewest : (j k n : ℕ) → k ≤ j → Fewest 10 1 n k → digits 10 k n ≡ decimal j n
