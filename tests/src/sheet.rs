@@ -4,7 +4,7 @@ use crate::random::Random;
 use crate::tally::{Comparison, Tally};
 
 extern "C" {
-    fn sheet_describe(text: *const u8, text_length: usize, out: *mut u8, out_length: usize) -> u64;
+    fn jdn_sheet(text: *const u8, text_length: usize, out: *mut u8, out_length: usize) -> u64;
     fn sheet_polynomials(text: *const u8, text_length: usize, out: *mut u8, out_length: usize) -> u64;
 }
 
@@ -203,7 +203,7 @@ fn compare(c: &mut Comparison, seen: &mut Seen, random: &mut Random, text: &[u8]
 
     let kept = random.bytes(32);
     let mut out = kept.clone();
-    let reply = call(sheet_describe, text, &mut out);
+    let reply = call(jdn_sheet, text, &mut out);
     let theirs = match &verdict {
         Ok((_, numbers)) => (0, numbers.iter().flat_map(|x| x.to_le_bytes()).collect()),
         Err(n) => (*n, kept),
@@ -285,16 +285,16 @@ pub fn run(tally: &mut Tally) {
     for length in (0..200).filter(|l| *l != 32) {
         let kept = random.bytes(length);
         let mut out = kept.clone();
-        c.same(|| format!("{length} bytes for N, D, B, L"), (call(sheet_describe, &text, &mut out), out), (1, kept));
+        c.same(|| format!("{length} bytes for N, D, B, L"), (call(jdn_sheet, &text, &mut out), out), (1, kept));
     }
     for length in (0..200).filter(|l| *l != 160) {
         let kept = random.bytes(length);
         let mut out = kept.clone();
         c.same(|| format!("{length} bytes for polynomials"), (call(sheet_polynomials, &text, &mut out), out), (1, kept));
     }
-    c.same(|| "a refused sheet and no output".into(), call(sheet_describe, b"x", &mut []), 2);
+    c.same(|| "a refused sheet and no output".into(), call(jdn_sheet, b"x", &mut []), 2);
     // A null pointer with the length 0 is an empty slice.
-    let reply = unsafe { sheet_describe(std::ptr::null(), 0, std::ptr::null_mut(), 0) };
+    let reply = unsafe { jdn_sheet(std::ptr::null(), 0, std::ptr::null_mut(), 0) };
     c.same(|| "null".into(), reply, 1);
     c.claim(tally, "sheet: an output of another length is refused 1, after the sheet's order, and left as it was");
 

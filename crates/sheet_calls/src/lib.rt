@@ -64,16 +64,7 @@ pub fn polynomials(text: &[u8], out: &mut [u8]) -> Reply
     }
 }
 
-// `describe` for the C host.
-#[no_mangle]
-pub extern "C" fn sheet_describe(text: &[u8], out: &mut [u8]) -> u64
-    ensures reply { λ r. ⌜ r ≡ packed (describeReply 2 (now (text .entry)) (now (out .entry))) ⌝ }
-    ensures output { λ _. ⌜ now (out .exit) ≡ describeOut 2 (now (text .entry)) (now (out .entry)) ⌝ }
-{
-    codec::pack(describe(text, out))
-}
-
-// `polynomials` for the C host.
+// `polynomials` over the C boundary, for tests.
 #[no_mangle]
 pub extern "C" fn sheet_polynomials(text: &[u8], out: &mut [u8]) -> u64
     ensures reply { λ r. ⌜ r ≡ packed (polynomialsReply 2 (now (text .entry)) (now (out .entry))) ⌝ }
