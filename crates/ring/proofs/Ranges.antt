@@ -11,6 +11,7 @@ use lib.Dec.{ltb, eqb}
 use lib.ListN.{length, take, getD}
 use lib.Seq.{take-suc}
 use Rattle.codec.specs.Bytes.{Bytes, signed}
+use Rattle.codec.proofs.Laws.{both}
 use Rattle.modular.proofs.Centring.{remainder-lt}
 use Rattle.ring.specs.Poly.{Poly, Below}
 use Rattle.ring.specs.Slots.{poly, fromSigned, list, allBelow}
@@ -18,11 +19,6 @@ use Rattle.ring.specs.Ternary.{meaning, ternary, count}
 use Rattle.ring.proofs.Bridge.{length-list, getD-list}
 
 -- ---- a range test is sound and complete
-
-both : (a b : Bool) → (a && b) ≡ true → (a ≡ true) × (b ≡ true)
-both true true e = (refl, refl)
-both true false e = (refl, e)
-both false b e = (e, absurd (let z : _≡_ {A = ℕ} 0 1 = cc in omega arith))
 
 pub allBelow-sound : (v : ℕ) (xs : List ℕ) → allBelow v xs ≡ true → (i : ℕ) → i < length xs → getD xs i 0 < v
 unfolding allBelow

@@ -9,12 +9,13 @@ use lib.ListN.{length, length-append, length-replicate}
 use Rattle.codec.specs.Bytes.{Bytes, put, zeros}
 use Rattle.codec.proofs.Laws.{length-put, put-append, put-put}
 use Rattle.modular.proofs.Congruence.{same-eq, _then_, same-mod, same-mul}
+use Rattle.codec.proofs.Apart.{put-comm}
 use Rattle.ring.specs.Poly.{Poly, sum, turn, coefficient, mul, modulo, Alike, Below}
 use Rattle.ring.specs.Slots.{slot, encode, store, Slots}
 use Rattle.ring.proofs.Sums.{side, sum-same}
 use Rattle.ring.proofs.Product.{turn-low, turn-high}
 use Rattle.ring.proofs.Polynomials.{mul-at}
-use Rattle.ring.proofs.Bridge.{length-encode, poly-encode, slot-later, slot-put, slot-put-before, slot-store, length-store, store-alike, put-comm}
+use Rattle.ring.proofs.Bridge.{length-encode, poly-encode, slot-later, slot-put, slot-put-before, slot-store, length-store, store-alike}
 
 -- each coefficient takes its terms from one row
 turn-row : (q n : ℕ) (a : Poly) (k i : ℕ) → k < n → i < n → turn q n a (n - 1) (n - 1 - k + i) ≡ turn q n a k i

@@ -9,11 +9,8 @@ use native.Mathlib.Numerals.{add-one}
 use native.Mathlib.Omega.{arith}
 use lib.ListN.{length, take, getD}
 use lib.Seq.{take-all}
+use Rattle.codec.proofs.Laws.{both}
 use Rattle.sheet.specs.Reader.{every}
-
-pub both : (a b : Bool) → (a && b) ≡ true → (a ≡ true) × (b ≡ true)
-both true b e = (refl, e)
-both false b e = absurd (let z : _≡_ {A = ℕ} 0 1 = cc in omega arith)
 
 -- the rest decides
 rest-false : (b r : Bool) → false ≡ r → false ≡ (b && r)

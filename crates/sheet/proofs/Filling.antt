@@ -11,7 +11,7 @@ use lib.Dec.{eqb, ltb}
 use lib.ListN.{length, take, drop, getD, length-append, take-append-drop, drop-of-length-le}
 use lib.Seq.{take-suc, take-all, drop-cons, drop-drop, drop-at}
 use Rattle.codec.specs.Bytes.{Bytes, words, put}
-use Rattle.codec.proofs.Laws.{length-put, put-none, put-append}
+use Rattle.codec.proofs.Laws.{both, length-put, put-none, put-append}
 use Rattle.sheet.specs.Form.{Sheet, numberKeys, listKeys, rowsOf}
 use Rattle.sheet.specs.Reader.{Found, missing, found, fresh, values, line, Block, broken, block, after, onward, rows, every, formed, sheetOf}
 use Rattle.sheet.specs.Seen.{none, outline, outlined, seen, Ready, Writes, Fitting}
@@ -19,7 +19,6 @@ use Rattle.codec.proofs.Numbers.{length-words}
 use Rattle.sheet.specs.Sheet.{joined, polynomials, fits, lists, unfit}
 use Rattle.sheet.specs.declared.Lines.{Lines}
 use Rattle.sheet.proofs.Steps.{unroll, le-or, never-found}
-use Rattle.sheet.proofs.Each.{both}
 use Rattle.sheet.proofs.Form.{no-more, lined, never-block, has-rows}
 use Rattle.sheet.proofs.Blocks.{rows-append, rows-broken}
 use Rattle.sheet.proofs.Order.{every-at}

@@ -13,7 +13,7 @@ use lib.Seq.{append-snoc}
 use Rattle.codec.specs.Bytes.{Bytes}
 use Rattle.sheet.specs.Form.{Sheet, decimal, listed, lines, numberKeys, listKeys, rowsOf, written, Plain, AllPlain}
 use Rattle.sheet.specs.Reader.{digit, Place, fresh, within, Found, missing, found, values, line, Block, broken, block, after, onward, rows, every, whole, formed, said, sheetFrom, sheetOf}
-use Rattle.sheet.proofs.Each.{both}
+use Rattle.codec.proofs.Laws.{both}
 use Rattle.sheet.proofs.Steps.{same-or, le-or, never-found, digit-is, digit-of, begins, no-number, grows, leading-zero, too-long, comma, ends, neither}
 
 -- ---- decimals

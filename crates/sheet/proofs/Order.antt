@@ -21,7 +21,7 @@ use Rattle.sheet.specs.declared.Numbers.{Numbers}
 use Rattle.sheet.specs.declared.Reading.{Reading}
 use Rattle.sheet.specs.declared.Reading.the-variants.{Taken, Refused}
 use Rattle.sheet.proofs.Steps.{unroll}
-use Rattle.sheet.proofs.Each.{both}
+use Rattle.codec.proofs.Laws.{both}
 use Rattle.sheet.proofs.Form.{single, one, lined}
 use Rattle.sheet.proofs.Blocks.{rows-append, rows-broken, Five, five, not-five}
 use Rattle.sheet.proofs.Ranges.{in-range, fits-all}

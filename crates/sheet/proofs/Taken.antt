@@ -18,7 +18,7 @@ use Rattle.sheet.specs.Sheet.{outside, fits, lists, unfit, order, replyO
 use Rattle.sheet.specs.declared.Numbers.{Numbers}
 use Rattle.sheet.specs.declared.Reading.{Reading}
 use Rattle.sheet.specs.declared.Reading.the-variants.{Taken, Refused}
-use Rattle.sheet.proofs.Each.{both}
+use Rattle.codec.proofs.Laws.{both}
 use Rattle.sheet.proofs.Form.{written-is}
 use Rattle.sheet.proofs.Ranges.{InRange, in-range, Sound, is-sound}
 use Rattle.sheet.proofs.Filling.{all-size}
