@@ -1,15 +1,15 @@
 -- Laws of parts, of a part put in place, and of equality as a test. Assumes nothing.
 use mathlib.Core.Path.{_≡_, refl, sym, ap, ap₂, _∙_}
 use mathlib.Core.Bool.{Bool, true, false, _&&_}
-use mathlib.Core.List.{List, [], _∷_, _++_, append-nil, append-assoc}
+use mathlib.Core.List.{[], _∷_, _++_, append-nil, append-assoc}
 use Prim.Native.Nat.{ℕ, zero, suc, _+_, _-_, min, _≤_, _<_}
-use native.Mathlib.Nat.{add-assoc, zero-add, add-zero, suc-add}
+use native.Mathlib.Nat.{zero-add, add-zero, suc-add}
 use native.Mathlib.Numerals.{add-one}
 use native.Mathlib.Omega.{arith}
 use borrow.Author.Tests.{eqb-true, eq-eqb}
 use lib.Dec.{eqb}
-use lib.ListN.{length, take, drop, getD, set, length-append, length-take, length-drop, take-append-drop, drop-of-length-le, length-replicate, getD-replicate}
-use lib.Seq.{paste, length-take-le, take-length, take-all, drop-length, drop-drop, take-take, take-add, take-nil, take-at, drop-at, take-append-le, drop-append-le, take-append-add, drop-append-add, set-split, getD-take, getD-drop}
+use lib.ListN.{length, take, drop, set, length-append, length-take, length-drop, take-append-drop, drop-of-length-le, length-replicate, getD-replicate}
+use lib.Seq.{paste, length-take-le, take-length, drop-length, drop-drop, take-take, take-add, take-nil, take-at, drop-at, set-split, getD-take, getD-drop}
 use Rattle.codec.specs.Bytes.{Bytes, Octets, part, put, zeros, same}
 
 -- ---- parts

@@ -5,7 +5,7 @@ use Prim.Native.Nat.{ℕ, zero, suc, _+_, _*_, _/_, _%_, _^_, _≤_, _<_}
 use native.Mathlib.Nat.{pow-suc, pow-succ', one-le-pow, zero-add, suc-add, div-one, div-div-eq-div-mul}
 use native.Mathlib.Omega.{arith}
 use lib.Arith.{mod-mul}
-use lib.ListN.{length, take, drop, getD, length-append}
+use lib.ListN.{length, getD, length-append}
 use lib.Seq.{drop-cons}
 use Rattle.codec.specs.Bytes.{Bytes, Octets, bytes, words, number, part, put}
 use Rattle.codec.proofs.Laws.{length-part, part-append, put-append}

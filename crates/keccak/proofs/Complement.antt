@@ -1,12 +1,12 @@
 -- Complemented lanes: how a complement goes through the operations on lanes. Assumes nothing.
-use mathlib.Core.Path.{_≡_, refl, sym, ap, ap₂, _∙_}
+use mathlib.Core.Path.{_≡_, refl, sym, ap, _∙_}
 use mathlib.Core.Bool.{Bool, true, false, not}
-use Prim.Native.Nat.{ℕ, zero, suc, _+_, _-_, _*_, _/_, _%_, _^_, max, _≤_, _<_}
-use native.Mathlib.Nat.{div-one, pow-zero}
+use Prim.Native.Nat.{ℕ, zero, suc, _+_, _-_, _*_, _/_, _%_, _^_, max, _<_}
+use native.Mathlib.Nat.{div-one}
 use native.Mathlib.Numerals.{one-add}
 use native.Mathlib.Omega.{arith}
 use lib.Bits.{bitXor, bitAnd, bitOr, or-shr, or-mod, xor-lt, and-lt, or-lt, xor-comm}
-use lib.Pow.{pow-add, shr-shr, shr-lt}
+use lib.Pow.{shr-shr}
 use Rattle.keccak.specs.Keccak.{bit, rotate, complement}
 use Rattle.keccak.specs.Complemented.{flip, _⊻_}
 use Rattle.keccak.proofs.Bits.{bit-xor, bit-and, bit-complement, rotate-lt, bit-rotate}

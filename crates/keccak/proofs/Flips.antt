@@ -1,12 +1,12 @@
 -- The permutation on a state with six lanes complemented is the permutation. Assumes nothing.
 use mathlib.Core.Path.{_≡_, refl, sym, ap, ap₂, _∙_}
-use mathlib.Core.Bool.{Bool, true, false, not}
-use mathlib.Core.List.{List, [], _∷_}
-use Prim.Native.Nat.{ℕ, zero, suc, _+_, _-_, _*_, _%_, _^_, _<_}
+use mathlib.Core.Bool.{Bool, true, false}
+use mathlib.Core.List.{[], _∷_}
+use Prim.Native.Nat.{ℕ, suc, _+_, _*_, _%_, _^_, _<_}
 use native.Mathlib.Omega.{arith}
 use lib.Bits.{bitXor, bitAnd, bitOr, xor-lt}
-use lib.ListN.{length, getD}
-use Rattle.keccak.specs.Keccak.{Row, State, lane, five, lanes, offsets, rotate, complement, parity, effect, theta, rho, pi, chi, chiRow, iota, round, rounds, constants}
+use lib.ListN.{getD}
+use Rattle.keccak.specs.Keccak.{State, lane, five, lanes, offsets, rotate, complement, parity, effect, theta, rho, pi, chi, chiRow, iota, round, rounds, constants}
 use Rattle.keccak.specs.Complemented.{_⊻_, flip, flipped, six, chiRow0, chiRow1, chiRow2, chiRow3, chiRow4, chiFlipped, roundFlipped}
 use Rattle.keccak.proofs.Complement.{flip-lt, flip-flip, flip-xor, flip-rotate, chiLane, by-and, by-or, twice}
 use Rattle.keccak.proofs.Bits.{rotate-lt}

@@ -9,7 +9,7 @@ use lib.Bits.{bitXor, bitAnd, xor-lt, and-lt}
 use lib.Dec.{ltb}
 use lib.ListN.{length, getD, set}
 use lib.Seq.{getD-set-same, getD-set-other}
-use Rattle.keccak.specs.Keccak.{Row, State, lane, five, lanes, offsets, constants, rotate, complement, xorRow, parity, effect, theta, rho, rhoRow, pi, chi, chiRow, iota, round, rounds}
+use Rattle.keccak.specs.Keccak.{Row, State, lane, five, offsets, constants, rotate, complement, xorRow, parity, effect, theta, rho, rhoRow, pi, chi, chiRow, iota, round, rounds}
 use Rattle.keccak.proofs.Bits.{rotate-lt}
 
 -- every lane is below 2^64

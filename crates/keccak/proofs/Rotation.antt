@@ -1,8 +1,7 @@
 -- The rotation by shifts is the rotation of the definition. Assumes nothing.
-use mathlib.Core.Path.{_≡_, refl, sym, ap, ap₂, _∙_, subst}
-use Prim.Native.Nat.{ℕ, zero, suc, _+_, _-_, _*_, _/_, _%_, _^_, _≤_, _<_}
+use mathlib.Core.Path.{_≡_, sym, ap, ap₂, _∙_, subst}
+use Prim.Native.Nat.{ℕ, _+_, _-_, _*_, _/_, _%_, _^_, _<_}
 use native.Mathlib.Omega.{arith}
-use native.Mathlib.Nat.{mod-lt, mul-comm}
 use lib.Bits.{bitOr, or-shifted}
 use lib.Pow.{pow-pos, pow-add, shr-shr, shr-lt}
 use lib.Arith.{mod-mul}

@@ -11,7 +11,7 @@ use denote.Shadow.{shadow}
 use denote.Plain.{UInt}
 use mir.Syntax.{w64}
 use mir.Val.{Val}
-use Rattle.keccak.specs.Keccak.{State, lane, five, lanes, chiRow, chi, iota, round, rounds, constants, keccak}
+use Rattle.keccak.specs.Keccak.{State, lane, five, lanes, chiRow, chi, iota, round, rounds, keccak}
 
 -- five rows of five
 pub record Shape {A : Type 0} (s : List (List A)) : Type 0 where

@@ -1,8 +1,8 @@
 -- Keccak-f[1600] on a state of which six lanes stand complemented, so that chi needs few complements. No public contract cites this file.
 -- Assumes nothing.
 use mathlib.Core.Bool.{Bool, true, false, not}
-use mathlib.Core.List.{List, [], _∷_}
-use Prim.Native.Nat.{ℕ, _+_, _*_, _%_}
+use mathlib.Core.List.{[], _∷_}
+use Prim.Native.Nat.{ℕ}
 use lib.Bits.{bitXor, bitAnd, bitOr}
 use lib.ListN.{getD}
 use Rattle.keccak.specs.Keccak.{Row, State, lane, lanes, complement, theta, rho, pi, iota}

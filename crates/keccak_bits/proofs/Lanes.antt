@@ -1,14 +1,11 @@
 -- The permutation on lanes is the permutation on bits, FIPS 202's section 3 as it is written. Assumes nothing.
-use mathlib.Core.Path.{_≡_, refl, sym, ap, ap₂, _∙_}
-use mathlib.Core.Bool.{Bool, true, false, cond, _&&_}
-use mathlib.Core.List.{List, [], _∷_}
+use mathlib.Core.Path.{_≡_, refl, _∙_}
 use Prim.Native.Nat.{ℕ, zero, suc, _+_, _-_, _*_, _%_, _^_, _<_}
 use native.Mathlib.Omega.{arith}
-use lib.Dec.{eqb}
 use lib.ListN.{getD}
 use Rattle.keccak.specs.Keccak as lanes
 use Rattle.keccak.specs.Keccak.{State, lane, offsets, constants, keccak}
-use Rattle.keccak_bits.specs.Bits.{Bits, view, _⊕_, columnParity, theta, rho, pi, chi, iota, round, rounds}
+use Rattle.keccak_bits.specs.Bits.{Bits, view, columnParity, theta, rho, pi, chi, iota, round, rounds}
 use Rattle.keccak.proofs.Lanes.{Words, constant-lt, theta-words, rho-words, pi-words, before-iota, rounds-words}
 use Rattle.keccak_bits.proofs.Steps.{theta-bits, rho-bits, pi-bits, chi-bits, iota-bits}
 

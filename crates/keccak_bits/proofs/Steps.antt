@@ -1,6 +1,6 @@
 -- Each step mapping on lanes is the step mapping on bits. Assumes nothing.
-use mathlib.Core.Path.{_≡_, refl, ap, ap₂, _∙_}
-use Prim.Native.Nat.{ℕ, zero, suc, _+_, _-_, _*_, _%_, _^_, _<_}
+use mathlib.Core.Path.{_≡_, ap, ap₂, _∙_}
+use Prim.Native.Nat.{ℕ, zero, suc, _+_, _*_, _%_, _^_, _<_}
 use native.Mathlib.Omega.{arith}
 use lib.Bits.{bitXor, bitAnd}
 use lib.Dec.{eqb·suc-zero}
@@ -10,7 +10,7 @@ use Rattle.keccak.specs.Keccak as lanes
 use Rattle.keccak.specs.Keccak.{State, lane, bit, offsets, complement, parity}
 use Rattle.keccak.proofs.Bits.{bit-xor, bit-and, bit-complement, bit-rotate}
 use Rattle.keccak.proofs.Lanes.{Words, offset-lt, parity-at, parity-lt, effect-at, theta-at, rho-at, pi-at, chi-at, iota-there, iota-row, iota-else}
-use Rattle.keccak_bits.specs.Bits.{Bits, view, _⊕_, columnParity, theta, rho, pi, chi, iota}
+use Rattle.keccak_bits.specs.Bits.{view, _⊕_, columnParity, theta, rho, pi, chi, iota}
 
 module _ (s : State) (w : Words s) where
   parity-bit : (x z : ℕ) → x < 5 → bit (getD (parity s) x 0) z ≡ columnParity (view s) x z

@@ -1,6 +1,6 @@
 -- FIPS 202, section 3.2, as it is written there: the step mappings on the state array A[x, y, z] of single bits. Assumes nothing.
 use mathlib.Core.Bool.{cond, _&&_}
-use Prim.Native.Nat.{ℕ, zero, suc, _+_, _-_, _*_, _/_, _%_, _^_}
+use Prim.Native.Nat.{ℕ, zero, suc, _+_, _-_, _*_, _%_}
 use lib.Dec.{eqb}
 use lib.ListN.{getD}
 use Rattle.keccak.specs.Keccak.{State, lane, bit, offsets, constants}

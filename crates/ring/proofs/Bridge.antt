@@ -2,14 +2,14 @@
 use mathlib.Core.Path.{_≡_, refl, sym, ap, ap₂, _∙_}
 use mathlib.Core.Logic.{_⊎_, inl, inr}
 use mathlib.Core.List.{List, [], _∷_, _++_, append-nil}
-use Prim.Native.Nat.{ℕ, zero, suc, _+_, _-_, _*_, _%_, _^_, _≤_, _<_}
+use Prim.Native.Nat.{ℕ, zero, suc, _+_, _*_, _%_, _^_, _≤_, _<_}
 use native.Mathlib.Nat.{mod-lt, zero-add}
 use native.Mathlib.Numerals.{add-one}
 use native.Mathlib.Omega.{arith}
-use lib.ListN.{length, take, drop, getD, length-append, length-replicate, length-take, length-drop, take-append-drop}
-use lib.Seq.{length-take-le, take-all, take-add, take-append-add, take-take, drop-at, take-append-le, drop-append-le, drop-drop, getD-take, getD-drop, getD-at, ext-getD}
+use lib.ListN.{length, take, drop, getD, length-append, length-replicate, length-drop}
+use lib.Seq.{take-all, take-add, drop-at, take-append-le, drop-append-le, getD-take, getD-drop, getD-at, ext-getD}
 use Rattle.codec.specs.Bytes.{Bytes, Octets, bytes, words, number, part, put, zeros}
-use Rattle.codec.proofs.Laws.{length-part, part-part, length-put, put-put, before-put, drop-put, part-put, part-put-before, part-put-after}
+use Rattle.codec.proofs.Laws.{length-part, part-part, length-put, put-put, part-put, part-put-before, part-put-after}
 use Rattle.codec.proofs.Numbers.{length-bytes, number-bytes, bytes-number, length-words, words-append}
 use Rattle.ring.specs.Poly.{Poly, modulo, Alike, Below}
 use Rattle.ring.specs.Slots.{poly, slot, list, encode, store}

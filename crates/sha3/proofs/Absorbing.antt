@@ -1,13 +1,13 @@
 -- The laws of absorbing: parts that are absorbed one after another are absorbed as their concatenation, and the padding in two steps.
 -- Assumes nothing.
-use mathlib.Core.Path.{_≡_, refl, sym, ap, _∙_}
+use mathlib.Core.Path.{_≡_, sym, ap, _∙_}
 use Prim.Native.Nat.{ℕ, zero, suc, _+_, _-_, _*_, _/_, _%_, _^_, _≤_, _<_}
 use mathlib.Core.List.{List, [], _∷_, _++_}
 use native.Mathlib.Omega.{arith}
-use native.Mathlib.Nat.{zero-mul, zero-add, suc-add, sub-zero}
+use native.Mathlib.Nat.{zero-mul, sub-zero}
 use native.Mathlib.Numerals.{add-one}
 use lib.ListN.{length, getD, set, replicate, take, drop, length-drop, take-append-drop}
-use lib.Seq.{set-getD, take-suc, take-all, take-take, take-nil, length-take-le}
+use lib.Seq.{set-getD, take-suc, take-all, take-take, length-take-le}
 use lib.Bits.{bitXor, xor-zero-r}
 use borrow.Author.Tests.{lt-ltb, le-ltb}
 use Rattle.keccak.specs.Keccak.{State, Row, lane, keccak}

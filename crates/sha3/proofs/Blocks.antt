@@ -1,14 +1,14 @@
 -- A whole block is the block byte by byte, and the sponge of FIPS 202, section 4, is the one of `Sponge.antt`. Assumes nothing.
-use mathlib.Core.Path.{_≡_, refl, sym, ap, ap₂, _∙_, subst}
-use mathlib.Core.List.{List, [], _∷_, _++_}
+use mathlib.Core.Path.{_≡_, refl, sym, ap, ap₂, _∙_}
+use mathlib.Core.List.{[], _∷_, _++_}
 use Prim.Native.Nat.{ℕ, zero, suc, _+_, _-_, _*_, _/_, _%_, _≤_, _<_}
 use native.Mathlib.Nat.{add-assoc}
 use native.Mathlib.Decide.{ℕ-discrete, decLt}
 use native.Mathlib.Omega.{arith}
 use borrow.Author.Tests.{lt-ltb, le-ltb}
 use lib.Bits.{bitXor, xor-zero-r}
-use lib.ListN.{length, getD, set, take, drop, length-drop, length-take, length-append, length-set, length-replicate, take-append-drop, drop-of-length-le}
-use lib.Seq.{take-take, take-add, take-nil, drop-drop, length-take-le, getD-drop, getD-take, getD-set-same, getD-set-other}
+use lib.ListN.{length, getD, set, take, drop, length-drop, length-append, length-set, length-replicate, take-append-drop, drop-of-length-le}
+use lib.Seq.{take-add, drop-drop, length-take-le, getD-set-same, getD-set-other}
 use Rattle.codec.specs.Bytes.{Bytes, Octets, number, part, zeros}
 use Rattle.codec.proofs.Laws.{length-part, part-part, part-none, octets-one, octets-zeros, octets-drop, octets-part, octets-append}
 use Rattle.keccak.specs.Keccak.{Row, State, lane, five, lanes, keccak}

@@ -1,11 +1,11 @@
 -- Bytes that are xored into a lane one after another are xored in as one number. Assumes nothing.
 use mathlib.Core.Path.{_≡_, refl, sym, ap, ap₂, _∙_}
-use mathlib.Core.List.{List, [], _∷_}
-use Prim.Native.Nat.{ℕ, zero, suc, _+_, _-_, _*_, _/_, _%_, _^_, _≤_, _<_}
+use mathlib.Core.List.{[], _∷_}
+use Prim.Native.Nat.{ℕ, zero, suc, _+_, _*_, _/_, _%_, _^_, _≤_, _<_}
 use native.Mathlib.Nat.{zero-mul, mul-one}
 use native.Mathlib.Omega.{arith}
 use lib.Arith.{bin-ind}
-use lib.Bits.{bitXor, xor-zero-l, xor-zero-r, xor-comm, xor-shr, xor-mod, xor-shifted}
+use lib.Bits.{bitXor, xor-zero-r, xor-comm, xor-shr, xor-mod, xor-shifted}
 use lib.ListN.{length, getD, set, length-set}
 use lib.Pow.{pow-add, shl-lt}
 use lib.Seq.{set-getD, set-set, getD-set-same}

@@ -1,7 +1,6 @@
 -- The plain digest as a call (document 01: refused by 1 only). Assumes nothing.
 use mathlib.Core.Bool.{not}
-use mathlib.Core.List.{List, [], _∷_}
-use Prim.Native.Nat.{ℕ}
+use mathlib.Core.List.{[], _∷_}
 use lib.Dec.{eqb}
 use lib.ListN.{length}
 use Rattle.codec.specs.Bytes.{Bytes}

@@ -1,5 +1,5 @@
 -- The sponge of FIPS 202, section 4 (algorithm 8), for SHA3-256 on whole bytes: a block of 136 bytes at a time. Assumes nothing.
-use mathlib.Core.List.{List, _++_}
+use mathlib.Core.List.{_++_}
 use Prim.Native.Nat.{ℕ, zero, suc, _+_, _*_, _/_, _%_}
 use lib.Bits.{bitXor}
 use lib.ListN.{length, take, drop, getD}

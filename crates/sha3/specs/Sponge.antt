@@ -2,7 +2,7 @@
 -- (5.1, 6.1, B.2), and 32 bytes of output. A message is absorbed byte by byte, so that it may come in parts; `Fips.antt` has the sponge
 -- of section 4, block by block. Assumes nothing.
 use mathlib.Core.Bool.{cond}
-use mathlib.Core.List.{List, [], _∷_, _++_}
+use mathlib.Core.List.{[], _∷_, _++_}
 use Prim.Native.Nat.{ℕ, _+_, _-_, _*_, _/_, _%_, _^_}
 use lib.Bits.{bitXor}
 use lib.Dec.{ltb}

@@ -9,7 +9,6 @@ use Rattle.sheet.specs.Reader.{digit, step, values, line, rows, formed, 
 use Rattle.sheet.specs.Bounds.{noise, mask, unknowns, most, least, power}
 use Rattle.sheet.specs.Sheet.{any, outside, unsound, unfit, reading}
 use Rattle.sheet.specs.declared.Numbers.{Numbers}
-use Rattle.sheet.specs.declared.Reading.{Reading}
 use Rattle.sheet.specs.declared.Reading.the-variants.{Taken, Refused}
 
 abbrev numbers : ℕ → Numbers

@@ -3,7 +3,7 @@ use mathlib.Core.Path.{_≡_, refl, sym, ap, ap₂, _∙_}
 use mathlib.Core.Logic.{⊎-elim}
 use mathlib.Core.Bool.{Bool, true, false, cond}
 use mathlib.Core.List.{List, [], _∷_, _++_, append-assoc, append-nil}
-use Prim.Native.Nat.{ℕ, zero, suc, _+_, _*_, _-_, _≤_, _<_}
+use Prim.Native.Nat.{ℕ, zero, suc, _+_, _*_, _≤_, _<_}
 use native.Mathlib.Numerals.{add-one}
 use native.Mathlib.Omega.{arith}
 use borrow.Author.Tests.{eqb-true, not-false}
@@ -12,7 +12,7 @@ use lib.ListN.{length, take, drop, getD, length-append, take-append-drop, drop-o
 use lib.Seq.{take-suc, take-all, drop-cons, drop-drop, drop-at}
 use Rattle.codec.specs.Bytes.{Bytes, words, put}
 use Rattle.codec.proofs.Laws.{both, length-put, put-none, put-append}
-use Rattle.sheet.specs.Form.{Sheet, numberKeys, listKeys, rowsOf}
+use Rattle.sheet.specs.Form.{numberKeys, listKeys, rowsOf}
 use Rattle.sheet.specs.Reader.{Found, missing, found, fresh, values, line, Block, broken, block, after, onward, rows, every, formed, sheetOf}
 use Rattle.sheet.specs.Seen.{none, outline, outlined, seen, Ready, Writes, Fitting}
 use Rattle.codec.proofs.Numbers.{length-words}

@@ -13,7 +13,7 @@ use Rattle.codec.specs.Bytes.{Bytes}
 use Rattle.codec.specs.Reply.{first}
 use Rattle.codec.specs.declared.Reply.the-variants as reply
 use Rattle.sheet.specs.Form.{Sheet, numberKeys, listKeys}
-use Rattle.sheet.specs.Reader.{block, after, rows, every, whole, formed, said, sheetFrom, sheetOf}
+use Rattle.sheet.specs.Reader.{block, after, rows, every, whole, formed, sheetFrom, sheetOf}
 use Rattle.sheet.specs.Seen.{largest, outlined, seen, judged}
 use Rattle.sheet.specs.Sheet.{outside, unsound, fits, lists, unfit, readingBy, reading}
 use Rattle.sheet.specs.declared.Lines.{Lines}

@@ -8,7 +8,6 @@ use native.Mathlib.Omega.{arith}
 use borrow.Author.Needs.{needs}
 use lib.ListN.{length, getD, set, length-set}
 use lib.Seq.{paste, paste-zero, paste-suc}
-use Rattle.codec.specs.Bytes.{put}
 use Rattle.codec.proofs.Laws.{paste-all}
 use Rattle.codec.proofs.copy.Statement.{statement}
 use Rattle.codec.proofs.copy.Tie as tie

@@ -1,6 +1,5 @@
 -- `codec::read_signed` meets its contract. Assumes nothing.
 use mathlib.Core.Path.{ap, _∙_}
-use native.Mathlib.Omega.{arith}
 use borrow.Author.Needs.{needs}
 use Rattle.codec.specs.Bytes.{signed}
 use Rattle.codec.proofs.TwosComplement.{signed-up, signed-fits, signed-down}

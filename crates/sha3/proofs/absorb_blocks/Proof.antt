@@ -1,10 +1,10 @@
 -- `sha3::absorb_blocks` meets its contract. Assumes nothing.
-use mathlib.Core.Path.{_≡_, refl, sym, ap, _∙_, subst⁻¹}
-use Prim.Native.Nat.{ℕ, _≤_, _<_, _-_, _+_, _%_}
+use mathlib.Core.Path.{_≡_, refl, ap, _∙_, subst⁻¹}
+use Prim.Native.Nat.{_≤_, _-_, _%_}
 use native.Mathlib.Omega.{arith}
 use borrow.Author.Needs.{needs}
-use lib.ListN.{length, take, drop, length-drop}
-use lib.Seq.{take-all, length-take-le}
+use lib.ListN.{length, take, drop}
+use lib.Seq.{take-all}
 use Rattle.keccak.specs.Keccak.{State, keccak}
 use Rattle.sha3.specs.Sponge.{absorb}
 use Rattle.codec.proofs.Laws.{length-part, octets-part}

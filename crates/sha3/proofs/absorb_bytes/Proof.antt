@@ -1,7 +1,7 @@
 -- `sha3::absorb_bytes` meets its contract. Assumes nothing.
 use mathlib.Core.Path.{_≡_, refl, sym, ap, _∙_}
-use Prim.Native.Nat.{ℕ, _≤_, _<_, _-_, _+_, _/_, _%_}
-use mathlib.Core.List.{List, []}
+use Prim.Native.Nat.{ℕ, _≤_, _-_, _+_, _/_, _%_}
+use mathlib.Core.List.{[]}
 use native.Mathlib.Omega.{arith}
 use borrow.Author.Needs.{needs}
 use lib.ListN.{length, take, getD, set}

@@ -1,5 +1,5 @@
 -- `sha3::hash` meets its contract. Assumes nothing.
-use mathlib.Core.Path.{_∙_, refl}
+use mathlib.Core.Path.{_∙_}
 use mathlib.Core.List.{[]}
 use native.Mathlib.Omega.{arith}
 use borrow.Author.Needs.{needs}
