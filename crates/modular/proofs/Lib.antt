@@ -1,0 +1,6 @@
+pub mod Congruence
+pub mod Centring
+pub mod Division
+pub mod Near
+pub mod Digits
+pub mod SignedNumbers

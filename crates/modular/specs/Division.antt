@@ -1,0 +1,22 @@
+-- Division by p modulo q, for any p that has no factor in common with q (document 000, section 5.1). Assumes nothing.
+use mathlib.Core.Path.{_≡_}
+use mathlib.Core.Bool.{cond}
+use Prim.Native.Nat.{ℕ, zero, suc, _+_, _*_, _/_, _%_}
+use lib.Dec.{eqb}
+
+-- p and q have no factor in common but 1
+abbrev pub Coprime : ℕ → ℕ → Type 0
+Coprime p q = (f : ℕ) → p % f ≡ 0 → q % f ≡ 0 → f ≡ 1
+
+-- the k below n with 1 + q * k a multiple of p, the largest; 0 if there is none
+unfoldable pub multiplier : (q p n : ℕ) → ℕ
+multiplier q p zero = 0
+multiplier q p (suc n) = cond (eqb ((1 + q * n) % p) 0) n (multiplier q p n)
+
+-- 1 / p modulo q
+unfoldable pub inverse : (q p : ℕ) → ℕ
+inverse q p = (1 + q * multiplier q p p) / p
+
+-- x / p modulo q
+unfoldable pub divide : (q p x : ℕ) → ℕ
+divide q p x = x * inverse q p % q

@@ -1,0 +1,2 @@
+pub mod Modulo
+pub mod Division

@@ -1,0 +1,132 @@
+// Numbers modulo q, for q below 2^56 (document 01, "Ring and scheme"). -x modulo q is (q - 1) * x in contracts.
+ghost use mathlib.Core.Path.{_≡_};
+ghost use Prim.Native.Nat.{_+_, _-_, _*_, _%_, _^_, _≤_, _<_};
+ghost use lib.Dec.{leb};
+ghost use lib.IntN.{natAbs};
+ghost use Rattle.modular.specs.Modulo.{centre, remainder};
+ghost use Rattle.modular.specs.Division.{divide};
+
+// a + b.
+pub fn add(a: u64, b: u64, q: u64) -> u64
+    requires { ⌜ (a < q) × (b < q) × (q < 2 ^ 56) ⌝ }
+    ensures { λ r. ⌜ r ≡ (a + b) % q ⌝ }
+{
+    (a + b) % q
+}
+
+// a - b.
+pub fn subtract(a: u64, b: u64, q: u64) -> u64
+    requires { ⌜ (a < q) × (b < q) × (q < 2 ^ 56) ⌝ }
+    ensures { λ r. ⌜ r ≡ (a + (q - 1) * b) % q ⌝ }
+{
+    (a + (q - b)) % q
+}
+
+// -a.
+pub fn negate(a: u64, q: u64) -> u64
+    requires { ⌜ (a < q) × (q < 2 ^ 56) ⌝ }
+    ensures { λ r. ⌜ r ≡ (q - 1) * a % q ⌝ }
+{
+    (q - a) % q
+}
+
+// x * 2^28, by steps that fit 64 bits.
+fn shift(x: u64, q: u64) -> u64
+    requires { ⌜ (x < q) × (q < 2 ^ 56) ⌝ }
+    ensures { λ r. ⌜ (r ≡ x * 268435456 % q) × (r < q) ⌝ }
+{
+    let a = x * 256 % q;
+    let b = a * 256 % q;
+    let c = b * 256 % q;
+    c * 16 % q
+}
+
+// The number with these four digits to the base 2^28, the least first; a digit may be any 64-bit number.
+pub fn from_digits(d0: u64, d1: u64, d2: u64, d3: u64, q: u64) -> u64
+    requires { ⌜ (0 < q) × (q < 2 ^ 56) ⌝ }
+    ensures { λ r. ⌜ r ≡ (d0 + (d1 + (d2 + d3 * 268435456) * 268435456) * 268435456) % q ⌝ }
+{
+    let h = (shift(d3 % q, q) + d2 % q) % q;
+    let m = (shift(h, q) + d1 % q) % q;
+    (shift(m, q) + d0 % q) % q
+}
+
+// a * b, by two digits of each.
+pub fn multiply(a: u64, b: u64, q: u64) -> u64
+    requires { ⌜ (a < q) × (b < q) × (q < 2 ^ 56) ⌝ }
+    ensures { λ r. ⌜ r ≡ a * b % q ⌝ }
+{
+    let a0 = a % 268435456;
+    let a1 = a / 268435456;
+    let b0 = b % 268435456;
+    let b1 = b / 268435456;
+    from_digits(a0 * b0, a0 * b1 + a1 * b0, a1 * b1, 0, q)
+}
+
+// The centred form.
+pub fn centred(x: u64, q: u64) -> i64
+    requires { ⌜ (x < q) × (q < 2 ^ 56) ⌝ }
+    ensures { λ r. ⌜ r ≡ centre q x ⌝ }
+{
+    if x <= (q - 1) / 2 {
+        x as i64
+    } else {
+        (x as i64) - (q as i64)
+    }
+}
+
+// The size of the centred form.
+pub fn size(x: u64, q: u64) -> u64
+    requires { ⌜ x < q ⌝ }
+    ensures { λ r. ⌜ r ≡ natAbs (centre q x) ⌝ }
+{
+    if x <= (q - 1) / 2 { x } else { q - x }
+}
+
+// Whether the centred form is at most a bound in size.
+pub fn within(x: u64, bound: u64, q: u64) -> bool
+    requires { ⌜ x < q ⌝ }
+    ensures { λ r. ⌜ r ≡ leb (natAbs (centre q x)) bound ⌝ }
+{
+    size(x, q) <= bound
+}
+
+// The remainder by p of the centred form, never negative.
+pub fn residue(x: u64, p: u64, q: u64) -> u64
+    requires { ⌜ (x < q) × (0 < p) ⌝ }
+    ensures { λ r. ⌜ r ≡ remainder p (centre q x) ⌝ }
+{
+    if x <= (q - 1) / 2 {
+        x % p
+    } else {
+        (p - (q - x) % p) % p
+    }
+}
+
+// x / 2 modulo an odd q.
+pub fn halve(x: u64, q: u64) -> u64
+    requires { ⌜ (x < q) × (q % 2 ≡ 1) × (q < 2 ^ 56) ⌝ }
+    ensures { λ r. ⌜ r ≡ divide q 2 x ⌝ }
+{
+    (x + (x % 2) * q) / 2
+}
+
+// The size of a signed number.
+pub fn magnitude(e: i64) -> u64
+    ensures { λ r. ⌜ r ≡ natAbs e ⌝ }
+{
+    if e >= 0 {
+        e as u64
+    } else {
+        ((-1 - e) as u64) + 1
+    }
+}
+
+// The number below q that stands for a signed number.
+pub fn reduce(e: i64, q: u64) -> u64
+    requires { ⌜ 0 < q ⌝ }
+    ensures { λ r. ⌜ r ≡ remainder q e ⌝ }
+{
+    let m = magnitude(e) % q;
+    if e >= 0 { m } else { (q - m) % q }
+}

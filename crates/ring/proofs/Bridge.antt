@@ -1,0 +1,221 @@
+-- The one bridge between a polynomial as coefficients, as a list and as bytes, and the laws of slots. Assumes nothing.
+use mathlib.Core.Path.{_≡_, refl, sym, ap, ap₂, _∙_}
+use mathlib.Core.Logic.{_⊎_, inl, inr}
+use mathlib.Core.List.{List, [], _∷_, _++_, append-assoc, append-nil}
+use Prim.Native.Nat.{ℕ, zero, suc, _+_, _-_, _*_, _%_, _^_, _≤_, _<_}
+use native.Mathlib.Nat.{mod-lt, zero-add}
+use native.Mathlib.Numerals.{add-one}
+use native.Mathlib.Omega.{arith}
+use lib.ListN.{length, take, drop, getD, length-append, length-take, length-drop, take-append-drop}
+use lib.Seq.{length-take-le, take-all, take-add, take-append-add, take-take, take-at, drop-at, take-append-le, drop-append-le, drop-drop, getD-take, getD-drop, getD-at, ext-getD}
+use Rattle.codec.specs.Bytes.{Bytes, Octets, bytes, number, part, put}
+use Rattle.codec.proofs.Laws.{length-part, part-part, length-put, before-put, drop-put, part-put, part-put-before, part-put-after}
+use Rattle.codec.proofs.Numbers.{length-bytes, number-bytes, bytes-number, bytes-octets}
+use Rattle.ring.specs.Poly.{Poly, modulo, Alike, Below}
+use Rattle.ring.specs.Slots.{poly, slot, list, words, encode, store}
+use Rattle.ring.proofs.Sums.{side}
+
+-- ---- coefficients and lists
+
+pub length-list : (n : ℕ) (a : Poly) → length (list n a) ≡ n
+unfolding list
+length-list zero a = refl
+length-list (suc n) a = simp length-append (omega (arith, length-list n a))
+
+pub list-cong : (n : ℕ) {a b : Poly} → ((k : ℕ) → k < n → a k ≡ b k) → list n a ≡ list n b
+unfolding list
+list-cong zero h = refl
+list-cong (suc n) h = ap₂ (λ (l : List ℕ) (x : ℕ). l ++ (x ∷ [])) (list-cong n (λ k l. h k (omega arith))) (h n (omega arith))
+
+-- written as a list, then read
+pub getD-list : (n : ℕ) (a : Poly) (k : ℕ) → k < n → getD (list n a) k 0 ≡ a k
+unfolding list
+getD-list zero a k h = absurd (omega arith)
+getD-list (suc n) a k h = go (λ l. getD-list n a k l) (side n k)
+  where
+    go : (k < n → getD (list n a) k 0 ≡ a k) → (n ≤ k) ⊎ (k < n) → getD (list n a ++ (a n ∷ [])) k 0 ≡ a k
+    go r (inl e) = getD-at (list n a) (a n) [] 0 k (omega (arith, length-list n a)) ∙ ap a (omega arith)
+    go r (inr l) = lib.ListN.List·getD-append (list n a) (a n ∷ []) 0 k (omega (arith, length-list n a)) ∙ r l
+
+-- read, then written as a list
+pub list-getD : (xs : List ℕ) → list (length xs) (λ k. getD xs k 0) ≡ xs
+list-getD xs =
+    ext-getD 0 (list (length xs) (λ k. getD xs k 0)) xs (length-list (length xs) _)
+    (λ k h. getD-list (length xs) (λ k. getD xs k 0) k (omega (arith, length-list (length xs) (λ k. getD xs k 0))))
+
+-- ---- lists and bytes
+
+pub length-words : (xs : List ℕ) → length (words xs) ≡ 8 * length xs
+unfolding words
+length-words [] = refl
+length-words (x ∷ xs) = simp length-append (omega (arith, length-bytes 8 x, length-words xs))
+
+pub words-append : (xs ys : List ℕ) → words (xs ++ ys) ≡ words xs ++ words ys
+unfolding words
+words-append [] ys = refl
+words-append (x ∷ xs) ys = ap (λ (t : Bytes). bytes 8 x ++ t) (words-append xs ys) ∙ sym (append-assoc (bytes 8 x) (words xs) (words ys))
+
+-- ---- coefficients and bytes
+
+pub encode-none : (a : Poly) → encode 0 a ≡ []
+unfolding encode list words
+encode-none a = refl
+
+pub encode-more : (n : ℕ) (a : Poly) → encode (n + 1) a ≡ encode n a ++ bytes 8 (a n)
+unfolding encode list words
+encode-more n a = rw (add-one n) (words-append (list n a) (a n ∷ []) ∙ ap (λ (t : Bytes). words (list n a) ++ t) (append-nil (bytes 8 (a n))))
+
+pub length-encode : (n : ℕ) (a : Poly) → length (encode n a) ≡ 8 * n
+unfolding encode
+length-encode n a = length-words (list n a) ∙ ap (λ (k : ℕ). 8 * k) (length-list n a)
+
+pub encode-cong : (n : ℕ) {a b : Poly} → ((k : ℕ) → k < n → a k ≡ b k) → encode n a ≡ encode n b
+unfolding encode
+encode-cong n h = ap words (list-cong n h)
+
+-- polynomials that are alike modulo q have the same bytes modulo q
+pub encode-alike : {q n : ℕ} {a b : Poly} → Alike q n a b → encode n (modulo q a) ≡ encode n (modulo q b)
+unfolding modulo
+encode-alike {q} {n} e = encode-cong n (λ k l. e .at k l .is)
+
+-- a part of the first of two byte strings
+part-left : (s t : Bytes) (at n : ℕ) → at + n ≤ length s → part (s ++ t) at n ≡ part s at n
+part-left s t at n h = rw (drop-append-le at s t (omega arith)) (take-append-le n (drop at s) t (simp length-drop (omega arith)))
+
+-- the 8 bytes of a coefficient
+pub part-encode : (n : ℕ) (a : Poly) (k : ℕ) → k < n → part (encode n a) (8 * k) 8 ≡ bytes 8 (a k)
+part-encode zero a k h = absurd (omega arith)
+part-encode (suc n) a k h = rw (← add-one n, encode-more n a) (go (λ l. part-encode n a k l) (side n k))
+  where
+    go : (k < n → part (encode n a) (8 * k) 8 ≡ bytes 8 (a k)) → (n ≤ k) ⊎ (k < n) → part (encode n a ++ bytes 8 (a n)) (8 * k) 8 ≡ bytes 8 (a k)
+    go r (inl e) =
+        ap (take 8) (drop-at (encode n a) (bytes 8 (a n)) (8 * k) (omega (arith, length-encode n a)))
+        ∙ take-all 8 (bytes 8 (a n)) (omega (arith, length-bytes 8 (a n))) ∙ ap (λ (j : ℕ). bytes 8 (a j)) (omega arith)
+    go r (inr l) = part-left (encode n a) (bytes 8 (a n)) (8 * k) 8 (omega (arith, length-encode n a)) ∙ r l
+
+-- written as bytes, then read
+pub poly-encode : (n : ℕ) (a : Poly) (k : ℕ) → k < n → a k < 2 ^ 64 → poly (encode n a) k ≡ a k
+unfolding poly
+poly-encode n a k h l = ap number (part-encode n a k h) ∙ number-bytes 8 (a k) l
+
+-- read, then written as bytes
+last-encode : (s : Bytes) (n : ℕ) → Octets s → 8 * (n + 1) ≤ length s → bytes 8 (poly s n) ≡ part s (8 * n) 8
+unfolding poly
+last-encode s n o h = ap (λ (k : ℕ). bytes k (number (part s (8 * n) 8))) (sym l) ∙ bytes-number (part s (8 * n) 8) octets
+  where
+    l : length (part s (8 * n) 8) ≡ 8
+    l = length-part s (8 * n) 8 (omega arith)
+
+    octets : Octets (part s (8 * n) 8)
+    octets i k = rw (getD-take 8 (drop (8 * n) s) i 0 (omega (arith, l)), getD-drop (8 * n) s i 0) (o (8 * n + i) (omega (arith, l)))
+
+encode-take : (s : Bytes) (n : ℕ) → Octets s → 8 * n ≤ length s → encode n (poly s) ≡ take (8 * n) s
+encode-take s zero o h = encode-none (poly s)
+encode-take s (suc n) o h =
+    rw (← add-one n, encode-more n (poly s))
+    (ap₂ (λ (t u : Bytes). t ++ u) (encode-take s n o (omega arith)) (last-encode s n o (omega arith)) ∙ sym (take-add (8 * n) 8 s)
+    ∙ (let e : 8 * n + 8 ≡ 8 * (n + 1) = omega arith in ap (λ (k : ℕ). take k s) e))
+
+pub encode-poly : (s : Bytes) (n : ℕ) → Octets s → length s ≡ 8 * n → encode n (poly s) ≡ s
+encode-poly s n o h = encode-take s n o (omega arith) ∙ take-all (8 * n) s (omega arith)
+
+-- ---- slots
+
+-- the polynomial of a part is what stands in the slot there
+pub poly-part : (w : Bytes) (at n k : ℕ) → k < n → poly (part w at (8 * n)) k ≡ slot w at k
+unfolding poly slot
+poly-part w at n k h = ap number (part-part w at (8 * n) (8 * k) 8 (omega arith))
+
+pub slot-poly : (s : Bytes) (k : ℕ) → slot s 0 k ≡ poly s k
+unfolding poly slot
+slot-poly s k = ap (λ (j : ℕ). number (part s j 8)) (zero-add (8 * k))
+
+-- a slot further on
+pub slot-later : (w : Bytes) (at m k : ℕ) → slot w (at + 8 * m) k ≡ slot w at (m + k)
+unfolding slot
+slot-later w at m k = let e : at + 8 * m + 8 * k ≡ at + 8 * (m + k) = omega arith in ap (λ (j : ℕ). number (part w j 8)) e
+
+-- loaded, then read: load is `codec::copy`
+pub slot-put : (w : Bytes) (at : ℕ) (s : Bytes) (k : ℕ) → at + length s ≤ length w → 8 * k + 8 ≤ length s → slot (put w at s) at k ≡ poly s k
+unfolding slot poly
+slot-put w at s k h l =
+    ap number
+    (sym (part-part (put w at s) at (length s) (8 * k) 8 (omega arith)) ∙ ap (λ (t : Bytes). part t (8 * k) 8) (part-put w at s h))
+
+-- a write before or behind it leaves a slot's coefficient as it was
+pub slot-put-before : (w : Bytes) (at : ℕ) (s : Bytes) (from k : ℕ) → at + length s ≤ length w → from + 8 * k + 8 ≤ at → slot (put w at s) from k ≡ slot w from k
+unfolding slot
+slot-put-before w at s from k h l = ap number (part-put-before w at s (from + 8 * k) 8 h l)
+
+pub slot-put-after : (w : Bytes) (at : ℕ) (s : Bytes) (from k : ℕ) → at + length s ≤ length w → at + length s ≤ from + 8 * k → slot (put w at s) from k ≡ slot w from k
+unfolding slot
+slot-put-after w at s from k h l = ap number (part-put-after w at s (from + 8 * k) 8 h l)
+
+module _ (q n : ℕ) (w : Bytes) (at : ℕ) (a : Poly) (h : at + 8 * n ≤ length w) where
+  fits : at + length (encode n (modulo q a)) ≤ length w
+  fits = omega (arith, length-encode n (modulo q a))
+
+  pub length-store : length (store q n w at a) ≡ length w
+  unfolding store
+  length-store = length-put w at (encode n (modulo q a)) fits
+
+  -- stored, then read
+  pub slot-store : 0 < q → q ≤ 2 ^ 64 → (k : ℕ) → k < n → slot (store q n w at a) at k ≡ a k % q
+  unfolding store
+  slot-store p b k l =
+      slot-put w at (encode n (modulo q a)) k fits (omega (arith, length-encode n (modulo q a)))
+      ∙ poly-encode n (modulo q a) k l (unfold modulo in omega (arith, mod-lt (a k) {m = q} p)) ∙ (unfold modulo in refl)
+
+  pub below-store : 0 < q → q ≤ 2 ^ 64 → Below q n (slot (store q n w at a) at)
+  below-store p b = record { at = λ k l. rw (slot-store p b k l) (mod-lt (a k) p) }
+
+  pub alike-store : 0 < q → q ≤ 2 ^ 64 → Alike q n (slot (store q n w at a) at) a
+  alike-store p b = record { at = λ k l. record { is = ap (λ (x : ℕ). x % q) (slot-store p b k l) ∙ native.Mathlib.Nat.mod-mod (a k) q } }
+
+-- alike polynomials are stored alike
+pub store-alike : {q n : ℕ} (w : Bytes) (at : ℕ) {a b : Poly} → Alike q n a b → store q n w at a ≡ store q n w at b
+unfolding store
+store-alike w at e = ap (put w at) (encode-alike e)
+
+-- ---- two writes that do not meet
+
+halves-equal : (m : ℕ) (s t : Bytes) → take m s ≡ take m t → drop m s ≡ drop m t → s ≡ t
+halves-equal m s t e f = sym (take-append-drop m s) ∙ ap₂ (λ (x y : Bytes). x ++ y) e f ∙ take-append-drop m t
+
+drop-take : (m a : ℕ) (x : Bytes) → m ≤ a → a ≤ length x → drop m (take a x) ≡ take (a - m) (drop m x)
+drop-take m a x h l =
+    sym (take-all (a - m) (drop m (take a x)) (simp (length-drop, length-take) (omega arith)))
+    ∙ part-part x 0 a m (a - m) (omega arith) ∙ ap (λ (k : ℕ). part x k (a - m)) (zero-add m)
+
+-- before a place, only what is written before it counts
+take-put-within : (a b : ℕ) (t x : Bytes) → b + length t ≤ a → a ≤ length x → take a (put x b t) ≡ put (take a x) b t
+unfolding put
+take-put-within a b t x h l =
+    let m = b + length t in
+    let j : length (take b x) ≡ b = length-take-le b x (omega arith) in
+    let e : a ≡ length (take b x) + (length t + (a - m)) = omega arith in
+    ap (λ (n : ℕ). take n (take b x ++ (t ++ drop m x))) e ∙ take-append-add (take b x) (t ++ drop m x) (length t + (a - m))
+    ∙ ap₂ (λ (u v : Bytes). u ++ v) (sym (take-take b a x (omega arith))) (take-append-add t (drop m x) (a - m) ∙ ap (λ (v : Bytes). t ++ v) (sym (drop-take m a x h l)))
+
+-- behind what is written nothing changes
+drop-put-beyond : (m b : ℕ) (t x : Bytes) → b + length t ≤ m → b + length t ≤ length x → drop m (put x b t) ≡ drop m x
+drop-put-beyond m b t x h l =
+    let r = m - (b + length t) in
+    let e : m ≡ b + length t + r = omega arith in
+    ap (λ (n : ℕ). drop n (put x b t)) e ∙ sym (drop-drop r (b + length t) (put x b t)) ∙ ap (drop r) (drop-put x b t l) ∙ drop-drop r (b + length t) x
+    ∙ ap (λ (n : ℕ). drop n x) (sym e)
+
+from-put : (a : ℕ) (s x : Bytes) → a + length s ≤ length x → drop a (put x a s) ≡ s ++ drop (a + length s) x
+unfolding put
+from-put a s x h = drop-at (take a x) (s ++ drop (a + length s) x) a (length-take-le a x (omega arith))
+
+-- they may be done in either order
+pub put-comm : (d : Bytes) (a : ℕ) (s : Bytes) (b : ℕ) (t : Bytes) → b + length t ≤ a → a + length s ≤ length d → put (put d a s) b t ≡ put (put d b t) a s
+put-comm d a s b t h l =
+    let k : length (put d a s) ≡ length d = length-put d a s l in
+    let j : length (put d b t) ≡ length d = length-put d b t (omega arith) in
+    halves-equal a (put (put d a s) b t) (put (put d b t) a s)
+    (take-put-within a b t (put d a s) h (omega arith) ∙ ap (λ (x : Bytes). put x b t) (before-put d a s l)
+    ∙ sym (take-put-within a b t d h (omega arith)) ∙ sym (before-put (put d b t) a s (omega arith)))
+    (drop-put-beyond a b t (put d a s) h (omega arith) ∙ from-put a s d l ∙ ap (λ (x : Bytes). s ++ x) (sym (drop-put-beyond (a + length s) b t d (omega arith) (omega arith)))
+    ∙ sym (from-put a s (put d b t) (omega arith)))

@@ -1,0 +1,51 @@
+-- A slot that is filled coefficient by coefficient: what every loop over a slot holds. Assumes nothing.
+use mathlib.Core.Path.{_≡_, sym, ap, ap₂, _∙_}
+use mathlib.Core.List.{List, []}
+use Prim.Native.Nat.{ℕ, _+_, _*_, _≤_, _<_}
+use native.Mathlib.Omega.{arith}
+use lib.ListN.{length}
+use Rattle.codec.specs.Bytes.{Bytes, bytes, number, part, put}
+use Rattle.codec.proofs.Laws.{length-put, put-none, put-append, part-put-before, part-put-after}
+use Rattle.codec.proofs.Numbers.{length-bytes}
+use Rattle.ring.specs.Poly.{Poly}
+use Rattle.ring.specs.Slots.{encode}
+use Rattle.ring.proofs.Bridge.{encode-none, encode-more, length-encode}
+
+-- scratch w whose slot has the first i coefficients of f
+pub filled : Bytes → ℕ → Poly → ℕ → Bytes
+filled w at f i = put w at (encode i f)
+
+module _ (w : Bytes) (at : ℕ) (f : Poly) where
+  pub filled-none : w ≡ filled w at f 0
+  unfolding filled
+  filled-none = sym (ap (put w at) (encode-none f) ∙ put-none w at)
+
+  pub filled-all : (n : ℕ) → filled w at f n ≡ put w at (encode n f)
+  unfolding filled
+  filled-all n = mathlib.Core.Path.refl
+
+  module _ (i : ℕ) where
+    fits : at + 8 * i ≤ length w → at + length (encode i f) ≤ length w
+    fits h = omega (arith, length-encode i f)
+
+    pub filled-length : at + 8 * i ≤ length w → length (filled w at f i) ≡ length w
+    unfolding filled
+    filled-length h = length-put w at (encode i f) (fits h)
+
+    -- one coefficient more
+    pub filled-more : (d e : Bytes) (v : ℕ) → d ≡ filled w at f i → at + 8 * (i + 1) ≤ length w → v ≡ f i → e ≡ put d (at + 8 * i) (bytes 8 v) → e ≡ filled w at f (i + 1)
+    unfolding filled
+    filled-more d e v k h p r =
+        r ∙ ap₂ (λ (x : Bytes) (y : ℕ). put x (at + 8 * i) (bytes 8 y)) k p
+        ∙ ap (λ (n : ℕ). put (put w at (encode i f)) (at + n) (bytes 8 (f i))) (sym (length-encode i f))
+        ∙ put-append w at (encode i f) (bytes 8 (f i)) (omega (arith, length-encode i f, length-bytes 8 (f i)))
+        ∙ ap (put w at) (sym (encode-more i f))
+
+    -- what stands behind is still there, and what stands before the slot
+    pub filled-ahead : (d : Bytes) (from : ℕ) → d ≡ filled w at f i → at + 8 * i ≤ length w → at + 8 * i ≤ from → part d from 8 ≡ part w from 8
+    unfolding filled
+    filled-ahead d from k h l = ap (λ (x : Bytes). part x from 8) k ∙ part-put-after w at (encode i f) from 8 (fits h) (omega (arith, length-encode i f))
+
+    pub filled-behind : (d : Bytes) (from : ℕ) → d ≡ filled w at f i → at + 8 * i ≤ length w → from + 8 ≤ at → part d from 8 ≡ part w from 8
+    unfolding filled
+    filled-behind d from k h l = ap (λ (x : Bytes). part x from 8) k ∙ part-put-before w at (encode i f) from 8 (fits h) l

@@ -1,0 +1,74 @@
+-- Range tests and counts: what their answers mean, and one number more. Assumes nothing.
+use mathlib.Core.Path.{_≡_, refl, sym, ap, _∙_}
+use mathlib.Core.Bool.{Bool, true, false, cond, _&&_}
+use mathlib.Core.List.{List, [], _∷_, _++_}
+use Prim.Native.Nat.{ℕ, zero, suc, _+_, _≤_, _<_}
+use native.Mathlib.Nat.{add-assoc, add-zero}
+use native.Mathlib.Numerals.{add-one}
+use native.Mathlib.Omega.{arith}
+use borrow.Author.Tests.{ltb-true, lt-ltb, le-ltb}
+use lib.Dec.{ltb, eqb}
+use lib.ListN.{length, take, getD}
+use lib.Seq.{take-suc}
+use Rattle.ring.specs.Poly.{Poly, Below}
+use Rattle.ring.specs.Slots.{list, allBelow}
+use Rattle.ring.specs.Ternary.{count}
+use Rattle.ring.proofs.Bridge.{length-list, getD-list}
+
+-- ---- a range test is sound and complete
+
+both : (a b : Bool) → (a && b) ≡ true → (a ≡ true) × (b ≡ true)
+both true true e = (refl, refl)
+both true false e = (refl, e)
+both false b e = (e, absurd (let z : _≡_ {A = ℕ} 0 1 = cc in omega arith))
+
+pub allBelow-sound : (v : ℕ) (xs : List ℕ) → allBelow v xs ≡ true → (i : ℕ) → i < length xs → getD xs i 0 < v
+unfolding allBelow
+allBelow-sound v [] e i h = absurd (omega arith)
+allBelow-sound v (x ∷ xs) e zero h = ltb-true x v (both (ltb x v) (allBelow v xs) e .0)
+allBelow-sound v (x ∷ xs) e (suc i) h = allBelow-sound v xs (both (ltb x v) (allBelow v xs) e .1) i (omega arith)
+
+pub allBelow-complete : (v : ℕ) (xs : List ℕ) → ((i : ℕ) → i < length xs → getD xs i 0 < v) → allBelow v xs ≡ true
+unfolding allBelow
+allBelow-complete v [] h = refl
+allBelow-complete v (x ∷ xs) h = rw (lt-ltb x v (h 0 (omega arith))) (allBelow-complete v xs (λ i l. h (suc i) (omega arith)))
+
+pub not-allBelow : (v : ℕ) (xs : List ℕ) (i : ℕ) → i < length xs → v ≤ getD xs i 0 → allBelow v xs ≡ false
+not-allBelow v xs i h l = go (allBelow v xs) refl
+  where
+    go : (b : Bool) → allBelow v xs ≡ b → b ≡ false
+    go true e = absurd (omega (arith, allBelow-sound v xs e i h))
+    go false e = refl
+
+-- of a polynomial
+pub below-sound : (q n : ℕ) (a : Poly) → allBelow q (list n a) ≡ true → Below q n a
+below-sound q n a e = record { at = λ k l. rw (← getD-list n a k l) (allBelow-sound q (list n a) e k (omega (arith, length-list n a))) }
+
+pub below-complete : (q n : ℕ) (a : Poly) → Below q n a → allBelow q (list n a) ≡ true
+below-complete q n a h =
+    allBelow-complete q (list n a)
+    (λ k l. let j : k < n = omega (arith, length-list n a) in rw (getD-list n a k j) (h .at k j))
+
+pub not-below : (q n : ℕ) (a : Poly) (k : ℕ) → k < n → q ≤ a k → allBelow q (list n a) ≡ false
+not-below q n a k l h = not-allBelow q (list n a) k (omega (arith, length-list n a)) (rw (getD-list n a k l) h)
+
+-- ---- counts
+
+pub count-append : (v : ℕ) (xs ys : List ℕ) → count v (xs ++ ys) ≡ count v xs + count v ys
+unfolding count
+count-append v [] ys = omega arith
+count-append v (x ∷ xs) ys = omega (arith, count-append v xs ys)
+
+pub count-more : (v : ℕ) (xs : List ℕ) (i : ℕ) → i < length xs → count v (take (i + 1) xs) ≡ count v (take i xs) + cond (eqb (getD xs i 0) v) 1 0
+unfolding count
+count-more v xs i h =
+    rw (add-one i, take-suc xs i 0 h) (count-append v (take i xs) (getD xs i 0 ∷ []) ∙ ap (λ (n : ℕ). count v (take i xs) + n) (add-zero _))
+
+pub count-le : (v : ℕ) (xs : List ℕ) → count v xs ≤ length xs
+unfolding count
+count-le v [] = omega arith
+count-le v (x ∷ xs) = go (eqb x v) (count-le v xs)
+  where
+    go : (b : Bool) → count v xs ≤ length xs → cond b 1 0 + count v xs ≤ suc (length xs)
+    go true h = omega arith
+    go false h = omega arith

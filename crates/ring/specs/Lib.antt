@@ -1,0 +1,5 @@
+pub mod Poly
+pub mod Slots
+pub mod Ternary
+pub mod Method
+pub mod Examples
