@@ -1,0 +1,3 @@
+pub mod Form
+pub mod Round
+pub mod Ballot
