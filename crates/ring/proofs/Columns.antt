@@ -68,6 +68,9 @@ third-le d hi c h l k = (omega arith, omega arith)
 last-le : (d c n m : ℕ) → d ≤ 68719476736 * n → c ≤ 68719476736 → 0 < m → d + c ≤ 68719476736 * (n + m)
 last-le d c n m h l p = rw (mul-add 68719476736 n m) (omega arith)
 
+pub last-fits : (d n : ℕ) → d ≤ 68719476736 * n → n ≤ 2048 → d < 2 ^ 64
+last-fits d n h l = omega arith
+
 -- ---- a block of m products is added to the digits of n
 
 module _ (a b : Poly) (n d0 d1 d2 d3 : ℕ) where

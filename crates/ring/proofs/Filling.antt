@@ -1,6 +1,6 @@
 -- A slot that is filled coefficient by coefficient: what every loop over a slot holds. Assumes nothing.
-use mathlib.Core.Path.{_≡_, sym, ap, ap₂, _∙_}
-use mathlib.Core.List.{List, []}
+use mathlib.Core.Path.{_≡_, refl, sym, ap, ap₂, _∙_}
+use mathlib.Core.Logic.{_⊎_, inl, inr}
 use Prim.Native.Nat.{ℕ, _+_, _*_, _≤_, _<_}
 use native.Mathlib.Omega.{arith}
 use lib.ListN.{length}
@@ -8,7 +8,7 @@ use Rattle.codec.specs.Bytes.{Bytes, bytes, number, part, put}
 use Rattle.codec.proofs.Laws.{length-put, put-none, put-append, part-put-before, part-put-after}
 use Rattle.codec.proofs.Numbers.{length-bytes}
 use Rattle.ring.specs.Poly.{Poly}
-use Rattle.ring.specs.Slots.{encode}
+use Rattle.ring.specs.Slots.{slot, encode, Slots}
 use Rattle.ring.proofs.Bridge.{encode-none, encode-more, length-encode}
 
 -- scratch w whose slot has the first i coefficients of f
@@ -22,7 +22,7 @@ module _ (w : Bytes) (at : ℕ) (f : Poly) where
 
   pub filled-all : (n : ℕ) → filled w at f n ≡ put w at (encode n f)
   unfolding filled
-  filled-all n = mathlib.Core.Path.refl
+  filled-all n = refl
 
   module _ (i : ℕ) where
     fits : at + 8 * i ≤ length w → at + length (encode i f) ≤ length w
@@ -42,10 +42,24 @@ module _ (w : Bytes) (at : ℕ) (f : Poly) where
         ∙ ap (put w at) (sym (encode-more i f))
 
     -- what stands behind is still there, and what stands before the slot
-    pub filled-ahead : (d : Bytes) (from : ℕ) → d ≡ filled w at f i → at + 8 * i ≤ length w → at + 8 * i ≤ from → part d from 8 ≡ part w from 8
+    filled-ahead : (d : Bytes) (from : ℕ) → d ≡ filled w at f i → at + 8 * i ≤ length w → at + 8 * i ≤ from → part d from 8 ≡ part w from 8
     unfolding filled
     filled-ahead d from k h l = ap (λ (x : Bytes). part x from 8) k ∙ part-put-after w at (encode i f) from 8 (fits h) (omega (arith, length-encode i f))
 
-    pub filled-behind : (d : Bytes) (from : ℕ) → d ≡ filled w at f i → at + 8 * i ≤ length w → from + 8 ≤ at → part d from 8 ≡ part w from 8
+    filled-behind : (d : Bytes) (from : ℕ) → d ≡ filled w at f i → at + 8 * i ≤ length w → from + 8 ≤ at → part d from 8 ≡ part w from 8
     unfolding filled
     filled-behind d from k h l = ap (λ (x : Bytes). part x from 8) k ∙ part-put-before w at (encode i f) from 8 (fits h) l
+
+    module _ (d : Bytes) (k : d ≡ filled w at f i) (h : at + 8 * i ≤ length w) where
+      -- a coefficient behind what is filled, and one of another slot
+      pub read-later : (from j : ℕ) → at + 8 * i ≤ from + 8 * j → number (part d (from + 8 * j) 8) ≡ slot w from j
+      unfolding slot
+      read-later from j l = ap number (filled-ahead d (from + 8 * j) k h l)
+
+      pub read-other : (n from : ℕ) → i < n → Slots n at from w → number (part d (from + 8 * i) 8) ≡ slot w from i
+      unfolding slot
+      read-other n from l s = ap number (go (s .apart))
+        where
+          go : (from + 8 * n ≤ at) ⊎ (at + 8 * n ≤ from) → part d (from + 8 * i) 8 ≡ part w (from + 8 * i) 8
+          go (inl e) = filled-behind d (from + 8 * i) k h (omega arith)
+          go (inr e) = filled-ahead d (from + 8 * i) k h (omega arith)

@@ -6,3 +6,4 @@ pub mod Bridge
 pub mod Ranges
 pub mod Filling
 pub mod Columns
+pub mod Steps

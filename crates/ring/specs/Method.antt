@@ -1,7 +1,12 @@
--- What the inner loops of `multiply` hold: sums of products by digits to the base 2^28. No public contract cites this file. Assumes nothing.
+-- What inner functions hold: a sign, and sums of products by digits to the base 2^28. No public contract cites this file. Assumes nothing.
 use mathlib.Core.Path.{_≡_}
-use Prim.Native.Nat.{ℕ, _+_, _*_, _≤_, _<_}
+use mathlib.Core.Bool.{Bool, cond}
+use Prim.Native.Nat.{ℕ, _+_, _-_, _*_, _≤_, _<_}
 use Rattle.ring.specs.Poly.{Poly, sum}
+
+-- 1, or -1 modulo q
+abbrev pub sign : ℕ → Bool → ℕ
+sign q minus = cond minus (q - 1) 1
 
 -- the number with three digits, of any size
 abbrev pub threeDigits : ℕ → ℕ → ℕ → ℕ

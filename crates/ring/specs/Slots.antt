@@ -1,8 +1,10 @@
 -- The polynomial as coefficients, as a list and as bytes, and slots of 8N bytes in scratch (document 01, "Layouts"). Assumes nothing.
 use mathlib.Core.Bool.{Bool, true, _&&_}
 use mathlib.Core.List.{List, [], _∷_, _++_}
-use Prim.Native.Nat.{ℕ, zero, suc, _+_, _*_}
+use mathlib.Core.Logic.{_⊎_}
+use Prim.Native.Nat.{ℕ, zero, suc, _+_, _*_, _≤_}
 use lib.Dec.{ltb}
+use lib.ListN.{length}
 use Rattle.codec.specs.Bytes.{Bytes, bytes, number, part, put}
 use Rattle.ring.specs.Poly.{Poly, modulo}
 
@@ -31,6 +33,12 @@ encode n a = words (list n a)
 -- scratch w with a modulo q in the slot at a place
 unfoldable pub store : (q n : ℕ) → Bytes → ℕ → Poly → Bytes
 store q n w at a = put w at (encode n (modulo q a))
+
+-- two slots of 8n bytes lie in scratch w and do not meet
+pub record Slots (n at from : ℕ) (w : Bytes) : Type 0 where
+  pub one : at + 8 * n ≤ length w
+  pub other : from + 8 * n ≤ length w
+  pub apart : (from + 8 * n ≤ at) ⊎ (at + 8 * n ≤ from)
 
 -- whether each number of a list is below v: the range test of coefficients (v = q) and of ternary bytes (v = 3)
 unfoldable pub allBelow : ℕ → List ℕ → Bool

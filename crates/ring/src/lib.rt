@@ -1,1 +1,307 @@
-// Empty.
+// Polynomials modulo X^n + 1 and q over lent bytes (document 01, "Ring and scheme"), for q below 2^56 and n at most 2048.
+// A polynomial is 8n bytes. Scratch is a row of slots of 8n bytes, and a slot is named by its place in bytes: at, from, room.
+// A lent polynomial is loaded into a slot by `codec::copy`.
+ghost use mathlib.Core.Path.{_≡_};
+ghost use Prim.Native.Nat.{_+_, _-_, _*_, _/_, _%_, _^_, _≤_, _<_};
+ghost use lib.ListN.{length};
+ghost use Rattle.codec.specs.Bytes.{put, zeros, signed};
+ghost use Rattle.modular.specs.Modulo.{remainder};
+ghost use Rattle.ring.specs.Poly.{sum, turn, mul, plus, minus, scale, Below};
+ghost use Rattle.ring.specs.Slots.{poly, slot, list, encode, store, Slots, allBelow};
+ghost use Rattle.ring.specs.Ternary.{meaning, ternary, count};
+ghost use Rattle.ring.specs.Method.{sign, Columns};
+
+// ---- range tests and counts
+
+// Whether every whole coefficient of s is below q.
+pub fn in_range(s: &[u8], q: u64) -> bool
+    ensures { λ r. ⌜ r ≡ allBelow q (list (length (now (s .entry)) / 8) (poly (now (s .entry)))) ⌝ }
+{
+    let n = s.len() / 8;
+    let mut i = 0;
+    while i < n {
+        if q <= codec::read64(s, 8 * i) {
+            return false;
+        }
+        i += 1;
+    }
+    true
+}
+
+// Whether every byte is ternary.
+pub fn is_ternary(t: &[u8]) -> bool
+    ensures { λ r. ⌜ r ≡ allBelow 3 (now (t .entry)) ⌝ }
+{
+    let mut i = 0;
+    while i < t.len() {
+        if 3 <= t[i] {
+            return false;
+        }
+        i += 1;
+    }
+    true
+}
+
+// How often a byte stands in t.
+pub fn count_of(t: &[u8], v: u8) -> usize
+    ensures { λ r. ⌜ r ≡ count v (now (t .entry)) ⌝ }
+{
+    let mut n: usize = 0;
+    let mut i = 0;
+    while i < t.len() {
+        if t[i] == v {
+            n += 1;
+        }
+        i += 1;
+    }
+    n
+}
+
+// ---- slots
+
+// The coefficient that a ternary byte means.
+pub fn from_ternary(b: u8, q: u64) -> u64
+    requires { ⌜ 1 < q ⌝ }
+    ensures { λ r. ⌜ r ≡ remainder q (meaning b) ⌝ }
+{
+    if b == 1 {
+        1
+    } else if b == 2 {
+        q - 1
+    } else {
+        0
+    }
+}
+
+// Loads ternary bytes into a slot.
+pub fn load_ternary(work: &mut [u8], at: usize, t: &[u8], q: u64)
+    requires { ⌜ (1 < q) × (at + 8 * length (now t) ≤ length (now work)) ⌝ }
+    ensures { λ _. ⌜ now (work .exit) ≡ put (now (work .entry)) at (encode (length (now (t .entry))) (ternary q (now (t .entry)))) ⌝ }
+{
+    let mut i = 0;
+    while i < t.len() {
+        let v = from_ternary(t[i], q);
+        codec::write64(work, at + 8 * i, v);
+        i += 1;
+    }
+}
+
+// Copies a slot into another.
+pub fn copy_slot(work: &mut [u8], to: usize, from: usize, n: usize)
+    requires { ⌜ Slots n to from (now work) ⌝ }
+    ensures { λ _. ⌜ now (work .exit) ≡ put (now (work .entry)) to (encode n (slot (now (work .entry)) from)) ⌝ }
+{
+    let mut i = 0;
+    while i < n {
+        let v = codec::read64(work, from + 8 * i);
+        codec::write64(work, to + 8 * i, v);
+        i += 1;
+    }
+}
+
+// x + y or x - y.
+fn combine(x: u64, y: u64, minus: bool, q: u64) -> u64
+    requires { ⌜ (x < q) × (y < q) × (q < 2 ^ 56) ⌝ }
+    ensures { λ r. ⌜ r ≡ (x + sign q minus * y) % q ⌝ }
+{
+    if minus {
+        modular::subtract(x, y, q)
+    } else {
+        modular::add(x, y, q)
+    }
+}
+
+// Adds a lent polynomial to a slot, or subtracts it.
+fn combine_lent(work: &mut [u8], at: usize, a: &[u8], minus: bool, n: usize, q: u64)
+    requires { ⌜ (q < 2 ^ 56) × (at + 8 * n ≤ length (now work)) × (8 * n ≤ length (now a)) × Below q n (slot (now work) at) × Below q n (poly (now a)) ⌝ }
+    ensures { λ _. ⌜ now (work .exit) ≡ store q n (now (work .entry)) at (plus (slot (now (work .entry)) at) (scale (sign q minus) (poly (now (a .entry))))) ⌝ }
+{
+    let mut i = 0;
+    while i < n {
+        let x = codec::read64(work, at + 8 * i);
+        let y = codec::read64(a, 8 * i);
+        let v = combine(x, y, minus, q);
+        codec::write64(work, at + 8 * i, v);
+        i += 1;
+    }
+}
+
+// Adds another slot to a slot, or subtracts it.
+fn combine_slot(work: &mut [u8], at: usize, from: usize, minus: bool, n: usize, q: u64)
+    requires { ⌜ (q < 2 ^ 56) × Slots n at from (now work) × Below q n (slot (now work) at) × Below q n (slot (now work) from) ⌝ }
+    ensures { λ _. ⌜ now (work .exit) ≡ store q n (now (work .entry)) at (plus (slot (now (work .entry)) at) (scale (sign q minus) (slot (now (work .entry)) from))) ⌝ }
+{
+    let mut i = 0;
+    while i < n {
+        let x = codec::read64(work, at + 8 * i);
+        let y = codec::read64(work, from + 8 * i);
+        let v = combine(x, y, minus, q);
+        codec::write64(work, at + 8 * i, v);
+        i += 1;
+    }
+}
+
+// Adds a lent polynomial to a slot.
+pub fn add(work: &mut [u8], at: usize, a: &[u8], n: usize, q: u64)
+    requires { ⌜ (q < 2 ^ 56) × (at + 8 * n ≤ length (now work)) × (8 * n ≤ length (now a)) × Below q n (slot (now work) at) × Below q n (poly (now a)) ⌝ }
+    ensures { λ _. ⌜ now (work .exit) ≡ store q n (now (work .entry)) at (plus (slot (now (work .entry)) at) (poly (now (a .entry)))) ⌝ }
+{
+    combine_lent(work, at, a, false, n, q);
+}
+
+// Subtracts a lent polynomial from a slot.
+pub fn subtract(work: &mut [u8], at: usize, a: &[u8], n: usize, q: u64)
+    requires { ⌜ (q < 2 ^ 56) × (at + 8 * n ≤ length (now work)) × (8 * n ≤ length (now a)) × Below q n (slot (now work) at) × Below q n (poly (now a)) ⌝ }
+    ensures { λ _. ⌜ now (work .exit) ≡ store q n (now (work .entry)) at (minus q (slot (now (work .entry)) at) (poly (now (a .entry)))) ⌝ }
+{
+    combine_lent(work, at, a, true, n, q);
+}
+
+// Adds another slot to a slot.
+pub fn add_slot(work: &mut [u8], at: usize, from: usize, n: usize, q: u64)
+    requires { ⌜ (q < 2 ^ 56) × Slots n at from (now work) × Below q n (slot (now work) at) × Below q n (slot (now work) from) ⌝ }
+    ensures { λ _. ⌜ now (work .exit) ≡ store q n (now (work .entry)) at (plus (slot (now (work .entry)) at) (slot (now (work .entry)) from)) ⌝ }
+{
+    combine_slot(work, at, from, false, n, q);
+}
+
+// Subtracts another slot from a slot.
+pub fn subtract_slot(work: &mut [u8], at: usize, from: usize, n: usize, q: u64)
+    requires { ⌜ (q < 2 ^ 56) × Slots n at from (now work) × Below q n (slot (now work) at) × Below q n (slot (now work) from) ⌝ }
+    ensures { λ _. ⌜ now (work .exit) ≡ store q n (now (work .entry)) at (minus q (slot (now (work .entry)) at) (slot (now (work .entry)) from)) ⌝ }
+{
+    combine_slot(work, at, from, true, n, q);
+}
+
+// Multiplies a slot by a number.
+pub fn scale_slot(work: &mut [u8], at: usize, p: u64, n: usize, q: u64)
+    requires { ⌜ (p < q) × (q < 2 ^ 56) × (at + 8 * n ≤ length (now work)) × Below q n (slot (now work) at) ⌝ }
+    ensures { λ _. ⌜ now (work .exit) ≡ store q n (now (work .entry)) at (scale p (slot (now (work .entry)) at)) ⌝ }
+{
+    let mut i = 0;
+    while i < n {
+        let x = codec::read64(work, at + 8 * i);
+        let v = modular::multiply(p, x, q);
+        codec::write64(work, at + 8 * i, v);
+        i += 1;
+    }
+}
+
+// ---- the product
+
+// Coefficient j of the row from which every coefficient of a product by a is taken: a backwards, and then -a backwards.
+fn mirrored(a: &[u8], j: usize, n: usize, q: u64) -> u64
+    requires { ⌜ (j < 2 * n) × (8 * n ≤ length (now a)) × (q < 2 ^ 56) × Below q n (poly (now a)) ⌝ }
+    ensures { λ r. ⌜ r ≡ turn q n (poly (now (a .entry))) (n - 1) j % q ⌝ }
+{
+    if j < n {
+        codec::read64(a, 8 * (n - 1 - j))
+    } else {
+        modular::negate(codec::read64(a, 8 * (2 * n - 1 - j)), q)
+    }
+}
+
+// Writes that row of 2n coefficients into the first two slots of the room.
+fn mirror(work: &mut [u8], room: usize, a: &[u8], n: usize, q: u64)
+    requires { ⌜ (room + 16 * n ≤ length (now work)) × (8 * n ≤ length (now a)) × (q < 2 ^ 56) × Below q n (poly (now a)) ⌝ }
+    ensures { λ _. ⌜ now (work .exit) ≡ store q (2 * n) (now (work .entry)) room (turn q n (poly (now (a .entry))) (n - 1)) ⌝ }
+{
+    let mut j = 0;
+    while j < 2 * n {
+        let v = mirrored(a, j, n, q);
+        codec::write64(work, room + 8 * j, v);
+        j += 1;
+    }
+}
+
+// Sums of products by the digits of the factors to the base 2^28: low by low, low by high, high by high.
+struct Partial {
+    lo: u64,
+    mid: u64,
+    hi: u64,
+}
+
+// The sums of at most 128 products of the coefficients from x on by those from y on.
+fn block(w: &[u8], x: usize, y: usize, n: usize) -> Partial
+    requires { ⌜ (n ≤ 128) × (x + 8 * n ≤ length (now w)) × (y + 8 * n ≤ length (now w)) ⌝ }
+    requires { ⌜ Below (2 ^ 56) n (slot (now w) x) × Below (2 ^ 56) n (slot (now w) y) ⌝ }
+    ensures { λ r. ⌜ Columns (slot (now (w .entry)) x) (slot (now (w .entry)) y) n (r .lo) (r .mid) (r .hi) ⌝ }
+{
+    let mut lo: u64 = 0;
+    let mut mid: u64 = 0;
+    let mut hi: u64 = 0;
+    let mut j = 0;
+    while j < n {
+        let u = codec::read64(w, x + 8 * j);
+        let v = codec::read64(w, y + 8 * j);
+        let u0 = u % 268435456;
+        let u1 = u / 268435456 % 268435456;
+        let v0 = v % 268435456;
+        let v1 = v / 268435456 % 268435456;
+        lo += u0 * v0;
+        mid += u0 * v1 + u1 * v0;
+        hi += u1 * v1;
+        j += 1;
+    }
+    Partial { lo, mid, hi }
+}
+
+// How many of the products that are left the next block has.
+fn piece(left: usize) -> usize
+    requires { ⌜ 0 < left ⌝ }
+    ensures { λ r. ⌜ (0 < r) × (r ≤ left) × (r ≤ 128) ⌝ }
+{
+    if left < 128 { left } else { 128 }
+}
+
+// The sum of n products modulo q: block by block, with the carries taken and one reduction at the end.
+fn dot(w: &[u8], x: usize, y: usize, n: usize, q: u64) -> u64
+    requires { ⌜ (0 < q) × (q < 2 ^ 56) × (n ≤ 2048) × (x + 8 * n ≤ length (now w)) × (y + 8 * n ≤ length (now w)) ⌝ }
+    requires { ⌜ Below (2 ^ 56) n (slot (now w) x) × Below (2 ^ 56) n (slot (now w) y) ⌝ }
+    ensures { λ r. ⌜ r ≡ sum n (λ i. slot (now (w .entry)) x i * slot (now (w .entry)) y i) % q ⌝ }
+{
+    let mut d0: u64 = 0;
+    let mut d1: u64 = 0;
+    let mut d2: u64 = 0;
+    let mut d3: u64 = 0;
+    let mut done = 0;
+    while done < n {
+        let m = piece(n - done);
+        let b = block(w, x + 8 * done, y + 8 * done, m);
+        let lo = d0 + b.lo;
+        let mid = d1 + b.mid + lo / 268435456;
+        let hi = d2 + b.hi + mid / 268435456;
+        d0 = lo % 268435456;
+        d1 = mid % 268435456;
+        d2 = hi % 268435456;
+        d3 = d3 + hi / 268435456;
+        done += m;
+    }
+    modular::from_digits(d0, d1, d2, d3, q)
+}
+
+// Fills the slot at `at` with the n coefficients of a product, from the row and the factor that stand in the room.
+fn products(work: &mut [u8], at: usize, room: usize, n: usize, q: u64)
+    requires { ⌜ (0 < q) × (q < 2 ^ 56) × (n ≤ 2048) × (at + 8 * n ≤ room) × (room + 24 * n ≤ length (now work)) × Below q (3 * n) (slot (now work) room) ⌝ }
+    ensures { λ _. ⌜ now (work .exit) ≡ store q n (now (work .entry)) at (λ k. sum n (λ i. slot (now (work .entry)) room (2 * n + i) * slot (now (work .entry)) room (n - 1 - k + i))) ⌝ }
+{
+    let mut k = 0;
+    while k < n {
+        let v = dot(work, room + 8 * (2 * n), room + 8 * (n - 1 - k), n, q);
+        codec::write64(work, at + 8 * k, v);
+        k += 1;
+    }
+}
+
+// Multiplies a slot by a lent polynomial modulo X^n + 1: the one place where polynomials are multiplied. The room is three slots
+// behind the slot; it is zero afterwards. What the contract says is independent of the method.
+pub fn multiply(work: &mut [u8], at: usize, room: usize, a: &[u8], n: usize, q: u64)
+    requires { ⌜ (0 < q) × (q < 2 ^ 56) × (n ≤ 2048) × (at + 8 * n ≤ room) × (room + 24 * n ≤ length (now work)) × (8 * n ≤ length (now a)) ⌝ }
+    requires { ⌜ Below q n (slot (now work) at) × Below q n (poly (now a)) ⌝ }
+    ensures { λ _. ⌜ now (work .exit) ≡ put (store q n (now (work .entry)) at (mul q n (slot (now (work .entry)) at) (poly (now (a .entry))))) room (zeros (24 * n)) ⌝ }
+{
+    mirror(work, room, a, n, q);
+    copy_slot(work, room + 16 * n, at, n);
+    products(work, at, room, n, q);
+    codec::wipe(&mut work[room..room + 24 * n]);
+}
