@@ -1,0 +1,12 @@
+pub mod Steps
+pub mod Each
+pub mod Form
+pub mod Scanning
+pub mod Blocks
+pub mod Table
+pub mod Least
+pub mod Ranges
+pub mod Writing
+pub mod Order
+pub mod Filling
+pub mod Taken

@@ -1,0 +1,143 @@
+-- What a reading says of its text: the order of a call that is lent the sheet, and what holds of a sheet that is taken. Assumes nothing.
+use mathlib.Core.Path.{_≡_, refl, sym, ap, ap₂, _∙_}
+use mathlib.Core.Bool.{Bool, true, false, cond, not, _&&_, _||_}
+use mathlib.Core.List.{List, [], _∷_, _++_}
+use Prim.Native.Nat.{ℕ, zero, suc, _*_, _≤_, _<_}
+use native.Mathlib.Nat.{le-of-suc-le-suc, not-suc-le-zero}
+use native.Mathlib.Omega.{arith}
+use borrow.Author.Tests.{eqb-true, eqb-false, ltb-true, ltb-false, not-false}
+use lib.Dec.{ltb, eqb}
+use lib.ListN.{length, getD}
+use Rattle.codec.specs.Bytes.{Bytes}
+use Rattle.codec.specs.Reply.{Test, test, first, None}
+use Rattle.codec.specs.declared.Reply.{Reply}
+use Rattle.codec.specs.declared.Reply.the-variants as reply
+use Rattle.codec.proofs.Replies.{taken-exactly}
+use Rattle.sheet.specs.Form.{Sheet, written}
+use Rattle.sheet.specs.Reader.{every, formed, sheetOf}
+use Rattle.sheet.specs.Sheet.{fits, lists, unfit, order, replyOf, readingBy, reading, polynomials}
+use Rattle.sheet.specs.declared.Numbers.{Numbers}
+use Rattle.sheet.specs.declared.Reading.{Reading}
+use Rattle.sheet.specs.declared.Reading.the-variants.{Taken, Refused}
+use Rattle.sheet.proofs.Form.{both, written-is}
+use Rattle.sheet.proofs.Ranges.{InRange, in-range, Sound, is-sound}
+
+-- ---- the order of a call that is lent the sheet
+
+-- a sheet that is refused decides the reply; after one that is taken, the rest of the order does
+abbrev pub onwards : Reading → Reply → Reply
+onwards (Taken k) r = r
+onwards (Refused n) r = reply.Refused n 0
+
+five-tests : (a b c d e : Bool) (k : Numbers) (ts : List Test)
+    → first (test 1 0 a ∷ test 2 0 b ∷ test 3 0 c ∷ test 4 0 d ∷ test 5 0 e ∷ ts)
+    ≡ onwards (readingBy (first (test 1 0 a ∷ test 2 0 b ∷ test 3 0 c ∷ test 4 0 d ∷ test 5 0 e ∷ [])) k) (first ts)
+unfolding first
+five-tests true b c d e k ts = refl
+five-tests false true c d e k ts = refl
+five-tests false false true d e k ts = refl
+five-tests false false false true e k ts = refl
+five-tests false false false false true k ts = refl
+five-tests false false false false false k ts = refl
+
+pub order-first : (p : ℕ) (text : Bytes) (ts : List Test) → first (order p text ++ ts) ≡ onwards (reading p text) (first ts)
+unfolding reading
+order-first p text ts = five-tests _ _ _ _ _ (sheetOf text .numbers) ts
+
+-- the reply of the sheet's own call
+pub reply-is : (p : ℕ) (text : Bytes) → replyOf (reading p text) ≡ first (order p text)
+unfolding first
+reply-is p text = by (reading p text) ∙ sym (order-first p text [])
+  where
+    by : (r : Reading) → replyOf r ≡ onwards r reply.Taken
+    by (Taken k) = refl
+    by (Refused n) = refl
+
+-- ---- a sheet that is taken
+
+-- a polynomial: n coefficients, each below q
+pub record Polynomial (n q : ℕ) (xs : List ℕ) : Type 0 where
+  pub count : length xs ≡ n
+  pub below : (i : ℕ) → getD xs i 0 < q
+
+pub record Taking (p : ℕ) (text : Bytes) (k : Numbers) : Type 0 where
+  pub some : length text ≡ 0 → ⊥
+  pub few : length text ≤ 262144
+  pub form : formed text ≡ true
+  pub numbers : sheetOf text .numbers ≡ k
+  pub ranged : InRange k
+  pub sound : Sound p k
+  pub fit : unfit (sheetOf text) ≡ false
+
+not-refused : {A : Type 0} {n : ℕ} {k : Numbers} → Refused n ≡ Taken k → A
+not-refused e = absurd (let z : _≡_ {A = ℕ} 0 1 = cc in omega arith)
+
+neither : (a b : Bool) → (a || b) ≡ false → (a ≡ false) × (b ≡ false)
+neither true b e = absurd (let z : _≡_ {A = ℕ} 0 1 = cc in omega arith)
+neither false b e = (refl, e)
+
+pub taken : (p : ℕ) (text : Bytes) {k : Numbers} → reading p text ≡ Taken k → Taking p text k
+unfolding reading
+taken p text {k} e = by (first (order p text)) refl e
+  where
+    from : None (order p text) → sheetOf text .numbers ≡ k → Taking p text k
+    from n q =
+        let l = neither (eqb (length text) 0) (ltb 262144 (length text)) (n .0) in
+        record {
+          some = eqb-false (length text) 0 (l .0);
+          few = ltb-false 262144 (length text) (l .1);
+          form = not-false (formed text) (n .1 .0);
+          numbers = q;
+          ranged = rw q at (in-range (sheetOf text .numbers) (n .1 .1 .0));
+          sound = rw q at (is-sound p (sheetOf text .numbers) (n .1 .1 .1 .0));
+          fit = n .1 .1 .1 .1 .0;
+        }
+
+    by : (r : Reply) → first (order p text) ≡ r → readingBy r (sheetOf text .numbers) ≡ Taken k → Taking p text k
+    by reply.Taken f e = from (taken-exactly (order p text) .0 f) (cc)
+    by (reply.Refused n place) f e = not-refused e
+
+-- ---- its lists are polynomials
+
+each-below : (q : ℕ) → 0 < q → (xs : List ℕ) → every (λ x. ltb x q) xs ≡ true → (i : ℕ) → getD xs i 0 < q
+each-below q h [] e i = h
+each-below q h (x ∷ xs) e zero = ltb-true x q (both (ltb x q) (every (λ y. ltb y q) xs) e .0)
+each-below q h (x ∷ xs) e (suc i) = each-below q h xs (both (ltb x q) (every (λ y. ltb y q) xs) e .1) i
+
+polynomial : (n q : ℕ) → 0 < q → (xs : List ℕ) → fits n q xs ≡ true → Polynomial n q xs
+polynomial n q h xs e =
+    let p = both (eqb (length xs) n) (every (λ x. ltb x q) xs) e in
+    record { count = eqb-true (length xs) n (p .0); below = each-below q h xs (p .1) }
+
+abbrev pub AllPolynomials : ℕ → ℕ → List (List ℕ) → Type 0
+AllPolynomials n q [] = Unit
+AllPolynomials n q (l ∷ ls) = Polynomial n q l × AllPolynomials n q ls
+
+all-polynomials : (n q : ℕ) → 0 < q → (ls : List (List ℕ)) → every (fits n q) ls ≡ true → AllPolynomials n q ls
+all-polynomials n q h [] e = tt
+all-polynomials n q h (l ∷ ls) e =
+    let p = both (fits n q l) (every (fits n q) ls) e in
+    (polynomial n q h l (p .0), all-polynomials n q h ls (p .1))
+
+pub lists-taken : (p : ℕ) (text : Bytes) {k : Numbers} → reading p text ≡ Taken k → AllPolynomials (k .ring) (k .modulus) (lists (sheetOf text))
+unfolding unfit
+lists-taken p text {k} e =
+    let t = taken p text e in
+    let h : 0 < sheetOf text .numbers .modulus = rw (t .numbers) (omega (arith, t .ranged .modulus-low)) in
+    rw (t .numbers) at (all-polynomials (sheetOf text .numbers .ring) (sheetOf text .numbers .modulus) h (lists (sheetOf text)) (not-false _ (t .fit)))
+
+-- ---- the form is canonical: two texts that are taken with the same numbers and the same lists are one text
+
+abbrev sheet : Numbers → List (List ℕ) → Sheet
+sheet k ls = record { numbers = k; a = getD ls 0 []; b = getD ls 1 []; k1 = getD ls 2 []; k2 = getD ls 3 []; k3 = getD ls 4 [] }
+
+same-sheet : (s t : Sheet) → s .numbers ≡ t .numbers → lists s ≡ lists t → s ≡ t
+same-sheet s t e f = ap₂ sheet e f
+
+pub canonical : (p : ℕ) (text other : Bytes) (k : Numbers) → reading p text ≡ Taken k → reading p other ≡ Taken k
+    → lists (sheetOf text) ≡ lists (sheetOf other) → text ≡ other
+canonical p text other k e f g =
+    let t = taken p text e in
+    let u = taken p other f in
+    let s = same-sheet (sheetOf text) (sheetOf other) (t .numbers ∙ sym (u .numbers)) g in
+    written-is text (t .form) .0 ∙ ap written s ∙ sym (written-is other (u .form) .0)

@@ -1,0 +1,82 @@
+-- The code's answers on lines of the text. Of a line the code keeps how many numbers it has, the largest, and the place where the text goes on;
+-- `summed` and `outlined` say the same of what the reader finds, with the text from there on. Assumes nothing.
+use mathlib.Core.Path.{_≡_}
+use mathlib.Core.Bool.{Bool, true, false, cond, _&&_}
+use mathlib.Core.List.{List, [], _∷_, _++_, map}
+use Prim.Native.Nat.{ℕ, _+_, _*_, _≤_}
+use lib.Dec.{ltb, eqb}
+use lib.ListN.{length, drop}
+use Rattle.codec.specs.Bytes.{Bytes, put}
+use Rattle.sheet.specs.Reader.{Found, missing, found, Block, broken, block, every, formed, sheetOf}
+use Rattle.sheet.specs.Sheet.{encoded, outside, unsound, unfit}
+use Rattle.sheet.specs.declared.Scan.{Scan}
+use Rattle.sheet.specs.declared.Scan.the-variants as scan
+use Rattle.sheet.specs.declared.Lines.{Lines}
+use Rattle.sheet.specs.declared.Numbers.{Numbers}
+use Rattle.sheet.specs.declared.Reading.{Reading}
+use Rattle.sheet.specs.declared.Reading.the-variants.{Taken, Refused}
+
+abbrev pub bigger : ℕ → ℕ → ℕ
+bigger a b = cond (ltb a b) b a
+
+-- the largest of m and the numbers
+unfoldable pub largest : ℕ → List ℕ → ℕ
+largest m [] = m
+largest m (x ∷ xs) = largest (bigger m x) xs
+
+pub data Summed : Type 0 where
+  bad : Summed
+  sum : ℕ → ℕ → Bytes → Summed
+
+abbrev pub summed : Found → Summed
+summed missing = bad
+summed (found xs t) = sum (length xs) (largest 0 xs) t
+
+abbrev pub scanned : Bytes → Scan → Summed
+scanned text scan.Broken = bad
+scanned text (scan.Line n top next) = sum n top (drop next text)
+
+pub data Outline : Type 0 where
+  none : Outline
+  outline : List ℕ → List ℕ → Bytes → Outline
+
+abbrev pub outlined : Block → Outline
+outlined broken = none
+outlined (block rs t) = outline (map length rs) (map (largest 0) rs) t
+
+abbrev pub seen : Bytes → Lines → Outline
+seen text l = cond (l .whole) (outline (l .counts) (l .largest) (drop (l .next) text)) none
+
+-- a line's numbers, and the text after it
+abbrev pub numbersIn : Found → List ℕ
+numbersIn missing = []
+numbersIn (found xs t) = xs
+
+abbrev pub rest : Found → Bytes
+rest missing = []
+rest (found xs t) = t
+
+-- the line is there, and its numbers fit into d from an index on
+pub record Ready (f : Found) (from : ℕ) (d : Bytes) : Type 0 where
+  pub there : f ≡ missing → ⊥
+  pub room : from + 8 * length (numbersIn f) ≤ length d
+
+-- they were put there, and the text after the line is t
+pub record Writes (f : Found) (from : ℕ) (d : Bytes) (t out : Bytes) : Type 0 where
+  pub wrote : out ≡ put d from (encoded (numbersIn f))
+  pub goes-on : t ≡ rest f
+
+-- a text of the form, whose lists have n numbers each, and room for them in d
+pub record Fitting (text : Bytes) (n : ℕ) (d : Bytes) : Type 0 where
+  pub form : formed text ≡ true
+  pub ring : sheetOf text .numbers .ring ≡ n
+  pub fit : unfit (sheetOf text) ≡ false
+  pub space : 40 * n ≤ length d
+
+-- the refusals 3, 4 and 5, by the counts and the largest coefficients of the lists
+abbrev pub judged : ℕ → Numbers → List ℕ → List ℕ → Reading
+judged p k counts tops =
+    cond (outside k) (Refused 3)
+    (cond (unsound p k) (Refused 4)
+    (cond (every (λ c. eqb c (k .ring)) counts && every (λ x. ltb x (k .modulus)) tops) (Taken k)
+    (Refused 5)))

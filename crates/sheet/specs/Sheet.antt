@@ -1,0 +1,93 @@
+-- Document 01, "Sheet" and the refusals 1 to 5: which sheet is taken, and what is handed out of it, for the plaintext modulus p. Assumes nothing.
+use mathlib.Core.Bool.{Bool, true, false, cond, not, _&&_, _||_}
+use mathlib.Core.List.{List, [], _∷_, _++_}
+use Prim.Native.Nat.{ℕ, _+_, _*_, _-_, _/_, _%_, _^_}
+use lib.Dec.{ltb, leb, eqb}
+use lib.ListN.{length}
+use Rattle.codec.specs.Bytes.{Bytes, bytes, put}
+use Rattle.codec.specs.Reply.{Test, test, first}
+use Rattle.codec.specs.declared.Reply.{Reply}
+use Rattle.codec.specs.declared.Reply.the-variants as reply
+use Rattle.sheet.specs.Form.{Sheet}
+use Rattle.sheet.specs.Reader.{formed, sheetOf, every}
+use Rattle.sheet.specs.Bounds.{noise, least, power}
+use Rattle.sheet.specs.declared.Numbers.{Numbers}
+use Rattle.sheet.specs.declared.Reading.{Reading}
+use Rattle.sheet.specs.declared.Reading.the-variants.{Taken, Refused}
+
+-- any of the tests holds
+unfoldable pub any : List Bool → Bool
+any [] = false
+any (t ∷ ts) = t || any ts
+
+-- 3: a number outside its range, or a ring that is no power of two
+abbrev pub ranges : Numbers → List Bool
+ranges k =
+    ltb (k .ring) 4 ∷ ltb 2048 (k .ring) ∷ not (power 12 (k .ring))
+    ∷ ltb (k .modulus) 3 ∷ leb (2 ^ 56) (k .modulus)
+    ∷ ltb 40 (k .drown)
+    ∷ ltb (k .rounds) 1 ∷ ltb 128 (k .rounds)
+    ∷ ltb (k .repeats) (least (k .rounds)) ∷ ltb 256 (k .repeats) ∷ []
+
+unfoldable pub outside : Numbers → Bool
+outside k = any (ranges k)
+
+-- 4: 2N does not divide q - 1, or (1 + 2^d) D is not below (q - 1)/2
+abbrev pub conditions : ℕ → Numbers → List Bool
+conditions p k =
+    not (eqb ((k .modulus - 1) % (2 * k .ring)) 0)
+    ∷ not (ltb ((1 + 2 ^ k .drown) * noise p (k .ring)) ((k .modulus - 1) / 2)) ∷ []
+
+unfoldable pub unsound : ℕ → Numbers → Bool
+unsound p k = any (conditions p k)
+
+-- 5: a list of another count than n, or with a coefficient that is not below q
+abbrev pub fits : ℕ → ℕ → List ℕ → Bool
+fits n q xs = eqb (length xs) n && every (λ x. ltb x q) xs
+
+abbrev pub lists : Sheet → List (List ℕ)
+lists s = s .a ∷ s .b ∷ s .k1 ∷ s .k2 ∷ s .k3 ∷ []
+
+unfoldable pub unfit : Sheet → Bool
+unfit s = not (every (fits (s .numbers .ring) (s .numbers .modulus)) (lists s))
+
+-- the order of a call that is lent the sheet, at its head; the sheet's own call has no more
+abbrev pub order : ℕ → Bytes → List Test
+order p text =
+    test 1 0 (eqb (length text) 0 || ltb 262144 (length text))
+    ∷ test 2 0 (not (formed text))
+    ∷ test 3 0 (outside (sheetOf text .numbers))
+    ∷ test 4 0 (unsound p (sheetOf text .numbers))
+    ∷ test 5 0 (unfit (sheetOf text))
+    ∷ []
+
+-- the reply that a reading stands for: document 01's number, 0 for a sheet that is taken; a sheet's refusal has no place
+abbrev pub replyOf : Reading → Reply
+replyOf (Taken k) = reply.Taken
+replyOf (Refused n) = reply.Refused n 0
+
+abbrev pub readingBy : Reply → Numbers → Reading
+readingBy reply.Taken k = Taken k
+readingBy (reply.Refused n place) k = Refused n
+
+-- what is said of a text
+unfoldable pub reading : ℕ → Bytes → Reading
+reading p text = readingBy (first (order p text)) (sheetOf text .numbers)
+
+-- polynomials in bytes, 8 to a coefficient
+unfoldable pub encoded : List ℕ → Bytes
+encoded [] = []
+encoded (x ∷ xs) = bytes 8 x ++ encoded xs
+
+unfoldable pub joined : List (List ℕ) → Bytes
+joined [] = []
+joined (xs ∷ xss) = encoded xs ++ joined xss
+
+-- a, b, k1, k2, k3 in 40N bytes
+unfoldable pub polynomials : Bytes → Bytes
+polynomials text = joined (lists (sheetOf text))
+
+-- what a lent buffer holds after a reading: the polynomials at its head, or what it held if the sheet is refused
+abbrev pub filled : Reading → Bytes → Bytes → Bytes
+filled (Taken k) text d = put d 0 (polynomials text)
+filled (Refused n) text d = d

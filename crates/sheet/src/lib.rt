@@ -1,0 +1,124 @@
+// The parameter sheet (document 01, "Sheet"): its reader, its numbers with their bounds, and its polynomials.
+mod bounds;
+mod reader;
+mod repeats;
+mod writer;
+
+ghost use mathlib.Core.Path.{_≡_};
+ghost use Prim.Native.Nat.{_*_, _≤_};
+ghost use mathlib.Core.Bool.{true};
+ghost use mathlib.Core.List.{[], _∷_};
+ghost use lib.ListN.{length, take};
+ghost use Rattle.codec.specs.Bytes.{put};
+ghost use Rattle.sheet.specs.Reader.{every};
+ghost use Rattle.sheet.specs.Seen.{judged};
+ghost use Rattle.sheet.specs.Sheet.{reading, filled, polynomials};
+ghost use Rattle.sheet.specs.declared.Reading.the-variants.{Taken};
+pub use bounds::mask_bound;
+pub use bounds::noise_bound;
+pub use bounds::unknowns;
+pub use repeats::least_repeats;
+
+// The sheet's numbers before a.
+pub struct Numbers {
+    pub ring: u64,
+    pub modulus: u64,
+    pub drown: u64,
+    pub rounds: u64,
+    pub repeats: u64,
+}
+
+// What is said of a text: its numbers, or document 01's number of the refusal.
+pub enum Reading {
+    Taken(Numbers),
+    Refused { number: u8 },
+}
+
+// What stands at a place of the text: a line with how many numbers, the largest, and where the text goes on; or no such line.
+pub enum Scan {
+    Broken,
+    Line {
+        count: u64,
+        largest: u64,
+        next: usize,
+    },
+}
+
+// Five lines: whether they are there, and for each how many numbers it has and the largest; and where the text goes on.
+pub struct Lines {
+    pub whole: bool,
+    pub counts: [u64; 5],
+    pub largest: [u64; 5],
+    pub next: usize,
+}
+
+// The refusals 3, 4 and 5 in their order, by the numbers and by the counts and the largest coefficients of the lists.
+fn judge(k: Numbers, counts: [u64; 5], largest: [u64; 5]) -> Reading
+    ensures { λ r. ⌜ r ≡ judged 2 k counts largest ⌝ }
+{
+    if bounds::outside(k) {
+        return Reading::Refused { number: 3 };
+    }
+    if bounds::unsound(k) {
+        return Reading::Refused { number: 4 };
+    }
+    if !reader::all_are(counts, k.ring) {
+        return Reading::Refused { number: 5 };
+    }
+    if !reader::all_below(largest, k.modulus) {
+        return Reading::Refused { number: 5 };
+    }
+    Reading::Taken(k)
+}
+
+// Reads a sheet.
+pub fn read(text: &[u8]) -> Reading
+    ensures { λ r. ⌜ r ≡ reading 2 (now (text .entry)) ⌝ }
+{
+    if text.len() == 0 {
+        return Reading::Refused { number: 1 };
+    }
+    if 262144 < text.len() {
+        return Reading::Refused { number: 1 };
+    }
+    let head = reader::scan_lines(text, 0, 0);
+    if !head.whole {
+        return Reading::Refused { number: 2 };
+    }
+    let tail = reader::scan_lines(text, head.next, 5);
+    if !tail.whole {
+        return Reading::Refused { number: 2 };
+    }
+    if tail.next < text.len() {
+        return Reading::Refused { number: 2 };
+    }
+    let ones = head.counts;
+    if !reader::all_are(ones, 1) {
+        return Reading::Refused { number: 2 };
+    }
+    let v = head.largest;
+    let counts = tail.counts;
+    let largest = tail.largest;
+    let k = Numbers {
+        ring: v[0],
+        modulus: v[1],
+        drown: v[2],
+        rounds: v[3],
+        repeats: v[4],
+    };
+    judge(k, counts, largest)
+}
+
+// Reads a sheet and puts its polynomials a, b, k1, k2, k3, in 40N bytes, at the head of the lent bytes. A refusal leaves them as they are.
+pub fn open(text: &[u8], out: &mut [u8; 81920]) -> Reading
+    ensures { λ r. ⌜ (r ≡ reading 2 (now (text .entry))) × (now (out .exit) ≡ filled r (now (text .entry)) (now (out .entry))) ⌝ }
+{
+    let r = read(text);
+    match r {
+        Reading::Taken(k) => {
+            writer::write_lists(text, k.ring, out);
+            r
+        }
+        Reading::Refused { number: _ } => r,
+    }
+}
