@@ -20,6 +20,10 @@ module _ (q N p : ℕ) where
   unfolding noisy
   noisy-turned a x y = ap (λ (z : Poly). plus z (scale p y)) (mul-poly-comm q N a x)
 
+  pub noisy-either : (a x y : Poly) → noisy q N p a x y ≡ noisy q N p x a y
+  unfolding noisy
+  noisy-either a x y = noisy-turned a x y
+
 -- x + (-x + r) = r
 pub alike-drop : {q N : ℕ} (x r : Poly) → 0 < q → Alike q N (plus x (plus (scale (q - 1) x) r)) r
 alike-drop {q} x r h =

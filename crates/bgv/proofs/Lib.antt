@@ -1,3 +1,5 @@
 pub mod Form
 pub mod Round
 pub mod Ballot
+pub mod Steps
+pub mod Votes

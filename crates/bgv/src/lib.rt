@@ -1,1 +1,2 @@
-// Encryption, decryption, the key split and decryption shares: specs/Scheme.antt, with their theorems in proofs/Round.antt and proofs/Ballot.antt.
+// Encryption, decryption, the key split and decryption shares (document 000, sections 5.3 and 6.1), over the sheet and lent bytes. p is 2.
+mod work;

@@ -6,11 +6,11 @@ use mathlib.Core.List.{List, [], _∷_}
 use Prim.Native.Nat.{ℕ, _+_, _*_, _≤_, _<_, _^_}
 use lib.Dec.{eqb}
 use lib.ListN.{length, getD}
-use Rattle.codec.specs.Bytes.{Bytes, zeros, same}
+use Rattle.codec.specs.Bytes.{Bytes, part, zeros, same}
 use Rattle.codec.specs.Reply.{Test, test, numberOf, leaves}
 use Rattle.codec.specs.declared.Reply.{Reply}
-use Rattle.ring.specs.Poly.{Poly, Below}
-use Rattle.ring.specs.Slots.{poly, list, allBelow}
+use Rattle.ring.specs.Poly.{Poly, modulo, Below}
+use Rattle.ring.specs.Slots.{poly, list, encode, allBelow}
 
 -- scratch: 64 slots of 16,384 bytes, each with room for a polynomial of 2048 coefficients
 abbrev pub scratchLength : ℕ
@@ -55,3 +55,10 @@ pub record Public (n q : ℕ) (a : Bytes) : Type 0 where
   pub few : q < 2 ^ 56
   pub sized : length a ≡ 8 * n
   pub below : Below q n (poly a)
+
+-- ---- what stands in scratch
+
+-- the polynomial f modulo q stands at the head of scratch, in bytes; the length is as before
+pub record Stands (q n : ℕ) (f : Poly) (w w' : Bytes) : Type 0 where
+  pub sized : length w' ≡ length w
+  pub bytes : part w' 0 (8 * n) ≡ encode n (modulo q f)

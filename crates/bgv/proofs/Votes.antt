@@ -1,0 +1,47 @@
+-- A vote that is written byte by byte, and the vote of a polynomial in bytes. Assumes nothing.
+use mathlib.Core.Path.{_≡_, refl, sym, ap, ap₂, _∙_}
+use mathlib.Core.List.{[], _∷_, _++_}
+use Prim.Native.Nat.{ℕ, _+_, _*_, _%_, _^_, _≤_, _<_}
+use native.Mathlib.Nat.{mod-lt}
+use native.Mathlib.Numerals.{add-one}
+use native.Mathlib.Omega.{arith}
+use lib.ListN.{length}
+use Rattle.codec.specs.Bytes.{Bytes, put}
+use Rattle.codec.proofs.Laws.{put-none, put-whole, put-append}
+use Rattle.modular.specs.Modulo.{remainder}
+use Rattle.modular.proofs.Centring.{centre-mod}
+use Rattle.ring.specs.Poly.{Poly, modulo, Below}
+use Rattle.ring.specs.Slots.{poly, list, encode}
+use Rattle.ring.proofs.Bridge.{length-list, list-cong, poly-encode}
+use Rattle.bgv.specs.Scheme.{plain}
+
+-- d with the first i bytes of a vote
+pub voted : Bytes → Poly → ℕ → Bytes
+voted d f i = put d 0 (list i f)
+
+module _ (d : Bytes) (f : Poly) where
+  pub voted-none : d ≡ voted d f 0
+  unfolding voted list
+  voted-none = sym (put-none d 0)
+
+  pub voted-more : (i : ℕ) (v v' : Bytes) (x : ℕ) → v ≡ voted d f i → i < length d → x ≡ f i → v' ≡ put v i (x ∷ []) → v' ≡ voted d f (i + 1)
+  unfolding voted list
+  voted-more i v v' x e h p r =
+      r ∙ ap₂ (λ (w : Bytes) (y : ℕ). put w i (y ∷ [])) e p
+      ∙ ap (λ (j : ℕ). put (put d 0 (list i f)) j (f i ∷ [])) (sym (omega (arith, length-list i f)))
+      ∙ put-append d 0 (list i f) (f i ∷ []) (omega (arith, length-list i f)) ∙ ap (λ (j : ℕ). put d 0 (list j f)) (sym (add-one i))
+
+  pub voted-all : (n : ℕ) → length d ≡ n → voted d f n ≡ list n f
+  unfolding voted
+  voted-all n h = put-whole d (list n f) (length-list n f ∙ sym h)
+
+-- the vote goes by what the coefficients are modulo q
+pub plain-written : (q p n : ℕ) (f : Poly) → 0 < q → q < 2 ^ 56 → list n (plain q p (poly (encode n (modulo q f)))) ≡ list n (plain q p f)
+unfolding plain modulo
+plain-written q p n f h b =
+    list-cong n (λ k l.
+    ap (remainder p) (ap (Rattle.modular.specs.Modulo.centre q) (poly-encode n (modulo q f) k l (omega (arith, mod-lt (f k) {m = q} h))) ∙ centre-mod q (f k)))
+
+pub written-below : (q n : ℕ) (f : Poly) → 0 < q → q < 2 ^ 56 → Below q n (poly (encode n (modulo q f)))
+unfolding modulo
+written-below q n f h b = record { at = λ k l. rw (poly-encode n (modulo q f) k l (omega (arith, mod-lt (f k) {m = q} h))) (mod-lt (f k) h) }
