@@ -3,23 +3,21 @@ use mathlib.Core.Path.{_≡_, refl, sym, ap, _∙_}
 use mathlib.Core.Logic.{inl, inr}
 use mathlib.Core.Bool.{true, cond}
 use Prim.Native.Nat.{ℕ, zero, suc, _+_, _-_, _*_, _^_, _≤_, _<_}
-use native.Mathlib.Nat.{mod-eq-of-lt}
+use native.Mathlib.Nat.{mod-mod}
 use native.Mathlib.Omega.{arith}
-use borrow.Author.Tests.{eqb-true}
 use lib.Dec.{eqb}
 use lib.ListN.{length, getD, length-replicate}
 use Rattle.codec.specs.Bytes.{Bytes, put, zeros}
-use Rattle.codec.proofs.Laws.{length-put}
-use Rattle.modular.specs.Modulo.{Same}
+use Rattle.codec.proofs.Laws.{put-put}
 use Rattle.modular.proofs.Congruence.{same-eq}
 use Rattle.modular.proofs.Centring.{remainder-lt}
-use Rattle.ring.specs.Poly.{Poly, plus, minus, scale, mul, Alike, Below}
+use Rattle.ring.specs.Poly.{Poly, plus, minus, scale, mul, modulo, Below}
 use Rattle.ring.specs.Slots.{poly, slot, encode, store, Slots, allBelow}
 use Rattle.ring.specs.Ternary.{meaning, ternary}
-use Rattle.ring.proofs.Bridge.{length-encode}
+use Rattle.ring.proofs.Bridge.{length-encode, encode-alike}
 use Rattle.ring.proofs.Ranges.{allBelow-sound}
 use Rattle.ring.proofs.Sizes.{ternary-value}
-use Rattle.ring.proofs.Polynomials.{plus-comm, alike-eq, alike-refl, _so_, alike-plus, alike-minus, alike-scale, alike-mul}
+use Rattle.ring.proofs.Polynomials.{plus-comm, alike-eq, alike-refl, _so_, alike-plus, alike-minus, alike-scale, alike-mul, below-modulo}
 use Rattle.call.specs.Call.{coefficients, Stands}
 use Rattle.call.proofs.Slots.{Holds, holds-below, holds-alike, holds-slot, stored, stored-length, stored-other, loaded, copied, put-length, put-other, stands-alike, stands-after, stands-stored}
 use Rattle.bgv.specs.Scheme.{Wholes, residues, noisy, opened, rebuilt}
@@ -208,3 +206,23 @@ module _ (q n : ℕ) (high : n ≤ 2048) (some : 3 ≤ q) (few : q < 2 ^ 56) whe
   -- the length is still that of scratch
   pub loaded-length : (f : Poly) (w w1 : Bytes) → length w ≡ 1048576 → Loaded q n 0 f w w1 → length w1 ≡ 1048576
   loaded-length f w w1 l x = head-length f w w1 l x ∙ l
+
+  -- x - g in a slot, where x was loaded
+  pub subtracted : (at : ℕ) (f g : Poly) (w w1 w2 : Bytes) → length w ≡ 1048576 → at + 8 * n ≤ 1048576 → (x : Loaded q n at f w w1) → w2 ≡ store q n w1 at (minus q (slot w1 at) g) → w2 ≡ put w at (encode n (modulo q (minus q f g)))
+  unfolding store
+  subtracted at f g w w1 w2 l h x e =
+      e ∙ ap (put w1 at) (encode-alike (alike-minus (holds-alike (x .holds)) alike-refl)) ∙ ap (λ (v : Bytes). put v at (encode n (modulo q (minus q f g)))) (x .is)
+      ∙ put-put w at (x .bytes) (encode n (modulo q (minus q f g))) (omega (arith, x .sized)) (length-encode n (modulo q (minus q f g)) ∙ sym (x .sized))
+
+  -- what a slot asks that is loaded at any place
+  pub loaded-asks : (at : ℕ) (f : Poly) (w w1 : Bytes) → length w ≡ 1048576 → at + 8 * n ≤ 1048576 → (x : Loaded q n at f w w1) → (at + 8 * n ≤ length w1) × Below q n (slot w1 at)
+  loaded-asks at f w w1 l h x = (omega (arith, put-length q n w w1 at (x .bytes) (omega (arith, x .sized)) (x .is)), holds-below positive (x .holds))
+
+  pub modulo-load : (w w1 : Bytes) (at : ℕ) (f : Poly) → length w ≡ 1048576 → at + 8 * n ≤ 1048576 → w1 ≡ put w at (encode n (modulo q f)) → Loaded q n at f w w1
+  modulo-load w w1 at f l h e =
+      let x = loaded q n positive few w w1 at (omega arith) (modulo q f) (below-modulo f positive) e in
+      record { bytes = encode n (modulo q f); sized = length-encode n (modulo q f); is = e; holds = record { is = λ k m. x .is k m ∙ (unfold modulo in mod-mod (f k) q) } }
+
+  pub stands-put : (f : Poly) (w w1 : Bytes) → length w ≡ 1048576 → w1 ≡ put w 0 (encode n (modulo q f)) → Stands q n f w w1
+  unfolding store
+  stands-put f w w1 l e = stands-stored q n f w w w1 (omega arith) refl e

@@ -1,18 +1,19 @@
 -- A vote that is written byte by byte, and the vote of a polynomial in bytes. Assumes nothing.
 use mathlib.Core.Path.{_≡_, refl, sym, ap, ap₂, _∙_}
 use mathlib.Core.List.{[], _∷_, _++_}
-use Prim.Native.Nat.{ℕ, _+_, _*_, _%_, _^_, _≤_, _<_}
-use native.Mathlib.Nat.{mod-lt}
+use Prim.Native.Nat.{ℕ, _+_, _^_, _≤_, _<_}
 use native.Mathlib.Numerals.{add-one}
 use native.Mathlib.Omega.{arith}
 use lib.ListN.{length}
 use Rattle.codec.specs.Bytes.{Bytes, put}
 use Rattle.codec.proofs.Laws.{put-none, put-whole, put-append}
-use Rattle.modular.specs.Modulo.{remainder}
+use Rattle.modular.specs.Modulo.{centre, remainder}
 use Rattle.modular.proofs.Centring.{centre-mod}
-use Rattle.ring.specs.Poly.{Poly, modulo, Below}
-use Rattle.ring.specs.Slots.{poly, list, encode}
-use Rattle.ring.proofs.Bridge.{length-list, list-cong, poly-encode}
+use Rattle.ring.specs.Poly.{Poly}
+use Rattle.ring.specs.Slots.{poly, list}
+use Rattle.ring.proofs.Bridge.{length-list, list-cong}
+use Rattle.call.specs.Call.{Stands}
+use Rattle.call.proofs.Slots.{stands-poly}
 use Rattle.bgv.specs.Scheme.{plain}
 
 -- d with the first i bytes of a vote
@@ -36,12 +37,6 @@ module _ (d : Bytes) (f : Poly) where
   voted-all n h = put-whole d (list n f) (length-list n f ∙ sym h)
 
 -- the vote goes by what the coefficients are modulo q
-pub plain-written : (q p n : ℕ) (f : Poly) → 0 < q → q < 2 ^ 56 → list n (plain q p (poly (encode n (modulo q f)))) ≡ list n (plain q p f)
-unfolding plain modulo
-plain-written q p n f h b =
-    list-cong n (λ k l.
-    ap (remainder p) (ap (Rattle.modular.specs.Modulo.centre q) (poly-encode n (modulo q f) k l (omega (arith, mod-lt (f k) {m = q} h))) ∙ centre-mod q (f k)))
-
-pub written-below : (q n : ℕ) (f : Poly) → 0 < q → q < 2 ^ 56 → Below q n (poly (encode n (modulo q f)))
-unfolding modulo
-written-below q n f h b = record { at = λ k l. rw (poly-encode n (modulo q f) k l (omega (arith, mod-lt (f k) {m = q} h))) (mod-lt (f k) h) }
+pub plain-stands : (q p n : ℕ) (f : Poly) (w w' : Bytes) → 0 < q → q < 2 ^ 56 → Stands q n f w w' → list n (plain q p (poly w')) ≡ list n (plain q p f)
+unfolding plain
+plain-stands q p n f w w' h b s = list-cong n (λ k l. ap (remainder p) (ap (centre q) (stands-poly q n f w w' s h b k l) ∙ centre-mod q (f k)))

@@ -3,8 +3,8 @@ ghost use mathlib.Core.Path.{_≡_};
 ghost use Prim.Native.Nat.{_+_, _*_, _≤_, _<_, _^_};
 ghost use mathlib.Core.Bool.{true};
 ghost use lib.ListN.{length};
-ghost use Rattle.codec.specs.Bytes.{put};
-ghost use Rattle.ring.specs.Poly.{plus, Below};
+ghost use Rattle.codec.specs.Bytes.{put, part};
+ghost use Rattle.ring.specs.Poly.{plus, modulo, Below};
 ghost use Rattle.ring.specs.Slots.{poly, slot, list, encode, allBelow};
 ghost use Rattle.ring.specs.Ternary.{ternary};
 ghost use Rattle.call.specs.Call.{scratchLength, coefficients, Public, Stands};
@@ -45,6 +45,20 @@ pub fn noisy_lent(work: &mut [u8], a: &[u8], x: &[u8], y: &[u8], n: usize, q: u6
     combine(work, a, n, q);
 }
 
+// Whether every byte is 0 or 1.
+pub fn is_message(m: &[u8]) -> bool
+    ensures { λ r. ⌜ r ≡ allBelow 2 (now (m .entry)) ⌝ }
+{
+    let mut i = 0;
+    while i < m.len() {
+        if 2 <= m[i] {
+            return false;
+        }
+        i += 1;
+    }
+    true
+}
+
 // Adds a message of 0s and 1s to what stands at 0.
 pub fn add_message(work: &mut [u8], m: &[u8], n: usize, q: u64)
     requires { ⌜ (n ≤ 2048) × (3 ≤ q) × (q < 2 ^ 56) × (length (now work) ≡ scratchLength) × (length (now m) ≡ n) × (allBelow 2 (now m) ≡ true) × Below q n (slot (now work) 0) ⌝ }
@@ -54,13 +68,31 @@ pub fn add_message(work: &mut [u8], m: &[u8], n: usize, q: u64)
     ring::add_slot(work, 0, ERROR, n, q);
 }
 
-// x - x0, for ternary bytes x and a lent polynomial x0.
-pub fn difference(work: &mut [u8], x: &[u8], x0: &[u8], n: usize, q: u64)
-    requires { ⌜ Public n q (now x0) × (length (now work) ≡ scratchLength) × (length (now x) ≡ n) ⌝ }
-    ensures { λ _. ⌜ Stands q n (scheme.other q (ternary q (now (x .entry))) (poly (now (x0 .entry)))) (now (work .entry)) (now (work .exit)) ⌝ }
+// x - x0 in the slot at a place, for ternary bytes x and a lent polynomial x0.
+pub fn difference(work: &mut [u8], at: usize, x: &[u8], x0: &[u8], n: usize, q: u64)
+    requires { ⌜ Public n q (now x0) × (length (now work) ≡ scratchLength) × (length (now x) ≡ n) × (at ≤ 16384) ⌝ }
+    ensures { λ _. ⌜ now (work .exit) ≡ put (now (work .entry)) at (encode n (modulo q (scheme.other q (ternary q (now (x .entry))) (poly (now (x0 .entry)))))) ⌝ }
 {
-    ring::load_ternary(work, 0, x, q);
-    ring::subtract(work, 0, x0, n, q);
+    ring::load_ternary(work, at, x, q);
+    ring::subtract(work, at, x0, n, q);
+}
+
+// a (x - x0) + 2 (y - y0).
+pub fn noisy_difference(work: &mut [u8], a: &[u8], x: &[u8], x0: &[u8], y: &[u8], y0: &[u8], n: usize, q: u64)
+    requires { ⌜ Public n q (now a) × Public n q (now x0) × Public n q (now y0) × (length (now work) ≡ scratchLength) × (length (now x) ≡ n) × (length (now y) ≡ n) ⌝ }
+    ensures { λ _. ⌜ Stands q n (scheme.noisy q n 2 (poly (now (a .entry))) (scheme.other q (ternary q (now (x .entry))) (poly (now (x0 .entry)))) (scheme.other q (ternary q (now (y .entry))) (poly (now (y0 .entry))))) (now (work .entry)) (now (work .exit)) ⌝ }
+{
+    difference(work, 0, x, x0, n, q);
+    difference(work, ERROR, y, y0, n, q);
+    combine(work, a, n, q);
+}
+
+// Writes what stands at 0 out.
+pub fn write_out(out: &mut [u8], at: usize, work: &[u8], n: usize)
+    requires { ⌜ (at + 8 * n ≤ length (now out)) × (8 * n ≤ length (now work)) ⌝ }
+    ensures { λ _. ⌜ now (out .exit) ≡ put (now (out .entry)) at (part (now (work .entry)) 0 (8 * n)) ⌝ }
+{
+    codec::copy(out, at, &work[0..8 * n]);
 }
 
 // v - s u, for ternary bytes s.

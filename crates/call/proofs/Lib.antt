@@ -1,2 +1,4 @@
 pub mod Sweeping
 pub mod Slots
+pub mod Order
+pub mod Sheets
