@@ -3,3 +3,4 @@ pub mod Round
 pub mod Ballot
 pub mod Steps
 pub mod Votes
+pub mod Outer

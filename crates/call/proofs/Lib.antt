@@ -2,3 +2,4 @@ pub mod Sweeping
 pub mod Slots
 pub mod Order
 pub mod Sheets
+pub mod Lent

@@ -7,7 +7,7 @@ use native.Mathlib.Omega.{arith}
 use lib.ListN.{length, take, drop, getD, length-append}
 use lib.Seq.{take-at, drop-append-add}
 use Rattle.codec.specs.Bytes.{Bytes, bytes, part, put}
-use Rattle.codec.proofs.Laws.{part-put, part-part}
+use Rattle.codec.proofs.Laws.{length-put, part-put, part-part}
 use Rattle.codec.proofs.Numbers.{length-bytes}
 use Rattle.modular.proofs.Congruence.{same-eq}
 use Rattle.ring.specs.Poly.{Poly, Alike, Below}
@@ -70,6 +70,10 @@ module _ (p : ℕ) (text : Bytes) (k : Numbers) (e : reading p text ≡ Taken k)
 
   joined-length : length (joined ls) ≡ 8 * n * 5
   joined-length = length-joined n (k .modulus) ls all
+
+  pub put-room : length (put d 0 (polynomials text)) ≡ 81920
+  unfolding polynomials
+  put-room = length-put d 0 (joined ls) (omega (arith, joined-length, high)) ∙ room
 
   -- the part of the bytes that holds a list
   part-is : part (put d 0 (polynomials text)) (8 * n * i) (8 * n) ≡ encode n (coefficients (getD ls i []))
