@@ -29,3 +29,72 @@ pub fn keygen(a: &[u8], s: &[u8], e: &[u8], b: &mut [u8], scratch: &mut [u8], n:
     work::write_out(b, 0, scratch, n);
     Reply::Taken
 }
+
+// The vote, from the secret key.
+pub fn decrypt(s: &[u8], ciphertext: &[u8], vote: &mut [u8], scratch: &mut [u8], n: usize, q: u64) -> Reply
+    requires { ⌜ (4 ≤ n) × (n ≤ 2048) × (3 ≤ q) × (q < 2 ^ 56) ⌝ }
+    ensures { λ reply. ⌜ reply ≡ first (decryptTests q n (now (s .entry)) (now (ciphertext .entry)) (now (vote .entry)) (now (scratch .entry))) ⌝ }
+    ensures { λ reply. ⌜ now (vote .exit) ≡ leaves reply (decryptWrites 2 q n (now (s .entry)) (now (ciphertext .entry))) (now (vote .entry)) ⌝ }
+    ensures { λ reply. ⌜ Used reply (now (scratch .entry)) (now (scratch .exit)) ⌝ }
+{
+    if !call::sized([s.len(), ciphertext.len(), vote.len(), scratch.len(), 0, 0], [n, 16 * n, n, call::SCRATCH, 0, 0]) {
+        return Reply::Refused { number: 1, place: 0 };
+    }
+    if !ring::is_ternary(s) {
+        return Reply::Refused { number: 5, place: 0 };
+    }
+    if !ring::in_range(ciphertext, q) {
+        return Reply::Refused { number: 5, place: 0 };
+    }
+    work::opened(scratch, s, &ciphertext[0..8 * n], &ciphertext[8 * n..16 * n], n, q);
+    work::plain(scratch, vote, n, q);
+    Reply::Taken
+}
+
+// The decryption share t. A lent mask is bounded as it is lent.
+pub fn share(half: &[u8], u: &[u8], mask: &[u8], t: &mut [u8], scratch: &mut [u8], n: usize, q: u64, bound: u64) -> Reply
+    requires { ⌜ (4 ≤ n) × (n ≤ 2048) × (3 ≤ q) × (q < 2 ^ 56) ⌝ }
+    ensures { λ reply. ⌜ reply ≡ first (shareTests q n bound (now (half .entry)) (now (u .entry)) (now (mask .entry)) (now (t .entry)) (now (scratch .entry))) ⌝ }
+    ensures { λ reply. ⌜ now (t .exit) ≡ leaves reply (shareWrites 2 q n (now (half .entry)) (now (u .entry)) (now (mask .entry))) (now (t .entry)) ⌝ }
+    ensures { λ reply. ⌜ Used reply (now (scratch .entry)) (now (scratch .exit)) ⌝ }
+{
+    if !call::sized([half.len(), u.len(), mask.len(), t.len(), scratch.len(), 0], [8 * n, 8 * n, 8 * n, 8 * n, call::SCRATCH, 0]) {
+        return Reply::Refused { number: 1, place: 0 };
+    }
+    if !ring::in_range(half, q) {
+        return Reply::Refused { number: 5, place: 0 };
+    }
+    if !ring::in_range(u, q) {
+        return Reply::Refused { number: 5, place: 0 };
+    }
+    if !work::bounded(mask, bound, n) {
+        return Reply::Refused { number: 12, place: 0 };
+    }
+    work::share(scratch, half, u, mask, n, q);
+    work::write_out(t, 0, scratch, n);
+    Reply::Taken
+}
+
+// The vote, from two shares.
+pub fn reconstruct(v: &[u8], t0: &[u8], t1: &[u8], vote: &mut [u8], scratch: &mut [u8], n: usize, q: u64) -> Reply
+    requires { ⌜ (4 ≤ n) × (n ≤ 2048) × (3 ≤ q) × (q < 2 ^ 56) ⌝ }
+    ensures { λ reply. ⌜ reply ≡ first (reconstructTests q n (now (v .entry)) (now (t0 .entry)) (now (t1 .entry)) (now (vote .entry)) (now (scratch .entry))) ⌝ }
+    ensures { λ reply. ⌜ now (vote .exit) ≡ leaves reply (reconstructWrites 2 q n (now (v .entry)) (now (t0 .entry)) (now (t1 .entry))) (now (vote .entry)) ⌝ }
+    ensures { λ reply. ⌜ Used reply (now (scratch .entry)) (now (scratch .exit)) ⌝ }
+{
+    if !call::sized([v.len(), t0.len(), t1.len(), vote.len(), scratch.len(), 0], [8 * n, 8 * n, 8 * n, n, call::SCRATCH, 0]) {
+        return Reply::Refused { number: 1, place: 0 };
+    }
+    if !ring::in_range(v, q) {
+        return Reply::Refused { number: 5, place: 0 };
+    }
+    if !ring::in_range(t0, q) {
+        return Reply::Refused { number: 5, place: 0 };
+    }
+    if !ring::in_range(t1, q) {
+        return Reply::Refused { number: 5, place: 0 };
+    }
+    work::rebuilt(scratch, v, t0, t1, n, q);
+    work::plain(scratch, vote, n, q);
+    Reply::Taken
+}

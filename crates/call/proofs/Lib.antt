@@ -3,3 +3,4 @@ pub mod Slots
 pub mod Order
 pub mod Sheets
 pub mod Lent
+pub mod Ranges
