@@ -1,19 +1,19 @@
--- A vote that is written byte by byte, and the vote of a polynomial in bytes. Assumes nothing.
+-- What the calls write out: a vote byte by byte, and polynomials side by side. Assumes nothing.
 use mathlib.Core.Path.{_≡_, refl, sym, ap, ap₂, _∙_}
 use mathlib.Core.List.{[], _∷_, _++_}
-use Prim.Native.Nat.{ℕ, _+_, _^_, _≤_, _<_}
+use Prim.Native.Nat.{ℕ, _+_, _*_, _^_, _≤_, _<_}
 use native.Mathlib.Numerals.{add-one}
 use native.Mathlib.Omega.{arith}
-use lib.ListN.{length}
-use Rattle.codec.specs.Bytes.{Bytes, put}
+use lib.ListN.{length, length-append}
+use Rattle.codec.specs.Bytes.{Bytes, part, put}
 use Rattle.codec.proofs.Laws.{put-none, put-whole, put-append}
 use Rattle.modular.specs.Modulo.{centre, remainder}
 use Rattle.modular.proofs.Centring.{centre-mod}
-use Rattle.ring.specs.Poly.{Poly}
-use Rattle.ring.specs.Slots.{poly, list}
-use Rattle.ring.proofs.Bridge.{length-list, list-cong}
+use Rattle.ring.specs.Poly.{Poly, modulo}
+use Rattle.ring.specs.Slots.{poly, list, encode}
+use Rattle.ring.proofs.Bridge.{length-list, list-cong, length-encode}
 use Rattle.call.specs.Call.{Stands}
-use Rattle.call.proofs.Slots.{stands-poly}
+use Rattle.call.proofs.Slots.{stands-poly, written-next}
 use Rattle.bgv.specs.Scheme.{plain}
 
 -- d with the first i bytes of a vote
@@ -40,3 +40,12 @@ module _ (d : Bytes) (f : Poly) where
 pub plain-stands : (q p n : ℕ) (f : Poly) (w w' : Bytes) → 0 < q → q < 2 ^ 56 → Stands q n f w w' → list n (plain q p (poly w')) ≡ list n (plain q p f)
 unfolding plain
 plain-stands q p n f w w' h b s = list-cong n (λ k l. ap (remainder p) (ap (centre q) (stands-poly q n f w w' s h b k l) ∙ centre-mod q (f k)))
+
+-- two polynomials written side by side
+pub pair-written : (q n : ℕ) (f g : Poly) (w w1 v v1 : Bytes) → Stands q n f w w1 → Stands q n g v v1 → (d d1 d2 : Bytes) → length d ≡ 16 * n
+    → d1 ≡ put d 0 (part w1 0 (8 * n)) → d2 ≡ put d1 (8 * n) (part v1 0 (8 * n)) → d2 ≡ encode n (modulo q f) ++ encode n (modulo q g)
+pair-written q n f g w w1 v v1 x y d d1 d2 l e1 e2 =
+    let lf = length-encode n (modulo q f) in
+    let lg = length-encode n (modulo q g) in
+    written-next q n g v v1 y d d1 d2 (encode n (modulo q f)) (8 * n) lf (omega arith) (e1 ∙ ap (put d 0) (x .bytes)) e2
+    ∙ put-whole d (encode n (modulo q f) ++ encode n (modulo q g)) (length-append (encode n (modulo q f)) (encode n (modulo q g)) ∙ omega arith)

@@ -30,6 +30,36 @@ pub fn keygen(a: &[u8], s: &[u8], e: &[u8], b: &mut [u8], scratch: &mut [u8], n:
     Reply::Taken
 }
 
+// The ciphertext u, v.
+pub fn encrypt(a: &[u8], b: &[u8], r: &[u8], e1: &[u8], e2: &[u8], m: &[u8], ciphertext: &mut [u8], scratch: &mut [u8], n: usize, q: u64) -> Reply
+    requires { ⌜ Public n q (now a) × Public n q (now b) ⌝ }
+    ensures { λ reply. ⌜ reply ≡ first (encryptTests 2 n (now (r .entry)) (now (e1 .entry)) (now (e2 .entry)) (now (m .entry)) (now (ciphertext .entry)) (now (scratch .entry))) ⌝ }
+    ensures { λ reply. ⌜ now (ciphertext .exit) ≡ leaves reply (encryptWrites 2 q n (poly (now (a .entry))) (poly (now (b .entry))) (now (r .entry)) (now (e1 .entry)) (now (e2 .entry)) (now (m .entry))) (now (ciphertext .entry)) ⌝ }
+    ensures { λ reply. ⌜ Used reply (now (scratch .entry)) (now (scratch .exit)) ⌝ }
+{
+    if !call::sized([r.len(), e1.len(), e2.len(), m.len(), ciphertext.len(), scratch.len()], [n, n, n, n, 16 * n, call::SCRATCH]) {
+        return Reply::Refused { number: 1, place: 0 };
+    }
+    if !ring::is_ternary(r) {
+        return Reply::Refused { number: 5, place: 0 };
+    }
+    if !ring::is_ternary(e1) {
+        return Reply::Refused { number: 5, place: 0 };
+    }
+    if !ring::is_ternary(e2) {
+        return Reply::Refused { number: 5, place: 0 };
+    }
+    if !work::is_message(m) {
+        return Reply::Refused { number: 5, place: 0 };
+    }
+    work::noisy(scratch, a, r, e1, n, q);
+    work::write_out(ciphertext, 0, scratch, n);
+    work::noisy(scratch, b, r, e2, n, q);
+    work::add_message(scratch, m, n, q);
+    work::write_out(ciphertext, 8 * n, scratch, n);
+    Reply::Taken
+}
+
 // The vote, from the secret key.
 pub fn decrypt(s: &[u8], ciphertext: &[u8], vote: &mut [u8], scratch: &mut [u8], n: usize, q: u64) -> Reply
     requires { ⌜ (4 ≤ n) × (n ≤ 2048) × (3 ≤ q) × (q < 2 ^ 56) ⌝ }
