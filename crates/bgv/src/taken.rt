@@ -81,6 +81,39 @@ pub fn decrypt(s: &[u8], ciphertext: &[u8], vote: &mut [u8], scratch: &mut [u8],
     Reply::Taken
 }
 
+// The key split: s1, e1, b0, b1.
+pub fn split(a: &[u8], s: &[u8], e: &[u8], s0: &[u8], e0: &[u8], out: &mut [u8], scratch: &mut [u8], n: usize, q: u64) -> Reply
+    requires { ⌜ Public n q (now a) ⌝ }
+    ensures { λ reply. ⌜ reply ≡ first (splitTests q n (now (s .entry)) (now (e .entry)) (now (s0 .entry)) (now (e0 .entry)) (now (out .entry)) (now (scratch .entry))) ⌝ }
+    ensures { λ reply. ⌜ now (out .exit) ≡ leaves reply (splitWrites 2 q n (poly (now (a .entry))) (now (s .entry)) (now (e .entry)) (now (s0 .entry)) (now (e0 .entry))) (now (out .entry)) ⌝ }
+    ensures { λ reply. ⌜ Used reply (now (scratch .entry)) (now (scratch .exit)) ⌝ }
+{
+    if !call::sized([s.len(), e.len(), s0.len(), e0.len(), out.len(), scratch.len()], [n, n, 8 * n, 8 * n, 32 * n, call::SCRATCH]) {
+        return Reply::Refused { number: 1, place: 0 };
+    }
+    if !ring::is_ternary(s) {
+        return Reply::Refused { number: 5, place: 0 };
+    }
+    if !ring::is_ternary(e) {
+        return Reply::Refused { number: 5, place: 0 };
+    }
+    if !ring::in_range(s0, q) {
+        return Reply::Refused { number: 5, place: 0 };
+    }
+    if !ring::in_range(e0, q) {
+        return Reply::Refused { number: 5, place: 0 };
+    }
+    work::difference(scratch, 0, s, s0, n, q);
+    work::write_out(out, 0, scratch, n);
+    work::difference(scratch, 0, e, e0, n, q);
+    work::write_out(out, 8 * n, scratch, n);
+    work::noisy_lent(scratch, a, s0, e0, n, q);
+    work::write_out(out, 16 * n, scratch, n);
+    work::noisy_difference(scratch, a, s, s0, e, e0, n, q);
+    work::write_out(out, 24 * n, scratch, n);
+    Reply::Taken
+}
+
 // The decryption share t. A lent mask is bounded as it is lent.
 pub fn share(half: &[u8], u: &[u8], mask: &[u8], t: &mut [u8], scratch: &mut [u8], n: usize, q: u64, bound: u64) -> Reply
     requires { ⌜ (4 ≤ n) × (n ≤ 2048) × (3 ≤ q) × (q < 2 ^ 56) ⌝ }
