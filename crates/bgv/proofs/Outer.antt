@@ -3,12 +3,13 @@ use mathlib.Core.Path.{_≡_, refl, sym, ap, ap₂, _∙_}
 use mathlib.Core.List.{_++_}
 use Prim.Native.Nat.{ℕ}
 use Rattle.codec.specs.Bytes.{Bytes}
-use Rattle.ring.specs.Poly.{Poly, plus, Alike}
+use Rattle.ring.specs.Poly.{Poly, Alike}
 use Rattle.ring.specs.Slots.{poly}
+use Rattle.ring.specs.Ternary.{ternary}
 use Rattle.ring.proofs.Polynomials.{alike-refl, alike-plus}
 use Rattle.ring.proofs.Bridge.{encode-alike}
-use Rattle.bgv.specs.Scheme.{noisy, cipher-v}
-use Rattle.bgv.specs.Calls.{keygenWrites, encryptWrites, splitWrites}
+use Rattle.bgv.specs.Scheme.{cipher-v, other}
+use Rattle.bgv.specs.Calls.{written, keygenWrites, encryptWrites, splitWrites}
 use Rattle.bgv.proofs.Form.{noisy-alike}
 
 module _ (p q n : ℕ) {a a' : Poly} (same : Alike q n a a') where
@@ -24,4 +25,6 @@ module _ (p q n : ℕ) {a a' : Poly} (same : Alike q n a a') where
   pub split-writes : (s e s0 e0 : Bytes) → splitWrites p q n a s e s0 e0 ≡ splitWrites p q n a' s e s0 e0
   unfolding splitWrites
   split-writes s e s0 e0 =
-      ap₂ (λ (x y : Bytes). _ ++ (_ ++ (x ++ y))) (encode-alike (noisy-alike q n p same alike-refl alike-refl)) (encode-alike (noisy-alike q n p same alike-refl alike-refl))
+      let s1 = written q n (other q (ternary q s) (poly s0)) in
+      let e1 = written q n (other q (ternary q e) (poly e0)) in
+      ap₂ (λ (x y : Bytes). s1 ++ (e1 ++ (x ++ y))) (encode-alike (noisy-alike q n p same alike-refl alike-refl)) (encode-alike (noisy-alike q n p same alike-refl alike-refl))

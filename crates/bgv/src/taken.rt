@@ -4,6 +4,7 @@ use codec::Reply;
 ghost use mathlib.Core.Path.{_≡_};
 ghost use Prim.Native.Nat.{_*_, _≤_, _<_, _^_};
 ghost use lib.ListN.{length};
+ghost use Rattle.codec.specs.Bytes.{part};
 ghost use Rattle.codec.specs.Reply.{first, leaves};
 ghost use Rattle.ring.specs.Slots.{poly};
 ghost use Rattle.call.specs.Call.{Public, Used};
@@ -58,6 +59,16 @@ pub fn encrypt(a: &[u8], b: &[u8], r: &[u8], e1: &[u8], e2: &[u8], m: &[u8], cip
     work::add_message(scratch, m, n, q);
     work::write_out(ciphertext, 8 * n, scratch, n);
     Reply::Taken
+}
+
+// The same, from the bytes that hold the sheet's polynomials: a at their head, then b.
+pub fn encrypt_from(public: &[u8], r: &[u8], e1: &[u8], e2: &[u8], m: &[u8], ciphertext: &mut [u8], scratch: &mut [u8], n: usize, q: u64) -> Reply
+    requires { ⌜ (16 * n ≤ length (now public)) × Public n q (part (now public) 0 (8 * n)) × Public n q (part (now public) (8 * n) (8 * n)) ⌝ }
+    ensures { λ reply. ⌜ reply ≡ first (encryptTests 2 n (now (r .entry)) (now (e1 .entry)) (now (e2 .entry)) (now (m .entry)) (now (ciphertext .entry)) (now (scratch .entry))) ⌝ }
+    ensures { λ reply. ⌜ now (ciphertext .exit) ≡ leaves reply (encryptWrites 2 q n (poly (part (now (public .entry)) 0 (8 * n))) (poly (part (now (public .entry)) (8 * n) (8 * n))) (now (r .entry)) (now (e1 .entry)) (now (e2 .entry)) (now (m .entry))) (now (ciphertext .entry)) ⌝ }
+    ensures { λ reply. ⌜ Used reply (now (scratch .entry)) (now (scratch .exit)) ⌝ }
+{
+    encrypt(&public[0..8 * n], &public[8 * n..16 * n], r, e1, e2, m, ciphertext, scratch, n, q)
 }
 
 // The vote, from the secret key.
