@@ -32,7 +32,15 @@ pub fn keygen(sheet: &[u8], s: &[u8], e: &[u8], b: &mut [u8], scratch: &mut [u8]
 }
 
 // Writes the ciphertext u = a r + p e', v = b r + p e'' + m.
-pub fn encrypt(sheet: &[u8], r: &[u8], e1: &[u8], e2: &[u8], m: &[u8], ciphertext: &mut [u8], scratch: &mut [u8]) -> codec::Reply
+pub fn encrypt(
+    sheet: &[u8],
+    r: &[u8],
+    e1: &[u8],
+    e2: &[u8],
+    m: &[u8],
+    ciphertext: &mut [u8],
+    scratch: &mut [u8],
+) -> codec::Reply
     ensures { λ reply. ⌜ reply ≡ encryptReply 2 (now (sheet .entry)) (now (r .entry)) (now (e1 .entry)) (now (e2 .entry)) (now (m .entry)) (now (ciphertext .entry)) (now (scratch .entry)) ⌝ }
     ensures { λ reply. ⌜ now (ciphertext .exit) ≡ leaves reply (encryptWrites 2 (modulusOf (now (sheet .entry))) (ringOf (now (sheet .entry))) (aOf (now (sheet .entry))) (bOf (now (sheet .entry))) (now (r .entry)) (now (e1 .entry)) (now (e2 .entry)) (now (m .entry))) (now (ciphertext .entry)) ⌝ }
     ensures { λ reply. ⌜ now (scratch .exit) ≡ swept reply (now (scratch .entry)) ⌝ }
@@ -56,7 +64,13 @@ pub fn encrypt(sheet: &[u8], r: &[u8], e1: &[u8], e2: &[u8], m: &[u8], ciphertex
 }
 
 // Writes the vote: v - s u centred, by p.
-pub fn decrypt(sheet: &[u8], s: &[u8], ciphertext: &[u8], vote: &mut [u8], scratch: &mut [u8]) -> codec::Reply
+pub fn decrypt(
+    sheet: &[u8],
+    s: &[u8],
+    ciphertext: &[u8],
+    vote: &mut [u8],
+    scratch: &mut [u8],
+) -> codec::Reply
     ensures { λ reply. ⌜ reply ≡ decryptReply 2 (now (sheet .entry)) (now (s .entry)) (now (ciphertext .entry)) (now (vote .entry)) (now (scratch .entry)) ⌝ }
     ensures { λ reply. ⌜ now (vote .exit) ≡ leaves reply (decryptWrites 2 (modulusOf (now (sheet .entry))) (ringOf (now (sheet .entry))) (now (s .entry)) (now (ciphertext .entry))) (now (vote .entry)) ⌝ }
     ensures { λ reply. ⌜ now (scratch .exit) ≡ swept reply (now (scratch .entry)) ⌝ }
@@ -80,7 +94,15 @@ pub fn decrypt(sheet: &[u8], s: &[u8], ciphertext: &[u8], vote: &mut [u8], scrat
 }
 
 // Writes the key split s1, e1, b0, b1.
-pub fn split(sheet: &[u8], s: &[u8], e: &[u8], s0: &[u8], e0: &[u8], out: &mut [u8], scratch: &mut [u8]) -> codec::Reply
+pub fn split(
+    sheet: &[u8],
+    s: &[u8],
+    e: &[u8],
+    s0: &[u8],
+    e0: &[u8],
+    out: &mut [u8],
+    scratch: &mut [u8],
+) -> codec::Reply
     ensures { λ reply. ⌜ reply ≡ splitReply 2 (now (sheet .entry)) (now (s .entry)) (now (e .entry)) (now (s0 .entry)) (now (e0 .entry)) (now (out .entry)) (now (scratch .entry)) ⌝ }
     ensures { λ reply. ⌜ now (out .exit) ≡ leaves reply (splitWrites 2 (modulusOf (now (sheet .entry))) (ringOf (now (sheet .entry))) (aOf (now (sheet .entry))) (now (s .entry)) (now (e .entry)) (now (s0 .entry)) (now (e0 .entry))) (now (out .entry)) ⌝ }
     ensures { λ reply. ⌜ now (scratch .exit) ≡ swept reply (now (scratch .entry)) ⌝ }
@@ -104,7 +126,14 @@ pub fn split(sheet: &[u8], s: &[u8], e: &[u8], s0: &[u8], e0: &[u8], out: &mut [
 }
 
 // Writes the decryption share t = s_i u + p E, for a half s_i of the key.
-pub fn share(sheet: &[u8], half: &[u8], u: &[u8], mask: &[u8], t: &mut [u8], scratch: &mut [u8]) -> codec::Reply
+pub fn share(
+    sheet: &[u8],
+    half: &[u8],
+    u: &[u8],
+    mask: &[u8],
+    t: &mut [u8],
+    scratch: &mut [u8],
+) -> codec::Reply
     ensures { λ reply. ⌜ reply ≡ shareReply 2 (now (sheet .entry)) (now (half .entry)) (now (u .entry)) (now (mask .entry)) (now (t .entry)) (now (scratch .entry)) ⌝ }
     ensures { λ reply. ⌜ now (t .exit) ≡ leaves reply (shareWrites 2 (modulusOf (now (sheet .entry))) (ringOf (now (sheet .entry))) (now (half .entry)) (now (u .entry)) (now (mask .entry))) (now (t .entry)) ⌝ }
     ensures { λ reply. ⌜ now (scratch .exit) ≡ swept reply (now (scratch .entry)) ⌝ }
@@ -129,7 +158,14 @@ pub fn share(sheet: &[u8], half: &[u8], u: &[u8], mask: &[u8], t: &mut [u8], scr
 }
 
 // Writes the vote: v - t0 - t1 centred, by p.
-pub fn reconstruct(sheet: &[u8], v: &[u8], t0: &[u8], t1: &[u8], vote: &mut [u8], scratch: &mut [u8]) -> codec::Reply
+pub fn reconstruct(
+    sheet: &[u8],
+    v: &[u8],
+    t0: &[u8],
+    t1: &[u8],
+    vote: &mut [u8],
+    scratch: &mut [u8],
+) -> codec::Reply
     ensures { λ reply. ⌜ reply ≡ reconstructReply 2 (now (sheet .entry)) (now (v .entry)) (now (t0 .entry)) (now (t1 .entry)) (now (vote .entry)) (now (scratch .entry)) ⌝ }
     ensures { λ reply. ⌜ now (vote .exit) ≡ leaves reply (reconstructWrites 2 (modulusOf (now (sheet .entry))) (ringOf (now (sheet .entry))) (now (v .entry)) (now (t0 .entry)) (now (t1 .entry))) (now (vote .entry)) ⌝ }
     ensures { λ reply. ⌜ now (scratch .exit) ≡ swept reply (now (scratch .entry)) ⌝ }

@@ -12,6 +12,7 @@ ghost use Rattle.bgv.specs.Scheme as scheme;
 ghost use Rattle.bgv.specs.Calls.{lentMask, within};
 
 const ERROR: usize = 16384;
+
 const ROOM: usize = 32768;
 
 // a x + 2 y, for x at 0 and y at ERROR.
@@ -78,7 +79,16 @@ pub fn difference(work: &mut [u8], at: usize, x: &[u8], x0: &[u8], n: usize, q: 
 }
 
 // a (x - x0) + 2 (y - y0).
-pub fn noisy_difference(work: &mut [u8], a: &[u8], x: &[u8], x0: &[u8], y: &[u8], y0: &[u8], n: usize, q: u64)
+pub fn noisy_difference(
+    work: &mut [u8],
+    a: &[u8],
+    x: &[u8],
+    x0: &[u8],
+    y: &[u8],
+    y0: &[u8],
+    n: usize,
+    q: u64,
+)
     requires { ⌜ Public n q (now a) × Public n q (now x0) × Public n q (now y0) × (length (now work) ≡ scratchLength) × (length (now x) ≡ n) × (length (now y) ≡ n) ⌝ }
     ensures { λ _. ⌜ Stands q n (scheme.noisy q n 2 (poly (now (a .entry))) (scheme.other q (ternary q (now (x .entry))) (poly (now (x0 .entry)))) (scheme.other q (ternary q (now (y .entry))) (poly (now (y0 .entry))))) (now (work .entry)) (now (work .exit)) ⌝ }
 {

@@ -54,10 +54,13 @@ returns c =
     let same = lent-alike 2 (a .sheet .now) k e _ (length-replicate {A = ℕ} 81920 0) 0 (omega arith) _ is in
     let also = lent-alike 2 (a .sheet .now) k e _ (length-replicate {A = ℕ} 81920 0) 1 (omega arith) _ it in
     let m = numbers-are 2 (a .sheet .now) k e in
-    let c' = c .before .before .before .before .before .before .before .before .encrypt-from in
-    (c' .ensures .0 ∙ ap (λ (x : Numbers). first (encryptTests 2 (x .ring) (a .r .now) (a .e1 .now) (a .e2 .now) (a .m .now) (a .ciphertext .now) (a .scratch .now))) (sym m) ∙ order-taken 2 (a .sheet .now) _ k e,
-    (c' .ensures .1 .0 ∙ ap (λ (x : Bytes). leaves (c' .result) x (a .ciphertext .now)) (encrypt-writes 2 (k .modulus) (k .ring) same also (a .r .now) (a .e1 .now) (a .e2 .now) (a .m .now) ∙ ap (λ (x : Numbers). encryptWrites 2 (x .modulus) (x .ring) (aOf (a .sheet .now)) (bOf (a .sheet .now)) (a .r .now) (a .e1 .now) (a .e2 .now) (a .m .now)) (sym m)),
-    c .before .before .sweep .ensures ∙ swept-used _ _ _ (c' .ensures .1 .1)))
+    let c' = c .before .before .before .before .before .before .before .before .encrypt-from in (
+      c' .ensures .0 ∙ ap (λ (x : Numbers). first (encryptTests 2 (x .ring) (a .r .now) (a .e1 .now) (a .e2 .now) (a .m .now) (a .ciphertext .now) (a .scratch .now))) (sym m) ∙ order-taken 2 (a .sheet .now) _ k e,
+      (
+        c' .ensures .1 .0 ∙ ap (λ (x : Bytes). leaves (c' .result) x (a .ciphertext .now)) (encrypt-writes 2 (k .modulus) (k .ring) same also (a .r .now) (a .e1 .now) (a .e2 .now) (a .m .now) ∙ ap (λ (x : Numbers). encryptWrites 2 (x .modulus) (x .ring) (aOf (a .sheet .now)) (bOf (a .sheet .now)) (a .r .now) (a .e1 .now) (a .e2 .now) (a .m .now)) (sym m)),
+        c .before .before .sweep .ensures ∙ swept-used _ _ _ (c' .ensures .1 .1),
+      ),
+    )
 
 returns-2 : tie.Need-returns-2
 unfolding leaves encryptReply

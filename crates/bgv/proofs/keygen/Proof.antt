@@ -59,10 +59,13 @@ returns c =
     let is : take (8 * k .ring - 0) (drop (0) (c .before .before .before .before .before .before .before .before .before .before .before .before .before .before .before .before .«open» .last .1 .0)) ≡ part (put _ 0 (polynomials (a .sheet .now))) (8 * k .ring * 0) (8 * k .ring) = lent-part (a .sheet .now) _ _ _ k (k .ring) 0 (0) (8 * k .ring - 0) (c .before .before .before .before .before .before .before .before .before .before .before .before .before .before .reading .given .1) (c .before .before .before .before .before .before .before .before .before .before .before .before .before .before .before .before .«open» .ensures .1) (omega arith) (omega arith) in
     let same = lent-alike 2 (a .sheet .now) k e _ (length-replicate {A = ℕ} 81920 0) 0 (omega arith) _ is in
     let m = numbers-are 2 (a .sheet .now) k e in
-    let c' = c .before .before .before .before .before .before .before .before .keygen in
-    (c' .ensures .0 ∙ ap (λ (x : Numbers). first (keygenTests (x .ring) (a .s .now) (a .e .now) (a .b .now) (a .scratch .now))) (sym m) ∙ order-taken 2 (a .sheet .now) _ k e,
-    (c' .ensures .1 .0 ∙ ap (λ (x : Bytes). leaves (c' .result) x (a .b .now)) (keygen-writes 2 (k .modulus) (k .ring) same (a .s .now) (a .e .now) ∙ ap (λ (x : Numbers). keygenWrites 2 (x .modulus) (x .ring) (aOf (a .sheet .now)) (a .s .now) (a .e .now)) (sym m)),
-    c .before .before .sweep .ensures ∙ swept-used _ _ _ (c' .ensures .1 .1)))
+    let c' = c .before .before .before .before .before .before .before .before .keygen in (
+      c' .ensures .0 ∙ ap (λ (x : Numbers). first (keygenTests (x .ring) (a .s .now) (a .e .now) (a .b .now) (a .scratch .now))) (sym m) ∙ order-taken 2 (a .sheet .now) _ k e,
+      (
+        c' .ensures .1 .0 ∙ ap (λ (x : Bytes). leaves (c' .result) x (a .b .now)) (keygen-writes 2 (k .modulus) (k .ring) same (a .s .now) (a .e .now) ∙ ap (λ (x : Numbers). keygenWrites 2 (x .modulus) (x .ring) (aOf (a .sheet .now)) (a .s .now) (a .e .now)) (sym m)),
+        c .before .before .sweep .ensures ∙ swept-used _ _ _ (c' .ensures .1 .1),
+      ),
+    )
 
 returns-2 : tie.Need-returns-2
 unfolding leaves keygenReply

@@ -36,10 +36,13 @@ returns c =
     let e : reading 2 (a .sheet .now) ≡ Taken k = sym (c .before .before .before .before .before .before .before .before .before .before .before .before .before .before .«open» .ensures .0) ∙ c .before .before .before .before .before .before .before .before .before .before .before .before .reading .given .1 in
     let r = taken 2 (a .sheet .now) e .ranged in
     let m = numbers-are 2 (a .sheet .now) k e in
-    let c' = c .before .before .before .before .before .before .before .before .reconstruct in
-    (c' .ensures .0 ∙ ap (λ (x : Numbers). first (reconstructTests (x .modulus) (x .ring) (a .v .now) (a .t0 .now) (a .t1 .now) (a .vote .now) (a .scratch .now))) (sym m) ∙ order-taken 2 (a .sheet .now) _ k e,
-    (c' .ensures .1 .0 ∙ ap (λ (x : Bytes). leaves (c' .result) x (a .vote .now)) (ap (λ (x : Numbers). reconstructWrites 2 (x .modulus) (x .ring) (a .v .now) (a .t0 .now) (a .t1 .now)) (sym m)),
-    c .before .before .sweep .ensures ∙ swept-used _ _ _ (c' .ensures .1 .1)))
+    let c' = c .before .before .before .before .before .before .before .before .reconstruct in (
+      c' .ensures .0 ∙ ap (λ (x : Numbers). first (reconstructTests (x .modulus) (x .ring) (a .v .now) (a .t0 .now) (a .t1 .now) (a .vote .now) (a .scratch .now))) (sym m) ∙ order-taken 2 (a .sheet .now) _ k e,
+      (
+        c' .ensures .1 .0 ∙ ap (λ (x : Bytes). leaves (c' .result) x (a .vote .now)) (ap (λ (x : Numbers). reconstructWrites 2 (x .modulus) (x .ring) (a .v .now) (a .t0 .now) (a .t1 .now)) (sym m)),
+        c .before .before .sweep .ensures ∙ swept-used _ _ _ (c' .ensures .1 .1),
+      ),
+    )
 
 returns-2 : tie.Need-returns-2
 unfolding leaves reconstructReply

@@ -46,10 +46,13 @@ returns c =
     let r = taken 2 (a .sheet .now) e .ranged in
     let m = numbers-are 2 (a .sheet .now) k e in
     let c' = c .before .before .before .before .before .before .before .before .share in
-    let o = c .before .before .before .before .before .before .before .before .before .before .before .mask-bound in
-    (c' .ensures .0 ∙ ap (λ (x : ℕ). first (shareTests (k .modulus) (k .ring) (x) (a .half .now) (a .u .now) (a .mask .now) (a .t .now) (a .scratch .now))) (o .ensures) ∙ ap (λ (x : Numbers). first (shareTests (x .modulus) (x .ring) (bounds.mask 2 (x .ring) (x .drown)) (a .half .now) (a .u .now) (a .mask .now) (a .t .now) (a .scratch .now))) (sym m) ∙ order-taken 2 (a .sheet .now) _ k e,
-    (c' .ensures .1 .0 ∙ ap (λ (x : Bytes). leaves (c' .result) x (a .t .now)) (ap (λ (x : Numbers). shareWrites 2 (x .modulus) (x .ring) (a .half .now) (a .u .now) (a .mask .now)) (sym m)),
-    c .before .before .sweep .ensures ∙ swept-used _ _ _ (c' .ensures .1 .1)))
+    let o = c .before .before .before .before .before .before .before .before .before .before .before .mask-bound in (
+      c' .ensures .0 ∙ ap (λ (x : ℕ). first (shareTests (k .modulus) (k .ring) (x) (a .half .now) (a .u .now) (a .mask .now) (a .t .now) (a .scratch .now))) (o .ensures) ∙ ap (λ (x : Numbers). first (shareTests (x .modulus) (x .ring) (bounds.mask 2 (x .ring) (x .drown)) (a .half .now) (a .u .now) (a .mask .now) (a .t .now) (a .scratch .now))) (sym m) ∙ order-taken 2 (a .sheet .now) _ k e,
+      (
+        c' .ensures .1 .0 ∙ ap (λ (x : Bytes). leaves (c' .result) x (a .t .now)) (ap (λ (x : Numbers). shareWrites 2 (x .modulus) (x .ring) (a .half .now) (a .u .now) (a .mask .now)) (sym m)),
+        c .before .before .sweep .ensures ∙ swept-used _ _ _ (c' .ensures .1 .1),
+      ),
+    )
 
 returns-2 : tie.Need-returns-2
 unfolding leaves shareReply
