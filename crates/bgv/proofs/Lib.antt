@@ -4,3 +4,4 @@ pub mod Ballot
 pub mod Steps
 pub mod Votes
 pub mod Outer
+pub mod Sheets

@@ -1,4 +1,4 @@
--- Document 01, "Small ring, by hand", A to H, by computation: N = 4, q = 97, p = 2, with s = 1 - X^2, e = X and the mask bound 4. Assumes nothing.
+-- Document 01, "Small ring, by hand", A to J, by computation: N = 4, q = 97, p = 2, with s = 1 - X^2 and e = X. (K is the register's.) Assumes nothing.
 use mathlib.Core.Path.{_≡_, refl}
 use mathlib.Core.Bool.{cond}
 use mathlib.Core.List.{List, [], _∷_, map}
@@ -10,6 +10,8 @@ use Rattle.modular.specs.Modulo.{centre, remainder}
 use Rattle.modular.specs.Division.{multiplier, inverse, divide}
 use Rattle.ring.specs.Poly.{Poly, sum, turn, coefficient, mul, plus, scale}
 use Rattle.ring.specs.Ternary.{meaning, ternary}
+use Rattle.sheet.specs.Bounds.{noise, mask}
+use Rattle.sheet.specs.Sheet.{any, unsound}
 use Rattle.bgv.specs.Scheme.{Wholes, noisy, centred, key, cipher-u, cipher-v, opened, plain, decrypted, other, share, worked, rebuilt, reconstructed}
 
 -- ---- the paper's polynomials and numbers
@@ -89,6 +91,10 @@ numbers l = map pos l
 abbrev exceeding : ℕ → List ℤ → List ℤ
 exceeding bound E = map (λ z. cond (ltb bound (natAbs z)) (pos 1) (pos 0)) E
 
+-- 1 if the sheet above with another modulus is refused 4
+abbrev refused4 : ℕ → ℤ
+refused4 q = cond (unsound 2 (record { ring = 4; modulus = q; drown = 0; rounds = 1; repeats = 1 })) (pos 1) (pos 0)
+
 -- what is worked out, and what the paper has
 pub record Row : Type 0 where
   pub got : List ℤ
@@ -112,11 +118,13 @@ rows =
     ∷ row (four (centred 97 (rebuilt 97 v t0 t1))) (- 5 ∷ pos 10 ∷ - 5 ∷ pos 7 ∷ [])  -- G
     ∷ row (four (λ k. pos (reconstructed 97 2 v t0 t1 k))) (numbers (1 ∷ 0 ∷ 1 ∷ 1 ∷ []))
     ∷ row (pos (remainder 2 (centre 97 94)) ∷ pos (remainder 2 (- 3)) ∷ []) (numbers (1 ∷ 1 ∷ []))  -- 94 by 2, which is -3 by 2
-    ∷ row (exceeding 4 E0) (numbers (0 ∷ 0 ∷ 0 ∷ 0 ∷ []))  -- H
-    ∷ row (exceeding 4 (pos 5 ∷ - 4 ∷ pos 0 ∷ pos 1 ∷ [])) (numbers (1 ∷ 0 ∷ 0 ∷ 0 ∷ []))
+    ∷ row (exceeding (mask 2 4 0) E0) (numbers (0 ∷ 0 ∷ 0 ∷ 0 ∷ []))  -- H
+    ∷ row (exceeding (mask 2 4 0) (pos 5 ∷ - 4 ∷ pos 0 ∷ pos 1 ∷ [])) (numbers (1 ∷ 0 ∷ 0 ∷ 0 ∷ []))
+    ∷ row (refused4 81 ∷ refused4 73 ∷ []) (numbers (0 ∷ 1 ∷ []))  -- I
+    ∷ row (pos (noise 2 2048) ∷ pos (mask 2 2048 40) ∷ []) (numbers (8195 ∷ 2252624447406080 ∷ []))  -- J
     ∷ []
 
 -- each row is as the paper says
 pub examples : map (λ (x : Row). x .got) rows ≡ map (λ (x : Row). x .said) rows
-unfolding rows centre remainder divide inverse multiplier sum turn coefficient mul plus scale meaning ternary noisy cipher-v opened plain worked rebuilt
+unfolding rows centre remainder divide inverse multiplier sum turn coefficient mul plus scale meaning ternary noisy cipher-v opened plain worked rebuilt any unsound
 examples = refl
