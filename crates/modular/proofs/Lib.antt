@@ -4,3 +4,4 @@ pub mod Division
 pub mod Near
 pub mod Digits
 pub mod SignedNumbers
+pub mod WholeNumbers

@@ -1,0 +1,39 @@
+-- `work::share` meets its contract. Assumes nothing.
+use mathlib.Core.Path.{_≡_, refl, sym, ap, _∙_}
+use native.Mathlib.Omega.{arith}
+use borrow.Author.Needs.{needs}
+use Rattle.ring.specs.Slots.{poly}
+use Rattle.ring.specs.Poly.{scale, mul}
+use Rattle.ring.proofs.Polynomials.{alike-eq}
+use Rattle.call.proofs.Slots.{stands-alike}
+use Rattle.bgv.specs.Scheme.{residues}
+use Rattle.bgv.specs.Calls.{lentMask}
+use Rattle.bgv.proofs.Form.{noisy-either}
+use Rattle.bgv.proofs.Steps.{combine-asks, stands-noisy, lent-load, residues-load, loaded-length}
+use Rattle.bgv.proofs.work.share.Statement.{statement}
+use Rattle.bgv.proofs.work.share.Tie as tie
+
+combine-requires : tie.Need-combine-requires
+combine-requires c κs =
+    let a = c .before .before .before .before .before .before .before .before .before .before .before .before .before .args in
+    let p = c .before .before .before .before .before .before .before .before .before .before .before .before .before .pre in
+    let w1 = c .before .before .before .before .before .before .before .copy .last .0 in
+    let w2 = c .before .before .before .load-mask .last .0 in
+    let x = lent-load (a .q) (a .n) (p .0 .high) (p .0 .some) (p .0 .few) (a .work .now) w1 0 (p .3) (omega (arith, p .0 .high)) (a .s .now) (p .0 .sized) (p .0 .below) (c .before .before .before .before .before .before .before .copy .ensures) in
+    let y = residues-load (a .q) (a .n) (p .0 .high) (p .0 .some) (p .0 .few) w1 w2 16384 (loaded-length (a .q) (a .n) (p .0 .high) (p .0 .some) (p .0 .few) (poly (a .s .now)) (a .work .now) w1 (p .3) x) (omega (arith, p .0 .high)) (lentMask (a .mask .now)) (c .before .before .before .load-mask .ensures) in
+    let h = combine-asks (a .q) (a .n) (p .0 .high) (p .0 .some) (p .0 .few) (poly (a .s .now)) (residues (a .q) (lentMask (a .mask .now))) (a .work .now) w1 w2 (p .3) x y in
+    ((p .1, h .0), (h .1, h .2))
+
+returns : tie.Need-returns
+returns c =
+    let a = c .before .before .before .before .before .before .before .before .before .before .before .before .before .before .before .before .args in
+    let p = c .before .before .before .before .before .before .before .before .before .before .before .before .before .before .before .before .pre in
+    let w1 = c .before .before .before .before .before .before .before .before .before .before .copy .last .0 in
+    let w2 = c .before .before .before .before .before .before .load-mask .last .0 in
+    let x = lent-load (a .q) (a .n) (p .0 .high) (p .0 .some) (p .0 .few) (a .work .now) w1 0 (p .3) (omega (arith, p .0 .high)) (a .s .now) (p .0 .sized) (p .0 .below) (c .before .before .before .before .before .before .before .before .before .before .copy .ensures) in
+    let y = residues-load (a .q) (a .n) (p .0 .high) (p .0 .some) (p .0 .few) w1 w2 16384 (loaded-length (a .q) (a .n) (p .0 .high) (p .0 .some) (p .0 .few) (poly (a .s .now)) (a .work .now) w1 (p .3) x) (omega (arith, p .0 .high)) (lentMask (a .mask .now)) (c .before .before .before .before .before .before .load-mask .ensures) in
+    stands-alike (stands-noisy (a .q) (a .n) (p .0 .high) (p .0 .some) (p .0 .few) (poly (a .s .now)) (residues (a .q) (lentMask (a .mask .now))) (a .work .now) w1 w2 (p .3) x y (poly (a .u .now)) (c .before .before .combine .last .0) (c .before .before .combine .ensures)
+    ) (alike-eq (noisy-either (a .q) (a .n) 2 (poly (a .u .now)) (poly (a .s .now)) (residues (a .q) (lentMask (a .mask .now)))))
+
+pub share-spec : {M : Type 1} → statement M
+share-spec = tie.close (tie.spec (λ c κs. search needs) (λ c κs. search needs) combine-requires (λ c. search needs) returns)

@@ -1,0 +1,180 @@
+// The work of the calls, over slots of scratch: what is worked on stands at 0, a second operand at ERROR, and a product has its room from ROOM on.
+ghost use mathlib.Core.Path.{_≡_};
+ghost use Prim.Native.Nat.{_+_, _*_, _≤_, _<_, _^_};
+ghost use mathlib.Core.Bool.{true};
+ghost use lib.ListN.{length};
+ghost use Rattle.codec.specs.Bytes.{put, part};
+ghost use Rattle.ring.specs.Poly.{plus, modulo, Below};
+ghost use Rattle.ring.specs.Slots.{poly, slot, list, encode, allBelow};
+ghost use Rattle.ring.specs.Ternary.{ternary};
+ghost use Rattle.call.specs.Call.{scratchLength, coefficients, Public, Stands};
+ghost use Rattle.bgv.specs.Scheme as scheme;
+ghost use Rattle.bgv.specs.Calls.{lentMask, within};
+
+const ERROR: usize = 16384;
+
+const ROOM: usize = 32768;
+
+// a x + 2 y, for x at 0 and y at ERROR.
+pub fn combine(work: &mut [u8], a: &[u8], n: usize, q: u64)
+    requires { ⌜ Public n q (now a) × (length (now work) ≡ scratchLength) ⌝ }
+    requires { ⌜ Below q n (slot (now work) 0) × Below q n (slot (now work) 16384) ⌝ }
+    ensures { λ _. ⌜ Stands q n (scheme.noisy q n 2 (poly (now (a .entry))) (slot (now (work .entry)) 0) (slot (now (work .entry)) 16384)) (now (work .entry)) (now (work .exit)) ⌝ }
+{
+    ring::multiply(work, 0, ROOM, a, n, q);
+    ring::scale_slot(work, ERROR, 2, n, q);
+    ring::add_slot(work, 0, ERROR, n, q);
+}
+
+// a x + 2 y, for ternary bytes x and y.
+pub fn noisy(work: &mut [u8], a: &[u8], x: &[u8], y: &[u8], n: usize, q: u64)
+    requires { ⌜ Public n q (now a) × (length (now work) ≡ scratchLength) × (length (now x) ≡ n) × (length (now y) ≡ n) ⌝ }
+    ensures { λ _. ⌜ Stands q n (scheme.noisy q n 2 (poly (now (a .entry))) (ternary q (now (x .entry))) (ternary q (now (y .entry)))) (now (work .entry)) (now (work .exit)) ⌝ }
+{
+    ring::load_ternary(work, 0, x, q);
+    ring::load_ternary(work, ERROR, y, q);
+    combine(work, a, n, q);
+}
+
+// a x + 2 y, for lent polynomials x and y.
+pub fn noisy_lent(work: &mut [u8], a: &[u8], x: &[u8], y: &[u8], n: usize, q: u64)
+    requires { ⌜ Public n q (now a) × Public n q (now x) × Public n q (now y) × (length (now work) ≡ scratchLength) ⌝ }
+    ensures { λ _. ⌜ Stands q n (scheme.noisy q n 2 (poly (now (a .entry))) (poly (now (x .entry))) (poly (now (y .entry)))) (now (work .entry)) (now (work .exit)) ⌝ }
+{
+    codec::copy(work, 0, x);
+    codec::copy(work, ERROR, y);
+    combine(work, a, n, q);
+}
+
+// Whether every byte is 0 or 1.
+pub fn is_message(m: &[u8]) -> bool
+    ensures { λ r. ⌜ r ≡ allBelow 2 (now (m .entry)) ⌝ }
+{
+    let mut i = 0;
+    while i < m.len() {
+        if 2 <= m[i] {
+            return false;
+        }
+        i += 1;
+    }
+    true
+}
+
+// Adds a message of 0s and 1s to what stands at 0.
+pub fn add_message(work: &mut [u8], m: &[u8], n: usize, q: u64)
+    requires { ⌜ (n ≤ 2048) × (3 ≤ q) × (q < 2 ^ 56) × (length (now work) ≡ scratchLength) × (length (now m) ≡ n) × (allBelow 2 (now m) ≡ true) × Below q n (slot (now work) 0) ⌝ }
+    ensures { λ _. ⌜ Stands q n (plus (slot (now (work .entry)) 0) (coefficients (now (m .entry)))) (now (work .entry)) (now (work .exit)) ⌝ }
+{
+    ring::load_ternary(work, ERROR, m, q);
+    ring::add_slot(work, 0, ERROR, n, q);
+}
+
+// x - x0 in the slot at a place, for ternary bytes x and a lent polynomial x0.
+pub fn difference(work: &mut [u8], at: usize, x: &[u8], x0: &[u8], n: usize, q: u64)
+    requires { ⌜ Public n q (now x0) × (length (now work) ≡ scratchLength) × (length (now x) ≡ n) × (at ≤ 16384) ⌝ }
+    ensures { λ _. ⌜ now (work .exit) ≡ put (now (work .entry)) at (encode n (modulo q (scheme.other q (ternary q (now (x .entry))) (poly (now (x0 .entry)))))) ⌝ }
+{
+    ring::load_ternary(work, at, x, q);
+    ring::subtract(work, at, x0, n, q);
+}
+
+// a (x - x0) + 2 (y - y0).
+pub fn noisy_difference(
+    work: &mut [u8],
+    a: &[u8],
+    x: &[u8],
+    x0: &[u8],
+    y: &[u8],
+    y0: &[u8],
+    n: usize,
+    q: u64,
+)
+    requires { ⌜ Public n q (now a) × Public n q (now x0) × Public n q (now y0) × (length (now work) ≡ scratchLength) × (length (now x) ≡ n) × (length (now y) ≡ n) ⌝ }
+    ensures { λ _. ⌜ Stands q n (scheme.noisy q n 2 (poly (now (a .entry))) (scheme.other q (ternary q (now (x .entry))) (poly (now (x0 .entry)))) (scheme.other q (ternary q (now (y .entry))) (poly (now (y0 .entry))))) (now (work .entry)) (now (work .exit)) ⌝ }
+{
+    difference(work, 0, x, x0, n, q);
+    difference(work, ERROR, y, y0, n, q);
+    combine(work, a, n, q);
+}
+
+// Writes what stands at 0 out.
+pub fn write_out(out: &mut [u8], at: usize, work: &[u8], n: usize)
+    requires { ⌜ (at + 8 * n ≤ length (now out)) × (8 * n ≤ length (now work)) ⌝ }
+    ensures { λ _. ⌜ now (out .exit) ≡ put (now (out .entry)) at (part (now (work .entry)) 0 (8 * n)) ⌝ }
+{
+    codec::copy(out, at, &work[0..8 * n]);
+}
+
+// v - s u, for ternary bytes s.
+pub fn opened(work: &mut [u8], s: &[u8], u: &[u8], v: &[u8], n: usize, q: u64)
+    requires { ⌜ Public n q (now u) × Public n q (now v) × (length (now work) ≡ scratchLength) × (length (now s) ≡ n) ⌝ }
+    ensures { λ _. ⌜ Stands q n (scheme.opened q n (ternary q (now (s .entry))) (poly (now (u .entry))) (poly (now (v .entry)))) (now (work .entry)) (now (work .exit)) ⌝ }
+{
+    ring::load_ternary(work, 0, s, q);
+    ring::multiply(work, 0, ROOM, u, n, q);
+    ring::scale_slot(work, 0, q - 1, n, q);
+    ring::add(work, 0, v, n, q);
+}
+
+// v - t0 - t1.
+pub fn rebuilt(work: &mut [u8], v: &[u8], t0: &[u8], t1: &[u8], n: usize, q: u64)
+    requires { ⌜ Public n q (now v) × Public n q (now t0) × Public n q (now t1) × (length (now work) ≡ scratchLength) ⌝ }
+    ensures { λ _. ⌜ Stands q n (scheme.rebuilt q (poly (now (v .entry))) (poly (now (t0 .entry))) (poly (now (t1 .entry)))) (now (work .entry)) (now (work .exit)) ⌝ }
+{
+    codec::copy(work, 0, v);
+    ring::subtract(work, 0, t0, n, q);
+    ring::subtract(work, 0, t1, n, q);
+}
+
+// The remainders by 2 of the centred coefficients of a polynomial, one byte each.
+pub fn plain(work: &[u8], vote: &mut [u8], n: usize, q: u64)
+    requires { ⌜ (8 * n ≤ length (now work)) × (length (now vote) ≡ n) × (0 < q) × Below q n (poly (now work)) ⌝ }
+    ensures { λ _. ⌜ now (vote .exit) ≡ list n (scheme.plain q 2 (poly (now (work .entry)))) ⌝ }
+{
+    let mut i = 0;
+    while i < n {
+        let x = codec::read64(work, 8 * i);
+        let v = modular::residue(x, 2, q);
+        codec::write8(vote, i, v as u8);
+        i += 1;
+    }
+}
+
+// Whether every number of a lent mask is at most a bound in size.
+pub fn bounded(mask: &[u8], bound: u64, n: usize) -> bool
+    requires { ⌜ 8 * n ≤ length (now mask) ⌝ }
+    ensures { λ r. ⌜ r ≡ within bound n (lentMask (now (mask .entry))) ⌝ }
+{
+    let mut i = 0;
+    while i < n {
+        if bound < modular::magnitude(codec::read_signed(mask, 8 * i)) {
+            return false;
+        }
+        i += 1;
+    }
+    true
+}
+
+// Loads a lent mask into the slot at ERROR.
+pub fn load_mask(work: &mut [u8], mask: &[u8], n: usize, q: u64)
+    requires { ⌜ (8 * n ≤ length (now mask)) × (16384 + 8 * n ≤ length (now work)) × (0 < q) ⌝ }
+    ensures { λ _. ⌜ now (work .exit) ≡ put (now (work .entry)) 16384 (encode n (scheme.residues q (lentMask (now (mask .entry))))) ⌝ }
+{
+    let mut i = 0;
+    while i < n {
+        let e = codec::read_signed(mask, 8 * i);
+        let v = modular::reduce(e, q);
+        codec::write64(work, ERROR + 8 * i, v);
+        i += 1;
+    }
+}
+
+// s u + 2 E, for a lent mask E.
+pub fn share(work: &mut [u8], s: &[u8], u: &[u8], mask: &[u8], n: usize, q: u64)
+    requires { ⌜ Public n q (now s) × Public n q (now u) × (length (now mask) ≡ 8 * n) × (length (now work) ≡ scratchLength) ⌝ }
+    ensures { λ _. ⌜ Stands q n (scheme.share q n 2 (poly (now (s .entry))) (poly (now (u .entry))) (lentMask (now (mask .entry)))) (now (work .entry)) (now (work .exit)) ⌝ }
+{
+    codec::copy(work, 0, s);
+    load_mask(work, mask, n, q);
+    combine(work, u, n, q);
+}

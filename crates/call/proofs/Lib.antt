@@ -1,0 +1,6 @@
+pub mod Sweeping
+pub mod Slots
+pub mod Order
+pub mod Sheets
+pub mod Lent
+pub mod Ranges

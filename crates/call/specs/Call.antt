@@ -1,0 +1,64 @@
+-- What the calls that are lent the sheet have in common (document 01, "Refused because of the state"): scratch of one length, zeroed whole by every call that
+-- neither 31 nor 1 refuses; and the sheet's polynomials. Assumes nothing.
+use mathlib.Core.Path.{_≡_}
+use mathlib.Core.Bool.{Bool, true, cond, not, _&&_, _||_}
+use mathlib.Core.List.{List, [], _∷_}
+use Prim.Native.Nat.{ℕ, _+_, _*_, _≤_, _<_, _^_}
+use lib.Dec.{eqb}
+use lib.ListN.{length, getD}
+use Rattle.codec.specs.Bytes.{Bytes, part, zeros, same}
+use Rattle.codec.specs.Reply.{Test, test, numberOf, leaves}
+use Rattle.codec.specs.declared.Reply.{Reply}
+use Rattle.ring.specs.Poly.{Poly, modulo, Below}
+use Rattle.ring.specs.Slots.{poly, list, encode, allBelow}
+
+-- scratch: 64 slots of 16,384 bytes, each with room for a polynomial of 2048 coefficients
+abbrev pub scratchLength : ℕ
+scratchLength = 1048576
+
+-- what a call leaves in scratch, of any length
+unfoldable pub swept : Reply → Bytes → Bytes
+swept r w = cond (eqb (numberOf r) 1 || eqb (numberOf r) 31) w (zeros (length w))
+
+-- what the inner part of a call may do to scratch: anything but change its length if the call is taken, else nothing
+pub record Used (r : Reply) (w w' : Bytes) : Type 0 where
+  pub sized : length w' ≡ length w
+  pub kept : leaves r w w' ≡ w
+
+-- ---- tests of lent slices
+
+-- 1: the lengths are not those that are wanted
+abbrev pub lengthTest : List ℕ → List ℕ → Test
+lengthTest lengths wanted = test 1 0 (not (same lengths wanted))
+
+-- whether every byte of each slice is below v: v = 3 for ternary bytes
+abbrev pub bytesBelow : ℕ → List Bytes → Bool
+bytesBelow v [] = true
+bytesBelow v (s ∷ ss) = allBelow v s && bytesBelow v ss
+
+-- whether every coefficient of each polynomial is below q
+abbrev pub coefficientsBelow : (q n : ℕ) → List Bytes → Bool
+coefficientsBelow q n [] = true
+coefficientsBelow q n (s ∷ ss) = allBelow q (list n (poly s)) && coefficientsBelow q n ss
+
+-- ---- the sheet's polynomials
+
+-- the polynomial of a list of coefficients
+abbrev pub coefficients : List ℕ → Poly
+coefficients xs i = getD xs i 0
+
+-- what a call's inner part is given: a ring size, a modulus, and a polynomial of the sheet in 8n bytes
+pub record Public (n q : ℕ) (a : Bytes) : Type 0 where
+  pub low : 4 ≤ n
+  pub high : n ≤ 2048
+  pub some : 3 ≤ q
+  pub few : q < 2 ^ 56
+  pub sized : length a ≡ 8 * n
+  pub below : Below q n (poly a)
+
+-- ---- what stands in scratch
+
+-- the polynomial f modulo q stands at the head of scratch, in bytes; the length is as before
+pub record Stands (q n : ℕ) (f : Poly) (w w' : Bytes) : Type 0 where
+  pub sized : length w' ≡ length w
+  pub bytes : part w' 0 (8 * n) ≡ encode n (modulo q f)
