@@ -14,7 +14,7 @@ pub fn keygen(sheet: &[u8], s: &[u8], e: &[u8], b: &mut [u8], scratch: &mut [u8]
     ensures { λ reply. ⌜ now (scratch .exit) ≡ swept reply (now (scratch .entry)) ⌝ }
 {
     let mut public = [0u8; 81920];
-    let reading = sheet::open(sheet, &mut public);
+    let reading = sheet::load(sheet, &mut public);
     match reading {
         sheet::Reading::Taken(k) => {
             let n = k.ring as usize;
@@ -46,7 +46,7 @@ pub fn encrypt(
     ensures { λ reply. ⌜ now (scratch .exit) ≡ swept reply (now (scratch .entry)) ⌝ }
 {
     let mut public = [0u8; 81920];
-    let reading = sheet::open(sheet, &mut public);
+    let reading = sheet::load(sheet, &mut public);
     match reading {
         sheet::Reading::Taken(k) => {
             let n = k.ring as usize;
@@ -76,7 +76,7 @@ pub fn decrypt(
     ensures { λ reply. ⌜ now (scratch .exit) ≡ swept reply (now (scratch .entry)) ⌝ }
 {
     let mut public = [0u8; 81920];
-    let reading = sheet::open(sheet, &mut public);
+    let reading = sheet::load(sheet, &mut public);
     match reading {
         sheet::Reading::Taken(k) => {
             let n = k.ring as usize;
@@ -108,7 +108,7 @@ pub fn split(
     ensures { λ reply. ⌜ now (scratch .exit) ≡ swept reply (now (scratch .entry)) ⌝ }
 {
     let mut public = [0u8; 81920];
-    let reading = sheet::open(sheet, &mut public);
+    let reading = sheet::load(sheet, &mut public);
     match reading {
         sheet::Reading::Taken(k) => {
             let n = k.ring as usize;
@@ -139,7 +139,7 @@ pub fn share(
     ensures { λ reply. ⌜ now (scratch .exit) ≡ swept reply (now (scratch .entry)) ⌝ }
 {
     let mut public = [0u8; 81920];
-    let reading = sheet::open(sheet, &mut public);
+    let reading = sheet::load(sheet, &mut public);
     match reading {
         sheet::Reading::Taken(k) => {
             let n = k.ring as usize;
@@ -171,7 +171,7 @@ pub fn reconstruct(
     ensures { λ reply. ⌜ now (scratch .exit) ≡ swept reply (now (scratch .entry)) ⌝ }
 {
     let mut public = [0u8; 81920];
-    let reading = sheet::open(sheet, &mut public);
+    let reading = sheet::load(sheet, &mut public);
     match reading {
         sheet::Reading::Taken(k) => {
             let n = k.ring as usize;

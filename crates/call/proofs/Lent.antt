@@ -8,7 +8,7 @@ use Rattle.codec.specs.Bytes.{Bytes, part, put}
 use Rattle.codec.specs.Reply.{Test, first}
 use Rattle.codec.specs.declared.Reply.the-variants as reply
 use Rattle.sheet.specs.Reader.{sheetOf}
-use Rattle.sheet.specs.Sheet.{order, reading, filled, polynomials}
+use Rattle.sheet.specs.Sheet.{order, reading, filled, loaded, polynomials}
 use Rattle.sheet.specs.declared.Numbers.{Numbers}
 use Rattle.sheet.specs.declared.Reading.{Reading}
 use Rattle.sheet.specs.declared.Reading.the-variants.{Taken, Refused}
@@ -25,12 +25,17 @@ module _ (p : ℕ) (text : Bytes) (ts : List Test) where
 pub numbers-are : (p : ℕ) (text : Bytes) (k : Numbers) → reading p text ≡ Taken k → sheetOf text .numbers ≡ k
 numbers-are p text k e = taken p text e .numbers
 
--- a part of the bytes that the sheet's polynomials were put into
-pub lent-part : (text d public : Bytes) (r : Reading) (k : Numbers) (n i from long : ℕ) → r ≡ Taken k → public ≡ filled r text d → from ≡ 8 * n * i → long ≡ 8 * n
-    → take long (drop from public) ≡ part (put d 0 (polynomials text)) (8 * n * i) (8 * n)
-lent-part text d public r k n i from long e f g h =
-    ap₂ (λ (x y : ℕ). take x (drop y public)) h g ∙ ap (λ (s : Bytes). part s (8 * n * i) (8 * n)) (f ∙ ap (λ (x : Reading). filled x text d) e)
+-- what the bytes hold that the sheet's polynomials were put into
+held : (p : ℕ) (text d public : Bytes) (k : Numbers) → reading p text ≡ Taken k → public ≡ loaded p text d → public ≡ put d 0 (polynomials text)
+unfolding loaded
+held p text d public k e f = f ∙ ap (λ (x : Reading). filled x text d) e
 
--- those bytes are still as many
-pub lent-length : (p : ℕ) (text d public : Bytes) (r : Reading) (k : Numbers) → reading p text ≡ Taken k → length d ≡ 81920 → r ≡ Taken k → public ≡ filled r text d → length public ≡ 81920
-lent-length p text d public r k e room f g = ap length (g ∙ ap (λ (x : Reading). filled x text d) f) ∙ put-room p text k e d room 0 (omega arith)
+-- a part of them
+pub lent-part : (p : ℕ) (text d public : Bytes) (k : Numbers) (n i from long : ℕ) → reading p text ≡ Taken k → public ≡ loaded p text d → from ≡ 8 * n * i → long ≡ 8 * n
+    → take long (drop from public) ≡ part (put d 0 (polynomials text)) (8 * n * i) (8 * n)
+lent-part p text d public k n i from long e f g h =
+    ap₂ (λ (x y : ℕ). take x (drop y public)) h g ∙ ap (λ (s : Bytes). part s (8 * n * i) (8 * n)) (held p text d public k e f)
+
+-- they are still as many
+pub lent-length : (p : ℕ) (text d public : Bytes) (k : Numbers) → reading p text ≡ Taken k → length d ≡ 81920 → public ≡ loaded p text d → length public ≡ 81920
+lent-length p text d public k e room f = ap length (held p text d public k e f) ∙ put-room p text k e d room 0 (omega arith)

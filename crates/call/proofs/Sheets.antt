@@ -6,47 +6,42 @@ use native.Mathlib.Nat.{mul-zero, mul-suc, add-comm, zero-add, mul-le-mul}
 use native.Mathlib.Omega.{arith}
 use lib.ListN.{length, take, drop, getD, length-append}
 use lib.Seq.{take-at, drop-append-add}
-use Rattle.codec.specs.Bytes.{Bytes, bytes, part, put}
+use Rattle.codec.specs.Bytes.{Bytes, bytes, part, put, words}
 use Rattle.codec.proofs.Laws.{length-put, part-put, part-part}
 use Rattle.codec.proofs.Numbers.{length-bytes}
 use Rattle.modular.proofs.Congruence.{same-eq}
 use Rattle.ring.specs.Poly.{Poly, Alike, Below}
-use Rattle.ring.specs.Slots.{poly, words, encode}
+use Rattle.ring.specs.Slots.{poly, encode}
 use Rattle.ring.proofs.Bridge.{length-encode, list-getD, poly-encode}
 use Rattle.sheet.specs.Reader.{sheetOf}
-use Rattle.sheet.specs.Sheet.{reading, lists, encoded, joined, polynomials}
+use Rattle.sheet.specs.Sheet.{reading, lists, joined, polynomials}
 use Rattle.sheet.specs.declared.Numbers.{Numbers}
 use Rattle.sheet.specs.declared.Reading.the-variants.{Taken}
 use Rattle.sheet.proofs.Taken.{Polynomial, AllPolynomials, taken, lists-taken}
 use Rattle.call.specs.Call.{coefficients, Public}
 
 -- a list of coefficients in bytes
-encoded-words : (xs : List ℕ) → encoded xs ≡ words xs
-unfolding encoded words
-encoded-words [] = refl
-encoded-words (x ∷ xs) = ap (λ (t : Bytes). bytes 8 x ++ t) (encoded-words xs)
-
-encoded-is : (n : ℕ) (xs : List ℕ) → length xs ≡ n → encoded xs ≡ encode n (coefficients xs)
+words-are : (n : ℕ) (xs : List ℕ) → length xs ≡ n → words xs ≡ encode n (coefficients xs)
 unfolding encode
-encoded-is n xs l = encoded-words xs ∙ ap words (sym (list-getD xs)) ∙ ap (λ (k : ℕ). encode k (coefficients xs)) l
+words-are n xs l = ap words (sym (list-getD xs)) ∙ ap (λ (k : ℕ). encode k (coefficients xs)) l
 
-length-encoded : (n : ℕ) (xs : List ℕ) → length xs ≡ n → length (encoded xs) ≡ 8 * n
-length-encoded n xs l = ap length (encoded-is n xs l) ∙ length-encode n (coefficients xs)
+length-listed : (n : ℕ) (xs : List ℕ) → length xs ≡ n → length (words xs) ≡ 8 * n
+length-listed n xs l = ap length (words-are n xs l) ∙ length-encode n (coefficients xs)
 
 -- lists one after the other
 module _ (n q : ℕ) where
   length-joined : (ls : List (List ℕ)) → AllPolynomials n q ls → length (joined ls) ≡ 8 * n * length ls
   unfolding joined
   length-joined [] a = sym (mul-zero (8 * n))
-  length-joined (l ∷ ls) a = simp length-append (omega (arith, length-encoded n l (a .0 .count), length-joined ls (a .1), mul-suc (8 * n) (length ls)))
+  length-joined (l ∷ ls) a = simp length-append (omega (arith, length-listed n l (a .0 .count), length-joined ls (a .1), mul-suc (8 * n) (length ls)))
 
-  joined-at : (ls : List (List ℕ)) → AllPolynomials n q ls → (i : ℕ) → i < length ls → part (joined ls) (8 * n * i) (8 * n) ≡ encoded (getD ls i [])
+  joined-at : (ls : List (List ℕ)) → AllPolynomials n q ls → (i : ℕ) → i < length ls → part (joined ls) (8 * n * i) (8 * n) ≡ words (getD ls i [])
   unfolding joined
   joined-at [] a i h = absurd (omega arith)
-  joined-at (l ∷ ls) a zero h = ap (λ (k : ℕ). part (encoded l ++ joined ls) k (8 * n)) (mul-zero (8 * n)) ∙ take-at (encoded l) (joined ls) (8 * n) (length-encoded n l (a .0 .count))
+  joined-at (l ∷ ls) a zero h = ap (λ (k : ℕ). part (words l ++ joined ls) k (8 * n)) (mul-zero (8 * n)) ∙ take-at (words l) (joined ls) (8 * n) (length-listed n l (a .0 .count))
   joined-at (l ∷ ls) a (suc i) h =
-      ap (λ (k : ℕ). part (encoded l ++ joined ls) k (8 * n)) (mul-suc (8 * n) i ∙ add-comm (8 * n * i) (8 * n) ∙ ap (λ (k : ℕ). k + 8 * n * i) (sym (length-encoded n l (a .0 .count))))
-      ∙ ap (take (8 * n)) (drop-append-add (encoded l) (joined ls) (8 * n * i)) ∙ joined-at ls (a .1) i (omega arith)
+      ap (λ (k : ℕ). part (words l ++ joined ls) k (8 * n)) (mul-suc (8 * n) i ∙ add-comm (8 * n * i) (8 * n) ∙ ap (λ (k : ℕ). k + 8 * n * i) (sym (length-listed n l (a .0 .count))))
+      ∙ ap (take (8 * n)) (drop-append-add (words l) (joined ls) (8 * n * i)) ∙ joined-at ls (a .1) i (omega arith)
 
   polynomial-at : (ls : List (List ℕ)) → AllPolynomials n q ls → (i : ℕ) → i < length ls → Polynomial n q (getD ls i [])
   polynomial-at [] a i h = absurd (omega arith)
@@ -82,7 +77,7 @@ module _ (p : ℕ) (text : Bytes) (k : Numbers) (e : reading p text ≡ Taken k)
       ap (λ (j : ℕ). part (put d 0 (joined ls)) j (8 * n)) (sym (zero-add (8 * n * i)))
       ∙ sym (part-part (put d 0 (joined ls)) 0 (length (joined ls)) (8 * n * i) (8 * n) (omega (arith, joined-length, mul-suc (8 * n) i, mul-le-mul {n₁ = 8 * n} {m₁ = suc i} {n₂ = 8 * n} {m₂ = 5} (omega arith) h)))
       ∙ ap (λ (t : Bytes). part t (8 * n * i) (8 * n)) (part-put d 0 (joined ls) (omega (arith, joined-length, high)))
-      ∙ joined-at n (k .modulus) ls all i h ∙ encoded-is n (getD ls i []) (polynomial-at n (k .modulus) ls all i h .count)
+      ∙ joined-at n (k .modulus) ls all i h ∙ words-are n (getD ls i []) (polynomial-at n (k .modulus) ls all i h .count)
 
   -- of any bytes that are that part
   module _ (a : Bytes) (is : a ≡ part (put d 0 (polynomials text)) (8 * n * i) (8 * n)) where

@@ -25,21 +25,21 @@ slice-aggregate-encrypt-from : tie.Need-slice-aggregate-encrypt-from
 slice-aggregate-encrypt-from c =
     let a = c .before .before .before .before .before .before .before .before .before .before .before .before .before .args in
     let k : Numbers = c .before .before .reading .given .0 .0 in
-    let e : reading 2 (a .sheet .now) ≡ Taken k = sym (c .before .before .before .before .«open» .ensures .0) ∙ c .before .before .reading .given .1 in
+    let e : reading 2 (a .sheet .now) ≡ Taken k = sym (c .before .before .before .before .load .ensures .0) ∙ c .before .before .reading .given .1 in
     let r = taken 2 (a .sheet .now) e .ranged in
-    let z = lent-length 2 (a .sheet .now) _ _ _ k e (length-replicate {A = ℕ} 81920 0) (c .before .before .reading .given .1) (c .before .before .before .before .«open» .ensures .1) in
+    let z = lent-length 2 (a .sheet .now) _ _ k e (length-replicate {A = ℕ} 81920 0) (c .before .before .before .before .load .ensures .1) in
     sym z
 
 encrypt-from-requires : tie.Need-encrypt-from-requires
 encrypt-from-requires c κs =
     let a = c .before .before .before .before .before .before .before .before .before .before .before .before .before .before .before .args in
     let k : Numbers = c .before .before .before .before .reading .given .0 .0 in
-    let e : reading 2 (a .sheet .now) ≡ Taken k = sym (c .before .before .before .before .before .before .«open» .ensures .0) ∙ c .before .before .before .before .reading .given .1 in
+    let e : reading 2 (a .sheet .now) ≡ Taken k = sym (c .before .before .before .before .before .before .load .ensures .0) ∙ c .before .before .before .before .reading .given .1 in
     let r = taken 2 (a .sheet .now) e .ranged in
-    let is : take (8 * k .ring) (drop (0) (c .before .before .before .before .before .before .«open» .last .1 .0)) ≡ part (put _ 0 (polynomials (a .sheet .now))) (8 * k .ring * 0) (8 * k .ring) = lent-part (a .sheet .now) _ _ _ k (k .ring) 0 (0) (8 * k .ring) (c .before .before .before .before .reading .given .1) (c .before .before .before .before .before .before .«open» .ensures .1) (omega arith) refl in
-    let it : take (8 * k .ring) (drop (8 * k .ring) (c .before .before .before .before .before .before .«open» .last .1 .0)) ≡ part (put _ 0 (polynomials (a .sheet .now))) (8 * k .ring * 1) (8 * k .ring) = lent-part (a .sheet .now) _ _ _ k (k .ring) 1 (8 * k .ring) (8 * k .ring) (c .before .before .before .before .reading .given .1) (c .before .before .before .before .before .before .«open» .ensures .1) (omega arith) refl in
+    let is : take (8 * k .ring) (drop (0) (c .before .before .before .before .before .before .load .last .1 .0)) ≡ part (put _ 0 (polynomials (a .sheet .now))) (8 * k .ring * 0) (8 * k .ring) = lent-part 2 (a .sheet .now) _ _ k (k .ring) 0 (0) (8 * k .ring) e (c .before .before .before .before .before .before .load .ensures .1) (omega arith) refl in
+    let it : take (8 * k .ring) (drop (8 * k .ring) (c .before .before .before .before .before .before .load .last .1 .0)) ≡ part (put _ 0 (polynomials (a .sheet .now))) (8 * k .ring * 1) (8 * k .ring) = lent-part 2 (a .sheet .now) _ _ k (k .ring) 1 (8 * k .ring) (8 * k .ring) e (c .before .before .before .before .before .before .load .ensures .1) (omega arith) refl in
     let h = r .ring-high in
-    let z = lent-length 2 (a .sheet .now) _ _ _ k e (length-replicate {A = ℕ} 81920 0) (c .before .before .before .before .reading .given .1) (c .before .before .before .before .before .before .«open» .ensures .1) in
+    let z = lent-length 2 (a .sheet .now) _ _ k e (length-replicate {A = ℕ} 81920 0) (c .before .before .before .before .before .before .load .ensures .1) in
     (omega arith, lent-public 2 (a .sheet .now) k e _ (length-replicate {A = ℕ} 81920 0) 0 (omega arith) _ is, lent-public 2 (a .sheet .now) k e _ (length-replicate {A = ℕ} 81920 0) 1 (omega arith) _ it)
 
 returns : tie.Need-returns
@@ -47,10 +47,10 @@ unfolding encryptReply
 returns c =
     let a = c .before .before .before .before .before .before .before .before .before .before .before .before .before .before .before .before .before .before .before .before .before .before .before .before .args in
     let k : Numbers = c .before .before .before .before .before .before .before .before .before .before .before .before .before .reading .given .0 .0 in
-    let e : reading 2 (a .sheet .now) ≡ Taken k = sym (c .before .before .before .before .before .before .before .before .before .before .before .before .before .before .before .«open» .ensures .0) ∙ c .before .before .before .before .before .before .before .before .before .before .before .before .before .reading .given .1 in
+    let e : reading 2 (a .sheet .now) ≡ Taken k = sym (c .before .before .before .before .before .before .before .before .before .before .before .before .before .before .before .load .ensures .0) ∙ c .before .before .before .before .before .before .before .before .before .before .before .before .before .reading .given .1 in
     let r = taken 2 (a .sheet .now) e .ranged in
-    let is : take (8 * k .ring) (drop (0) (c .before .before .before .before .before .before .before .before .before .before .before .before .before .before .before .«open» .last .1 .0)) ≡ part (put _ 0 (polynomials (a .sheet .now))) (8 * k .ring * 0) (8 * k .ring) = lent-part (a .sheet .now) _ _ _ k (k .ring) 0 (0) (8 * k .ring) (c .before .before .before .before .before .before .before .before .before .before .before .before .before .reading .given .1) (c .before .before .before .before .before .before .before .before .before .before .before .before .before .before .before .«open» .ensures .1) (omega arith) refl in
-    let it : take (8 * k .ring) (drop (8 * k .ring) (c .before .before .before .before .before .before .before .before .before .before .before .before .before .before .before .«open» .last .1 .0)) ≡ part (put _ 0 (polynomials (a .sheet .now))) (8 * k .ring * 1) (8 * k .ring) = lent-part (a .sheet .now) _ _ _ k (k .ring) 1 (8 * k .ring) (8 * k .ring) (c .before .before .before .before .before .before .before .before .before .before .before .before .before .reading .given .1) (c .before .before .before .before .before .before .before .before .before .before .before .before .before .before .before .«open» .ensures .1) (omega arith) refl in
+    let is : take (8 * k .ring) (drop (0) (c .before .before .before .before .before .before .before .before .before .before .before .before .before .before .before .load .last .1 .0)) ≡ part (put _ 0 (polynomials (a .sheet .now))) (8 * k .ring * 0) (8 * k .ring) = lent-part 2 (a .sheet .now) _ _ k (k .ring) 0 (0) (8 * k .ring) e (c .before .before .before .before .before .before .before .before .before .before .before .before .before .before .before .load .ensures .1) (omega arith) refl in
+    let it : take (8 * k .ring) (drop (8 * k .ring) (c .before .before .before .before .before .before .before .before .before .before .before .before .before .before .before .load .last .1 .0)) ≡ part (put _ 0 (polynomials (a .sheet .now))) (8 * k .ring * 1) (8 * k .ring) = lent-part 2 (a .sheet .now) _ _ k (k .ring) 1 (8 * k .ring) (8 * k .ring) e (c .before .before .before .before .before .before .before .before .before .before .before .before .before .before .before .load .ensures .1) (omega arith) refl in
     let same = lent-alike 2 (a .sheet .now) k e _ (length-replicate {A = ℕ} 81920 0) 0 (omega arith) _ is in
     let also = lent-alike 2 (a .sheet .now) k e _ (length-replicate {A = ℕ} 81920 0) 1 (omega arith) _ it in
     let m = numbers-are 2 (a .sheet .now) k e in
@@ -67,7 +67,7 @@ unfolding leaves encryptReply
 returns-2 c =
     let a = c .before .before .before .before .before .before .before .before .before .before .before .before .before .before .before .before .args in
     let k = c .before .before .before .before .before .reading2 .given .0 .0 in
-    let e : reading 2 (a .sheet .now) ≡ Refused k = sym (c .before .before .before .before .before .before .before .«open» .ensures .0) ∙ c .before .before .before .before .before .reading2 .given .1 in
+    let e : reading 2 (a .sheet .now) ≡ Refused k = sym (c .before .before .before .before .before .before .before .load .ensures .0) ∙ c .before .before .before .before .before .reading2 .given .1 in
     (order-refused 2 (a .sheet .now) _ k e, (refl, c .before .before .sweep2 .ensures))
 
 pub encrypt-spec : {M : Type 1} → statement M

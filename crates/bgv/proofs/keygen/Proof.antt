@@ -25,7 +25,7 @@ mul-keygen : tie.Need-mul-keygen
 mul-keygen c =
     let a = c .before .before .before .before .before .before .before .before .before .before .args in
     let k : Numbers = c .before .reading .given .0 .0 in
-    let e : reading 2 (a .sheet .now) ≡ Taken k = sym (c .before .before .before .«open» .ensures .0) ∙ c .before .reading .given .1 in
+    let e : reading 2 (a .sheet .now) ≡ Taken k = sym (c .before .before .before .load .ensures .0) ∙ c .before .reading .given .1 in
     let r = taken 2 (a .sheet .now) e .ranged in
     let h = r .ring-high in
     search needs
@@ -34,19 +34,19 @@ part-keygen-end : tie.Need-part-keygen-end
 part-keygen-end c =
     let a = c .before .before .before .before .before .before .before .before .before .before .before .args in
     let k : Numbers = c .before .before .reading .given .0 .0 in
-    let e : reading 2 (a .sheet .now) ≡ Taken k = sym (c .before .before .before .before .«open» .ensures .0) ∙ c .before .before .reading .given .1 in
+    let e : reading 2 (a .sheet .now) ≡ Taken k = sym (c .before .before .before .before .load .ensures .0) ∙ c .before .before .reading .given .1 in
     let r = taken 2 (a .sheet .now) e .ranged in
     let h = r .ring-high in
-    let z = lent-length 2 (a .sheet .now) _ _ _ k e (length-replicate {A = ℕ} 81920 0) (c .before .before .reading .given .1) (c .before .before .before .before .«open» .ensures .1) in
+    let z = lent-length 2 (a .sheet .now) _ _ k e (length-replicate {A = ℕ} 81920 0) (c .before .before .before .before .load .ensures .1) in
     search needs
 
 keygen-requires : tie.Need-keygen-requires
 keygen-requires c κs =
     let a = c .before .before .before .before .before .before .before .before .before .before .before .before .before .before .args in
     let k : Numbers = c .before .before .before .before .before .reading .given .0 .0 in
-    let e : reading 2 (a .sheet .now) ≡ Taken k = sym (c .before .before .before .before .before .before .before .«open» .ensures .0) ∙ c .before .before .before .before .before .reading .given .1 in
+    let e : reading 2 (a .sheet .now) ≡ Taken k = sym (c .before .before .before .before .before .before .before .load .ensures .0) ∙ c .before .before .before .before .before .reading .given .1 in
     let r = taken 2 (a .sheet .now) e .ranged in
-    let is : take (8 * k .ring - 0) (drop (0) (c .before .before .before .before .before .before .before .«open» .last .1 .0)) ≡ part (put _ 0 (polynomials (a .sheet .now))) (8 * k .ring * 0) (8 * k .ring) = lent-part (a .sheet .now) _ _ _ k (k .ring) 0 (0) (8 * k .ring - 0) (c .before .before .before .before .before .reading .given .1) (c .before .before .before .before .before .before .before .«open» .ensures .1) (omega arith) (omega arith) in
+    let is : take (8 * k .ring - 0) (drop (0) (c .before .before .before .before .before .before .before .load .last .1 .0)) ≡ part (put _ 0 (polynomials (a .sheet .now))) (8 * k .ring * 0) (8 * k .ring) = lent-part 2 (a .sheet .now) _ _ k (k .ring) 0 (0) (8 * k .ring - 0) e (c .before .before .before .before .before .before .before .load .ensures .1) (omega arith) (omega arith) in
     lent-public 2 (a .sheet .now) k e _ (length-replicate {A = ℕ} 81920 0) 0 (omega arith) _ is
 
 returns : tie.Need-returns
@@ -54,9 +54,9 @@ unfolding keygenReply
 returns c =
     let a = c .before .before .before .before .before .before .before .before .before .before .before .before .before .before .before .before .before .before .before .before .before .before .before .args in
     let k : Numbers = c .before .before .before .before .before .before .before .before .before .before .before .before .before .before .reading .given .0 .0 in
-    let e : reading 2 (a .sheet .now) ≡ Taken k = sym (c .before .before .before .before .before .before .before .before .before .before .before .before .before .before .before .before .«open» .ensures .0) ∙ c .before .before .before .before .before .before .before .before .before .before .before .before .before .before .reading .given .1 in
+    let e : reading 2 (a .sheet .now) ≡ Taken k = sym (c .before .before .before .before .before .before .before .before .before .before .before .before .before .before .before .before .load .ensures .0) ∙ c .before .before .before .before .before .before .before .before .before .before .before .before .before .before .reading .given .1 in
     let r = taken 2 (a .sheet .now) e .ranged in
-    let is : take (8 * k .ring - 0) (drop (0) (c .before .before .before .before .before .before .before .before .before .before .before .before .before .before .before .before .«open» .last .1 .0)) ≡ part (put _ 0 (polynomials (a .sheet .now))) (8 * k .ring * 0) (8 * k .ring) = lent-part (a .sheet .now) _ _ _ k (k .ring) 0 (0) (8 * k .ring - 0) (c .before .before .before .before .before .before .before .before .before .before .before .before .before .before .reading .given .1) (c .before .before .before .before .before .before .before .before .before .before .before .before .before .before .before .before .«open» .ensures .1) (omega arith) (omega arith) in
+    let is : take (8 * k .ring - 0) (drop (0) (c .before .before .before .before .before .before .before .before .before .before .before .before .before .before .before .before .load .last .1 .0)) ≡ part (put _ 0 (polynomials (a .sheet .now))) (8 * k .ring * 0) (8 * k .ring) = lent-part 2 (a .sheet .now) _ _ k (k .ring) 0 (0) (8 * k .ring - 0) e (c .before .before .before .before .before .before .before .before .before .before .before .before .before .before .before .before .load .ensures .1) (omega arith) (omega arith) in
     let same = lent-alike 2 (a .sheet .now) k e _ (length-replicate {A = ℕ} 81920 0) 0 (omega arith) _ is in
     let m = numbers-are 2 (a .sheet .now) k e in
     let c' = c .before .before .before .before .before .before .before .before .keygen in (
@@ -72,7 +72,7 @@ unfolding leaves keygenReply
 returns-2 c =
     let a = c .before .before .before .before .before .before .before .before .before .before .before .before .before .before .args in
     let k = c .before .before .before .before .before .reading2 .given .0 .0 in
-    let e : reading 2 (a .sheet .now) ≡ Refused k = sym (c .before .before .before .before .before .before .before .«open» .ensures .0) ∙ c .before .before .before .before .before .reading2 .given .1 in
+    let e : reading 2 (a .sheet .now) ≡ Refused k = sym (c .before .before .before .before .before .before .before .load .ensures .0) ∙ c .before .before .before .before .before .reading2 .given .1 in
     (order-refused 2 (a .sheet .now) _ k e, (refl, c .before .before .sweep2 .ensures))
 
 pub keygen-spec : {M : Type 1} → statement M

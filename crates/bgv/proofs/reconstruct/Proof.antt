@@ -24,7 +24,7 @@ reconstruct-requires : tie.Need-reconstruct-requires
 reconstruct-requires c κs =
     let a = c .before .before .before .before .before .before .before .before .before .before .before .before .before .args in
     let k : Numbers = c .before .before .before .reading .given .0 .0 in
-    let e : reading 2 (a .sheet .now) ≡ Taken k = sym (c .before .before .before .before .before .«open» .ensures .0) ∙ c .before .before .before .reading .given .1 in
+    let e : reading 2 (a .sheet .now) ≡ Taken k = sym (c .before .before .before .before .before .load .ensures .0) ∙ c .before .before .before .reading .given .1 in
     let r = taken 2 (a .sheet .now) e .ranged in
     (r .ring-low, r .ring-high, r .modulus-low, r .modulus-high)
 
@@ -33,7 +33,7 @@ unfolding reconstructReply
 returns c =
     let a = c .before .before .before .before .before .before .before .before .before .before .before .before .before .before .before .before .before .before .before .before .before .before .args in
     let k : Numbers = c .before .before .before .before .before .before .before .before .before .before .before .before .reading .given .0 .0 in
-    let e : reading 2 (a .sheet .now) ≡ Taken k = sym (c .before .before .before .before .before .before .before .before .before .before .before .before .before .before .«open» .ensures .0) ∙ c .before .before .before .before .before .before .before .before .before .before .before .before .reading .given .1 in
+    let e : reading 2 (a .sheet .now) ≡ Taken k = sym (c .before .before .before .before .before .before .before .before .before .before .before .before .before .before .load .ensures .0) ∙ c .before .before .before .before .before .before .before .before .before .before .before .before .reading .given .1 in
     let r = taken 2 (a .sheet .now) e .ranged in
     let m = numbers-are 2 (a .sheet .now) k e in
     let c' = c .before .before .before .before .before .before .before .before .reconstruct in (
@@ -49,7 +49,7 @@ unfolding leaves reconstructReply
 returns-2 c =
     let a = c .before .before .before .before .before .before .before .before .before .before .before .before .before .before .before .args in
     let k = c .before .before .before .before .before .reading2 .given .0 .0 in
-    let e : reading 2 (a .sheet .now) ≡ Refused k = sym (c .before .before .before .before .before .before .before .«open» .ensures .0) ∙ c .before .before .before .before .before .reading2 .given .1 in
+    let e : reading 2 (a .sheet .now) ≡ Refused k = sym (c .before .before .before .before .before .before .before .load .ensures .0) ∙ c .before .before .before .before .before .reading2 .given .1 in
     (order-refused 2 (a .sheet .now) _ k e, (refl, c .before .before .sweep2 .ensures))
 
 pub reconstruct-spec : {M : Type 1} → statement M

@@ -25,7 +25,7 @@ share-requires : tie.Need-share-requires
 share-requires c κs =
     let a = c .before .before .before .before .before .before .before .before .before .before .before .before .before .before .args in
     let k : Numbers = c .before .before .before .before .reading .given .0 .0 in
-    let e : reading 2 (a .sheet .now) ≡ Taken k = sym (c .before .before .before .before .before .before .«open» .ensures .0) ∙ c .before .before .before .before .reading .given .1 in
+    let e : reading 2 (a .sheet .now) ≡ Taken k = sym (c .before .before .before .before .before .before .load .ensures .0) ∙ c .before .before .before .before .reading .given .1 in
     let r = taken 2 (a .sheet .now) e .ranged in
     (r .ring-low, r .ring-high, r .modulus-low, r .modulus-high)
 
@@ -33,7 +33,7 @@ mask-bound-requires : tie.Need-mask-bound-requires
 mask-bound-requires c κs =
     let a = c .before .before .before .before .before .before .before .before .before .before .before .args in
     let k : Numbers = c .before .reading .given .0 .0 in
-    let e : reading 2 (a .sheet .now) ≡ Taken k = sym (c .before .before .before .«open» .ensures .0) ∙ c .before .reading .given .1 in
+    let e : reading 2 (a .sheet .now) ≡ Taken k = sym (c .before .before .before .load .ensures .0) ∙ c .before .reading .given .1 in
     let r = taken 2 (a .sheet .now) e .ranged in
     (r .ring-high, r .drown-high)
 
@@ -42,7 +42,7 @@ unfolding shareReply
 returns c =
     let a = c .before .before .before .before .before .before .before .before .before .before .before .before .before .before .before .before .before .before .before .before .before .before .before .args in
     let k : Numbers = c .before .before .before .before .before .before .before .before .before .before .before .before .before .reading .given .0 .0 in
-    let e : reading 2 (a .sheet .now) ≡ Taken k = sym (c .before .before .before .before .before .before .before .before .before .before .before .before .before .before .before .«open» .ensures .0) ∙ c .before .before .before .before .before .before .before .before .before .before .before .before .before .reading .given .1 in
+    let e : reading 2 (a .sheet .now) ≡ Taken k = sym (c .before .before .before .before .before .before .before .before .before .before .before .before .before .before .before .load .ensures .0) ∙ c .before .before .before .before .before .before .before .before .before .before .before .before .before .reading .given .1 in
     let r = taken 2 (a .sheet .now) e .ranged in
     let m = numbers-are 2 (a .sheet .now) k e in
     let c' = c .before .before .before .before .before .before .before .before .share in
@@ -59,7 +59,7 @@ unfolding leaves shareReply
 returns-2 c =
     let a = c .before .before .before .before .before .before .before .before .before .before .before .before .before .before .before .args in
     let k = c .before .before .before .before .before .reading2 .given .0 .0 in
-    let e : reading 2 (a .sheet .now) ≡ Refused k = sym (c .before .before .before .before .before .before .before .«open» .ensures .0) ∙ c .before .before .before .before .before .reading2 .given .1 in
+    let e : reading 2 (a .sheet .now) ≡ Refused k = sym (c .before .before .before .before .before .before .before .load .ensures .0) ∙ c .before .before .before .before .before .reading2 .given .1 in
     (order-refused 2 (a .sheet .now) _ k e, (refl, c .before .before .sweep2 .ensures))
 
 pub share-spec : {M : Type 1} → statement M
