@@ -2,6 +2,7 @@
 mod digest;
 mod random;
 mod ring;
+mod scheme;
 mod sha3;
 mod sheet;
 mod tally;
@@ -12,5 +13,6 @@ fn main() {
     digest::run(&mut tally);
     ring::run(&mut tally);
     sheet::run(&mut tally);
+    scheme::run(&mut tally);
     std::process::exit(tally.finish());
 }

@@ -18,13 +18,13 @@ fn call(call: Call, text: &[u8], out: &mut [u8]) -> u64 {
 const KEYS: [&str; 10] = ["ring", "modulus", "drown", "rounds", "repeats", "a", "b", "k1", "k2", "k3"];
 
 #[derive(Clone)]
-struct Sheet {
-    numbers: [u64; 5],
-    lists: [Vec<u64>; 5],
+pub struct Sheet {
+    pub numbers: [u64; 5],
+    pub lists: [Vec<u64>; 5],
 }
 
 impl Sheet {
-    fn text(&self) -> String {
+    pub fn text(&self) -> String {
         let number = |i: usize| self.numbers[i].to_string();
         let list = |i: usize| self.lists[i].iter().map(u64::to_string).collect::<Vec<_>>().join(",");
         (0..10).map(|i| format!("{}={}\n", KEYS[i], if i < 5 { number(i) } else { list(i - 5) })).collect()
@@ -90,7 +90,7 @@ fn noise(n: u64) -> u128 {
 }
 
 /// The sheet and its N, D, B, L; or the number of the refusal.
-fn read(text: &[u8]) -> Result<(Sheet, [u64; 4]), u64> {
+pub fn read(text: &[u8]) -> Result<(Sheet, [u64; 4]), u64> {
     if text.is_empty() || text.len() > 262_144 {
         return Err(1);
     }
@@ -119,7 +119,7 @@ fn coefficients(random: &mut Random, n: u64, q: u64) -> Vec<u64> {
 }
 
 /// A sheet that is taken.
-fn right(random: &mut Random, n: u64) -> Sheet {
+pub fn right(random: &mut Random, n: u64) -> Sheet {
     let d = random.below(41);
     let least = 2 * (1 + (1_u128 << d)) * noise(n) + 2;
     let steps = (u128::from(random.next()) % 1_000).min(((1 << 56) - 1 - least) / u128::from(2 * n) - 1);
@@ -166,7 +166,7 @@ fn changed(random: &mut Random, sheet: &Sheet) -> Vec<u8> {
 }
 
 /// A text with a byte, a line or an end other than it was.
-fn damaged(random: &mut Random, text: &[u8]) -> Vec<u8> {
+pub fn damaged(random: &mut Random, text: &[u8]) -> Vec<u8> {
     const BYTES: &[u8] = b"0123456789,,==\n\r\0 +-.abkringmodulus\x2f\x3a\xc3";
     let mut t = text.to_vec();
     let at = random.below(t.len() as u64) as usize;
