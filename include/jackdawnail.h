@@ -26,6 +26,25 @@ uint64_t jdn_digest(JDN_IN(message), JDN_OUT(out));
  * for noise and masks; 5 a list's count or a coefficient; 1 out has not 32 bytes. A refusal leaves out as it was. */
 uint64_t jdn_sheet(JDN_IN(sheet), JDN_OUT(out));
 
+/* Each of these is lent the sheet and reads it by its order first, then refuses 1 (a slice of wrong length), then 5 (a ternary byte, message or
+ * coefficient out of range). N and q are the sheet's. Ternary slices: N bytes 0, 1, 2 for 0, 1, -1. Polynomials: 8N bytes, 8 to a coefficient, the
+ * constant first. scratch: JDN_SCRATCH bytes; it is zeroed whole, at any length, unless the call is refused 1. A refusal leaves the output as it was. */
+#define JDN_SCRATCH 1048576
+
+/* b = a s + 2 e. b: 8N bytes. */
+uint64_t jdn_keygen(JDN_IN(sheet), JDN_IN(s), JDN_IN(e), JDN_OUT(b), JDN_OUT(scratch));
+/* m: N bytes 0 or 1. ciphertext: u = a r + 2 e1, then v = b r + 2 e2 + m, 16N bytes. */
+uint64_t jdn_encrypt(JDN_IN(sheet), JDN_IN(r), JDN_IN(e1), JDN_IN(e2), JDN_IN(m), JDN_OUT(ciphertext), JDN_OUT(scratch));
+/* vote: v - s u centred, by 2, N bytes. */
+uint64_t jdn_decrypt(JDN_IN(sheet), JDN_IN(s), JDN_IN(ciphertext), JDN_OUT(vote), JDN_OUT(scratch));
+/* s0, e0: polynomials. out: s1, e1, b0, b1, 32N bytes. */
+uint64_t jdn_split(JDN_IN(sheet), JDN_IN(s), JDN_IN(e), JDN_IN(s0), JDN_IN(e0), JDN_OUT(out), JDN_OUT(scratch));
+/* mask: E, signed 64-bit numbers in two's complement, 8N bytes; after 5 it is refused 12 where one exceeds the sheet's B in size, as lent.
+ * t = key_share u + 2 E, 8N bytes. */
+uint64_t jdn_share(JDN_IN(sheet), JDN_IN(key_share), JDN_IN(u), JDN_IN(mask), JDN_OUT(t), JDN_OUT(scratch));
+/* vote: v - t0 - t1 centred, by 2, N bytes. */
+uint64_t jdn_reconstruct(JDN_IN(sheet), JDN_IN(v), JDN_IN(t0), JDN_IN(t1), JDN_OUT(vote), JDN_OUT(scratch));
+
 #ifdef __cplusplus
 }
 #endif

@@ -266,14 +266,15 @@ fn damage(random: &mut Random, call: &Call, text: &mut Vec<u8>, inputs: &mut [Ve
         4 => *text = sheet::damaged(random, text),
         _ => {
             let at = random.below(inputs[i].len() as u64) as usize;
+            let word = (at / 8).min((inputs[i].len() / 8).saturating_sub(1)) * 8;
             match call.kinds[i] {
                 Kind::Ternary(_) => inputs[i][at] = 3 + random.below(253) as u8,
                 Kind::Message => inputs[i][at] = 2 + random.below(254) as u8,
-                Kind::Polynomials(_) => inputs[i][at / 8 * 8..at / 8 * 8 + 8].copy_from_slice(&[q, q + 1, u64::MAX][random.below(3) as usize].to_le_bytes()),
+                Kind::Polynomials(_) => inputs[i][word..word + 8].copy_from_slice(&[q, q + 1, u64::MAX][random.below(3) as usize].to_le_bytes()),
                 Kind::Mask => {
                     let b = bound as i64;
                     let e = [b, -b, b + 1, -b - 1, i64::MIN, i64::MAX][random.below(6) as usize];
-                    inputs[i][at / 8 * 8..at / 8 * 8 + 8].copy_from_slice(&e.to_le_bytes());
+                    inputs[i][word..word + 8].copy_from_slice(&e.to_le_bytes());
                 }
             }
         }
