@@ -1,4 +1,4 @@
-//! The calls of encryption, shares and commitments against plain 128-bit arithmetic: what each writes, and each refusal in its order.
+//! The calls of encryption and decryption shares against plain 128-bit arithmetic: what each writes, and each refusal in its order.
 use crate::random::Random;
 use crate::sheet::{self, Sheet};
 use crate::tally::{Comparison, Tally};
@@ -8,7 +8,6 @@ const SCRATCH: usize = 1_048_576;
 /// Declares the C calls with so many slices before the output, and for each a function over slices.
 macro_rules! calls {
     ($($name:ident($($input:ident),+) as $safe:ident;)+) => {
-        #[allow(non_upper_case_globals)]
         extern "C" {
             $(fn $name(sheet: *const u8, sheet_length: usize, $($input: *const u8, _: usize,)+ out: *mut u8, out_length: usize, scratch: *mut u8, scratch_length: usize) -> u64;)+
         }
@@ -27,7 +26,7 @@ calls! {
     jdn_split(s, e, s0, e0) as split;
     jdn_share(key_share, u, mask) as share;
     jdn_reconstruct(v, t0, t1) as reconstruct;
-    jdn_commitment(m, r) as commitment;
+
 }
 
 // ---- the independent implementation, over signed 128-bit numbers
@@ -151,7 +150,7 @@ struct Call {
 
 const P: i128 = 2;
 
-const CALLS: [Call; 7] = [
+const CALLS: [Call; 6] = [
     Call {
         name: "keygen",
         kinds: &[Kind::Ternary(1), Kind::Ternary(1)],
@@ -207,19 +206,6 @@ const CALLS: [Call; 7] = [
         out: 1,
         run: reconstruct,
         writes: |z, _, x| z.vote(z.sum(&z.sum(&poly(&x[0]), &poly(&x[1]), -1), &poly(&x[2]), -1)),
-    },
-    Call {
-        name: "commitment",
-        kinds: &[Kind::Polynomials(1), Kind::Ternary(3)],
-        out: 16,
-        run: commitment,
-        writes: |z, t, x| {
-            let r = ternary(&x[1]);
-            let (r1, r2, r3) = (r[..z.n].to_vec(), r[z.n..2 * z.n].to_vec(), r[2 * z.n..].to_vec());
-            let by = |k: usize, r: &Poly| z.times(&list(&t.lists[k]), r);
-            let row = z.sum(&z.sum(&r1, &by(2, &r2), 1), &by(3, &r3), 1);
-            encode(z, vec![row, z.sum(&z.sum(&r2, &by(4, &r3), 1), &poly(&x[0]), 1)])
-        },
     },
 ];
 

@@ -1,9 +1,8 @@
 -- An honest ballot decrypts: short s, e, r, e', e'' and a message below p give noise within the bound, and decryption returns the message. Assumes nothing.
-use mathlib.Core.Path.{_≡_, refl, sym, ap, _∙_}
+use mathlib.Core.Path.{_≡_, _∙_}
 use Prim.Native.Nat.{ℕ, _+_, _-_, _*_, _/_, _%_, _≤_, _<_}
 use native.Mathlib.Nat.{mul-one, mod-eq-of-lt}
 use native.Mathlib.Omega.{arith}
-use lib.IntN.{natAbs}
 use Rattle.modular.specs.Modulo.{Same, centre, remainder}
 use Rattle.modular.proofs.Congruence.{same-refl, _then_}
 use Rattle.modular.proofs.Centring.{Near, near-centre, near-size}

@@ -1,7 +1,7 @@
 -- Laws of a x + p y, the form of keys, ciphertexts and decryption shares, and of the two halves of a polynomial. Assumes nothing.
 use mathlib.Core.Path.{_≡_, sym, ap, _∙_}
 use Prim.Native.Nat.{ℕ, _-_, _<_}
-use Rattle.ring.specs.Poly.{Poly, plus, minus, scale, mul, zero-poly, Alike}
+use Rattle.ring.specs.Poly.{Poly, plus, scale, mul, zero-poly, Alike}
 use Rattle.ring.proofs.Polynomials.{plus-comm, plus-assoc, plus-left-comm, plus-zero, scale-plus, mul-plus, mul-poly-comm, alike-eq, alike-refl, alike-sym, _so_, alike-plus, alike-minus, alike-scale, alike-mul, minus-self}
 use Rattle.bgv.specs.Scheme.{noisy, key, opened, other}
 

@@ -1,5 +1,5 @@
 -- What the calls write over the sheet's polynomials, from what they write over the lent bytes of them. Assumes nothing.
-use mathlib.Core.Path.{_≡_, refl, sym, ap, ap₂, _∙_}
+use mathlib.Core.Path.{_≡_, ap₂}
 use mathlib.Core.List.{_++_}
 use Prim.Native.Nat.{ℕ}
 use Rattle.codec.specs.Bytes.{Bytes}

@@ -8,13 +8,13 @@ use lib.IntN.{ℤ, pos, natAbs, negℤ, _+ℤ_, _-ℤ_, _*ℤ_}
 use Rattle.modular.specs.Modulo.{Same, centre, remainder}
 use Rattle.modular.specs.Division.{Coprime, divide}
 use Rattle.modular.proofs.Congruence.{same-refl, same-eq, same-sym, _then_, same-mod, same-add, same-mul}
-use Rattle.modular.proofs.Centring.{centre-unique, centre-remainder, centre-whole, remainder-mod}
+use Rattle.modular.proofs.Centring.{centre-unique, centre-remainder, remainder-mod}
 use Rattle.modular.proofs.Division.{times-divide, divide-times}
 use Rattle.modular.proofs.WholeNumbers.{abs-negative, abs-sum, abs-multiple, remainder-sum, remainder-less, remainder-drops}
 use Rattle.ring.specs.Poly.{Poly, plus, minus, scale, mul, Alike}
-use Rattle.ring.proofs.Polynomials.{plus-comm, plus-assoc, plus-left-comm, scale-plus, scale-left-comm, plus-mul, alike-eq, alike-refl, alike-sym, _so_, alike-plus, alike-minus, alike-scale, alike-mul}
-use Rattle.bgv.specs.Scheme.{noisy, Wholes, centred, residues, Bounded, Small, opened, plain, decrypted, share, worked, rebuilt, reconstructed, Sound}
-use Rattle.bgv.proofs.Form.{noisy-alike, alike-drop}
+use Rattle.ring.proofs.Polynomials.{plus-comm, plus-assoc, plus-left-comm, scale-plus, scale-left-comm, plus-mul, alike-eq, alike-refl, _so_, alike-plus, alike-minus, alike-mul}
+use Rattle.bgv.specs.Scheme.{noisy, Wholes, residues, Bounded, Small, opened, plain, decrypted, share, worked, rebuilt, reconstructed, Sound}
+use Rattle.bgv.proofs.Form.{alike-drop}
 
 -- ---- document 01's condition gives the room
 

@@ -1,13 +1,12 @@
 -- The tests of lent slices: lengths that are wanted, and slices in range. Assumes nothing.
-use mathlib.Core.Path.{_≡_, refl, sym, ap, _∙_}
-use mathlib.Core.Bool.{Bool, true, false, not}
+use mathlib.Core.Path.{_≡_, refl, ap}
+use mathlib.Core.Bool.{Bool, true, false}
 use mathlib.Core.List.{List, [], _∷_}
-use Prim.Native.Nat.{ℕ, _+_, _*_, _≤_, _<_}
-use native.Mathlib.Omega.{arith}
-use lib.ListN.{length, getD}
-use Rattle.codec.specs.Bytes.{Bytes, same}
+use Prim.Native.Nat.{ℕ}
+use lib.ListN.{getD}
+use Rattle.codec.specs.Bytes.{same}
 use Rattle.codec.specs.Reply.{Test, test, first}
-use Rattle.codec.specs.declared.Reply.the-variants.{Taken, Refused}
+use Rattle.codec.specs.declared.Reply.the-variants.{Refused}
 use Rattle.codec.proofs.Laws.{same-equal}
 use Rattle.call.specs.Call.{lengthTest}
 

@@ -1,5 +1,5 @@
 -- Lent polynomials that passed their range test. Assumes nothing.
-use mathlib.Core.Path.{_≡_, refl, sym, ap, ap₂, _∙_}
+use mathlib.Core.Path.{_≡_, sym, ap, _∙_}
 use mathlib.Core.Bool.{true}
 use Prim.Native.Nat.{ℕ, _+_, _*_, _/_, _^_, _≤_, _<_}
 use native.Mathlib.Nat.{zero-add}
@@ -8,7 +8,7 @@ use lib.ListN.{length, take, drop}
 use Rattle.codec.specs.Bytes.{Bytes, part}
 use Rattle.codec.proofs.Laws.{length-part}
 use Rattle.modular.proofs.Congruence.{same-eq}
-use Rattle.ring.specs.Poly.{Poly, Alike, Below}
+use Rattle.ring.specs.Poly.{Alike}
 use Rattle.ring.specs.Slots.{poly, slot, list, allBelow}
 use Rattle.ring.proofs.Bridge.{poly-part, slot-later, slot-poly}
 use Rattle.ring.proofs.Ranges.{below-sound}

@@ -1,16 +1,15 @@
 -- The polynomials of a sheet that is taken, in the bytes that they are put into. Assumes nothing.
-use mathlib.Core.Path.{_≡_, refl, sym, ap, ap₂, _∙_}
+use mathlib.Core.Path.{_≡_, sym, ap, _∙_}
 use mathlib.Core.List.{List, [], _∷_, _++_}
-use Prim.Native.Nat.{ℕ, zero, suc, _+_, _*_, _^_, _≤_, _<_}
+use Prim.Native.Nat.{ℕ, zero, suc, _+_, _*_, _≤_, _<_}
 use native.Mathlib.Nat.{mul-zero, mul-suc, add-comm, zero-add, mul-le-mul}
 use native.Mathlib.Omega.{arith}
-use lib.ListN.{length, take, drop, getD, length-append}
+use lib.ListN.{length, take, getD, length-append}
 use lib.Seq.{take-at, drop-append-add}
-use Rattle.codec.specs.Bytes.{Bytes, bytes, part, put, words}
+use Rattle.codec.specs.Bytes.{Bytes, part, put, words}
 use Rattle.codec.proofs.Laws.{length-put, part-put, part-part}
-use Rattle.codec.proofs.Numbers.{length-bytes}
 use Rattle.modular.proofs.Congruence.{same-eq}
-use Rattle.ring.specs.Poly.{Poly, Alike, Below}
+use Rattle.ring.specs.Poly.{Alike}
 use Rattle.ring.specs.Slots.{poly, encode}
 use Rattle.ring.proofs.Bridge.{length-encode, list-getD, poly-encode}
 use Rattle.sheet.specs.Reader.{sheetOf}

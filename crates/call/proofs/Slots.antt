@@ -2,13 +2,12 @@
 use mathlib.Core.Path.{_≡_, refl, sym, ap, ap₂, _∙_}
 use mathlib.Core.Logic.{_⊎_, inl, inr}
 use mathlib.Core.List.{_++_}
-use Prim.Native.Nat.{ℕ, _+_, _-_, _*_, _%_, _^_, _≤_, _<_}
+use Prim.Native.Nat.{ℕ, _+_, _*_, _%_, _^_, _≤_, _<_}
 use native.Mathlib.Nat.{mod-lt, mod-mod, mod-eq-of-lt, zero-add}
 use native.Mathlib.Omega.{arith}
 use lib.ListN.{length}
 use Rattle.codec.specs.Bytes.{Bytes, part, put}
 use Rattle.codec.proofs.Laws.{length-put, part-put, put-whole, put-append}
-use Rattle.modular.specs.Modulo.{Same}
 use Rattle.ring.specs.Poly.{Poly, modulo, Alike, Below}
 use Rattle.ring.specs.Slots.{poly, slot, encode, store}
 use Rattle.ring.proofs.Bridge.{length-encode, poly-encode, encode-alike, poly-part, slot-put, slot-put-before, slot-put-after, slot-store, length-store, slot-poly}

@@ -1,7 +1,7 @@
 -- The row and the pair are additive, in what is committed and in what hides it (document 000, section 6.1: commitments are linearly homomorphic). Assumes nothing.
 use mathlib.Core.Path.{_≡_}
-use Prim.Native.Nat.{ℕ, _-_}
-use Rattle.ring.specs.Poly.{Poly, plus, minus, scale, mul, Alike}
+use Prim.Native.Nat.{ℕ}
+use Rattle.ring.specs.Poly.{Poly, plus, minus, Alike}
 use Rattle.ring.proofs.Polynomials.{plus-comm, plus-assoc, plus-left-comm, scale-plus, mul-plus, mul-scale, alike-eq, alike-refl, alike-sym, _so_, alike-plus, alike-mul}
 use Rattle.commitment.specs.Commitment.{Keys, Three, plus3, minus3, Alike3, Pair, row, second, Opens}
 

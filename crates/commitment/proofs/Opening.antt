@@ -1,5 +1,5 @@
 -- What the test of an opening means: it is passed exactly by the bytes of the pair made from m and the three r. Assumes nothing.
-use mathlib.Core.Path.{_≡_, refl, sym, ap, ap₂, _∙_}
+use mathlib.Core.Path.{_≡_, sym, ap, ap₂, _∙_}
 use mathlib.Core.Logic.{_↔_}
 use mathlib.Core.Bool.{true}
 use mathlib.Core.List.{_++_}
@@ -10,11 +10,10 @@ use lib.ListN.{length, take, drop}
 use lib.Seq.{take-all, take-at, drop-at}
 use Rattle.codec.specs.Bytes.{Bytes, Octets, part, same}
 use Rattle.codec.proofs.Laws.{length-part, part-append, octets-part, same-refl, same-equal}
-use Rattle.modular.specs.Modulo.{Same}
 use Rattle.ring.specs.Poly.{Poly, modulo, Alike, Below}
 use Rattle.ring.specs.Slots.{poly, slot, encode}
 use Rattle.ring.proofs.Bridge.{length-encode, poly-encode, encode-cong, encode-alike, encode-poly, poly-part}
-use Rattle.commitment.specs.Commitment.{Keys, Three, Pair, row, second, committed, pairBytes, pairOf, Opens, opens}
+use Rattle.commitment.specs.Commitment.{Keys, Three, Pair, committed, pairBytes, pairOf, Opens, opens}
 
 module _ (q N : ℕ) (h : 0 < q) (small : q ≤ 2 ^ 64) where
   -- bytes decide the polynomial modulo q

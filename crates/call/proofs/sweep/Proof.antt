@@ -1,5 +1,5 @@
 -- `call::sweep` meets its contract. Assumes nothing.
-use mathlib.Core.Path.{_≡_, sym, _∙_}
+use mathlib.Core.Path.{sym, _∙_}
 use borrow.Author.Needs.{needs}
 use Rattle.call.proofs.Sweeping.{swept-taken, swept-refused, kept-length, kept-state}
 use Rattle.call.proofs.sweep.Statement.{statement}

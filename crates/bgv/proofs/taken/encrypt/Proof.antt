@@ -1,26 +1,20 @@
 -- `taken::encrypt` meets its contract. Assumes nothing.
-use mathlib.Core.Path.{_≡_, refl, sym, ap, _∙_}
-use mathlib.Core.Bool.{Bool, true, false, not, _&&_}
-use mathlib.Core.List.{List, [], _∷_, _++_}
-use Prim.Native.Nat.{ℕ, _+_, _-_, _*_, _/_}
+use mathlib.Core.Path.{_≡_, refl, sym, _∙_}
+use mathlib.Core.Bool.{true, false, not, _&&_}
+use mathlib.Core.List.{List, [], _∷_}
+use Prim.Native.Nat.{ℕ, _*_}
 use native.Mathlib.Omega.{arith}
 use borrow.Author.Needs.{needs}
 use borrow.Author.Tests.{not-true, not-false}
 use lib.ListN.{length}
-use Rattle.codec.specs.Bytes.{Bytes, put, part, same}
+use Rattle.codec.specs.Bytes.{same}
 use Rattle.codec.specs.Reply.{test, first, leaves}
-use Rattle.ring.specs.Slots.{poly, slot, list, encode, allBelow}
-use Rattle.ring.specs.Ternary.{ternary}
-use Rattle.call.specs.Call.{bytesBelow, coefficientsBelow}
+use Rattle.ring.specs.Slots.{allBelow}
+use Rattle.call.specs.Call.{bytesBelow}
 use Rattle.call.proofs.Order.{length-at, wrong-length, right-length, refuses, passes}
 use Rattle.call.proofs.Sweeping.{untouched, spent}
-use Rattle.call.proofs.Slots.{written-whole, written-next, stands-below}
-use Rattle.codec.proofs.Laws.{put-whole}
-use Rattle.ring.specs.Poly.{plus, modulo}
 use Rattle.ring.proofs.Polynomials.{alike-refl, alike-plus}
-use Rattle.ring.proofs.Bridge.{length-encode}
-use Rattle.call.specs.Call.{coefficients}
-use Rattle.call.proofs.Slots.{Holds, stands-alike, stands-after, stands-holds, holds-below, holds-alike}
+use Rattle.call.proofs.Slots.{stands-alike, stands-holds, holds-below, holds-alike}
 use Rattle.bgv.specs.Scheme.{noisy, cipher-v}
 use Rattle.bgv.specs.Calls.{encryptWrites}
 use Rattle.bgv.proofs.Votes.{pair-written}

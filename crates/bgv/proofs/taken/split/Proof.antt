@@ -1,22 +1,20 @@
 -- `taken::split` meets its contract. Assumes nothing.
 use mathlib.Core.Path.{_≡_, refl, sym, ap, _∙_}
-use mathlib.Core.Bool.{Bool, true, false, not, _&&_}
-use mathlib.Core.List.{List, [], _∷_, _++_}
-use Prim.Native.Nat.{ℕ, _+_, _-_, _*_, _/_}
+use mathlib.Core.Bool.{true, false, not, _&&_}
+use mathlib.Core.List.{List, [], _∷_}
+use Prim.Native.Nat.{ℕ, _*_}
 use native.Mathlib.Omega.{arith}
 use borrow.Author.Needs.{needs}
 use borrow.Author.Tests.{not-true, not-false}
 use lib.ListN.{length}
-use Rattle.codec.specs.Bytes.{Bytes, put, part, same}
+use Rattle.codec.specs.Bytes.{same}
 use Rattle.codec.specs.Reply.{test, first, leaves}
-use Rattle.ring.specs.Slots.{poly, slot, list, encode, allBelow}
+use Rattle.ring.specs.Slots.{poly, list, allBelow}
 use Rattle.ring.specs.Ternary.{ternary}
 use Rattle.call.specs.Call.{bytesBelow, coefficientsBelow}
 use Rattle.call.proofs.Order.{length-at, wrong-length, right-length, refuses, passes}
 use Rattle.call.proofs.Sweeping.{untouched, spent}
-use Rattle.call.proofs.Slots.{written-whole, written-next, stands-below}
-use Rattle.call.proofs.Ranges.{eighth, eighth-twice, ranged, half-alike, half-public}
-use Rattle.call.specs.Call.{Public}
+use Rattle.call.proofs.Ranges.{eighth, ranged}
 use Rattle.bgv.specs.Scheme.{other}
 use Rattle.bgv.specs.Calls.{splitWrites}
 use Rattle.bgv.proofs.Steps.{stands-put}

@@ -1,9 +1,7 @@
 -- `work::share` meets its contract. Assumes nothing.
-use mathlib.Core.Path.{_≡_, refl, sym, ap, _∙_}
 use native.Mathlib.Omega.{arith}
 use borrow.Author.Needs.{needs}
 use Rattle.ring.specs.Slots.{poly}
-use Rattle.ring.specs.Poly.{scale, mul}
 use Rattle.ring.proofs.Polynomials.{alike-eq}
 use Rattle.call.proofs.Slots.{stands-alike}
 use Rattle.bgv.specs.Scheme.{residues}

@@ -1,9 +1,8 @@
 -- `work::write_out` meets its contract. Assumes nothing.
-use mathlib.Core.Path.{_≡_, refl, sym, ap, _∙_}
+use mathlib.Core.Path.{_≡_, ap, _∙_}
 use native.Mathlib.Omega.{arith}
 use borrow.Author.Needs.{needs}
 use Prim.Native.Nat.{ℕ, _-_, _*_}
-use lib.ListN.{length}
 use Rattle.codec.specs.Bytes.{put, part}
 use Rattle.codec.proofs.Laws.{length-part}
 use Rattle.bgv.proofs.work.write_out.Statement.{statement}
