@@ -1,5 +1,6 @@
 //! Compares the library, over its C interface, with independent implementations. The last line is `N passed, M failed`.
 mod digest;
+mod polynomials;
 mod random;
 mod ring;
 mod scheme;

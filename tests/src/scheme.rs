@@ -1,4 +1,5 @@
 //! The calls of encryption and decryption shares against plain 128-bit arithmetic: what each writes, and each refusal in its order.
+use crate::polynomials::{encode, list, poly, signed, ternary, words, Poly, Ring};
 use crate::random::Random;
 use crate::sheet::{self, Sheet};
 use crate::tally::{Comparison, Tally};
@@ -26,67 +27,6 @@ calls! {
     jdn_split(s, e, s0, e0) as split;
     jdn_share(key_share, u, mask) as share;
     jdn_reconstruct(v, t0, t1) as reconstruct;
-
-}
-
-// ---- the independent implementation, over signed 128-bit numbers
-
-type Poly = Vec<i128>;
-
-struct Ring {
-    n: usize,
-    q: i128,
-}
-
-impl Ring {
-    fn reduce(&self, a: Poly) -> Poly {
-        a.into_iter().map(|x| x.rem_euclid(self.q)).collect()
-    }
-
-    fn times(&self, a: &Poly, b: &Poly) -> Poly {
-        let mut product = vec![0; self.n];
-        for (i, x) in a.iter().enumerate() {
-            for (j, y) in b.iter().enumerate() {
-                let term = x * y % self.q;
-                let k = (i + j) % self.n;
-                product[k] = (product[k] + if i + j < self.n { term } else { -term }) % self.q;
-            }
-        }
-        product
-    }
-
-    fn sum(&self, a: &Poly, b: &Poly, factor: i128) -> Poly {
-        a.iter().zip(b).map(|(x, y)| x + factor * y).collect()
-    }
-
-    fn vote(&self, a: Poly) -> Vec<u8> {
-        let centred = |x: i128| if x > (self.q - 1) / 2 { x - self.q } else { x };
-        self.reduce(a).into_iter().map(|x| centred(x).rem_euclid(2) as u8).collect()
-    }
-}
-
-fn ternary(bytes: &[u8]) -> Poly {
-    bytes.iter().map(|b| [0, 1, -1][usize::from(*b)]).collect()
-}
-
-fn words(bytes: &[u8]) -> Vec<u64> {
-    bytes.chunks(8).map(|c| u64::from_le_bytes(c.try_into().unwrap())).collect()
-}
-
-fn poly(bytes: &[u8]) -> Poly {
-    words(bytes).into_iter().map(i128::from).collect()
-}
-
-fn signed(bytes: &[u8]) -> Poly {
-    words(bytes).into_iter().map(|w| i128::from(w as i64)).collect()
-}
-
-fn list(values: &[u64]) -> Poly {
-    values.iter().map(|x| i128::from(*x)).collect()
-}
-
-fn encode(ring: &Ring, polynomials: Vec<Poly>) -> Vec<u8> {
-    polynomials.into_iter().flat_map(|a| ring.reduce(a)).flat_map(|x| (x as u64).to_le_bytes()).collect()
 }
 
 /// What a slice of a call holds.
