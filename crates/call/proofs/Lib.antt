@@ -1,4 +1,5 @@
 pub mod Sweeping
+pub mod Shelf
 pub mod Slots
 pub mod Order
 pub mod Sheets
