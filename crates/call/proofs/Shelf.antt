@@ -39,7 +39,7 @@ place-other (g ∷ fs) zero f h (suc i) d l = (omega arith, refl)
 place-other (g ∷ fs) (suc j) f h zero d l = (omega arith, refl)
 place-other (g ∷ fs) (suc j) f h (suc i) d l = let r = place-other fs j f (omega arith) i (λ e. d (ap suc e)) (omega arith) in (omega (arith, r .0), r .1)
 
-place-length : (fs : List Poly) (j : ℕ) (f : Poly) → j < length fs → length (place fs j f) ≡ length fs
+pub place-length : (fs : List Poly) (j : ℕ) (f : Poly) → j < length fs → length (place fs j f) ≡ length fs
 place-length [] j f h = absurd (omega arith)
 place-length (g ∷ fs) zero f h = refl
 place-length (g ∷ fs) (suc j) f h = ap suc (place-length fs j f (omega arith))

@@ -1,2 +1,4 @@
 pub mod Additive
 pub mod Opening
+pub mod Steps
+pub mod Loading

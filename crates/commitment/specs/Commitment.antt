@@ -1,11 +1,15 @@
 -- The commitment to a polynomial m with three short polynomials and three public ones (document 01, "Ring and scheme"; document 000, section 5.4), with N and q as
 -- parameters. Assumes nothing.
+use mathlib.Core.Path.{_≡_}
 use mathlib.Core.Bool.{Bool}
 use mathlib.Core.List.{_++_}
 use Prim.Native.Nat.{ℕ, _*_}
-use Rattle.codec.specs.Bytes.{Bytes, same}
+use lib.ListN.{length}
+use Rattle.codec.specs.Bytes.{Bytes, part, put, zeros, same}
 use Rattle.ring.specs.Poly.{Poly, plus, minus, mul, modulo, Alike}
-use Rattle.ring.specs.Slots.{slot, encode}
+use Rattle.ring.specs.Slots.{slot, encode, store}
+use Rattle.ring.specs.Ternary.{ternary}
+use Rattle.call.specs.Call.{Public}
 
 -- the public k1, k2, k3
 pub record Keys : Type 0 where
@@ -18,6 +22,13 @@ pub record Three : Type 0 where
   pub r1 : Poly
   pub r2 : Poly
   pub r3 : Poly
+
+-- the public polynomials in 24N bytes, and the hiding ones in 3N ternary bytes
+abbrev pub keysOf : ℕ → Bytes → Keys
+keysOf N k = record { k1 = slot k 0; k2 = slot k (8 * N); k3 = slot k (16 * N) }
+
+abbrev pub threeOf : ℕ → ℕ → Bytes → Three
+threeOf q N r = record { r1 = ternary q (part r 0 N); r2 = ternary q (part r N N); r3 = ternary q (part r (2 * N) N) }
 
 abbrev pub plus3 : Three → Three → Three
 plus3 x y = record { r1 = plus (x .r1) (y .r1); r2 = plus (x .r2) (y .r2); r3 = plus (x .r3) (y .r3) }
@@ -62,3 +73,32 @@ pub record Opens (q N : ℕ) (k : Keys) (c : Pair) (r : Three) (m : Poly) : Type
 -- the test of an opening, on the bytes of a pair
 unfoldable pub opens : (q N : ℕ) → Keys → Bytes → Three → Poly → Bool
 opens q N k c r m = same c (pairBytes q N (committed q N k r m))
+
+-- ---- what the code is given, and what it leaves in scratch
+
+-- the sheet's k1, k2, k3 in 24n bytes
+pub record PublicKeys (n q : ℕ) (k : Bytes) : Type 0 where
+  pub sized : length k ≡ 24 * n
+  pub one : Public n q (part k 0 (8 * n))
+  pub two : Public n q (part k (8 * n) (8 * n))
+  pub three : Public n q (part k (16 * n) (8 * n))
+
+-- the slot at `to` with the product of a and what stands at `from` added; the product is left at `from`, and its room is zeroed
+unfoldable pub withProduct : (q n : ℕ) (w : Bytes) (to from : ℕ) → Poly → Bytes
+withProduct q n w to from a =
+    let f = mul q n (slot w from) a in
+    store q n (put (store q n w from f) 81920 (zeros (24 * n))) to (plus (slot w to) f)
+
+-- the three r put into the first three slots
+unfoldable pub withThree : (n : ℕ) → Bytes → Three → Bytes
+withThree n w r = put (put (put w 0 (encode n (r .r1))) 16384 (encode n (r .r2))) 32768 (encode n (r .r3))
+
+-- slots hold r1, r2, r3 and m in this order, from 0 on
+abbrev pub threeAt : Bytes → Three
+threeAt w = record { r1 = slot w 0; r2 = slot w 16384; r3 = slot w 32768 }
+
+-- a pair stands in scratch, in bytes: its first half where r1 stood, its second where m stood; the length is as before
+pub record PairStands (q N : ℕ) (c : Pair) (w w' : Bytes) : Type 0 where
+  pub sized : length w' ≡ length w
+  pub one : part w' 0 (8 * N) ≡ encode N (modulo q (c .one))
+  pub two : part w' 49152 (8 * N) ≡ encode N (modulo q (c .two))
