@@ -87,6 +87,7 @@ module _ (s : Setting) where
   -- what may be drawn: a permutation of 3L entries, a vector of 3L numbers below q, and salts
   pub record Fit (c : Drawn) : Type 0 where
     pub permutes : Permutes (3 * L) (entries (c .p))
+    pub size-p : length (c .p) ≡ 4 * (3 * L)
     pub sized : length (c .r) ≡ 8 * (3 * L)
     pub below : Vector q (3 * L) (vector (c .r))
     pub size1 : length (c .salt1) ≡ S
