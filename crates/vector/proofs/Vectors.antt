@@ -163,8 +163,8 @@ getD-vector s i h = getD-list (length s / 8) (poly s) i h
 pub vector-sound : (q : ℕ) (s : Bytes) → allBelow q (vector s) ≡ true → Vector q (length s / 8) (vector s)
 vector-sound q s e = rw (length-vector s) at (allBelow-each q (vector s) e)
 
-pub vector-complete : (q : ℕ) (s : Bytes) → Vector q (length s / 8) (vector s) → allBelow q (vector s) ≡ true
-vector-complete q s v = each-allBelow v
+pub vector-complete : {q n : ℕ} (s : Bytes) → Vector q n (vector s) → allBelow q (vector s) ≡ true
+vector-complete s v = each-allBelow v
 
 -- written as bytes, then read
 pub vector-words : {q n : ℕ} {x : List ℕ} → q ≤ 2 ^ 64 → Vector q n x → vector (words x) ≡ x
