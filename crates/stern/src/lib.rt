@@ -1,0 +1,1 @@
+// Stern's shortness argument: specs/Argument.antt.

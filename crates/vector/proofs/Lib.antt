@@ -1,0 +1,4 @@
+pub mod Vectors
+pub mod Counts
+pub mod Balance
+pub mod Linear
