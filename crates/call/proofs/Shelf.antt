@@ -47,17 +47,28 @@ place-length (g ∷ fs) (suc j) f h = ap suc (place-length fs j f (omega arith))
 module _ (q n : ℕ) (high : n ≤ 2048) (positive : 0 < q) (few : q < 2 ^ 56) where
   -- ---- what the slots hold, as numbers
 
+  -- the bytes of a polynomial modulo q, at any place
+  module _ (w : Bytes) (at : ℕ) (f : Poly) (e : part w at (8 * n) ≡ encode n (modulo q f)) where
+    pub encoded-reads : (k : ℕ) → k < n → slot w at k ≡ f k % q
+    encoded-reads k l =
+        sym (poly-part w at n k l) ∙ ap (λ (x : Bytes). poly x k) e
+        ∙ poly-encode n (modulo q f) k l (unfold modulo in omega (arith, mod-lt (f k) {m = q} positive)) ∙ (unfold modulo in refl)
+
+    pub encoded-below : Below q n (slot w at)
+    encoded-below = record { at = λ k l. rw (encoded-reads k l) (mod-lt (f k) positive) }
+
+    pub encoded-alike : Alike q n (slot w at) f
+    encoded-alike = record { at = λ k l. record { is = ap (λ (x : ℕ). x % q) (encoded-reads k l) ∙ mod-mod (f k) q } }
+
   module _ {fs : List Poly} {w : Bytes} (s : Shelf q n fs w) (j : ℕ) (h : j < length fs) where
     reads : (k : ℕ) → k < n → slot w (16384 * j) k ≡ getD fs j zero-poly k % q
-    reads k l =
-        sym (poly-part w (16384 * j) n k l) ∙ ap (λ (x : Bytes). poly x k) (s .stands j h)
-        ∙ poly-encode n (modulo q (getD fs j zero-poly)) k l (unfold modulo in omega (arith, mod-lt (getD fs j zero-poly k) {m = q} positive)) ∙ (unfold modulo in refl)
+    reads = encoded-reads w (16384 * j) (getD fs j zero-poly) (s .stands j h)
 
     pub shelf-below : Below q n (slot w (16384 * j))
-    shelf-below = record { at = λ k l. rw (reads k l) (mod-lt (getD fs j zero-poly k) positive) }
+    shelf-below = encoded-below w (16384 * j) (getD fs j zero-poly) (s .stands j h)
 
     pub shelf-alike : Alike q n (slot w (16384 * j)) (getD fs j zero-poly)
-    shelf-alike = record { at = λ k l. record { is = ap (λ (x : ℕ). x % q) (reads k l) ∙ mod-mod (getD fs j zero-poly k) q } }
+    shelf-alike = encoded-alike w (16384 * j) (getD fs j zero-poly) (s .stands j h)
 
     pub shelf-room : j < 64 → 16384 * j + 8 * n ≤ length w
     shelf-room g = let l = s .long in omega arith

@@ -1,2 +1,3 @@
 pub mod Argument
 pub mod Shortness
+pub mod Method
