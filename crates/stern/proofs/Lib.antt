@@ -1,2 +1,4 @@
 pub mod Complete
+pub mod Equations
+pub mod Layouts
 pub mod Sound
