@@ -1,4 +1,5 @@
 pub mod Complete
 pub mod Equations
+pub mod Honest
 pub mod Layouts
 pub mod Sound

@@ -1,0 +1,149 @@
+-- The unknowns of an honest split meet the equations, so that the honest answers, as bytes, meet no refusal. Assumes nothing.
+use mathlib.Core.Path.{_≡_, refl, sym, ap, ap₂, subst, _∙_}
+use mathlib.Core.Bool.{Bool, true, false, cond, not, _&&_}
+use mathlib.Core.List.{_++_}
+use Prim.Native.Nat.{ℕ, _+_, _*_, _%_, _^_, _≤_, _<_}
+use native.Mathlib.Nat.{mod-lt, mod-mod, zero-add, add-zero, zero-mul, one-mul, add-mul}
+use native.Mathlib.Omega.{arith}
+use lib.Dec.{eqb}
+use lib.ListN.{length, length-append}
+use Rattle.codec.specs.Bytes.{Bytes, part, same}
+use Rattle.codec.specs.Reply.{None}
+use Rattle.codec.proofs.Laws.{length-part, part-part, same-refl}
+use Rattle.codec.proofs.Numbers.{length-words}
+use Rattle.sha3.specs.Sponge.{sha3}
+use Rattle.sha3.proofs.Squeezing.{length-sha3}
+use Rattle.modular.proofs.Congruence.{same-eq}
+use Rattle.ring.specs.Poly.{Poly, plus, modulo, Alike}
+use Rattle.ring.specs.Slots.{poly, slot, encode, allBelow}
+use Rattle.ring.specs.Ternary.{ternary}
+use Rattle.ring.proofs.Bridge.{length-encode, poly-encode, poly-part}
+use Rattle.ring.proofs.Polynomials.{alike-eq, alike-sym, _so_, alike-plus}
+use Rattle.vector.specs.Vector.{vector, ternaries, Vector}
+use Rattle.vector.specs.Permutation.{Permutes, entries, permutes, balanced}
+use Rattle.vector.proofs.Vectors.{vector-sound, vector-complete, each-length, apply-length}
+use Rattle.vector.proofs.Counts.{permutes-sound, permutes-complete}
+use Rattle.vector.proofs.Balance.{balanced-sound, balanced-ternary}
+use Rattle.commitment.specs.Commitment.{Keys, Three, Pair, Alike3, threeOf, plus3, row, second, committed, pairBytes, Opens}
+use Rattle.commitment.proofs.Additive.{row-alike, second-alike, opens-add}
+use Rattle.stern.specs.Argument.{Setting, Drawn, First, Answer1, Answer2, Answer3, Fit, Passes1, Passes2, Passes3, first, answer1, answer2, answer3}
+use Rattle.stern.specs.Shortness.{polynomial, threeFrom, equations, sides, setting, drawnOf, firstOf, firstBytes, answerLength, answer1Of, answer2Of, answer3Of, answer1Bytes, answer2Bytes, answer3Bytes, tests1, tests2, tests3, answerTests}
+use Rattle.stern.proofs.Complete as Complete
+use Rattle.stern.proofs.Equations.{numbers-alike, setting-valid, polynomial-ternaries}
+use Rattle.stern.proofs.Layouts.{part-first, part-rest, four-read, firstOf-firstBytes, answer1Of-answer1Bytes, answer2Of-answer2Bytes, answer3Of-answer3Bytes, length-answer1Bytes, length-answer2Bytes, length-answer3Bytes}
+
+-- what the committer of a split has: x is s, e and the three r of s0, of s1, of e0, of e1 as ternary bytes, and c the pairs of s0, s1, e0, e1
+pub record Split (q N : ℕ) (k : Keys) (x c : Bytes) (s0 s1 e0 e1 : Poly) : Type 0 where
+  pub sized : length x ≡ 14 * N
+  pub below : allBelow 3 x ≡ true
+  pub adds-s : Alike q N (plus s0 s1) (ternary q (part x 0 N))
+  pub adds-e : Alike q N (plus e0 e1) (ternary q (part x N N))
+  pub pairs : c
+      ≡ pairBytes q N (committed q N k (threeOf q N (part x (2 * N) (3 * N))) s0)
+      ++ (pairBytes q N (committed q N k (threeOf q N (part x (5 * N) (3 * N))) s1)
+      ++ (pairBytes q N (committed q N k (threeOf q N (part x (8 * N) (3 * N))) e0)
+      ++ pairBytes q N (committed q N k (threeOf q N (part x (11 * N) (3 * N))) e1)))
+
+-- ---- the unknowns as polynomials
+
+unknown-alike : (q N : ℕ) (x : Bytes) (j at : ℕ) → at ≡ j * N → at + N ≤ length x → Alike q N (polynomial N (ternaries q x) j) (ternary q (part x at N))
+unknown-alike q N x j at e h = record {
+  at = λ k l. same-eq (polynomial-ternaries q N x j k l (omega arith) ∙ ap (λ (i : ℕ). ternary q (part x i N) k) (sym e));
+}
+
+three-alike : (q N : ℕ) (x : Bytes) (j at : ℕ) → at ≡ j * N → at + 3 * N ≤ length x → Alike3 q N (threeFrom N (ternaries q x) j) (threeOf q N (part x at (3 * N)))
+three-alike q N x j at e h = record {
+  r1 = unknown-alike q N x j (at + 0) (omega arith) (omega arith) so inside 0 (omega arith);
+  r2 = unknown-alike q N x (j + 1) (at + N) (omega (arith, add-mul j 1 N)) (omega arith) so inside N (omega arith);
+  r3 = unknown-alike q N x (j + 2) (at + 2 * N) (omega (arith, add-mul j 2 N)) (omega arith) so inside (2 * N) (omega arith);
+}
+  where
+    inside : (i : ℕ) → i + N ≤ 3 * N → Alike q N (ternary q (part x (at + i) N)) (ternary q (part (part x at (3 * N)) i N))
+    inside i l = alike-eq (ap (ternary q) (sym (part-part x at (3 * N) i N l)))
+
+-- ---- the pairs as polynomials
+
+module _ (q N : ℕ) (positive : 0 < q) (fits : q ≤ 2 ^ 64) where
+  slot-alike : (c : Bytes) (at : ℕ) (f : Poly) → part c at (8 * N) ≡ encode N (modulo q f) → Alike q N (slot c at) f
+  unfolding modulo
+  slot-alike c at f e = record {
+    at = λ k l.
+        record {
+          is = ap (λ (v : ℕ). v % q)
+              (sym (poly-part c at N k l) ∙ ap (λ (s : Bytes). poly s k) e ∙ poly-encode N (modulo q f) k l (omega (arith, mod-lt (f k) {m = q} positive)))
+              ∙ mod-mod (f k) q;
+        };
+  }
+
+  length-pairBytes : (d : Pair) → length (pairBytes q N d) ≡ 16 * N
+  unfolding pairBytes
+  length-pairBytes d = simp length-append (omega (arith, length-encode N (modulo q (d .one)), length-encode N (modulo q (d .two))))
+
+  -- the bytes of a pair at a place
+  pair-opens : (k : Keys) (c : Bytes) (at later : ℕ) (r : Three) (m : Poly) → later ≡ at + 8 * N → part c at (16 * N) ≡ pairBytes q N (committed q N k r m)
+      → Opens q N k (record { one = slot c at; two = slot c later }) r m
+  unfolding pairBytes
+  pair-opens k c at later r m e f =
+      let a = encode N (modulo q (row q N k r)) in
+      let b = encode N (modulo q (second q N k r m)) in
+      record {
+        one = slot-alike c at (row q N k r)
+            (ap (λ (i : ℕ). part c i (8 * N)) (sym (add-zero at)) ∙ sym (part-part c at (16 * N) 0 (8 * N) (omega arith))
+            ∙ ap (λ (s : Bytes). part s 0 (8 * N)) f ∙ part-first a b (8 * N) (length-encode N (modulo q (row q N k r))));
+        two = slot-alike c later (second q N k r m)
+            (ap (λ (i : ℕ). part c i (8 * N)) e ∙ sym (part-part c at (16 * N) (8 * N) (8 * N) (omega arith))
+            ∙ ap (λ (s : Bytes). part s (8 * N) (8 * N)) f
+            ∙ part-rest a b (8 * N) (8 * N) (length-encode N (modulo q (row q N k r))) (length-encode N (modulo q (second q N k r m))));
+      }
+
+-- ---- the equations are met
+
+module _ (q N : ℕ) (k : Keys) (x c : Bytes) (s0 s1 e0 e1 : Poly) (split : Split q N k x c s0 s1 e0 e1) (three : 2 < q) (fits : q ≤ 2 ^ 64) where
+  -- the three r from a place of x on
+  r-at : ℕ → Three
+  r-at at = threeOf q N (part x at (3 * N))
+
+  pair-at : ℕ → Poly → Bytes
+  pair-at at m = pairBytes q N (committed q N k (r-at at) m)
+
+  pairs-read : (part c 0 (16 * N) ≡ pair-at (2 * N) s0) × (part c (16 * N) (16 * N) ≡ pair-at (5 * N) s1)
+      × (part c (32 * N) (16 * N) ≡ pair-at (8 * N) e0) × (part c (48 * N) (16 * N) ≡ pair-at (11 * N) e1)
+  unfolding pair-at r-at
+  pairs-read =
+      rw (split .pairs)
+      (four-read (16 * N) (16 * N) (16 * N) (16 * N) (32 * N) (48 * N) (omega arith) (omega arith) (pair-at (2 * N) s0) (pair-at (5 * N) s1) (pair-at (8 * N) e0) (pair-at (11 * N) e1)
+      (length-pairBytes q N (omega arith) fits _) (length-pairBytes q N (omega arith) fits _) (length-pairBytes q N (omega arith) fits _) (length-pairBytes q N (omega arith) fits _))
+
+  opens-s : Opens q N k (record { one = plus (slot c 0) (slot c (16 * N)); two = plus (slot c (8 * N)) (slot c (24 * N)) }) (plus3 (r-at (2 * N)) (r-at (5 * N))) (ternary q (part x 0 N))
+  unfolding pair-at
+  opens-s =
+      opens-add q N k (pair-opens q N (omega arith) fits k c 0 (8 * N) (r-at (2 * N)) s0 (omega arith) (pairs-read .0))
+      (pair-opens q N (omega arith) fits k c (16 * N) (24 * N) (r-at (5 * N)) s1 (omega arith) (pairs-read .1)) (split .adds-s)
+
+  opens-e : Opens q N k (record { one = plus (slot c (32 * N)) (slot c (48 * N)); two = plus (slot c (40 * N)) (slot c (56 * N)) }) (plus3 (r-at (8 * N)) (r-at (11 * N))) (ternary q (part x N N))
+  unfolding pair-at
+  opens-e =
+      opens-add q N k (pair-opens q N (omega arith) fits k c (32 * N) (40 * N) (r-at (8 * N)) e0 (omega arith) (pairs-read .2))
+      (pair-opens q N (omega arith) fits k c (48 * N) (56 * N) (r-at (11 * N)) e1 (omega arith) (pairs-read .3)) (split .adds-e)
+
+  -- the three r of two polynomials, added
+  hiding-alike : (i j at later : ℕ) → at ≡ i * N → later ≡ j * N → at + 3 * N ≤ 14 * N → later + 3 * N ≤ 14 * N
+      → Alike3 q N (plus3 (threeFrom N (ternaries q x) i) (threeFrom N (ternaries q x) j)) (plus3 (r-at at) (r-at later))
+  unfolding r-at
+  hiding-alike i j at later e f h l =
+      let size = split .sized in
+      let a = three-alike q N x i at e (omega arith) in
+      let b = three-alike q N x j later f (omega arith) in
+      record { r1 = alike-plus (a .r1) (b .r1); r2 = alike-plus (a .r2) (b .r2); r3 = alike-plus (a .r3) (b .r3) }
+
+  pub honest-equations : equations q N k (ternaries q x) ≡ sides q N c
+  unfolding equations sides
+  honest-equations =
+      let size = split .sized in
+      let rs = hiding-alike 2 5 (2 * N) (5 * N) refl refl (omega arith) (omega arith) in
+      let re = hiding-alike 8 11 (8 * N) (11 * N) refl refl (omega arith) (omega arith) in
+      let s = unknown-alike q N x 0 0 (omega arith) (omega arith) in
+      let e = unknown-alike q N x 1 N (omega arith) (omega arith) in
+      ap₂ _++_ (numbers-alike (row-alike q N k rs so alike-sym (opens-s .one)))
+      (ap₂ _++_ (numbers-alike (second-alike q N k rs s so alike-sym (opens-s .two)))
+      (ap₂ _++_ (numbers-alike (row-alike q N k re so alike-sym (opens-e .one))) (numbers-alike (second-alike q N k re e so alike-sym (opens-e .two)))))
