@@ -1,7 +1,7 @@
 -- The four equations are linear, so that Stern's argument applies to them; and what the polynomials of a list are where the list comes from bytes.
 -- Assumes nothing.
 use mathlib.Core.Path.{_≡_, sym, ap, ap₂, subst, _∙_}
-use mathlib.Core.List.{List, _++_}
+use mathlib.Core.List.{List}
 use Prim.Native.Nat.{ℕ, _+_, _*_, _%_, _^_, _≤_, _<_}
 use native.Mathlib.Nat.{add-mod, mul-comm, mul-assoc, mul-add}
 use native.Mathlib.Omega.{arith}

@@ -2,8 +2,8 @@
 use mathlib.Core.Path.{_≡_, refl, sym, ap, ap₂, subst, _∙_}
 use mathlib.Core.Bool.{Bool, true, false, cond, not, _&&_}
 use mathlib.Core.List.{_++_}
-use Prim.Native.Nat.{ℕ, _+_, _*_, _%_, _^_, _≤_, _<_}
-use native.Mathlib.Nat.{mod-lt, mod-mod, zero-add, add-zero, zero-mul, one-mul, add-mul}
+use Prim.Native.Nat.{ℕ, _+_, _*_, _/_, _%_, _^_, _≤_, _<_}
+use native.Mathlib.Nat.{mod-lt, mod-mod, add-zero, add-mul}
 use native.Mathlib.Omega.{arith}
 use lib.Dec.{eqb}
 use lib.ListN.{length, length-append}
@@ -11,7 +11,6 @@ use Rattle.codec.specs.Bytes.{Bytes, part, same}
 use Rattle.codec.specs.Reply.{None}
 use Rattle.codec.proofs.Laws.{length-part, part-part, same-refl}
 use Rattle.codec.proofs.Numbers.{length-words}
-use Rattle.sha3.specs.Sponge.{sha3}
 use Rattle.sha3.proofs.Squeezing.{length-sha3}
 use Rattle.modular.proofs.Congruence.{same-eq}
 use Rattle.ring.specs.Poly.{Poly, plus, modulo, Alike}
@@ -20,13 +19,13 @@ use Rattle.ring.specs.Ternary.{ternary}
 use Rattle.ring.proofs.Bridge.{length-encode, poly-encode, poly-part}
 use Rattle.ring.proofs.Polynomials.{alike-eq, alike-sym, _so_, alike-plus}
 use Rattle.vector.specs.Vector.{vector, ternaries, Vector}
-use Rattle.vector.specs.Permutation.{Permutes, entries, permutes, balanced}
-use Rattle.vector.proofs.Vectors.{vector-sound, vector-complete, each-length, apply-length}
+use Rattle.vector.specs.Permutation.{Permutes, entries, permutes}
+use Rattle.vector.proofs.Vectors.{vector-sound, vector-complete, each-length}
 use Rattle.vector.proofs.Counts.{permutes-sound, permutes-complete}
 use Rattle.vector.proofs.Balance.{balanced-sound, balanced-ternary}
 use Rattle.commitment.specs.Commitment.{Keys, Three, Pair, Alike3, threeOf, plus3, row, second, committed, pairBytes, Opens}
 use Rattle.commitment.proofs.Additive.{row-alike, second-alike, opens-add}
-use Rattle.stern.specs.Argument.{Setting, Drawn, First, Answer1, Answer2, Answer3, Fit, Passes1, Passes2, Passes3, first, answer1, answer2, answer3}
+use Rattle.stern.specs.Argument.{Setting, Valid, Drawn, Answer1, Answer2, Answer3, Fit, Passes1, Passes2, Passes3, masked, first, answer1, answer2, answer3}
 use Rattle.stern.specs.Shortness.{polynomial, threeFrom, equations, sides, setting, drawnOf, firstOf, firstBytes, answerLength, answer1Of, answer2Of, answer3Of, answer1Bytes, answer2Bytes, answer3Bytes, tests1, tests2, tests3, answerTests}
 use Rattle.stern.proofs.Complete as Complete
 use Rattle.stern.proofs.Equations.{numbers-alike, setting-valid, polynomial-ternaries}
@@ -96,6 +95,41 @@ module _ (q N : ℕ) (positive : 0 < q) (fits : q ≤ 2 ^ 64) where
             ∙ part-rest a b (8 * N) (8 * N) (length-encode N (modulo q (row q N k r))) (length-encode N (modulo q (second q N k r m))));
       }
 
+-- ---- the tests of an answer that passes
+
+-- digests that are as they should be meet no refusal
+matched : (a b c d : Bytes) → a ≡ b → c ≡ d → not (same a b && same c d) ≡ false
+matched a b c d e f = rw (e, f, same-refl b, same-refl d)
+
+module _ (q N : ℕ) (k : Keys) (c d : Bytes) (place : ℕ) where
+  -- 3L entries of a permutation, as the test counts them
+  passes-permutes : (p : Bytes) → Permutes (3 * (14 * N)) (entries p) → not (permutes (42 * N) (entries p)) ≡ false
+  passes-permutes p h =
+      let e : 3 * (14 * N) ≡ 42 * N = omega arith in
+      rw (permutes-complete (rw e at h))
+
+  passes1-none : (a : Answer1) → Passes1 (setting q N k c) (firstOf d) a → None (tests1 q N k c d place a)
+  passes1-none a h = (rw (h .balanced), (matched _ _ _ _ (h .d2) (h .d3), tt))
+
+  passes2-none : (b : Answer2) → Passes2 (setting q N k c) (firstOf d) b → None (tests2 q N k c d place b)
+  passes2-none b h = (passes-permutes (b .p) (h .permutes), (matched _ _ _ _ (h .d1) (h .d3), tt))
+
+  passes3-none : (a : Answer3) → Passes3 (setting q N k c) (firstOf d) a → None (tests3 q N k c d place a)
+  passes3-none a h = (passes-permutes (a .p) (h .permutes), (matched _ _ _ _ (h .d1) (h .d2), tt))
+
+-- ---- an honest answer
+
+-- the bytes of the answer to a challenge; one out of range counts as 3
+abbrev pub honestAnswer : (s : Setting) → Bytes → Drawn → (challenge : ℕ) → Bytes
+honestAnswer s x drawn challenge =
+    cond (eqb challenge 1) (answer1Bytes (answer1 s x drawn)) (cond (eqb challenge 2) (answer2Bytes (answer2 s x drawn)) (answer3Bytes (answer3 s drawn)))
+
+-- whether an answer's coefficients are below q, and the ternary bytes of answer 1 below 3
+abbrev pub inRange : (q N challenge : ℕ) → Bytes → Bool
+inRange q N challenge answer =
+    cond (eqb challenge 1) (allBelow 3 (answer1Of N answer .w) && allBelow q (vector (answer1Of N answer .t)))
+    (cond (eqb challenge 2) (allBelow q (vector (answer2Of N answer .u))) (allBelow q (vector (answer3Of N answer .r))))
+
 -- ---- the equations are met
 
 module _ (q N : ℕ) (k : Keys) (x c : Bytes) (s0 s1 e0 e1 : Poly) (split : Split q N k x c s0 s1 e0 e1) (three : 2 < q) (fits : q ≤ 2 ^ 64) where
@@ -147,3 +181,101 @@ module _ (q N : ℕ) (k : Keys) (x c : Bytes) (s0 s1 e0 e1 : Poly) (split : Spli
       ap₂ _++_ (numbers-alike (row-alike q N k rs so alike-sym (opens-s .one)))
       (ap₂ _++_ (numbers-alike (second-alike q N k rs s so alike-sym (opens-s .two)))
       (ap₂ _++_ (numbers-alike (row-alike q N k re so alike-sym (opens-e .one))) (numbers-alike (second-alike q N k re e so alike-sym (opens-e .two)))))
+
+  -- ---- completeness in bytes
+
+  module _ (P R salts : Bytes) (size-p : length P ≡ 168 * N) (size-r : length R ≡ 336 * N) (size-salts : length salts ≡ 96)
+      (permuting : permutes (42 * N) (entries P) ≡ true) (below : allBelow q (vector R) ≡ true) where
+    abbrev s : Setting
+    s = setting q N k c
+
+    abbrev drawn : Drawn
+    drawn = drawnOf P R salts
+
+    valid : Valid (setting q N k c)
+    valid = setting-valid q N k c three fits
+
+    fit : Fit (setting q N k c) (drawnOf P R salts)
+    fit =
+        let e : 42 * N ≡ 3 * (14 * N) = omega arith in
+        let f : length R / 8 ≡ 3 * (14 * N) = omega arith in
+        record {
+          permutes = subst (λ (n : ℕ). Permutes n (entries P)) e (permutes-sound (42 * N) (entries P) permuting);
+          size-p = omega arith;
+          sized = omega arith;
+          below = subst (λ (n : ℕ). Vector q n (vector R)) f (vector-sound q R below);
+          size1 = length-part salts 0 32 (omega arith);
+          size2 = length-part salts 32 32 (omega arith);
+          size3 = length-part salts 64 32 (omega arith);
+        }
+
+    pass1 : Passes1 s (first s x drawn) (answer1 s x drawn)
+    pass1 = Complete.passes1 s valid x (split .sized) (split .below) honest-equations drawn fit
+
+    pass2 : Passes2 s (first s x drawn) (answer2 s x drawn)
+    pass2 = Complete.passes2 s valid x (split .sized) (split .below) honest-equations drawn fit
+
+    pass3 : Passes3 s (first s x drawn) (answer3 s drawn)
+    pass3 = Complete.passes3 s valid x (split .sized) (split .below) honest-equations drawn fit
+
+    -- the fields have the lengths that the layouts give them
+    size-w : length (answer1 s x drawn .w) ≡ 42 * N
+    size-w = omega (arith, balanced-sound (14 * N) (answer1 s x drawn .w) (pass1 .balanced) .size)
+
+    size-t : length (answer1 s x drawn .t) ≡ 336 * N
+    size-t = omega (arith, pass1 .sized)
+
+    size-u : length (answer2 s x drawn .u) ≡ 336 * N
+    size-u = omega (arith, length-words (masked s x drawn), each-length (Complete.masked-vector s valid x (split .sized) (split .below) honest-equations drawn fit))
+
+    -- what is written is read back
+    read1 : answer1Of N (answer1Bytes (answer1 s x drawn)) ≡ answer1 s x drawn
+    read1 = answer1Of-answer1Bytes N (answer1 s x drawn) size-w size-t (fit .size2) (fit .size3)
+
+    read2 : answer2Of N (answer2Bytes (answer2 s x drawn)) ≡ answer2 s x drawn
+    read2 = answer2Of-answer2Bytes N (answer2 s x drawn) size-p size-u (fit .size1) (fit .size3)
+
+    read3 : answer3Of N (answer3Bytes (answer3 s drawn)) ≡ answer3 s drawn
+    read3 = answer3Of-answer3Bytes N (answer3 s drawn) size-p size-r (fit .size1) (fit .size2)
+
+    pub honest-length : (challenge : ℕ) → length (honestAnswer (setting q N k c) x (drawnOf P R salts) challenge) ≡ answerLength N challenge
+    honest-length challenge = go (eqb challenge 1) (eqb challenge 2)
+      where
+        go : (one two : Bool) → length (cond one (answer1Bytes (answer1 s x drawn)) (cond two (answer2Bytes (answer2 s x drawn)) (answer3Bytes (answer3 s drawn)))) ≡ cond one (378 * N + 64) (504 * N + 64)
+        go true two = length-answer1Bytes N (answer1 s x drawn) size-w size-t (fit .size2) (fit .size3)
+        go false true = length-answer2Bytes N (answer2 s x drawn) size-p size-u (fit .size1) (fit .size3)
+        go false false = length-answer3Bytes N (answer3 s drawn) size-p size-r (fit .size1) (fit .size2)
+
+    pub honest-range : (challenge : ℕ) → inRange q N challenge (honestAnswer (setting q N k c) x (drawnOf P R salts) challenge) ≡ true
+    honest-range challenge = go (eqb challenge 1) (eqb challenge 2)
+      where
+        range1 : (a : Answer1) → Passes1 s (first s x drawn) a → (allBelow 3 (a .w) && allBelow q (vector (a .t))) ≡ true
+        range1 a h = rw (balanced-ternary (14 * N) (a .w) (h .balanced), vector-complete (a .t) (h .below))
+
+        range2 : (b : Answer2) → Passes2 s (first s x drawn) b → allBelow q (vector (b .u)) ≡ true
+        range2 b h = vector-complete (b .u) (h .below)
+
+        range3 : (a : Answer3) → Passes3 s (first s x drawn) a → allBelow q (vector (a .r)) ≡ true
+        range3 a h = vector-complete (a .r) (h .below)
+
+        go : (one two : Bool)
+            → (let answer = cond one (answer1Bytes (answer1 s x drawn)) (cond two (answer2Bytes (answer2 s x drawn)) (answer3Bytes (answer3 s drawn))) in
+            cond one (allBelow 3 (answer1Of N answer .w) && allBelow q (vector (answer1Of N answer .t))) (cond two (allBelow q (vector (answer2Of N answer .u))) (allBelow q (vector (answer3Of N answer .r))))) ≡ true
+        go true two = range1 (answer1Of N (answer1Bytes (answer1 s x drawn))) (rw read1 pass1)
+        go false true = range2 (answer2Of N (answer2Bytes (answer2 s x drawn))) (rw read2 pass2)
+        go false false = range3 (answer3Of N (answer3Bytes (answer3 s drawn))) (rw read3 pass3)
+
+    -- no test of an honest answer holds
+    pub honest-none : (d : Bytes) → d ≡ firstBytes (first (setting q N k c) x (drawnOf P R salts)) → (place challenge : ℕ)
+        → None (answerTests q N k c d place challenge (honestAnswer (setting q N k c) x (drawnOf P R salts) challenge))
+    honest-none d e place challenge = go (eqb challenge 1) (eqb challenge 2)
+      where
+        digests : firstOf d ≡ first s x drawn
+        digests = rw e (firstOf-firstBytes (first s x drawn) (length-sha3 _) (length-sha3 _) (length-sha3 _))
+
+        go : (one two : Bool)
+            → None (let answer = cond one (answer1Bytes (answer1 s x drawn)) (cond two (answer2Bytes (answer2 s x drawn)) (answer3Bytes (answer3 s drawn))) in
+            cond one (tests1 q N k c d place (answer1Of N answer)) (cond two (tests2 q N k c d place (answer2Of N answer)) (tests3 q N k c d place (answer3Of N answer))))
+        go true two = passes1-none q N k c d place (answer1Of N (answer1Bytes (answer1 s x drawn))) (rw (digests, read1) pass1)
+        go false true = passes2-none q N k c d place (answer2Of N (answer2Bytes (answer2 s x drawn))) (rw (digests, read2) pass2)
+        go false false = passes3-none q N k c d place (answer3Of N (answer3Bytes (answer3 s drawn))) (rw (digests, read3) pass3)
