@@ -1,8 +1,8 @@
 -- The unknowns of an honest split meet the equations, so that the honest answers, as bytes, meet no refusal. Assumes nothing.
-use mathlib.Core.Path.{_≡_, refl, sym, ap, ap₂, subst, _∙_}
+use mathlib.Core.Path.{_≡_, refl, sym, ap, ap₂, _∙_}
 use mathlib.Core.Bool.{Bool, true, false, cond, not, _&&_}
 use mathlib.Core.List.{_++_}
-use Prim.Native.Nat.{ℕ, _+_, _*_, _/_, _%_, _^_, _≤_, _<_}
+use Prim.Native.Nat.{ℕ, _+_, _*_, _%_, _^_, _≤_, _<_}
 use native.Mathlib.Nat.{mod-lt, mod-mod, add-zero, add-mul}
 use native.Mathlib.Omega.{arith}
 use lib.Dec.{eqb}
@@ -18,10 +18,9 @@ use Rattle.ring.specs.Slots.{poly, slot, encode, allBelow}
 use Rattle.ring.specs.Ternary.{ternary}
 use Rattle.ring.proofs.Bridge.{length-encode, poly-encode, poly-part}
 use Rattle.ring.proofs.Polynomials.{alike-eq, alike-sym, _so_, alike-plus}
-use Rattle.vector.specs.Vector.{vector, ternaries, Vector}
-use Rattle.vector.specs.Permutation.{Permutes, entries, permutes}
-use Rattle.vector.proofs.Vectors.{vector-sound, vector-complete, each-length}
-use Rattle.vector.proofs.Counts.{permutes-sound, permutes-complete}
+use Rattle.vector.specs.Vector.{vector, ternaries}
+use Rattle.vector.specs.Permutation.{entries, permutes}
+use Rattle.vector.proofs.Vectors.{vector-complete, each-length}
 use Rattle.vector.proofs.Balance.{balanced-sound, balanced-ternary}
 use Rattle.commitment.specs.Commitment.{Keys, Three, Pair, Alike3, threeOf, plus3, row, second, committed, pairBytes, Opens}
 use Rattle.commitment.proofs.Additive.{row-alike, second-alike, opens-add}
@@ -29,7 +28,7 @@ use Rattle.stern.specs.Argument.{Setting, Valid, Drawn, Answer1, Answer2
 use Rattle.stern.specs.Shortness.{polynomial, threeFrom, equations, sides, setting, drawnOf, firstOf, firstBytes, answerLength, answer1Of, answer2Of, answer3Of, answer1Bytes, answer2Bytes, answer3Bytes, tests1, tests2, tests3, answerTests}
 use Rattle.stern.proofs.Complete as Complete
 use Rattle.stern.proofs.Equations.{numbers-alike, setting-valid, polynomial-ternaries}
-use Rattle.stern.proofs.Layouts.{part-first, part-rest, four-read, firstOf-firstBytes, answer1Of-answer1Bytes, answer2Of-answer2Bytes, answer3Of-answer3Bytes, length-answer1Bytes, length-answer2Bytes, length-answer3Bytes}
+use Rattle.stern.proofs.Layouts.{part-first, part-rest, four-read, vector-of, permutes-of, of-permutes, firstOf-firstBytes, answer1Of-answer1Bytes, answer2Of-answer2Bytes, answer3Of-answer3Bytes, length-answer1Bytes, length-answer2Bytes, length-answer3Bytes}
 
 -- what the committer of a split has: x is s, e and the three r of s0, of s1, of e0, of e1 as ternary bytes, and c the pairs of s0, s1, e0, e1
 pub record Split (q N : ℕ) (k : Keys) (x c : Bytes) (s0 s1 e0 e1 : Poly) : Type 0 where
@@ -98,24 +97,18 @@ module _ (q N : ℕ) (positive : 0 < q) (fits : q ≤ 2 ^ 64) where
 -- ---- the tests of an answer that passes
 
 -- digests that are as they should be meet no refusal
-matched : (a b c d : Bytes) → a ≡ b → c ≡ d → not (same a b && same c d) ≡ false
-matched a b c d e f = rw (e, f, same-refl b, same-refl d)
+digests-match : (a b c d : Bytes) → a ≡ b → c ≡ d → not (same a b && same c d) ≡ false
+digests-match a b c d e f = rw (e, f, same-refl b, same-refl d)
 
 module _ (q N : ℕ) (k : Keys) (c d : Bytes) (place : ℕ) where
-  -- 3L entries of a permutation, as the test counts them
-  passes-permutes : (p : Bytes) → Permutes (3 * (14 * N)) (entries p) → not (permutes (42 * N) (entries p)) ≡ false
-  passes-permutes p h =
-      let e : 3 * (14 * N) ≡ 42 * N = omega arith in
-      rw (permutes-complete (rw e at h))
-
   passes1-none : (a : Answer1) → Passes1 (setting q N k c) (firstOf d) a → None (tests1 q N k c d place a)
-  passes1-none a h = (rw (h .balanced), (matched _ _ _ _ (h .d2) (h .d3), tt))
+  passes1-none a h = (rw (h .balanced), (digests-match _ _ _ _ (h .d2) (h .d3), tt))
 
   passes2-none : (b : Answer2) → Passes2 (setting q N k c) (firstOf d) b → None (tests2 q N k c d place b)
-  passes2-none b h = (passes-permutes (b .p) (h .permutes), (matched _ _ _ _ (h .d1) (h .d3), tt))
+  passes2-none b h = (rw (of-permutes N (entries (b .p)) (h .permutes)), (digests-match _ _ _ _ (h .d1) (h .d3), tt))
 
   passes3-none : (a : Answer3) → Passes3 (setting q N k c) (firstOf d) a → None (tests3 q N k c d place a)
-  passes3-none a h = (passes-permutes (a .p) (h .permutes), (matched _ _ _ _ (h .d1) (h .d2), tt))
+  passes3-none a h = (rw (of-permutes N (entries (a .p)) (h .permutes)), (digests-match _ _ _ _ (h .d1) (h .d2), tt))
 
 -- ---- an honest answer
 
@@ -196,18 +189,15 @@ module _ (q N : ℕ) (k : Keys) (x c : Bytes) (s0 s1 e0 e1 : Poly) (split : Spli
     valid = setting-valid q N k c three fits
 
     fit : Fit (setting q N k c) (drawnOf P R salts)
-    fit =
-        let e : 42 * N ≡ 3 * (14 * N) = omega arith in
-        let f : length R / 8 ≡ 3 * (14 * N) = omega arith in
-        record {
-          permutes = subst (λ (n : ℕ). Permutes n (entries P)) e (permutes-sound (42 * N) (entries P) permuting);
-          size-p = omega arith;
-          sized = omega arith;
-          below = subst (λ (n : ℕ). Vector q n (vector R)) f (vector-sound q R below);
-          size1 = length-part salts 0 32 (omega arith);
-          size2 = length-part salts 32 32 (omega arith);
-          size3 = length-part salts 64 32 (omega arith);
-        }
+    fit = record {
+      permutes = permutes-of N (entries P) permuting;
+      size-p = omega arith;
+      sized = omega arith;
+      below = vector-of q N R size-r below;
+      size1 = length-part salts 0 32 (omega arith);
+      size2 = length-part salts 32 32 (omega arith);
+      size3 = length-part salts 64 32 (omega arith);
+    }
 
     pass1 : Passes1 s (first s x drawn) (answer1 s x drawn)
     pass1 = Complete.passes1 s valid x (split .sized) (split .below) honest-equations drawn fit

@@ -1,13 +1,19 @@
 -- The encodings of digests and answers lose nothing: what is written is read back, and bytes of the right length are written as they were. Assumes nothing.
-use mathlib.Core.Path.{_≡_, refl, sym, ap, ap₂, _∙_}
-use mathlib.Core.List.{_++_}
-use Prim.Native.Nat.{ℕ, _+_, _*_}
+use mathlib.Core.Path.{_≡_, refl, sym, ap, ap₂, subst, _∙_}
+use mathlib.Core.Bool.{true}
+use mathlib.Core.List.{List, _++_}
+use Prim.Native.Nat.{ℕ, _+_, _*_, _/_}
 use native.Mathlib.Nat.{zero-add}
 use native.Mathlib.Omega.{arith}
 use lib.ListN.{length, take, drop, length-append}
 use lib.Seq.{take-all, take-at, drop-at, drop-drop}
 use Rattle.codec.specs.Bytes.{Bytes, part}
 use Rattle.codec.proofs.Laws.{part-append}
+use Rattle.ring.specs.Slots.{allBelow}
+use Rattle.vector.specs.Vector.{Vector, vector}
+use Rattle.vector.specs.Permutation.{Permutes, permutes}
+use Rattle.vector.proofs.Vectors.{vector-sound}
+use Rattle.vector.proofs.Counts.{permutes-sound, permutes-complete}
 use Rattle.stern.specs.Argument.{First, Answer1, Answer2, Answer3}
 use Rattle.stern.specs.Shortness.{firstOf, firstBytes, answerLength, answer1Of, answer2Of, answer3Of, answer1Bytes, answer2Bytes, answer3Bytes}
 
@@ -63,6 +69,23 @@ module _ (l m n o k p : ℕ) (place : k ≡ l + m) (last : p ≡ k + n) where
       ∙ ap (λ (j : ℕ). part s 0 l ++ part s j (m + n + o)) (zero-add l)
       ∙ ap (λ (t : Bytes). part s 0 l ++ t) (sym (three-written m n o (m + n) refl s l))
       ∙ ap₂ (λ (i j : ℕ). part s 0 l ++ (part s l m ++ (part s i n ++ part s j o))) (sym place) (sym g))
+
+-- ---- numbers and entries: 3L of them, for 14 N unknowns
+
+pub vector-of : (q N : ℕ) (s : Bytes) → length s ≡ 336 * N → allBelow q (vector s) ≡ true → Vector q (3 * (14 * N)) (vector s)
+vector-of q N s l e =
+    let f : length s / 8 ≡ 3 * (14 * N) = omega arith in
+    subst (λ (n : ℕ). Vector q n (vector s)) f (vector-sound q s e)
+
+pub permutes-of : (N : ℕ) (p : List ℕ) → permutes (42 * N) p ≡ true → Permutes (3 * (14 * N)) p
+permutes-of N p e =
+    let f : 42 * N ≡ 3 * (14 * N) = omega arith in
+    subst (λ (n : ℕ). Permutes n p) f (permutes-sound (42 * N) p e)
+
+pub of-permutes : (N : ℕ) (p : List ℕ) → Permutes (3 * (14 * N)) p → permutes (42 * N) p ≡ true
+of-permutes N p h =
+    let f : 3 * (14 * N) ≡ 42 * N = omega arith in
+    permutes-complete (subst (λ (n : ℕ). Permutes n p) f h)
 
 -- ---- digests
 

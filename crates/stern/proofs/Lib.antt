@@ -1,5 +1,6 @@
 pub mod Complete
 pub mod Equations
+pub mod Extraction
 pub mod Honest
 pub mod Layouts
 pub mod Sound
