@@ -80,6 +80,9 @@ two-add N i j {x} {z} v w =
     alike-plus (polynomial-add N i v w) (polynomial-add N j v w)
     so alike-eq (interchange (polynomial N x i) (polynomial N z i) (polynomial N x j) (polynomial N z j))
 
+four : (N : ℕ) → N + (N + (N + N)) ≡ 4 * N
+four N = omega arith
+
 module _ (q N : ℕ) (k : Keys) where
   -- the three r from i on and those from j on, added
   hiding : List ℕ → ℕ → ℕ → Three
@@ -105,22 +108,19 @@ module _ (q N : ℕ) (k : Keys) where
         linear-numbers (λ x. second q N k (hiding x i j) (polynomial N x l))
         (λ x z v w. second-alike q N k (hiding-add i j v w) (polynomial-add N l v w) so alike-eq (second-adds q N k (hiding x i j) (hiding z i j) (polynomial N x l) (polynomial N z l)))
 
-    four : N + (N + (N + N)) ≡ 4 * N
-    four = omega arith
-
     pub equations-linear : Linear q (14 * N) (4 * N) (equations q N k)
     unfolding equations hiding
-    equations-linear = subst (λ (m : ℕ). Linear q (14 * N) m (equations q N k)) four (join (row-linear 2 5) (join (second-linear 2 5 0) (join (row-linear 8 11) (second-linear 8 11 1))))
+    equations-linear = subst (λ (m : ℕ). Linear q (14 * N) m (equations q N k)) (four N) (join (row-linear 2 5) (join (second-linear 2 5 0) (join (row-linear 8 11) (second-linear 8 11 1))))
 
-    pub sides-vector : (c : Bytes) → Vector q (4 * N) (sides q N c)
-    unfolding sides
-    sides-vector c =
-        subst (λ (m : ℕ). Vector q m (sides q N c)) four
-        (append-each (numbers-vector N _ h) (append-each (numbers-vector N _ h) (append-each (numbers-vector N _ h) (numbers-vector N _ h))))
+pub sides-vector : (q N : ℕ) (c : Bytes) → 0 < q → Vector q (4 * N) (sides q N c)
+unfolding sides
+sides-vector q N c h =
+    subst (λ (m : ℕ). Vector q m (sides q N c)) (four N)
+    (append-each (numbers-vector N _ h) (append-each (numbers-vector N _ h) (append-each (numbers-vector N _ h) (numbers-vector N _ h))))
 
 -- the setting is one to which Stern's theorems apply
 pub setting-valid : (q N : ℕ) (k : Keys) (c : Bytes) → 2 < q → q ≤ 2 ^ 64 → Valid (setting q N k c)
-setting-valid q N k c three fits = record { three = three; fits = fits; right = sides-vector q N k (omega arith) c; linear = equations-linear q N k (omega arith) }
+setting-valid q N k c three fits = record { three = three; fits = fits; right = sides-vector q N c (omega arith); linear = equations-linear q N k (omega arith) }
 
 -- ---- the polynomials of a list that comes from bytes
 

@@ -61,7 +61,12 @@ three-alike q N x j at e h = record {
 
 -- ---- the pairs as polynomials
 
+pub length-pairBytes : (q N : ℕ) (d : Pair) → length (pairBytes q N d) ≡ 16 * N
+unfolding pairBytes
+length-pairBytes q N d = simp length-append (omega (arith, length-encode N (modulo q (d .one)), length-encode N (modulo q (d .two))))
+
 module _ (q N : ℕ) (positive : 0 < q) (fits : q ≤ 2 ^ 64) where
+  -- the bytes of a polynomial at a place
   slot-alike : (c : Bytes) (at : ℕ) (f : Poly) → part c at (8 * N) ≡ encode N (modulo q f) → Alike q N (slot c at) f
   unfolding modulo
   slot-alike c at f e = record {
@@ -73,12 +78,8 @@ module _ (q N : ℕ) (positive : 0 < q) (fits : q ≤ 2 ^ 64) where
         };
   }
 
-  length-pairBytes : (d : Pair) → length (pairBytes q N d) ≡ 16 * N
-  unfolding pairBytes
-  length-pairBytes d = simp length-append (omega (arith, length-encode N (modulo q (d .one)), length-encode N (modulo q (d .two))))
-
   -- the bytes of a pair at a place
-  pair-opens : (k : Keys) (c : Bytes) (at later : ℕ) (r : Three) (m : Poly) → later ≡ at + 8 * N → part c at (16 * N) ≡ pairBytes q N (committed q N k r m)
+  pub pair-opens : (k : Keys) (c : Bytes) (at later : ℕ) (r : Three) (m : Poly) → later ≡ at + 8 * N → part c at (16 * N) ≡ pairBytes q N (committed q N k r m)
       → Opens q N k (record { one = slot c at; two = slot c later }) r m
   unfolding pairBytes
   pair-opens k c at later r m e f =
@@ -139,7 +140,7 @@ module _ (q N : ℕ) (k : Keys) (x c : Bytes) (s0 s1 e0 e1 : Poly) (split : Spli
   pairs-read =
       rw (split .pairs)
       (four-read (16 * N) (16 * N) (16 * N) (16 * N) (32 * N) (48 * N) (omega arith) (omega arith) (pair-at (2 * N) s0) (pair-at (5 * N) s1) (pair-at (8 * N) e0) (pair-at (11 * N) e1)
-      (length-pairBytes q N (omega arith) fits _) (length-pairBytes q N (omega arith) fits _) (length-pairBytes q N (omega arith) fits _) (length-pairBytes q N (omega arith) fits _))
+      (length-pairBytes q N _) (length-pairBytes q N _) (length-pairBytes q N _) (length-pairBytes q N _))
 
   opens-s : Opens q N k (record { one = plus (slot c 0) (slot c (16 * N)); two = plus (slot c (8 * N)) (slot c (24 * N)) }) (plus3 (r-at (2 * N)) (r-at (5 * N))) (ternary q (part x 0 N))
   unfolding pair-at
