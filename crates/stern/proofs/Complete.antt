@@ -25,8 +25,11 @@ module _ (s : Setting) (ok : Valid s) (x : Bytes) (size : length x ≡ s .L) (te
   read-t : vector (words (apply (entries (c .p)) (vector (c .r)))) ≡ apply (entries (c .p)) (vector (c .r))
   read-t = vector-words (ok .fits) (apply-each (fit .permutes .indices) (fit .below))
 
+  pub masked-vector : Vector q (3 * L) (masked s x c)
+  masked-vector = add-vector extended (fit .below)
+
   read-u : vector (words (masked s x c)) ≡ masked s x c
-  read-u = vector-words (ok .fits) (add-vector extended (fit .below))
+  read-u = vector-words (ok .fits) masked-vector
 
   -- P(extended) + P(R) = P(extended + R)
   summed : add q (ternaries q (apply (entries (c .p)) (extend L x))) (vector (words (apply (entries (c .p)) (vector (c .r))))) ≡ apply (entries (c .p)) (masked s x c)
@@ -56,7 +59,7 @@ module _ (s : Setting) (ok : Valid s) (x : Bytes) (size : length x ≡ s .L) (te
   passes2 = record {
     permutes = fit .permutes;
     sized = fit .size-p;
-    below = rw read-u (add-vector extended (fit .below));
+    below = rw read-u masked-vector;
     size1 = fit .size1;
     size3 = fit .size3;
     d1 = rw opened refl;

@@ -1,3 +1,7 @@
 pub mod Complete
+pub mod Equations
+pub mod Extraction
+pub mod Honest
+pub mod Layouts
 pub mod Sound
 pub mod Pairs

@@ -16,7 +16,7 @@ use Rattle.vector.proofs.Balance.{balanced-sound}
 use Rattle.stern.specs.Argument.{Setting, Valid, Short, Solves, First, Answer1, Answer2, Answer3, Passes1, Passes2, Passes3, Extracted, broken1, broken2, broken3, found, solution, one-by2, one-by3, two-by1, two-by3, three-by1, three-by2}
 
 -- joined strings whose first parts are as long are equal part by part
-parts : (a c : Bytes) {b d : Bytes} → length a ≡ length c → a ++ b ≡ c ++ d → (a ≡ c) × (b ≡ d)
+pub parts : (a c : Bytes) {b d : Bytes} → length a ≡ length c → a ++ b ≡ c ++ d → (a ≡ c) × (b ≡ d)
 parts a c {b} {d} l e = (
   sym (take-at a b (length a) refl) ∙ ap (take (length a)) e ∙ take-at c d (length a) (sym l),
   sym (drop-at a b (length a) refl) ∙ ap (drop (length a)) e ∙ drop-at c d (length a) (sym l),
