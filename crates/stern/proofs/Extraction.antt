@@ -25,7 +25,7 @@ use Rattle.vector.proofs.Vectors.{at-each}
 use Rattle.commitment.specs.Commitment.{Keys, plus3, row, second}
 use Rattle.stern.specs.Argument.{Short, Solves, Passes1, Passes2, Passes3, Extracted, two-by1, three-by1, one-by2, three-by2, one-by3, two-by3}
 use Rattle.stern.specs.Shortness.{polynomial, threeFrom, numbers, equations, sides, setting, firstOf, answerLength, answer1Of, answer2Of, answer3Of, tests1, tests2, tests3}
-use Rattle.stern.proofs.Equations.{alike-numbers, setting-valid}
+use Rattle.stern.proofs.FourEquations.{alike-numbers, setting-valid}
 use Rattle.stern.proofs.Layouts.{vector-of, permutes-of}
 use Rattle.stern.proofs.Sound.{parts, extract}
 

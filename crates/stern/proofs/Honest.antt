@@ -27,7 +27,7 @@ use Rattle.commitment.proofs.Additive.{row-alike, second-alike, opens-add}
 use Rattle.stern.specs.Argument.{Setting, Valid, Drawn, Answer1, Answer2, Answer3, Fit, Passes1, Passes2, Passes3, masked, first, answer1, answer2, answer3}
 use Rattle.stern.specs.Shortness.{polynomial, threeFrom, equations, sides, setting, drawnOf, firstOf, firstBytes, answerLength, answer1Of, answer2Of, answer3Of, answer1Bytes, answer2Bytes, answer3Bytes, tests1, tests2, tests3, answerTests}
 use Rattle.stern.proofs.Complete as Complete
-use Rattle.stern.proofs.Equations.{numbers-alike, setting-valid, polynomial-ternaries}
+use Rattle.stern.proofs.FourEquations.{numbers-alike, setting-valid, polynomial-ternaries}
 use Rattle.stern.proofs.Layouts.{part-first, part-rest, four-read, vector-of, permutes-of, of-permutes, firstOf-firstBytes, answer1Of-answer1Bytes, answer2Of-answer2Bytes, answer3Of-answer3Bytes, length-answer1Bytes, length-answer2Bytes, length-answer3Bytes}
 
 -- what the committer of a split has: x is s, e and the three r of s0, of s1, of e0, of e1 as ternary bytes, and c the pairs of s0, s1, e0, e1

@@ -1,5 +1,5 @@
 pub mod Complete
-pub mod Equations
+pub mod FourEquations
 pub mod Extraction
 pub mod Honest
 pub mod Layouts
