@@ -25,7 +25,35 @@ loaded-part q n r t w w' at to h i e =
     e ∙ ap (λ (s : Bytes). put w to (encode (length s) (ternary q s))) i ∙ ap (λ (m : ℕ). put w to (encode m (ternary q (part r at n)))) (length-part r at n h)
 
 module _ (q n : ℕ) (high : n ≤ 2048) (positive : 0 < q) (few : q < 2 ^ 56) where
-  -- ---- before the pair is worked out
+  -- ---- from four slots that hold r and m
+
+  module _ (r : Three) (m : Poly) (w w2 : Bytes) (long : length w ≡ 1048576) (four : Shelf q n (r .r1 ∷ r .r2 ∷ r .r3 ∷ m ∷ []) w2) where
+    pub commit-asks : (length w2 ≡ 1048576) × (Below q n (slot w2 0) × Below q n (slot w2 16384) × Below q n (slot w2 32768) × Below q n (slot w2 49152))
+    commit-asks = (
+      four .long,
+      (
+        shelf-below q n high positive few four 0 (omega arith),
+        shelf-below q n high positive few four 1 (omega arith),
+        shelf-below q n high positive few four 2 (omega arith),
+        shelf-below q n high positive few four 3 (omega arith),
+      ),
+    )
+
+    loaded : Alike3 q n (threeAt w2) r
+    loaded = record {
+      r1 = shelf-alike q n high positive few four 0 (omega arith);
+      r2 = shelf-alike q n high positive few four 1 (omega arith);
+      r3 = shelf-alike q n high positive few four 2 (omega arith);
+    }
+
+    pub commit-made : (k : Keys) (w3 : Bytes) → PairStands q n (committed q n k (threeAt w2) (slot w2 49152)) w2 w3 → PairStands q n (committed q n k r m) w w3
+    commit-made k w3 h = record {
+      sized = h .sized ∙ four .long ∙ sym long;
+      one = h .one ∙ encode-alike (row-alike q n k loaded);
+      two = h .two ∙ encode-alike (second-alike q n k loaded (shelf-alike q n high positive few four 3 (omega arith)));
+    }
+
+  -- ---- from lent bytes
 
   module _ (w w1 w2 m r : Bytes) (long : length w ≡ 1048576) (octets : Octets m) (lent : Public n q m) (e1 : w1 ≡ withThree n w (threeOf q n r)) (e2 : w2 ≡ put w1 49152 m) where
     three : Shelf q n (threeOf q n r .r1 ∷ threeOf q n r .r2 ∷ threeOf q n r .r3 ∷ []) w1
@@ -38,30 +66,11 @@ module _ (q n : ℕ) (high : n ≤ 2048) (positive : 0 < q) (few : q < 2 ^ 56) w
     four : Shelf q n (threeOf q n r .r1 ∷ threeOf q n r .r2 ∷ threeOf q n r .r3 ∷ poly m ∷ []) w2
     four = shelf-copy q n high positive few three 3 (omega arith) (omega arith) m octets (lent .sized) (lent .below) e2
 
-    pub commit-asks : (length w2 ≡ 1048576) × (Below q n (slot w2 0) × Below q n (slot w2 16384) × Below q n (slot w2 32768) × Below q n (slot w2 49152))
-    commit-asks = (
-      four .long,
-      (
-        shelf-below q n high positive few four 0 (omega arith),
-        shelf-below q n high positive few four 1 (omega arith),
-        shelf-below q n high positive few four 2 (omega arith),
-        shelf-below q n high positive few four 3 (omega arith),
-      ),
-    )
-
-    loaded : Alike3 q n (threeAt w2) (threeOf q n r)
-    loaded = record {
-      r1 = shelf-alike q n high positive few four 0 (omega arith);
-      r2 = shelf-alike q n high positive few four 1 (omega arith);
-      r3 = shelf-alike q n high positive few four 2 (omega arith);
-    }
+    pub pair-asks : (length w2 ≡ 1048576) × (Below q n (slot w2 0) × Below q n (slot w2 16384) × Below q n (slot w2 32768) × Below q n (slot w2 49152))
+    pair-asks = commit-asks (threeOf q n r) (poly m) w w2 long four
 
     pub pair-made : (k : Keys) (w3 : Bytes) → PairStands q n (committed q n k (threeAt w2) (slot w2 49152)) w2 w3 → PairStands q n (committed q n k (threeOf q n r) (poly m)) w w3
-    pair-made k w3 h = record {
-      sized = h .sized ∙ four .long ∙ sym long;
-      one = h .one ∙ encode-alike (row-alike q n k loaded);
-      two = h .two ∙ encode-alike (second-alike q n k loaded (shelf-alike q n high positive few four 3 (omega arith)));
-    }
+    pair-made = commit-made (threeOf q n r) (poly m) w w2 long four
 
 -- ---- the pair is compared with lent bytes
 

@@ -3,7 +3,7 @@ use Prim.Native.Nat.{_<_}
 use native.Mathlib.Omega.{arith}
 use borrow.Author.Needs.{needs}
 use Rattle.codec.specs.Bytes.{Octets}
-use Rattle.commitment.proofs.Loading.{commit-asks, pair-made}
+use Rattle.commitment.proofs.Loading.{pair-asks, pair-made}
 use Rattle.commitment.proofs.pair.Statement.{statement}
 use Rattle.commitment.proofs.pair.Tie as tie
 
@@ -14,7 +14,7 @@ commit-requires c κs =
     let t = p .1 .some in
     let z : 0 < a .q = omega arith in
     let o : Octets (a .m .now) = λ i l. omega (arith, c .before .before .before .before .before .before .before .before .before .before .shared-slice-known2 .given i) in
-    let h = commit-asks (a .q) (a .n) (p .1 .high) z (p .1 .few) (a .work .now) _ _ (a .m .now) (a .r .now) (p .3) o (p .1) (c .before .before .before .before .before .before .before .load-three .ensures) (c .before .before .before .copy .ensures) in
+    let h = pair-asks (a .q) (a .n) (p .1 .high) z (p .1 .few) (a .work .now) _ _ (a .m .now) (a .r .now) (p .3) o (p .1) (c .before .before .before .before .before .before .before .load-three .ensures) (c .before .before .before .copy .ensures) in
     ((p .0, h .0), h .1)
 
 returns : tie.Need-returns
