@@ -43,7 +43,7 @@ alike-numbers {q} {N} f g e = record {
   at = λ k l. record { is = sym (numbers-at q N f k l) ∙ ap (λ (x : List ℕ). getD x k 0) e ∙ numbers-at q N g k l };
 }
 
-numbers-add : (q N : ℕ) (f g : Poly) → 0 < q → numbers q N (plus f g) ≡ add q (numbers q N f) (numbers q N g)
+pub numbers-add : (q N : ℕ) (f g : Poly) → 0 < q → numbers q N (plus f g) ≡ add q (numbers q N f) (numbers q N g)
 unfolding plus
 numbers-add q N f g h =
     ext-getD 0 (numbers q N (plus f g)) (add q (numbers q N f) (numbers q N g)) (size ∙ sym (each-length (add-vector v w)))

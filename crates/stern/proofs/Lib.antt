@@ -5,3 +5,4 @@ pub mod Honest
 pub mod Layouts
 pub mod Sound
 pub mod Pairs
+pub mod Strings

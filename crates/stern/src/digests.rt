@@ -1,0 +1,75 @@
+// The digests of a repetition: SHA3-256 over a leading byte, a salt and what the digest covers.
+use crate::equations::equation_pair;
+ghost use mathlib.Core.Path.{_≡_};
+ghost use mathlib.Core.Bool.{cond};
+ghost use mathlib.Core.List.{_∷_, _++_};
+ghost use Prim.Native.Nat.{_+_, _*_, _/_, _≤_, _<_};
+ghost use lib.ListN.{length, take};
+ghost use Rattle.codec.specs.Bytes.{part};
+ghost use Rattle.sha3.specs.Sponge.{absorb, zeroState, sha3};
+ghost use Rattle.ring.specs.Poly.{Below};
+ghost use Rattle.ring.specs.Slots.{poly};
+ghost use Rattle.call.specs.Call.{scratchLength};
+ghost use Rattle.commitment.specs.Commitment.{keysOf, PublicKeys};
+ghost use Rattle.vector.specs.Vector.{vector, subtract};
+ghost use Rattle.stern.specs.Argument.{string1};
+ghost use Rattle.stern.specs.Shortness.{equations, sides};
+
+// The state after a leading byte and a salt: 33 bytes.
+fn begin(lead: u8, salt: &[u8]) -> [[u64; 5]; 5]
+    ensures { λ r. ⌜ r ≡ absorb zeroState 0 (lead ∷ now (salt .entry)) ⌝ }
+{
+    let head = [lead; 1];
+    let s = sha3::absorb(sha3::start(), 0, &head);
+    sha3::absorb(s, 1, salt)
+}
+
+// The digest of a leading byte, a salt and a message.
+pub fn tagged(lead: u8, salt: &[u8], m: &[u8]) -> [u8; 32]
+    requires { ⌜ length (now salt) ≡ 32 ⌝ }
+    ensures { λ r. ⌜ r ≡ sha3 (lead ∷ (now (salt .entry) ++ now (m .entry))) ⌝ }
+{
+    let s = sha3::absorb(begin(lead, salt), 33, m);
+    sha3::finish(s, sha3::advance(33, m.len()))
+}
+
+// Absorbs a pair that stands in scratch.
+fn absorb_pair(s: [[u64; 5]; 5], at: usize, work: &[u8], n: usize) -> [[u64; 5]; 5]
+    requires { ⌜ (at < 136) × (49152 + 8 * n ≤ length (now work)) ⌝ }
+    ensures { λ r. ⌜ r ≡ absorb s at (part (now (work .entry)) 0 (8 * n) ++ part (now (work .entry)) 49152 (8 * n)) ⌝ }
+{
+    let t = sha3::absorb(s, at, &work[0..8 * n]);
+    let next = sha3::advance(at, 8 * n);
+    sha3::absorb(
+        t,
+        next,
+        &work[commitment::MESSAGE..commitment::MESSAGE + 8 * n],
+    )
+}
+
+// Digest 1: of P and the equations applied to a vector, with their right-hand sides subtracted or not.
+pub fn equations_digest(
+    work: &mut [u8],
+    k: &[u8],
+    c: &[u8],
+    less: bool,
+    x: &[u8],
+    p: &[u8],
+    salt: &[u8],
+    n: usize,
+    q: u64,
+) -> [u8; 32]
+    requires { ⌜ PublicKeys n q (now k) × (length (now work) ≡ scratchLength) × (length (now x) ≡ 336 * n) × Below q (length (now x) / 8) (poly (now x)) ⌝ }
+    requires { ⌜ (length (now c) ≡ 64 * n) × Below q (length (now c) / 8) (poly (now c)) × (length (now salt) ≡ 32) ⌝ }
+    ensures { λ r. ⌜ r ≡ sha3 (string1 (now (salt .entry)) (now (p .entry)) (cond less (subtract q (equations q n (keysOf n (now (k .entry))) (take (14 * n) (vector (now (x .entry))))) (sides q n (now (c .entry)))) (equations q n (keysOf n (now (k .entry))) (take (14 * n) (vector (now (x .entry))))))) ⌝ }
+    ensures { λ _. ⌜ length (now (work .exit)) ≡ length (now (work .entry)) ⌝ }
+{
+    let a = sha3::absorb(begin(1, salt), 33, p);
+    let i = sha3::advance(33, p.len());
+    equation_pair(work, k, c, less, x, 2 * n, 0, 0, n, q);
+    let b = absorb_pair(a, i, work, n);
+    let j = sha3::advance(i, 16 * n);
+    equation_pair(work, k, c, less, x, 8 * n, n, 4 * n, n, q);
+    let d = absorb_pair(b, j, work, n);
+    sha3::finish(d, sha3::advance(j, 16 * n))
+}
