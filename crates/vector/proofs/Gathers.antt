@@ -1,13 +1,14 @@
 -- Vectors and permutations number by number, as loops write them. Assumes nothing.
-use mathlib.Core.Path.{_≡_, refl, sym, ap, _∙_}
-use mathlib.Core.Bool.{Bool, true, false, cond}
+use mathlib.Core.Path.{_≡_, refl, sym, ap, ap₂, _∙_}
+use mathlib.Core.Bool.{true, cond}
 use mathlib.Core.List.{List, [], _∷_, _++_}
 use Prim.Native.Nat.{ℕ, zero, suc, _+_, _-_, _*_, _/_, _%_, _≤_, _<_}
+use native.Mathlib.Numerals.{add-one}
 use native.Mathlib.Omega.{arith}
 use borrow.Author.Tests.{ne-eqb}
 use lib.Dec.{eqb}
-use lib.ListN.{length, getD, replicate, length-append, length-replicate, getD-replicate, length-map}
-use lib.Seq.{getD-append-add}
+use lib.ListN.{length, getD, set, replicate, length-append, length-replicate, getD-replicate, length-map}
+use lib.Seq.{getD-append-add, paste, paste-suc}
 use Rattle.codec.specs.Bytes.{Bytes, words, number, part, put}
 use Rattle.modular.specs.Modulo.{remainder}
 use Rattle.ring.specs.Slots.{poly, list, encode, allBelow}
@@ -29,29 +30,33 @@ unfolding encode
 laid-all w at l n e =
     filled-all w at (λ k. getD l k 0) n ∙ ap (λ (s : List ℕ). put w at (words s)) (ap (λ (m : ℕ). list m (λ k. getD l k 0)) (sym e) ∙ list-getD l)
 
+-- the same of bytes
+pub paste-more : (w d : Bytes) (at : ℕ) (l : Bytes) (i b : ℕ) → d ≡ paste w at l i → at + i < length w → i < length l → b ≡ getD l i 0 → set d (at + i) b ≡ paste w at l (i + 1)
+paste-more w d at l i b e h k v = rw (e, v, add-one) (paste-suc w at l i 0 h k)
+
 -- ---- entries of a permutation, and numbers of a vector
 
-pub length-entries : (s : Bytes) (n : ℕ) → length s ≡ 4 * n → length (entries s) ≡ n
+pub length-entries : (s : Bytes) → length (entries s) ≡ length s / 4
 unfolding entries
-length-entries s n h = length-list (length s / 4) _ ∙ omega arith
+length-entries s = length-list (length s / 4) _
 
 pub entry-at : (s : Bytes) (i : ℕ) → 4 * i + 4 ≤ length s → getD (entries s) i 0 ≡ number (part s (4 * i) 4)
 unfolding entries
 entry-at s i h = getD-list (length s / 4) (λ k. number (part s (4 * k) 4)) i (omega arith)
 
-pub entry-lt : (s : Bytes) (n i : ℕ) → length s ≡ 4 * n → allBelow n (entries s) ≡ true → i < n → getD (entries s) i 0 < n
-entry-lt s n i h e l = allBelow-sound n (entries s) e i (omega (arith, length-entries s n h))
+pub entry-lt : (s : Bytes) (n i : ℕ) → allBelow n (entries s) ≡ true → 4 * i + 4 ≤ length s → getD (entries s) i 0 < n
+entry-lt s n i e h = allBelow-sound n (entries s) e i (omega (arith, length-entries s))
 
-pub length-vector : (s : Bytes) (n : ℕ) → length s ≡ 8 * n → length (vector s) ≡ n
+pub length-vector : (s : Bytes) → length (vector s) ≡ length s / 8
 unfolding vector
-length-vector s n h = length-list (length s / 8) _ ∙ omega arith
+length-vector s = length-list (length s / 8) _
 
 pub component-at : (s : Bytes) (i : ℕ) → 8 * i + 8 ≤ length s → getD (vector s) i 0 ≡ number (part s (8 * i) 8)
 unfolding vector poly
 component-at s i h = getD-list (length s / 8) (poly s) i (omega arith)
 
-pub component-lt : (s : Bytes) (q i : ℕ) → 8 * i + 8 ≤ length s → allBelow q (vector s) ≡ true → getD (vector s) i 0 < q
-component-lt s q i h e = allBelow-sound q (vector s) e i (unfold vector in omega (arith, length-list (length s / 8) (poly s)))
+pub component-lt : (s : Bytes) (q i : ℕ) → allBelow q (vector s) ≡ true → 8 * i + 8 ≤ length s → getD (vector s) i 0 < q
+component-lt s q i e h = allBelow-sound q (vector s) e i (omega (arith, length-vector s))
 
 -- ---- a permutation that is applied
 
@@ -88,6 +93,16 @@ length-ternaries q w = length-list (length w) (ternary q w)
 pub ternaries-at : (q : ℕ) (w : Bytes) (i : ℕ) → i < length w → getD (ternaries q w) i 0 ≡ remainder q (meaning (getD w i 0))
 unfolding ternaries ternary
 ternaries-at q w i h = getD-list (length w) (ternary q w) i h
+
+-- number i of a ternary vector and a vector, as code makes it
+pub sum-at : (q : ℕ) (w t : Bytes) (i u v : ℕ) → i < length w → 8 * i + 8 ≤ length t → u ≡ remainder q (meaning (getD w i 0)) → v ≡ getD (vector t) i 0
+    → (u + v) % q ≡ getD (add q (ternaries q w) (vector t)) i 0
+sum-at q w t i u v h l d e =
+    ap₂ (λ (a b : ℕ). (a + b) % q) (d ∙ sym (ternaries-at q w i h)) e
+    ∙ sym (add-at q (ternaries q w) (vector t) i (omega (arith, length-ternaries q w)) (omega (arith, length-vector t)))
+
+pub length-sum : (q : ℕ) (w t : Bytes) (n : ℕ) → length t ≡ 8 * n → n ≤ length w → length (add q (ternaries q w) (vector t)) ≡ n
+length-sum q w t n h l = length-add q (ternaries q w) (vector t) (omega (arith, length-ternaries q w, length-vector t)) ∙ length-vector t ∙ omega arith
 
 -- ---- the extended form
 

@@ -96,8 +96,8 @@ permutes-yes : (n : ℕ) (p : List ℕ) → length p ≡ n → ((i : ℕ) → i 
 unfolding permutes
 permutes-yes n p e once =
     let l : list n (λ i. count i p) ≡ replicate n 1 =
-      ext-getD 0 (list n (λ i. count i p)) (replicate n 1) (length-list n _ ∙ sym (length-replicate n 1))
-      (λ i h. let k : i < n = omega (arith, length-list n (λ i. count i p)) in getD-list n (λ i. count i p) i k ∙ once i k ∙ sym (getD-replicate n i 1 0 k)) in
+    ext-getD 0 (list n (λ i. count i p)) (replicate n 1) (length-list n _ ∙ sym (length-replicate n 1))
+    (λ i h. let k : i < n = omega (arith, length-list n (λ i. count i p)) in getD-list n (λ i. count i p) i k ∙ once i k ∙ sym (getD-replicate n i 1 0 k)) in
     rw (eq-eqb (length p) n e) (ap (λ (s : Bytes). same s (replicate n 1)) l ∙ same-refl (replicate n 1))
 
 pub permutes-length : (n : ℕ) (p : List ℕ) → permutes n p ≡ true → length p ≡ n

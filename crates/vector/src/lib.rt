@@ -133,7 +133,15 @@ pub fn gather(work: &mut [u8], at: usize, p: &[u8], x: &[u8], n: usize)
 }
 
 // The bytes of the extended form of x in the order of the permutation p.
-pub fn gather_extended(out: &mut [u8], at: usize, p: &[u8], x: &[u8], minus: usize, zeros: usize, n: usize)
+pub fn gather_extended(
+    out: &mut [u8],
+    at: usize,
+    p: &[u8],
+    x: &[u8],
+    minus: usize,
+    zeros: usize,
+    n: usize,
+)
     requires { ⌜ (n ≡ 3 * length (now x)) × (minus ≡ length (now x) - count 2 (now x)) × (zeros ≡ length (now x) - count 0 (now x)) ⌝ }
     requires { ⌜ (length (now p) ≡ 4 * n) × (at + n ≤ length (now out)) × (allBelow n (entries (now p)) ≡ true) ⌝ }
     ensures { λ _. ⌜ now (out .exit) ≡ put (now (out .entry)) at (apply (entries (now (p .entry))) (extend (length (now (x .entry))) (now (x .entry)))) ⌝ }
@@ -147,7 +155,16 @@ pub fn gather_extended(out: &mut [u8], at: usize, p: &[u8], x: &[u8], minus: usi
 }
 
 // The extended form of x plus r.
-pub fn mask(out: &mut [u8], at: usize, x: &[u8], minus: usize, zeros: usize, r: &[u8], n: usize, q: u64)
+pub fn mask(
+    out: &mut [u8],
+    at: usize,
+    x: &[u8],
+    minus: usize,
+    zeros: usize,
+    r: &[u8],
+    n: usize,
+    q: u64,
+)
     requires { ⌜ (n ≡ 3 * length (now x)) × (minus ≡ length (now x) - count 2 (now x)) × (zeros ≡ length (now x) - count 0 (now x)) ⌝ }
     requires { ⌜ (1 < q) × (q < 2 ^ 56) × (length (now r) ≡ 8 * n) × (allBelow q (vector (now r)) ≡ true) × (at + 8 * n ≤ length (now out)) ⌝ }
     ensures { λ _. ⌜ now (out .exit) ≡ put (now (out .entry)) at (words (add q (ternaries q (extend (length (now (x .entry))) (now (x .entry)))) (vector (now (r .entry))))) ⌝ }
@@ -161,7 +178,17 @@ pub fn mask(out: &mut [u8], at: usize, x: &[u8], minus: usize, zeros: usize, r: 
 }
 
 // The extended form of x plus r in the order of the permutation p, with no vector in between.
-pub fn gather_masked(work: &mut [u8], at: usize, p: &[u8], x: &[u8], minus: usize, zeros: usize, r: &[u8], n: usize, q: u64)
+pub fn gather_masked(
+    work: &mut [u8],
+    at: usize,
+    p: &[u8],
+    x: &[u8],
+    minus: usize,
+    zeros: usize,
+    r: &[u8],
+    n: usize,
+    q: u64,
+)
     requires { ⌜ (n ≡ 3 * length (now x)) × (minus ≡ length (now x) - count 2 (now x)) × (zeros ≡ length (now x) - count 0 (now x)) ⌝ }
     requires { ⌜ (1 < q) × (q < 2 ^ 56) × (length (now r) ≡ 8 * n) × (allBelow q (vector (now r)) ≡ true) ⌝ }
     requires { ⌜ (length (now p) ≡ 4 * n) × (at + 8 * n ≤ length (now work)) × (allBelow n (entries (now p)) ≡ true) ⌝ }

@@ -1,75 +1,49 @@
+-- `vector::gather` meets its contract. Assumes nothing.
+use mathlib.Core.Path.{_≡_, refl, sym, ap, _∙_}
+use Prim.Native.Nat.{ℕ, _-_, _≤_}
+use native.Mathlib.Omega.{arith}
+use borrow.Author.Needs.{needs}
+use lib.ListN.{length, getD}
+use Rattle.ring.proofs.Filling.{filled-none, filled-more}
+use Rattle.vector.specs.Vector.{vector}
+use Rattle.vector.specs.Permutation.{entries, apply}
+use Rattle.vector.proofs.Gathers.{laid, laid-all, length-entries, entry-lt, length-apply, apply-at}
 use Rattle.vector.proofs.gather.Statement.{statement}
 use Rattle.vector.proofs.gather.Tie as tie
-use Rattle.vector.proofs.gather.Reads as reads
-use Rattle.vector.proofs.gather.Lts as lts
-use Rattle.codec.proofs.write64.Reads as write64-reads
-use Rattle.vector.proofs.component.Reads as component-reads
-use Rattle.vector.proofs.entry.Reads as entry-reads
 
 abbrev Inv-loop : tie.InvT-loop
-Inv-loop work₀ at p x n i₀ work i = ?
+Inv-loop work₀ at p x n i₀ work i = (i ≤ n) × (length work ≡ length work₀) × (work ≡ laid work₀ at (apply (entries p) (vector x)) i)
 
 abbrev μ-loop : tie.MeasureT-loop
-μ-loop work₀ at p x n i₀ work i = ?
+μ-loop work₀ at p x n i₀ work i = n - i
 
--- src/lib.rt:128:5
 loop-holds : tie.Need-loop-holds Inv-loop μ-loop
-loop-holds c = ?
+loop-holds c = (omega arith, refl, filled-none _ _ _)
 
--- src/lib.rt:129:30
-entry-requires : tie.Need-entry-requires Inv-loop μ-loop
-entry-requires c κs = ?
-
--- src/lib.rt:129:13
 component-requires : tie.Need-component-requires Inv-loop μ-loop
-component-requires c κs = ?
+component-requires c κs =
+    let a = c .before .before .before .before .before .before .args in
+    omega (arith, c .entry .ensures, entry-lt (a .p .now) (a .n) (c .before .before .loop .i) (c .before .before .before .before .before .before .pre .3) (omega arith))
 
--- src/lib.rt:130:35
-mul-write64 : tie.Need-mul-write64 Inv-loop μ-loop
-mul-write64 c = ?
-
--- src/lib.rt:130:30
-add-write64 : tie.Need-add-write64 Inv-loop μ-loop
-add-write64 c = ?
-
--- src/lib.rt:130:9
-write64-requires : tie.Need-write64-requires Inv-loop μ-loop
-write64-requires c κs = ?
-
--- src/lib.rt:131:9
-add-i : tie.Need-add-i Inv-loop μ-loop
-add-i c = ?
-
--- src/lib.rt:128:5
-loop-less : tie.Need-loop-less Inv-loop μ-loop
-loop-less c = ?
-
--- src/lib.rt:128:5
 loop-again : tie.Need-loop-again Inv-loop μ-loop
-loop-again c = ?
+loop-again c =
+    let a = c .before .before .before .before .before .before .before .before .before .before .before .args in
+    let l = c .before .before .before .before .before .before .before .loop in (
+      omega arith,
+      c .before .before .write64 .kept .0 ∙ l .inv .1,
+      filled-more (a .work .now) (a .at) _ (l .i) (l .work) _ _ (l .inv .2) (omega arith) (c .before .before .before .before .component .ensures ∙ ap (λ (k : ℕ). getD (vector (a .x .now)) k 0) (c .before .before .before .before .before .entry .ensures) ∙ sym (apply-at (entries (a .p .now)) (vector (a .x .now)) (l .i) (omega (arith, length-entries (a .p .now))))) (c .before .before .write64 .ensures),
+    )
 
--- src/lib.rt:123:1
 same-length : tie.Need-same-length Inv-loop μ-loop
-same-length c = ?
+same-length c = c .before .loop .inv .1
 
--- src/lib.rt:123:1
 returns : tie.Need-returns Inv-loop μ-loop
-returns c = ?
+returns c =
+    let a = c .before .before .before .before .before .args in
+    let l = c .before .loop in
+    let y = apply (entries (a .p .now)) (vector (a .x .now)) in
+    let e : l .i ≡ a .n = omega arith in
+    l .inv .2 ∙ ap (laid (a .work .now) (a .at) y) e ∙ laid-all (a .work .now) (a .at) y (a .n) (length-apply (entries (a .p .now)) _ ∙ length-entries (a .p .now) ∙ omega arith)
 
 pub gather-spec : {M : Type 1} → statement M
-gather-spec =
-    tie.close
-    (tie.spec
-    Inv-loop
-    μ-loop
-    loop-holds
-    entry-requires
-    component-requires
-    mul-write64
-    add-write64
-    write64-requires
-    add-i
-    loop-less
-    loop-again
-    same-length
-    returns)
+gather-spec = tie.close (tie.spec Inv-loop μ-loop loop-holds (λ c κs. search needs) component-requires (λ c. search needs) (λ c. search needs) (λ c κs. search needs) (λ c. search needs) (λ c. search needs) loop-again same-length returns)

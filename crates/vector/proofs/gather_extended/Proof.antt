@@ -1,69 +1,55 @@
+-- `vector::gather_extended` meets its contract. Assumes nothing.
+use mathlib.Core.Path.{_≡_, refl, sym, ap, _∙_}
+use Prim.Native.Nat.{ℕ, _-_, _<_, _≤_}
+use native.Mathlib.Omega.{arith}
+use borrow.Author.Needs.{needs}
+use lib.ListN.{length, getD, length-set}
+use lib.Seq.{paste, paste-zero}
+use Rattle.codec.proofs.Laws.{paste-all}
+use Rattle.vector.specs.Permutation.{entries, apply, extend}
+use Rattle.vector.proofs.Gathers.{paste-more, length-entries, entry-lt, length-apply, apply-at}
 use Rattle.vector.proofs.gather_extended.Statement.{statement}
 use Rattle.vector.proofs.gather_extended.Tie as tie
-use Rattle.vector.proofs.gather_extended.Reads as reads
-use Rattle.vector.proofs.gather_extended.Lts as lts
-use Rattle.vector.proofs.entry.Reads as entry-reads
-use Rattle.vector.proofs.extended.Reads as extended-reads
 
 abbrev Inv-loop : tie.InvT-loop
-Inv-loop out₀ at p x minus zeros n i₀ out i = ?
+Inv-loop out₀ at p x minus zeros n i₀ out i = (i ≤ n) × (length out ≡ length out₀) × (out ≡ paste out₀ at (apply (entries p) (extend (length x) x)) i)
 
 abbrev μ-loop : tie.MeasureT-loop
-μ-loop out₀ at p x minus zeros n i₀ out i = ?
+μ-loop out₀ at p x minus zeros n i₀ out i = n - i
 
--- src/lib.rt:142:5
 loop-holds : tie.Need-loop-holds Inv-loop μ-loop
-loop-holds c = ?
+loop-holds c =
+    let a = c .before .before .before .args in
+    (omega arith, refl, paste-zero (a .out .now) (a .at) (apply (entries (a .p .now)) (extend (length (a .x .now)) (a .x .now))))
 
--- src/lib.rt:143:43
-entry-requires : tie.Need-entry-requires Inv-loop μ-loop
-entry-requires c κs = ?
-
--- src/lib.rt:143:13
 extended-requires : tie.Need-extended-requires Inv-loop μ-loop
-extended-requires c κs = ?
+extended-requires c κs =
+    let a = c .before .before .before .before .before .before .args in
+    let h : c .entry .result < a .n = rw (c .entry .ensures) (entry-lt (a .p .now) (a .n) (c .before .before .loop .i) (c .before .before .before .before .before .before .pre .1 .2) (omega arith)) in
+    search needs
 
--- src/lib.rt:144:13
-add-out : tie.Need-add-out Inv-loop μ-loop
-add-out c = ?
-
--- src/lib.rt:144:9
-slice-write-out : tie.Need-slice-write-out Inv-loop μ-loop
-slice-write-out c = ?
-
--- src/lib.rt:145:9
-add-i : tie.Need-add-i Inv-loop μ-loop
-add-i c = ?
-
--- src/lib.rt:142:5
-loop-less : tie.Need-loop-less Inv-loop μ-loop
-loop-less c = ?
-
--- src/lib.rt:142:5
 loop-again : tie.Need-loop-again Inv-loop μ-loop
-loop-again c = ?
+loop-again c =
+    let a = c .before .before .before .before .before .before .before .args in
+    let l = c .before .before .before .loop in
+    let y = extend (length (a .x .now)) (a .x .now) in
+    let k = length-apply (entries (a .p .now)) y ∙ length-entries (a .p .now) in (
+      omega arith,
+      length-set (l .out) _ _ ∙ l .inv .1,
+      paste-more (a .out .now) (l .out) (a .at) (apply (entries (a .p .now)) y) (l .i) _ (l .inv .2) (omega arith) (omega arith) (c .extended .ensures ∙ ap (λ (k : ℕ). getD y k 0) (c .before .entry .ensures) ∙ sym (apply-at (entries (a .p .now)) y (l .i) (omega (arith, length-entries (a .p .now))))),
+    )
 
--- src/lib.rt:136:1
 same-length : tie.Need-same-length Inv-loop μ-loop
-same-length c = ?
+same-length c = c .before .loop .inv .1
 
--- src/lib.rt:136:1
 returns : tie.Need-returns Inv-loop μ-loop
-returns c = ?
+returns c =
+    let a = c .before .before .before .before .before .args in
+    let l = c .before .loop in
+    let y = apply (entries (a .p .now)) (extend (length (a .x .now)) (a .x .now)) in
+    let k = length-apply (entries (a .p .now)) (extend (length (a .x .now)) (a .x .now)) ∙ length-entries (a .p .now) in
+    let e : l .i ≡ length y = omega arith in
+    l .inv .2 ∙ ap (paste (a .out .now) (a .at) y) e ∙ paste-all (a .out .now) (a .at) y
 
 pub gather-extended-spec : {M : Type 1} → statement M
-gather-extended-spec =
-    tie.close
-    (tie.spec
-    Inv-loop
-    μ-loop
-    loop-holds
-    entry-requires
-    extended-requires
-    add-out
-    slice-write-out
-    add-i
-    loop-less
-    loop-again
-    same-length
-    returns)
+gather-extended-spec = tie.close (tie.spec Inv-loop μ-loop loop-holds (λ c κs. search needs) extended-requires (λ c. search needs) (λ c. search needs) (λ c. search needs) (λ c. search needs) loop-again same-length returns)

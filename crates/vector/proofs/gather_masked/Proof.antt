@@ -1,75 +1,51 @@
+-- `vector::gather_masked` meets its contract. Assumes nothing.
+use mathlib.Core.Path.{_≡_, refl, sym, ap, _∙_}
+use Prim.Native.Nat.{ℕ, _-_, _<_, _≤_}
+use native.Mathlib.Omega.{arith}
+use borrow.Author.Needs.{needs}
+use lib.ListN.{length, getD}
+use Rattle.ring.proofs.Filling.{filled-none, filled-more}
+use Rattle.vector.specs.Vector.{vector, ternaries, add}
+use Rattle.vector.specs.Permutation.{entries, apply, extend}
+use Rattle.vector.proofs.Gathers.{laid, laid-all, length-entries, entry-lt, length-apply, apply-at}
 use Rattle.vector.proofs.gather_masked.Statement.{statement}
 use Rattle.vector.proofs.gather_masked.Tie as tie
-use Rattle.vector.proofs.gather_masked.Reads as reads
-use Rattle.vector.proofs.gather_masked.Lts as lts
-use Rattle.codec.proofs.write64.Reads as write64-reads
-use Rattle.vector.proofs.entry.Reads as entry-reads
-use Rattle.vector.proofs.masked.Reads as masked-reads
 
 abbrev Inv-loop : tie.InvT-loop
-Inv-loop work₀ at p x minus zeros r n q i₀ work i = ?
+Inv-loop work₀ at p x minus zeros r n q i₀ work i = (i ≤ n) × (length work ≡ length work₀) × (work ≡ laid work₀ at (apply (entries p) (add q (ternaries q (extend (length x) x)) (vector r))) i)
 
 abbrev μ-loop : tie.MeasureT-loop
-μ-loop work₀ at p x minus zeros r n q i₀ work i = ?
+μ-loop work₀ at p x minus zeros r n q i₀ work i = n - i
 
--- src/lib.rt:171:5
 loop-holds : tie.Need-loop-holds Inv-loop μ-loop
-loop-holds c = ?
+loop-holds c = (omega arith, refl, filled-none _ _ _)
 
--- src/lib.rt:172:44
-entry-requires : tie.Need-entry-requires Inv-loop μ-loop
-entry-requires c κs = ?
-
--- src/lib.rt:172:13
 masked-requires : tie.Need-masked-requires Inv-loop μ-loop
-masked-requires c κs = ?
+masked-requires c κs =
+    let a = c .before .before .before .before .before .before .before .args in
+    let h : c .entry .result < a .n = rw (c .entry .ensures) (entry-lt (a .p .now) (a .n) (c .before .before .loop .i) (c .before .before .before .before .before .before .before .pre .1 .1 .2) (omega arith)) in
+    let p = c .before .before .before .before .before .before .before .pre in
+    ((p .0 .1, p .0 .2, omega arith), (omega arith, omega arith, omega arith, p .1 .0 .3))
 
--- src/lib.rt:173:35
-mul-write64 : tie.Need-mul-write64 Inv-loop μ-loop
-mul-write64 c = ?
-
--- src/lib.rt:173:30
-add-write64 : tie.Need-add-write64 Inv-loop μ-loop
-add-write64 c = ?
-
--- src/lib.rt:173:9
-write64-requires : tie.Need-write64-requires Inv-loop μ-loop
-write64-requires c κs = ?
-
--- src/lib.rt:174:9
-add-i : tie.Need-add-i Inv-loop μ-loop
-add-i c = ?
-
--- src/lib.rt:171:5
-loop-less : tie.Need-loop-less Inv-loop μ-loop
-loop-less c = ?
-
--- src/lib.rt:171:5
 loop-again : tie.Need-loop-again Inv-loop μ-loop
-loop-again c = ?
+loop-again c =
+    let a = c .before .before .before .before .before .before .before .before .before .before .before .before .args in
+    let l = c .before .before .before .before .before .before .before .loop in (
+      omega arith,
+      c .before .before .write64 .kept .0 ∙ l .inv .1,
+      filled-more (a .work .now) (a .at) _ (l .i) (l .work) _ _ (l .inv .2) (omega arith) (c .before .before .before .before .masked .ensures ∙ ap (λ (k : ℕ). getD (add (a .q) (ternaries (a .q) (extend (length (a .x .now)) (a .x .now))) (vector (a .r .now))) k 0) (c .before .before .before .before .before .entry .ensures) ∙ sym (apply-at (entries (a .p .now)) _ (l .i) (omega (arith, length-entries (a .p .now))))) (c .before .before .write64 .ensures),
+    )
 
--- src/lib.rt:164:1
 same-length : tie.Need-same-length Inv-loop μ-loop
-same-length c = ?
+same-length c = c .before .loop .inv .1
 
--- src/lib.rt:164:1
 returns : tie.Need-returns Inv-loop μ-loop
-returns c = ?
+returns c =
+    let a = c .before .before .before .before .before .before .args in
+    let l = c .before .loop in
+    let y = apply (entries (a .p .now)) (add (a .q) (ternaries (a .q) (extend (length (a .x .now)) (a .x .now))) (vector (a .r .now))) in
+    let e : l .i ≡ a .n = omega arith in
+    l .inv .2 ∙ ap (laid (a .work .now) (a .at) y) e ∙ laid-all (a .work .now) (a .at) y (a .n) (length-apply (entries (a .p .now)) _ ∙ length-entries (a .p .now) ∙ omega arith)
 
 pub gather-masked-spec : {M : Type 1} → statement M
-gather-masked-spec =
-    tie.close
-    (tie.spec
-    Inv-loop
-    μ-loop
-    loop-holds
-    entry-requires
-    masked-requires
-    mul-write64
-    add-write64
-    write64-requires
-    add-i
-    loop-less
-    loop-again
-    same-length
-    returns)
+gather-masked-spec = tie.close (tie.spec Inv-loop μ-loop loop-holds (λ c κs. search needs) masked-requires (λ c. search needs) (λ c. search needs) (λ c κs. search needs) (λ c. search needs) (λ c. search needs) loop-again same-length returns)
