@@ -126,8 +126,9 @@ pub fn gather(work: &mut [u8], at: usize, p: &[u8], x: &[u8], n: usize)
 {
     let mut i = 0;
     while i < n {
-        let v = component(x, entry(p, i));
-        codec::write64(work, at + 8 * i, v);
+        let j = entry(p, i);
+        let y = component(x, j);
+        codec::write64(work, at + 8 * i, y);
         i += 1;
     }
 }
