@@ -1,18 +1,20 @@
 -- Vectors and permutations number by number, as loops write them. Assumes nothing.
 use mathlib.Core.Path.{_≡_, refl, sym, ap, ap₂, _∙_}
-use mathlib.Core.Bool.{true, cond}
+use mathlib.Core.Bool.{Bool, true, false, cond}
+use mathlib.Core.Logic.{_⊎_, inl, inr}
 use mathlib.Core.List.{List, [], _∷_, _++_}
 use Prim.Native.Nat.{ℕ, zero, suc, _+_, _-_, _*_, _/_, _%_, _≤_, _<_}
 use native.Mathlib.Numerals.{add-one}
 use native.Mathlib.Omega.{arith}
-use borrow.Author.Tests.{ne-eqb}
-use lib.Dec.{eqb}
+use borrow.Author.Tests.{ne-eqb, lt-ltb, le-ltb}
+use lib.Dec.{eqb, ltb}
 use lib.ListN.{length, getD, set, replicate, length-append, length-replicate, getD-replicate, length-map}
 use lib.Seq.{getD-append-add, paste, paste-suc}
 use Rattle.codec.specs.Bytes.{Bytes, words, number, part, put}
 use Rattle.modular.specs.Modulo.{remainder}
 use Rattle.ring.specs.Slots.{poly, list, encode, allBelow}
 use Rattle.ring.specs.Ternary.{meaning, ternary, count}
+use Rattle.ring.proofs.Sums.{side}
 use Rattle.ring.proofs.Bridge.{length-list, getD-list, list-getD}
 use Rattle.ring.proofs.Filling.{filled, filled-all}
 use Rattle.ring.proofs.Ranges.{allBelow-sound}
@@ -164,3 +166,53 @@ module _ (x : Bytes) where
         behind h l ∙ later (replicate (length x - count 0 x) 0) _ k (rw (length-replicate {A = ℕ} (length x - count 0 x) 0) m)
         ∙ ap (λ (i : ℕ). getD (replicate (length x - count 1 x) 1) (k - i) 0) (length-replicate (length x - count 0 x) 0)
         ∙ getD-replicate (length x - count 1 x) (k - (length x - count 0 x)) 1 0 (omega (arith, counts-le x))
+
+-- the byte as tests with no jump make it: each of them answers a number or 0
+pub if-le : (b : Bool) (v : ℕ) → cond b v 0 ≤ v
+if-le true v = omega arith
+if-le false v = omega arith
+
+pub if-index : (j n : ℕ) → 0 < n → cond (ltb j n) j 0 < n
+if-index j n h = go (side n j)
+  where
+    go : (n ≤ j) ⊎ (j < n) → cond (ltb j n) j 0 < n
+    go (inl l) = rw (le-ltb j n l) h
+    go (inr l) = rw (lt-ltb j n l) l
+
+pub if-byte : (x : Bytes) (j n i : ℕ) → i ≡ cond (ltb j n) j 0 → cond (ltb j n) (getD x i 0) 0 ≡ cond (ltb j n) (getD x j 0) 0
+if-byte x j n i e = go (ltb j n) e
+  where
+    go : (b : Bool) → i ≡ cond b j 0 → cond b (getD x i 0) 0 ≡ cond b (getD x j 0) 0
+    go true d = ap (λ (k : ℕ). getD x k 0) d
+    go false d = refl
+
+abbrev pub chosen : (n m z j v : ℕ) → ℕ
+chosen n m z j v = cond (ltb j n) v 0 + (cond (ltb j m) 2 0 - cond (ltb j n) 2 0) + (1 - cond (ltb j z) 1 0)
+
+module _ (n m z j v : ℕ) (h : n ≤ m) (l : m ≤ z) where
+  pub if-within : cond (ltb j n) 2 0 ≤ cond (ltb j m) 2 0
+  if-within = go (side n j)
+    where
+      go : (n ≤ j) ⊎ (j < n) → cond (ltb j n) 2 0 ≤ cond (ltb j m) 2 0
+      go (inl k) = rw (le-ltb j n k) (omega arith)
+      go (inr k) = rw (lt-ltb j n k, lt-ltb j m (omega arith)) (omega arith)
+
+  chosen-first : j < n → chosen n m z j v ≡ v
+  chosen-first k = rw (lt-ltb j n k, lt-ltb j m (omega arith), lt-ltb j z (omega arith)) (omega arith)
+
+  pub chosen-lt : v < 256 → chosen n m z j v < 256
+  chosen-lt b = go (side n j)
+    where
+      go : (n ≤ j) ⊎ (j < n) → chosen n m z j v < 256
+      go (inl k) = rw (le-ltb j n k) (omega (arith, if-le (ltb j m) 2))
+      go (inr k) = rw (chosen-first k) b
+
+module _ (x : Bytes) (m z j : ℕ) (em : m ≡ length x + (length x - count 2 x)) (ez : z ≡ m + (length x - count 0 x)) (h : j < 3 * length x) where
+  pub extend-chosen : chosen (length x) m z j (getD x j 0) ≡ getD (extend (length x) x) j 0
+  extend-chosen = go (side (length x) j) (side m j) (side z j)
+    where
+      go : (length x ≤ j) ⊎ (j < length x) → (m ≤ j) ⊎ (j < m) → (z ≤ j) ⊎ (j < z) → chosen (length x) m z j (getD x j 0) ≡ getD (extend (length x) x) j 0
+      go (inr a) b c = chosen-first (length x) m z j (getD x j 0) (omega arith) (omega arith) a ∙ sym (extend-first x j a)
+      go (inl a) (inr b) c = rw (le-ltb j (length x) a, lt-ltb j m b, lt-ltb j z (omega arith)) (sym (extend-minus x j a (omega arith)))
+      go (inl a) (inl b) (inr c) = rw (le-ltb j (length x) a, le-ltb j m b, lt-ltb j z c) (sym (extend-zero x j a (omega arith) (omega arith)))
+      go (inl a) (inl b) (inl c) = rw (le-ltb j (length x) a, le-ltb j m b, le-ltb j z c) (sym (extend-one x j a (omega arith) (omega arith) h))

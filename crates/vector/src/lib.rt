@@ -2,8 +2,9 @@
 // A number takes 8 bytes, an entry of a permutation 4, a ternary number 1. A ternary vector x of L numbers is never stored in its
 // extended form: `minus` and `zeros` say how many -1s and 0s stand behind x, and each of the 3L numbers is made where it is used.
 ghost use mathlib.Core.Path.{_≡_};
-ghost use mathlib.Core.Bool.{true};
+ghost use mathlib.Core.Bool.{true, cond};
 ghost use Prim.Native.Nat.{_+_, _-_, _*_, _^_, _≤_, _<_};
+ghost use lib.Dec.{ltb};
 ghost use lib.ListN.{length, getD};
 ghost use Rattle.codec.specs.Bytes.{part, put, words, zeros};
 ghost use Rattle.ring.specs.Slots.{allBelow};
@@ -90,24 +91,32 @@ pub fn component(x: &[u8], i: usize) -> u64
     codec::read64(x, 8 * i)
 }
 
+// v where j is below m, and else 0. Computed without a jump: the indices of a permutation cannot be foretold.
+fn below(j: usize, m: usize, v: usize) -> usize
+    requires { ⌜ (j < 2 ^ 62) × (m < 2 ^ 62) ⌝ }
+    ensures { λ r. ⌜ r ≡ cond (ltb j m) v 0 ⌝ }
+{
+    (m + 4611686018427387903 - j) / 4611686018427387904 * v
+}
+
 // Byte j of the extended form of x: x itself, and then the -1s, the 0s and the 1s.
 pub fn extended(x: &[u8], minus: usize, zeros: usize, j: usize) -> u8
-    requires { ⌜ (minus ≡ length (now x) - count 2 (now x)) × (zeros ≡ length (now x) - count 0 (now x)) × (j < 3 * length (now x)) ⌝ }
+    requires { ⌜ (3 * length (now x) < 2 ^ 62) × (minus ≡ length (now x) - count 2 (now x)) × (zeros ≡ length (now x) - count 0 (now x)) × (j < 3 * length (now x)) ⌝ }
     ensures { λ r. ⌜ r ≡ getD (extend (length (now (x .entry))) (now (x .entry))) j 0 ⌝ }
 {
-    if j < x.len() {
-        return x[j];
-    }
-    let k = j - x.len();
-    if k < minus {
-        return 2;
-    }
-    if k - minus < zeros { 0 } else { 1 }
+    let n = x.len();
+    let m = n + minus;
+    let z = m + zeros;
+    let i = below(j, n, j);
+    let b = below(j, n, x[i] as usize);
+    let two = below(j, m, 2) - below(j, n, 2);
+    let one = 1 - below(j, z, 1);
+    (b + two + one) as u8
 }
 
 // Number j of the extended form of x plus r.
 fn masked(x: &[u8], minus: usize, zeros: usize, r: &[u8], j: usize, q: u64) -> u64
-    requires { ⌜ (minus ≡ length (now x) - count 2 (now x)) × (zeros ≡ length (now x) - count 0 (now x)) × (j < 3 * length (now x)) ⌝ }
+    requires { ⌜ (3 * length (now x) < 2 ^ 62) × (minus ≡ length (now x) - count 2 (now x)) × (zeros ≡ length (now x) - count 0 (now x)) × (j < 3 * length (now x)) ⌝ }
     requires { ⌜ (1 < q) × (q < 2 ^ 56) × (8 * j + 8 ≤ length (now r)) × (allBelow q (vector (now r)) ≡ true) ⌝ }
     ensures { λ v. ⌜ v ≡ getD (add q (ternaries q (extend (length (now (x .entry))) (now (x .entry)))) (vector (now (r .entry)))) j 0 ⌝ }
 {

@@ -25,7 +25,7 @@ masked-requires c κs =
     let a = c .before .before .before .before .before .before .before .args in
     let h : c .entry .result < a .n = rw (c .entry .ensures) (entry-lt (a .p .now) (a .n) (c .before .before .loop .i) (c .before .before .before .before .before .before .before .pre .1 .1 .2) (omega arith)) in
     let p = c .before .before .before .before .before .before .before .pre in
-    ((p .0 .1, p .0 .2, omega arith), (omega arith, omega arith, omega arith, p .1 .0 .3))
+    ((omega arith, p .0 .1, p .0 .2, omega arith), (omega arith, omega arith, omega arith, p .1 .0 .3))
 
 loop-again : tie.Need-loop-again Inv-loop μ-loop
 loop-again c =

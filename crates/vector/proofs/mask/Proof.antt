@@ -23,7 +23,7 @@ loop-holds c = (omega arith, refl, filled-none _ _ _)
 masked-requires : tie.Need-masked-requires Inv-loop μ-loop
 masked-requires c κs =
     let p = c .before .before .before .before .before .pre in
-    ((p .0 .1, p .0 .2, omega arith), (omega arith, omega arith, omega arith, p .1 .3))
+    ((omega arith, p .0 .1, p .0 .2, omega arith), (omega arith, omega arith, omega arith, p .1 .3))
 
 loop-again : tie.Need-loop-again Inv-loop μ-loop
 loop-again c =
