@@ -66,11 +66,15 @@ pub length-apply : (p x : List ℕ) → length (apply p x) ≡ length p
 unfolding apply
 length-apply p x = length-map p (λ i. getD x i 0)
 
-pub apply-at : (p x : List ℕ) (k : ℕ) → k < length p → getD (apply p x) k 0 ≡ getD x (getD p k 0) 0
+apply-at : (p x : List ℕ) (k : ℕ) → k < length p → getD (apply p x) k 0 ≡ getD x (getD p k 0) 0
 unfolding apply
 apply-at [] x k h = absurd (omega arith)
 apply-at (i ∷ p) x zero h = refl
 apply-at (i ∷ p) x (suc k) h = apply-at p x k (omega arith)
+
+-- number k as code makes it: entry j of x, where j is entry k of p
+pub gathered : (p x : List ℕ) (k j v : ℕ) → k < length p → j ≡ getD p k 0 → v ≡ getD x j 0 → v ≡ getD (apply p x) k 0
+gathered p x k j v h e d = d ∙ ap (λ (i : ℕ). getD x i 0) e ∙ sym (apply-at p x k h)
 
 -- ---- sums
 

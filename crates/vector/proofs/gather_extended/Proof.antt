@@ -1,13 +1,13 @@
 -- `vector::gather_extended` meets its contract. Assumes nothing.
-use mathlib.Core.Path.{_≡_, refl, sym, ap, _∙_}
-use Prim.Native.Nat.{ℕ, _-_, _<_, _≤_}
+use mathlib.Core.Path.{_≡_, refl, ap, _∙_}
+use Prim.Native.Nat.{_-_, _<_, _≤_}
 use native.Mathlib.Omega.{arith}
 use borrow.Author.Needs.{needs}
-use lib.ListN.{length, getD, length-set}
+use lib.ListN.{length, length-set}
 use lib.Seq.{paste, paste-zero}
 use Rattle.codec.proofs.Laws.{paste-all}
 use Rattle.vector.specs.Permutation.{entries, apply, extend}
-use Rattle.vector.proofs.Gathers.{paste-more, length-entries, entry-lt, length-apply, apply-at}
+use Rattle.vector.proofs.Gathers.{paste-more, length-entries, entry-lt, length-apply, gathered}
 use Rattle.vector.proofs.gather_extended.Statement.{statement}
 use Rattle.vector.proofs.gather_extended.Tie as tie
 
@@ -36,7 +36,7 @@ loop-again c =
     let k = length-apply (entries (a .p .now)) y ∙ length-entries (a .p .now) in (
       omega arith,
       length-set (l .out) _ _ ∙ l .inv .1,
-      paste-more (a .out .now) (l .out) (a .at) (apply (entries (a .p .now)) y) (l .i) _ (l .inv .2) (omega arith) (omega arith) (c .extended .ensures ∙ ap (λ (k : ℕ). getD y k 0) (c .before .entry .ensures) ∙ sym (apply-at (entries (a .p .now)) y (l .i) (omega (arith, length-entries (a .p .now))))),
+      paste-more (a .out .now) (l .out) (a .at) (apply (entries (a .p .now)) y) (l .i) _ (l .inv .2) (omega arith) (omega arith) (gathered (entries (a .p .now)) y (l .i) _ _ (omega (arith, length-entries (a .p .now))) (c .before .entry .ensures) (c .extended .ensures)),
     )
 
 same-length : tie.Need-same-length Inv-loop μ-loop
