@@ -1,118 +1,22 @@
--- A permutation is told by marking each index that it names: the pigeonhole, and what a loop that marks holds. Assumes nothing.
+-- A permutation is told by marking each index that it names: what a loop that marks holds. Assumes nothing.
 use mathlib.Core.Path.{_≡_, refl, sym, ap, ap₂, _∙_}
-use mathlib.Core.Bool.{Bool, true, false, cond}
-use mathlib.Core.Logic.{_⊎_, inl, inr, _≢_}
+use mathlib.Core.Bool.{Bool, true, false}
+use mathlib.Core.Logic.{_≢_}
 use mathlib.Core.List.{List, [], _∷_, _++_}
 use Prim.Native.Nat.{ℕ, zero, suc, _+_, _≤_, _<_}
 use native.Mathlib.Decide.{ℕ-discrete}
 use native.Mathlib.Omega.{arith}
-use borrow.Author.Tests.{eqb-true, eq-eqb, ne-eqb, lt-ltb, le-ltb}
-use lib.Dec.{ltb, eqb}
-use lib.ListN.{length, take, drop, getD, set, replicate, length-set, length-replicate, getD-replicate}
-use lib.Seq.{take-all, take-set-le, drop-set-lt, getD-set-same, getD-set-other, getD-take, getD-drop, ext-getD}
-use Rattle.codec.specs.Bytes.{Bytes, part, put, zeros, same}
-use Rattle.codec.proofs.Laws.{both, same-refl, same-equal, put-part}
-use Rattle.ring.specs.Poly.{sum}
-use Rattle.ring.specs.Slots.{list, allBelow}
+use borrow.Author.Tests.{eq-eqb, ne-eqb}
+use lib.ListN.{length, take, drop, getD, set, length-set, length-replicate, getD-replicate}
+use lib.Seq.{take-all, take-set-le, drop-set-lt, getD-set-same, getD-set-other, getD-take, getD-drop}
+use Rattle.codec.specs.Bytes.{Bytes, part, put, zeros}
+use Rattle.codec.proofs.Laws.{put-part}
 use Rattle.ring.specs.Ternary.{count}
-use Rattle.ring.proofs.Sums.{side, sum-cong, sum-zero, sum-add, sum-only}
-use Rattle.ring.proofs.Bridge.{length-list, getD-list}
-use Rattle.ring.proofs.Ranges.{count-more, allBelow-sound}
+use Rattle.ring.proofs.Ranges.{count-more}
+use Rattle.vector.specs.Vector.{Each}
 use Rattle.vector.specs.Permutation.{permutes}
-
--- ---- sums of zeros and ones
-
-sum-le : (n : ℕ) (f : ℕ → ℕ) → ((i : ℕ) → i < n → f i ≤ 1) → sum n f ≤ n
-unfolding sum
-sum-le zero f h = omega arith
-sum-le (suc n) f h = omega (arith, sum-le n f (λ i l. h i (omega arith)), h n (omega arith))
-
-sum-full : (n : ℕ) (f : ℕ → ℕ) → ((i : ℕ) → i < n → f i ≤ 1) → sum n f ≡ n → (i : ℕ) → i < n → f i ≡ 1
-unfolding sum
-sum-full zero f h e i l = absurd (omega arith)
-sum-full (suc n) f h e i l = go (sum-full n f (λ k m. h k (omega arith)) (omega (arith, sum-le n f (λ k m. h k (omega arith)), h n (omega arith)))) (side n i)
-  where
-    last : f n ≡ 1
-    last = omega (arith, sum-le n f (λ k m. h k (omega arith)), h n (omega arith))
-
-    go : ((k : ℕ) → k < n → f k ≡ 1) → (n ≤ i) ⊎ (i < n) → f i ≡ 1
-    go r (inl m) = let s : i ≡ n = omega arith in ap f s ∙ last
-    go r (inr m) = r i m
-
-sum-ones : (n : ℕ) (f : ℕ → ℕ) → ((i : ℕ) → i < n → f i ≡ 1) → sum n f ≡ n
-unfolding sum
-sum-ones zero f h = refl
-sum-ones (suc n) f h = omega (arith, sum-ones n f (λ i l. h i (omega arith)), h n (omega arith))
-
--- ---- the pigeonhole: n indices below n, none twice, are all of them
-
--- how many entries are below n
-tally : ℕ → List ℕ → ℕ
-tally n [] = 0
-tally n (x ∷ p) = cond (ltb x n) 1 0 + tally n p
-
-one-index : (n x : ℕ) → sum n (λ i. cond (eqb x i) 1 0) ≡ cond (ltb x n) 1 0
-one-index n x = go (side n x)
-  where
-    go : (n ≤ x) ⊎ (x < n) → sum n (λ i. cond (eqb x i) 1 0) ≡ cond (ltb x n) 1 0
-    go (inl h) = sum-cong n (λ i l. rw (ne-eqb x i (λ e. omega arith))) ∙ sum-zero n ∙ rw (le-ltb x n h)
-    go (inr h) = sum-only n (λ i. cond (eqb x i) 1 0) x h (λ i l d. rw (ne-eqb x i (λ e. d (sym e)))) ∙ rw (eq-eqb x x refl, lt-ltb x n h)
-
--- the counts of the indices below n sum to the number of entries below n
-counted : (n : ℕ) (p : List ℕ) → sum n (λ i. count i p) ≡ tally n p
-unfolding tally count
-counted n [] = sum-zero n
-counted n (x ∷ p) = sum-add n (λ i. cond (eqb x i) 1 0) (λ i. count i p) ∙ ap₂ (λ (a b : ℕ). a + b) (one-index n x) (counted n p)
-
-tally-le : (n : ℕ) (p : List ℕ) → tally n p ≤ length p
-unfolding tally
-tally-le n [] = omega arith
-tally-le n (x ∷ p) = go (ltb x n) (tally-le n p)
-  where
-    go : (b : Bool) → tally n p ≤ length p → cond b 1 0 + tally n p ≤ suc (length p)
-    go true h = omega arith
-    go false h = omega arith
-
-tally-all : (n : ℕ) (p : List ℕ) → ((k : ℕ) → k < length p → getD p k 0 < n) → tally n p ≡ length p
-unfolding tally
-tally-all n [] h = refl
-tally-all n (x ∷ p) h = rw (lt-ltb x n (h 0 (omega arith))) (omega (arith, tally-all n p (λ k l. h (suc k) (omega arith))))
-
-tally-full : (n : ℕ) (p : List ℕ) → tally n p ≡ length p → allBelow n p ≡ true
-unfolding tally allBelow
-tally-full n [] e = refl
-tally-full n (x ∷ p) e = go (tally-full n p) (side n x)
-  where
-    go : (tally n p ≡ length p → allBelow n p ≡ true) → (n ≤ x) ⊎ (x < n) → allBelow n (x ∷ p) ≡ true
-    go r (inl h) = absurd (omega (arith, rw (le-ltb x n h) at e, tally-le n p))
-    go r (inr h) = rw (lt-ltb x n h) (r (omega (arith, rw (lt-ltb x n h) at e)))
-
-pigeonhole : (n : ℕ) (p : List ℕ) → length p ≡ n → ((k : ℕ) → k < n → getD p k 0 < n) → ((i : ℕ) → i < n → count i p ≤ 1) → (i : ℕ) → i < n → count i p ≡ 1
-pigeonhole n p e below once = sum-full n (λ i. count i p) once (counted n p ∙ tally-all n p (λ k l. below k (omega arith)) ∙ e)
-
--- ---- the test
-
-permutes-yes : (n : ℕ) (p : List ℕ) → length p ≡ n → ((i : ℕ) → i < n → count i p ≡ 1) → permutes n p ≡ true
-unfolding permutes
-permutes-yes n p e once =
-    let l : list n (λ i. count i p) ≡ replicate n 1 =
-    ext-getD 0 (list n (λ i. count i p)) (replicate n 1) (length-list n _ ∙ sym (length-replicate n 1))
-    (λ i h. let k : i < n = omega (arith, length-list n (λ i. count i p)) in getD-list n (λ i. count i p) i k ∙ once i k ∙ sym (getD-replicate n i 1 0 k)) in
-    rw (eq-eqb (length p) n e) (ap (λ (s : Bytes). same s (replicate n 1)) l ∙ same-refl (replicate n 1))
-
-pub permutes-length : (n : ℕ) (p : List ℕ) → permutes n p ≡ true → length p ≡ n
-unfolding permutes
-permutes-length n p e = eqb-true (length p) n (both (eqb (length p) n) _ e .0)
-
-pub permutes-once : (n : ℕ) (p : List ℕ) → permutes n p ≡ true → (i : ℕ) → i < n → count i p ≡ 1
-unfolding permutes
-permutes-once n p e i h =
-    sym (getD-list n (λ k. count k p) i h) ∙ ap (λ (s : Bytes). getD s i 0) (same-equal (list n (λ k. count k p)) (replicate n 1) (both (eqb (length p) n) _ e .1))
-    ∙ getD-replicate n i 1 0 h
-
--- each entry of a permutation is below n, as the functions that apply one require
-pub permutes-below : (n : ℕ) (p : List ℕ) → permutes n p ≡ true → allBelow n p ≡ true
-permutes-below n p e = tally-full n p (sym (counted n p) ∙ sum-ones n (λ i. count i p) (permutes-once n p e) ∙ sym (permutes-length n p e))
+use Rattle.vector.proofs.Vectors.{at-each, from-at}
+use Rattle.vector.proofs.Counts.{pigeonhole, permutes-sound, permutes-complete}
 
 permutes-no : (n : ℕ) (p : List ℕ) → (permutes n p ≡ true → ⊥) → permutes n p ≡ false
 permutes-no n p d = go (permutes n p) refl
@@ -168,7 +72,8 @@ module _ (p : List ℕ) (n : ℕ) (w₀ : Bytes) (at : ℕ) (all : length p ≡ 
     marked-all h =
         let k = m .within in
         let t : take i p ≡ p = take-all i p (omega arith) in
-        permutes-yes n p all (pigeonhole n p all (λ k l. m .below k (omega arith)) (λ j l. rw t at (m .once j l)))
+        let v : Each (λ x. x < n) n p = rw all at (from-at {P = λ x. x < n} p (λ k l. m .below k (omega arith))) in
+        permutes-complete (pigeonhole v (λ j l. rw t at (m .once j l)))
 
     -- a first index of p[i], and what stops the loop before the end
     module _ (h : i < n) (e : x ≡ getD p i 0) where
@@ -195,9 +100,9 @@ module _ (p : List ℕ) (n : ℕ) (w₀ : Bytes) (at : ℕ) (all : length p ≡ 
           one j b (no d) = omega (arith, count-miss j p i (omega arith) (λ f. d (sym (e ∙ f))), m .once j b)
 
       pub out-of-range : n ≤ x → permutes n p ≡ false
-      out-of-range l = permutes-no n p (λ y. omega (arith, allBelow-sound n p (permutes-below n p y) i (omega arith)))
+      out-of-range l = permutes-no n p (λ y. omega (arith, at-each (permutes-sound n p y .indices) i h))
 
       pub met-before : x < n → getD w (at + x) 0 ≢ 0 → permutes n p ≡ false
       met-before l d =
           permutes-no n p
-          (λ y. let k = count-hit x p i (omega arith) (sym e) in let s = m .marks x l in let t = count-take x (i + 1) p in let o = permutes-once n p y x l in omega arith)
+          (λ y. let k = count-hit x p i (omega arith) (sym e) in let s = m .marks x l in let t = count-take x (i + 1) p in let o = permutes-sound n p y .once x l in omega arith)

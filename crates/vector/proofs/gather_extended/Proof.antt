@@ -7,7 +7,8 @@ use lib.ListN.{length, length-set}
 use lib.Seq.{paste, paste-zero}
 use Rattle.codec.proofs.Laws.{paste-all}
 use Rattle.vector.specs.Permutation.{entries, apply, extend}
-use Rattle.vector.proofs.Gathers.{paste-more, length-entries, entry-lt, length-apply, gathered}
+use Rattle.vector.proofs.Vectors.{length-entries, length-apply}
+use Rattle.vector.proofs.Gathers.{paste-more, entry-lt, gathered}
 use Rattle.vector.proofs.gather_extended.Statement.{statement}
 use Rattle.vector.proofs.gather_extended.Tie as tie
 

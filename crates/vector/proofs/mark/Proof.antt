@@ -4,7 +4,7 @@ use Prim.Native.Nat.{_-_}
 use native.Mathlib.Omega.{arith}
 use borrow.Author.Needs.{needs}
 use Rattle.vector.specs.Permutation.{entries}
-use Rattle.vector.proofs.Gathers.{length-entries}
+use Rattle.vector.proofs.Vectors.{length-entries}
 use Rattle.vector.proofs.Marks.{Marked, marked-first, marked-more, marked-all, out-of-range, met-before}
 use Rattle.vector.proofs.mark.Statement.{statement}
 use Rattle.vector.proofs.mark.Tie as tie

@@ -7,7 +7,8 @@ use lib.ListN.{length}
 use Rattle.ring.proofs.Filling.{filled-none, filled-more}
 use Rattle.vector.specs.Vector.{vector, ternaries, add}
 use Rattle.vector.specs.Permutation.{extend}
-use Rattle.vector.proofs.Gathers.{laid, laid-all, length-sum, length-extend}
+use Rattle.vector.proofs.Balance.{length-extend-le}
+use Rattle.vector.proofs.Gathers.{laid, laid-all, length-sum}
 use Rattle.vector.proofs.mask.Statement.{statement}
 use Rattle.vector.proofs.mask.Tie as tie
 
@@ -43,7 +44,7 @@ returns c =
     let l = c .before .loop in
     let y = add (a .q) (ternaries (a .q) (extend (length (a .x .now)) (a .x .now))) (vector (a .r .now)) in
     let e : l .i ≡ a .n = omega arith in
-    l .inv .2 ∙ ap (laid (a .out .now) (a .at) y) e ∙ laid-all (a .out .now) (a .at) y (a .n) (length-sum (a .q) (extend (length (a .x .now)) (a .x .now)) (a .r .now) (a .n) (omega arith) (omega (arith, length-extend (a .x .now))))
+    l .inv .2 ∙ ap (laid (a .out .now) (a .at) y) e ∙ laid-all (a .out .now) (a .at) y (a .n) (length-sum (a .q) (extend (length (a .x .now)) (a .x .now)) (a .r .now) (a .n) (omega arith) (omega (arith, length-extend-le (length (a .x .now)) (a .x .now) refl)))
 
 pub mask-spec : {M : Type 1} → statement M
 mask-spec = tie.close (tie.spec Inv-loop μ-loop loop-holds masked-requires (λ c. search needs) (λ c. search needs) (λ c κs. search needs) (λ c. search needs) (λ c. search needs) loop-again same-length returns)

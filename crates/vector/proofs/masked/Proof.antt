@@ -1,5 +1,5 @@
 -- `vector::masked` meets its contract. Assumes nothing.
-use mathlib.Core.Path.{ap, _∙_}
+use mathlib.Core.Path.{refl, ap, _∙_}
 use Prim.Native.Nat.{ℕ, _<_}
 use native.Mathlib.Omega.{arith}
 use borrow.Author.Needs.{needs}
@@ -8,7 +8,8 @@ use Rattle.modular.specs.Modulo.{remainder}
 use Rattle.modular.proofs.Centring.{remainder-lt}
 use Rattle.ring.specs.Ternary.{meaning}
 use Rattle.vector.specs.Permutation.{extend}
-use Rattle.vector.proofs.Gathers.{component-lt, length-extend, sum-at}
+use Rattle.vector.proofs.Balance.{length-extend-le}
+use Rattle.vector.proofs.Gathers.{component-lt, sum-at}
 use Rattle.vector.proofs.masked.Statement.{statement}
 use Rattle.vector.proofs.masked.Tie as tie
 
@@ -24,7 +25,7 @@ returns c =
     let a = c .before .before .before .before .before .before .args in
     let x = a .x .now in
     c .add .ensures
-    ∙ sum-at (a .q) (extend (length x) x) (a .r .now) (a .j) _ _ (omega (arith, length-extend x)) (omega arith) (c .before .before .from-ternary .ensures ∙ ap (λ (b : ℕ). remainder (a .q) (meaning b)) (c .before .before .before .extended .ensures)) (c .before .component .ensures)
+    ∙ sum-at (a .q) (extend (length x) x) (a .r .now) (a .j) _ _ (omega (arith, length-extend-le (length x) x refl)) (omega arith) (c .before .before .from-ternary .ensures ∙ ap (λ (b : ℕ). remainder (a .q) (meaning b)) (c .before .before .before .extended .ensures)) (c .before .component .ensures)
 
 pub masked-spec : {M : Type 1} → statement M
 masked-spec = tie.close (tie.spec (λ c κs. search needs) (λ c κs. search needs) (λ c κs. search needs) add-requires returns)
