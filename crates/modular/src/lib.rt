@@ -6,12 +6,15 @@ ghost use lib.IntN.{natAbs};
 ghost use Rattle.modular.specs.Modulo.{centre, remainder};
 ghost use Rattle.modular.specs.Division.{divide};
 
-// a + b.
+// a + b. The numbers may be secret, so there is no jump and no division that depends on them: q is subtracted `over` times, and
+// s + 2^62 - q is at least 2^62 where s is at least q, and only there. What is divided by 2^62 is shifted.
 pub fn add(a: u64, b: u64, q: u64) -> u64
     requires { ⌜ (a < q) × (b < q) × (q < 2 ^ 56) ⌝ }
     ensures { λ r. ⌜ r ≡ (a + b) % q ⌝ }
 {
-    (a + b) % q
+    let s = a + b;
+    let over = (s + 4611686018427387904 - q) / 4611686018427387904;
+    s - over * q
 }
 
 // a - b.

@@ -59,18 +59,17 @@ pub fn count_of(t: &[u8], v: u8) -> usize
 
 // ---- slots
 
-// The coefficient that a ternary byte means.
+// The coefficient that a ternary byte means. The byte may be secret, so there is no jump that depends on it: `above0`, `above1` and
+// `above2` say whether it is above 0, 1 and 2, since t + 2^62 - 1 - m is at least 2^62 where t is above m, and only there.
 pub fn from_ternary(b: u8, q: u64) -> u64
     requires { ⌜ 1 < q ⌝ }
     ensures { λ r. ⌜ r ≡ remainder q (meaning b) ⌝ }
 {
-    if b == 1 {
-        1
-    } else if b == 2 {
-        q - 1
-    } else {
-        0
-    }
+    let t = b as u64;
+    let above0 = (t + 4611686018427387903) / 4611686018427387904;
+    let above1 = (t + 4611686018427387902) / 4611686018427387904;
+    let above2 = (t + 4611686018427387901) / 4611686018427387904;
+    above0 - above1 + (above1 - above2) * (q - 1)
 }
 
 // Loads ternary bytes into a slot.

@@ -9,7 +9,7 @@ use Rattle.codec.proofs.Numbers.{length-words}
 use Rattle.ring.specs.Slots.{allBelow}
 use Rattle.vector.specs.Vector.{Each, Vector, vector, ternaries, add, subtract}
 use Rattle.vector.specs.Permutation.{entries, apply, extend}
-use Rattle.vector.proofs.Vectors.{each-length, take-each, add-vector, add-subtract, commute, add-take, apply-add, apply-each, apply-length, vector-words, ternaries-vector, ternaries-apply, take-extend}
+use Rattle.vector.proofs.Vectors.{each-length, take-each, add-vector, add-subtract, commute, add-take, apply-add, apply-each, length-apply, vector-words, ternaries-vector, ternaries-apply, take-extend}
 use Rattle.vector.proofs.Balance.{length-extend, extend-balanced, balanced-apply}
 use Rattle.stern.specs.Argument.{Setting, Valid, Drawn, Fit, masked, first, answer1, answer2, answer3, Passes1, Passes2, Passes3}
 
@@ -40,7 +40,7 @@ module _ (s : Setting) (ok : Valid s) (x : Bytes) (size : length x ≡ s .L) (te
   pub passes1 : Passes1 s (first s x c) (answer1 s x c)
   passes1 = record {
     balanced = balanced-apply L (entries (c .p)) (extend L x) (fit .permutes) (extend-balanced L x size ternary);
-    sized = length-words (apply (entries (c .p)) (vector (c .r))) ∙ ap (λ (n : ℕ). 8 * n) (apply-length (entries (c .p)) (vector (c .r)) ∙ each-length (fit .permutes .indices));
+    sized = length-words (apply (entries (c .p)) (vector (c .r))) ∙ ap (λ (n : ℕ). 8 * n) (length-apply (entries (c .p)) (vector (c .r)) ∙ each-length (fit .permutes .indices));
     below = rw read-t (apply-each (fit .permutes .indices) (fit .below));
     size2 = fit .size2;
     size3 = fit .size3;

@@ -20,7 +20,7 @@ use Rattle.ring.proofs.Bridge.{length-encode, poly-encode, poly-part}
 use Rattle.ring.proofs.Polynomials.{alike-eq, alike-sym, _so_, alike-plus}
 use Rattle.vector.specs.Vector.{vector, ternaries}
 use Rattle.vector.specs.Permutation.{entries, permutes}
-use Rattle.vector.proofs.Vectors.{vector-complete, each-length}
+use Rattle.vector.proofs.Vectors.{each-length, each-allBelow}
 use Rattle.vector.proofs.Balance.{balanced-sound, balanced-ternary}
 use Rattle.commitment.specs.Commitment.{Keys, Three, Pair, Alike3, threeOf, plus3, row, second, committed, pairBytes, Opens}
 use Rattle.commitment.proofs.Additive.{row-alike, second-alike, opens-add}
@@ -241,13 +241,13 @@ module _ (q N : ℕ) (k : Keys) (x c : Bytes) (s0 s1 e0 e1 : Poly) (split : Spli
     honest-range challenge = go (eqb challenge 1) (eqb challenge 2)
       where
         range1 : (a : Answer1) → Passes1 s (first s x drawn) a → (allBelow 3 (a .w) && allBelow q (vector (a .t))) ≡ true
-        range1 a h = rw (balanced-ternary (14 * N) (a .w) (h .balanced), vector-complete (a .t) (h .below))
+        range1 a h = rw (balanced-ternary (14 * N) (a .w) (h .balanced), each-allBelow (h .below))
 
         range2 : (b : Answer2) → Passes2 s (first s x drawn) b → allBelow q (vector (b .u)) ≡ true
-        range2 b h = vector-complete (b .u) (h .below)
+        range2 b h = each-allBelow (h .below)
 
         range3 : (a : Answer3) → Passes3 s (first s x drawn) a → allBelow q (vector (a .r)) ≡ true
-        range3 a h = vector-complete (a .r) (h .below)
+        range3 a h = each-allBelow (h .below)
 
         go : (one two : Bool)
             → (let answer = cond one (answer1Bytes (answer1 s x drawn)) (cond two (answer2Bytes (answer2 s x drawn)) (answer3Bytes (answer3 s drawn))) in

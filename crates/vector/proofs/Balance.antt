@@ -16,8 +16,8 @@ use Rattle.ring.specs.Slots.{allBelow}
 use Rattle.ring.specs.Ternary.{count}
 use Rattle.ring.proofs.Ranges.{count-append}
 use Rattle.vector.specs.Permutation.{Permutes, apply, extend, balanced}
-use Rattle.vector.proofs.Vectors.{each-length, apply-length, allBelow-each, each-allBelow}
-use Rattle.vector.proofs.Counts.{hit, miss, below-counted, counted-below, apply-count}
+use Rattle.vector.proofs.Vectors.{each-length, length-apply, allBelow-each, each-allBelow}
+use Rattle.vector.proofs.Counts.{hit, miss, below-counted, counted-le, counted-below, apply-count}
 
 -- ---- the test says four equations
 
@@ -51,7 +51,7 @@ balanced-apply L p w r e =
     let b = balanced-sound L w e in
     let permuted : Permutes (length w) p = rw (b .size) r in
     balanced-complete (record {
-      size = apply-length p w ∙ each-length (r .indices);
+      size = length-apply p w ∙ each-length (r .indices);
       minus = apply-count 2 p w permuted ∙ b .minus;
       zeros = apply-count 0 p w permuted ∙ b .zeros;
       ones = apply-count 1 p w permuted ∙ b .ones;
@@ -64,51 +64,24 @@ balanced-ternary L w e =
     let b = balanced-sound L w e in
     each-allBelow (counted-below 3 w (omega arith))
 
--- ---- counts of the extension
+-- ---- the extension place by place: x, then 2, then 0, then 1
 
-pub ternary-counts : (x : Bytes) → allBelow 3 x ≡ true → count 2 x + count 0 x + count 1 x ≡ length x
+-- three of the counts make the length at most
+counts-le : (x : Bytes) → count 2 x + count 0 x + count 1 x ≤ length x
 unfolding sum
-ternary-counts x e = omega (arith, below-counted (allBelow-each 3 x e))
-
-count-same : (n v : ℕ) → count v (replicate n v) ≡ n
-unfolding count
-count-same zero v = refl
-count-same (suc n) v = omega (arith, hit v, count-same n v)
-
-count-other : (n v u : ℕ) → u ≢ v → count v (replicate n u) ≡ 0
-unfolding count
-count-other zero v u d = refl
-count-other (suc n) v u d = omega (arith, miss d, count-other n v u d)
-
-count-extend : (L : ℕ) (x : Bytes) (v : ℕ) → count v (extend L x)
-    ≡ count v x + (count v (replicate (L - count 2 x) 2) + (count v (replicate (L - count 0 x) 0) + count v (replicate (L - count 1 x) 1)))
-unfolding extend
-count-extend L x v = simp count-append
+counts-le x = omega (arith, counted-le 3 x)
 
 -- behind the first of two lists
 getD-behind : (xs ys : List ℕ) (j k : ℕ) → j ≡ length xs + k → getD (xs ++ ys) j 0 ≡ getD ys k 0
 getD-behind xs ys j k e = rw e (getD-append-add xs ys k 0)
 
-module _ (L : ℕ) (x : Bytes) (size : length x ≡ L) (ternary : allBelow 3 x ≡ true) where
-  pub length-extend : length (extend L x) ≡ 3 * L
-  length-extend =
-      let long : length (extend L x) ≡ length x + (L - count 2 x + (L - count 0 x + (L - count 1 x))) = unfold extend in simp (length-append, length-replicate) in
-      omega (arith, ternary-counts x ternary)
+long : (L : ℕ) (x : Bytes) → length (extend L x) ≡ length x + (L - count 2 x + (L - count 0 x + (L - count 1 x)))
+unfolding extend
+long L x = simp (length-append, length-replicate)
 
-  pub extend-balanced : balanced L (extend L x) ≡ true
-  extend-balanced =
-      let all = ternary-counts x ternary in
-      balanced-complete (record {
-        size = length-extend;
-        minus = omega (arith, count-extend L x 2, count-same (L - count 2 x) 2, count-other (L - count 0 x) 2 0 (omega arith), count-other (L - count 1 x) 2 1 (omega arith));
-        zeros = omega (arith, count-extend L x 0, count-same (L - count 0 x) 0, count-other (L - count 2 x) 0 2 (omega arith), count-other (L - count 1 x) 0 1 (omega arith));
-        ones = omega (arith, count-extend L x 1, count-same (L - count 1 x) 1, count-other (L - count 2 x) 1 2 (omega arith), count-other (L - count 0 x) 1 0 (omega arith));
-      })
-
-  pub extend-ternary : allBelow 3 (extend L x) ≡ true
-  extend-ternary = balanced-ternary L (extend L x) extend-balanced
-
-  -- ---- the extension place by place: x, then 2, then 0, then 1
+module _ (L : ℕ) (x : Bytes) (size : length x ≡ L) where
+  pub length-extend-le : 3 * L ≤ length (extend L x)
+  length-extend-le = omega (arith, long L x, counts-le x)
 
   pub extend-given : (j : ℕ) → j < L → getD (extend L x) j 0 ≡ getD x j 0
   unfolding extend
@@ -141,4 +114,44 @@ module _ (L : ℕ) (x : Bytes) (size : length x ≡ L) (ternary : allBelow 3 x �
       getD-behind x _ j (j - L) (omega arith)
       ∙ getD-behind (replicate r 2) _ (j - L) (j - L - r) (omega (arith, length-replicate {A = ℕ} r 2))
       ∙ getD-behind (replicate s 0) _ (j - L - r) (j - L - r - s) (omega (arith, length-replicate {A = ℕ} s 0))
-      ∙ getD-replicate {A = ℕ} t (j - L - r - s) 1 0 (omega (arith, ternary-counts x ternary))
+      ∙ getD-replicate {A = ℕ} t (j - L - r - s) 1 0 (omega (arith, counts-le x))
+
+-- ---- counts of the extension
+
+pub ternary-counts : (x : Bytes) → allBelow 3 x ≡ true → count 2 x + count 0 x + count 1 x ≡ length x
+unfolding sum
+ternary-counts x e = omega (arith, below-counted (allBelow-each 3 x e))
+
+count-same : (n v : ℕ) → count v (replicate n v) ≡ n
+unfolding count
+count-same zero v = refl
+count-same (suc n) v = omega (arith, hit v, count-same n v)
+
+count-other : (n v u : ℕ) → u ≢ v → count v (replicate n u) ≡ 0
+unfolding count
+count-other zero v u d = refl
+count-other (suc n) v u d = omega (arith, miss d, count-other n v u d)
+
+count-extend : (L : ℕ) (x : Bytes) (v : ℕ) → count v (extend L x)
+    ≡ count v x + (count v (replicate (L - count 2 x) 2) + (count v (replicate (L - count 0 x) 0) + count v (replicate (L - count 1 x) 1)))
+unfolding extend
+count-extend L x v = simp count-append
+
+-- ---- ternary bytes extended are balanced
+
+module _ (L : ℕ) (x : Bytes) (size : length x ≡ L) (ternary : allBelow 3 x ≡ true) where
+  pub length-extend : length (extend L x) ≡ 3 * L
+  length-extend = omega (arith, long L x, ternary-counts x ternary)
+
+  pub extend-balanced : balanced L (extend L x) ≡ true
+  extend-balanced =
+      let all = ternary-counts x ternary in
+      balanced-complete (record {
+        size = length-extend;
+        minus = omega (arith, count-extend L x 2, count-same (L - count 2 x) 2, count-other (L - count 0 x) 2 0 (omega arith), count-other (L - count 1 x) 2 1 (omega arith));
+        zeros = omega (arith, count-extend L x 0, count-same (L - count 0 x) 0, count-other (L - count 2 x) 0 2 (omega arith), count-other (L - count 1 x) 0 1 (omega arith));
+        ones = omega (arith, count-extend L x 1, count-same (L - count 1 x) 1, count-other (L - count 2 x) 1 2 (omega arith), count-other (L - count 0 x) 1 0 (omega arith));
+      })
+
+  pub extend-ternary : allBelow 3 (extend L x) ≡ true
+  extend-ternary = balanced-ternary L (extend L x) extend-balanced

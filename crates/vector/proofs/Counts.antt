@@ -16,14 +16,14 @@ use lib.Seq.{take-length, ext-getD}
 use Rattle.codec.specs.Bytes.{same}
 use Rattle.codec.proofs.Laws.{both, same-refl, same-equal}
 use Rattle.ring.specs.Poly.{sum}
-use Rattle.ring.specs.Slots.{list}
+use Rattle.ring.specs.Slots.{list, allBelow}
 use Rattle.ring.specs.Ternary.{count}
 use Rattle.ring.proofs.Sums.{side, sum-cong, sum-zero, sum-add, sum-only}
 use Rattle.ring.proofs.Bridge.{length-list, list-cong, getD-list}
 use Rattle.ring.proofs.Ranges.{count-more}
 use Rattle.vector.specs.Vector.{Each, none, more}
 use Rattle.vector.specs.Permutation.{Permutes, permutes, apply}
-use Rattle.vector.proofs.Vectors.{each-length, at-each, from-at, apply-at}
+use Rattle.vector.proofs.Vectors.{each-length, at-each, from-at, apply-at, each-allBelow}
 
 -- ---- one entry
 
@@ -96,28 +96,32 @@ all-below n (k ∷ p) e = go (side n k) (λ h. all-below n p h)
     go (inl h) r = absurd (omega (arith, gather-le n p, rw (le-ltb k n h) at e))
     go (inr h) r = more h (r (omega (arith, rw (lt-ltb k n h) at e)))
 
+-- and never more than that
+pub counted-le : (n : ℕ) (p : List ℕ) → sum n (λ i. count i p) ≤ length p
+counted-le n p = omega (arith, by-count n p, gather-le n p)
+
 pub counted-below : (n : ℕ) (p : List ℕ) → sum n (λ i. count i p) ≡ length p → Each (λ i. i < n) (length p) p
 counted-below n p e = all-below n p (by-count n p ∙ e)
 
 -- ---- the pigeonhole: n numbers below n, none of them twice, are all of them
 
-sum-le : (n : ℕ) (f : ℕ → ℕ) → ((i : ℕ) → f i ≤ 1) → sum n f ≤ n
+sum-le : (n : ℕ) (f : ℕ → ℕ) → ((i : ℕ) → i < n → f i ≤ 1) → sum n f ≤ n
 unfolding sum
 sum-le zero f h = omega arith
-sum-le (suc n) f h = omega (arith, h n, sum-le n f h)
+sum-le (suc n) f h = omega (arith, h n (omega arith), sum-le n f (λ i l. h i (omega arith)))
 
-full : (n : ℕ) (f : ℕ → ℕ) → ((i : ℕ) → f i ≤ 1) → sum n f ≡ n → (i : ℕ) → i < n → f i ≡ 1
+full : (n : ℕ) (f : ℕ → ℕ) → ((i : ℕ) → i < n → f i ≤ 1) → sum n f ≡ n → (i : ℕ) → i < n → f i ≡ 1
 unfolding sum
 full zero f h e i l = absurd (omega arith)
 full (suc n) f h e i l =
-    let last : f n ≡ 1 = omega (arith, h n, sum-le n f h) in
-    go last (λ m. full n f h (omega arith) i m) (side n i)
+    let last : f n ≡ 1 = omega (arith, h n (omega arith), sum-le n f (λ k m. h k (omega arith))) in
+    go last (λ m. full n f (λ k b. h k (omega arith)) (omega arith) i m) (side n i)
   where
     go : f n ≡ 1 → (i < n → f i ≡ 1) → (n ≤ i) ⊎ (i < n) → f i ≡ 1
     go last r (inl m) = let k : i ≡ n = omega arith in rw k last
     go last r (inr m) = r m
 
-pub pigeonhole : {n : ℕ} {p : List ℕ} → Each (λ i. i < n) n p → ((i : ℕ) → count i p ≤ 1) → Permutes n p
+pub pigeonhole : {n : ℕ} {p : List ℕ} → Each (λ i. i < n) n p → ((i : ℕ) → i < n → count i p ≤ 1) → Permutes n p
 pigeonhole {n} {p} v h = record { indices = v; once = full n (λ i. count i p) h (below-counted v) }
 
 -- ---- the test
@@ -154,6 +158,10 @@ pub permutes-complete : {n : ℕ} {p : List ℕ} → Permutes n p → permutes n
 unfolding permutes
 permutes-complete {n} {p} r =
     rw (eq-eqb (length p) n (each-length (r .indices)), list-cong n (r .once) ∙ list-same n 1) (same-refl (replicate n 1))
+
+-- each entry of a permutation is below n, as the functions that apply one require
+pub permutes-below : (n : ℕ) (p : List ℕ) → permutes n p ≡ true → allBelow n p ≡ true
+permutes-below n p e = each-allBelow (permutes-sound n p e .indices)
 
 -- ---- a permutation keeps every count
 

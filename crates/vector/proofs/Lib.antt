@@ -2,3 +2,5 @@ pub mod Vectors
 pub mod Counts
 pub mod Balance
 pub mod Linear
+pub mod Marks
+pub mod Gathers

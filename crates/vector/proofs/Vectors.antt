@@ -98,13 +98,28 @@ commute q (x ∷ xs) (y ∷ ys) = ap₂ (λ (a : ℕ) (l : List ℕ). a % q ∷ 
 pub cancel : (q : ℕ) {n : ℕ} {x y z : List ℕ} → Vector q n x → Vector q n y → Vector q n z → add q x z ≡ add q y z → x ≡ y
 cancel q {z} vx vy vz e = sym (add-subtract vx vz) ∙ ap (λ (l : List ℕ). subtract q l z) e ∙ add-subtract vy vz
 
--- a sum's entry, its first entries and the entries after them
+-- a sum's entry: of vectors at any place, and of lists of any lengths at a place of both
 pub add-at : {q n : ℕ} {x y : List ℕ} (i : ℕ) → Vector q n x → Vector q n y → getD (add q x y) i 0 ≡ (getD x i 0 + getD y i 0) % q
 unfolding add
 add-at {q} i none none = sym (zero-mod q)
 add-at zero (more hx vx) (more hy vy) = refl
 add-at (suc i) (more hx vx) (more hy vy) = add-at i vx vy
 
+pub add-within : (q : ℕ) (x y : List ℕ) (i : ℕ) → i < length x → i < length y → getD (add q x y) i 0 ≡ (getD x i 0 + getD y i 0) % q
+unfolding add
+add-within q [] y i h l = absurd (omega arith)
+add-within q (a ∷ x) [] i h l = absurd (omega arith)
+add-within q (a ∷ x) (b ∷ y) zero h l = refl
+add-within q (a ∷ x) (b ∷ y) (suc i) h l = add-within q x y i (omega arith) (omega arith)
+
+pub length-add : (q : ℕ) (x y : List ℕ) → length y ≤ length x → length (add q x y) ≡ length y
+unfolding add
+length-add q [] [] h = refl
+length-add q [] (b ∷ y) h = absurd (omega arith)
+length-add q (a ∷ x) [] h = refl
+length-add q (a ∷ x) (b ∷ y) h = ap suc (length-add q x y (omega arith))
+
+-- its first entries and the entries after them
 pub add-take : (q k : ℕ) (x y : List ℕ) → take k (add q x y) ≡ add q (take k x) (take k y)
 unfolding add
 add-take q zero x y = refl
@@ -131,9 +146,9 @@ unfolding apply
 apply-each none v = none
 apply-each (more h r) v = more (at-each v _ h) (apply-each r v)
 
-pub apply-length : (p x : List ℕ) → length (apply p x) ≡ length p
+pub length-apply : (p x : List ℕ) → length (apply p x) ≡ length p
 unfolding apply
-apply-length p x = length-map p (λ i. getD x i 0)
+length-apply p x = length-map p (λ i. getD x i 0)
 
 pub apply-at : (p x : List ℕ) (k : ℕ) → k < length p → getD (apply p x) k 0 ≡ getD x (getD p k 0) 0
 unfolding apply
@@ -159,12 +174,9 @@ pub getD-vector : (s : Bytes) (i : ℕ) → i < length s / 8 → getD (vector s)
 unfolding vector
 getD-vector s i h = getD-list (length s / 8) (poly s) i h
 
--- bytes hold a vector exactly if the range test passes
+-- bytes hold a vector if the range test passes
 pub vector-sound : (q : ℕ) (s : Bytes) → allBelow q (vector s) ≡ true → Vector q (length s / 8) (vector s)
 vector-sound q s e = rw (length-vector s) at (allBelow-each q (vector s) e)
-
-pub vector-complete : {q n : ℕ} (s : Bytes) → Vector q n (vector s) → allBelow q (vector s) ≡ true
-vector-complete s v = each-allBelow v
 
 -- written as bytes, then read
 pub vector-words : {q n : ℕ} {x : List ℕ} → q ≤ 2 ^ 64 → Vector q n x → vector (words x) ≡ x
@@ -226,13 +238,13 @@ pub ternaries-apply : (q : ℕ) {n : ℕ} {p : List ℕ} (w : Bytes) → Each (�
 unfolding ternary
 ternaries-apply q {p} w v =
     ext-getD 0 (ternaries q (apply p w)) (apply p (ternaries q w))
-    (length-ternaries q (apply p w) ∙ apply-length p w ∙ sym (apply-length p (ternaries q w)))
-    (λ k l. entry k (omega (arith, length-ternaries q (apply p w), apply-length p w)))
+    (length-ternaries q (apply p w) ∙ length-apply p w ∙ sym (length-apply p (ternaries q w)))
+    (λ k l. entry k (omega (arith, length-ternaries q (apply p w), length-apply p w)))
   where
     entry : (k : ℕ) → k < length p → getD (ternaries q (apply p w)) k 0 ≡ getD (apply p (ternaries q w)) k 0
     entry k l =
         let m : getD p k 0 < length w = at-each v k (omega (arith, each-length v)) in
-        getD-ternaries q (apply p w) k (omega (arith, apply-length p w))
+        getD-ternaries q (apply p w) k (omega (arith, length-apply p w))
         ∙ ap (λ (b : ℕ). remainder q (meaning b)) (apply-at p w k l)
         ∙ sym (apply-at p (ternaries q w) k l ∙ getD-ternaries q w (getD p k 0) m)
 
