@@ -47,7 +47,7 @@ pub fn keygen(
         };
     }
     work::noisy(scratch, a, s, e, n, q);
-    work::write_out(b, 0, scratch, n);
+    call::write_out(b, 0, scratch, n);
     Reply::Taken
 }
 
@@ -110,10 +110,10 @@ pub fn encrypt(
         };
     }
     work::noisy(scratch, a, r, e1, n, q);
-    work::write_out(ciphertext, 0, scratch, n);
+    call::write_out(ciphertext, 0, scratch, n);
     work::noisy(scratch, b, r, e2, n, q);
     work::add_message(scratch, m, n, q);
-    work::write_out(ciphertext, 8 * n, scratch, n);
+    call::write_out(ciphertext, 8 * n, scratch, n);
     Reply::Taken
 }
 
@@ -253,13 +253,13 @@ pub fn split(
         };
     }
     work::difference(scratch, 0, s, s0, n, q);
-    work::write_out(out, 0, scratch, n);
+    call::write_out(out, 0, scratch, n);
     work::difference(scratch, 0, e, e0, n, q);
-    work::write_out(out, 8 * n, scratch, n);
+    call::write_out(out, 8 * n, scratch, n);
     work::noisy_lent(scratch, a, s0, e0, n, q);
-    work::write_out(out, 16 * n, scratch, n);
+    call::write_out(out, 16 * n, scratch, n);
     work::noisy_difference(scratch, a, s, s0, e, e0, n, q);
-    work::write_out(out, 24 * n, scratch, n);
+    call::write_out(out, 24 * n, scratch, n);
     Reply::Taken
 }
 
@@ -307,7 +307,7 @@ pub fn share(
         };
     }
     work::share(scratch, half, u, mask, n, q);
-    work::write_out(t, 0, scratch, n);
+    call::write_out(t, 0, scratch, n);
     Reply::Taken
 }
 

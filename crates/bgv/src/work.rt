@@ -3,7 +3,7 @@ ghost use mathlib.Core.Path.{_≡_};
 ghost use Prim.Native.Nat.{_+_, _*_, _≤_, _<_, _^_};
 ghost use mathlib.Core.Bool.{true};
 ghost use lib.ListN.{length};
-ghost use Rattle.codec.specs.Bytes.{put, part};
+ghost use Rattle.codec.specs.Bytes.{put};
 ghost use Rattle.ring.specs.Poly.{plus, modulo, Below};
 ghost use Rattle.ring.specs.Slots.{poly, slot, list, encode, allBelow};
 ghost use Rattle.ring.specs.Ternary.{ternary};
@@ -95,14 +95,6 @@ pub fn noisy_difference(
     difference(work, 0, x, x0, n, q);
     difference(work, ERROR, y, y0, n, q);
     combine(work, a, n, q);
-}
-
-// Writes what stands at 0 out.
-pub fn write_out(out: &mut [u8], at: usize, work: &[u8], n: usize)
-    requires { ⌜ (at + 8 * n ≤ length (now out)) × (8 * n ≤ length (now work)) ⌝ }
-    ensures { λ _. ⌜ now (out .exit) ≡ put (now (out .entry)) at (part (now (work .entry)) 0 (8 * n)) ⌝ }
-{
-    codec::copy(out, at, &work[0..8 * n]);
 }
 
 // v - s u, for ternary bytes s.

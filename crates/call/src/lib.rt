@@ -1,7 +1,8 @@
 // What the calls that are lent the sheet have in common: scratch, the test of lengths, and the reply to a sheet that is refused.
 ghost use mathlib.Core.Path.{_≡_};
-ghost use Prim.Native.Nat.{_*_, _≤_};
-ghost use Rattle.codec.specs.Bytes.{same};
+ghost use Prim.Native.Nat.{_+_, _*_, _≤_};
+ghost use lib.ListN.{length};
+ghost use Rattle.codec.specs.Bytes.{part, put, same};
 ghost use Rattle.call.specs.Call.{swept};
 
 // The length of scratch, for every call that is lent one: 64 slots.
@@ -40,4 +41,12 @@ pub fn sweep(reply: codec::Reply, scratch: &mut [u8])
             }
         }
     }
+}
+
+// Writes the polynomial that stands at the head of scratch out.
+pub fn write_out(out: &mut [u8], at: usize, scratch: &[u8], n: usize)
+    requires { ⌜ (at + 8 * n ≤ length (now out)) × (8 * n ≤ length (now scratch)) ⌝ }
+    ensures { λ _. ⌜ now (out .exit) ≡ put (now (out .entry)) at (part (now (scratch .entry)) 0 (8 * n)) ⌝ }
+{
+    codec::copy(out, at, &scratch[0..8 * n]);
 }

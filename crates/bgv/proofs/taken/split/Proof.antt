@@ -17,7 +17,7 @@ use Rattle.call.proofs.Sweeping.{untouched, spent}
 use Rattle.call.proofs.Ranges.{eighth, ranged}
 use Rattle.bgv.specs.Scheme.{other}
 use Rattle.bgv.specs.Calls.{splitWrites}
-use Rattle.bgv.proofs.Steps.{stands-put}
+use Rattle.call.proofs.Loads.{stands-put}
 use Rattle.bgv.proofs.Votes.{four-written}
 use Rattle.bgv.proofs.taken.split.Statement.{statement}
 use Rattle.bgv.proofs.taken.split.Tie as tie

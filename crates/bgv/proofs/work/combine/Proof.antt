@@ -2,7 +2,8 @@
 use native.Mathlib.Omega.{arith}
 use borrow.Author.Needs.{needs}
 use Rattle.ring.specs.Slots.{poly}
-use Rattle.bgv.proofs.Steps.{scale-asks, add-asks, combined}
+use Rattle.call.proofs.Loads.{scale-asks}
+use Rattle.bgv.proofs.Steps.{add-asks, combined}
 use Rattle.bgv.proofs.work.combine.Statement.{statement}
 use Rattle.bgv.proofs.work.combine.Tie as tie
 

@@ -3,7 +3,7 @@ use native.Mathlib.Omega.{arith}
 use borrow.Author.Needs.{needs}
 use Rattle.ring.specs.Slots.{poly}
 use Rattle.ring.specs.Ternary.{ternary}
-use Rattle.bgv.proofs.Steps.{ternary-load, loaded-asks, subtracted}
+use Rattle.call.proofs.Loads.{ternary-load, loaded-asks, subtracted}
 use Rattle.bgv.proofs.work.difference.Statement.{statement}
 use Rattle.bgv.proofs.work.difference.Tie as tie
 

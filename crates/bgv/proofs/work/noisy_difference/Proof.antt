@@ -4,7 +4,8 @@ use borrow.Author.Needs.{needs}
 use Rattle.ring.specs.Slots.{poly}
 use Rattle.ring.specs.Ternary.{ternary}
 use Rattle.bgv.specs.Scheme.{other}
-use Rattle.bgv.proofs.Steps.{modulo-load, loaded-length, combine-asks, stands-noisy}
+use Rattle.call.proofs.Loads.{modulo-load, loaded-length, both-asks}
+use Rattle.bgv.proofs.Steps.{stands-noisy}
 use Rattle.bgv.proofs.work.noisy_difference.Statement.{statement}
 use Rattle.bgv.proofs.work.noisy_difference.Tie as tie
 
@@ -36,7 +37,7 @@ combine-requires c κs =
     let h = other (a .q) (ternary (a .q) (a .y .now)) (poly (a .y0 .now)) in
     let w2 = c .before .before .before .difference2 .last .0 in
     let y = modulo-load (a .q) (a .n) (p .0 .high) (p .0 .some) (p .0 .few) w1 w2 16384 h l (omega arith) (c .before .before .before .difference2 .ensures) in
-    let k = combine-asks (a .q) (a .n) (p .0 .high) (p .0 .some) (p .0 .few) g h (a .work .now) w1 w2 (p .3) x y in
+    let k = both-asks (a .q) (a .n) (p .0 .high) (p .0 .some) (p .0 .few) g h (a .work .now) w1 w2 (p .3) x y in
     ((p .0, k .0), (k .1, k .2))
 
 returns : tie.Need-returns

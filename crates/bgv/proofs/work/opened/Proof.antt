@@ -4,7 +4,8 @@ use borrow.Author.Needs.{needs}
 use Rattle.ring.specs.Slots.{poly}
 use Rattle.ring.specs.Ternary.{ternary}
 use Rattle.call.proofs.Slots.{holds-below}
-use Rattle.bgv.proofs.Steps.{head-asks, length1, x1, add-lent-asks, stands-opened, ternary-load, loaded-length, head-length}
+use Rattle.call.proofs.Loads.{head-asks, length1, x1, add-lent-asks, stands-less-product, ternary-load, loaded-length, head-length}
+use Rattle.bgv.specs.Scheme.{opened}
 use Rattle.bgv.proofs.work.opened.Statement.{statement}
 use Rattle.bgv.proofs.work.opened.Tie as tie
 
@@ -43,6 +44,7 @@ add-requires c κs =
     (p .0 .few, omega (arith, h .0), omega (arith, p .1 .sized), h .1, p .1 .below)
 
 returns : tie.Need-returns
+unfolding opened
 returns c =
     let a = c .before .before .before .before .before .before .before .before .before .before .before .before .before .before .before .before .before .before .before .before .args in
     let p = c .before .before .before .before .before .before .before .before .before .before .before .before .before .before .before .before .before .before .before .before .pre in
@@ -51,7 +53,7 @@ returns c =
     let l = loaded-length (a .q) (a .n) (p .0 .high) (p .0 .some) (p .0 .few) (ternary (a .q) (a .s .now)) (a .work .now) w1 (p .2) x in
     let w2 = c .before .before .before .before .before .before .before .before .before .before .multiply .last .0 in
     let e2 = c .before .before .before .before .before .before .before .before .before .before .multiply .ensures in
-    stands-opened (a .q) (a .n) (p .0 .high) (p .0 .some) (p .0 .few) w1 (poly (a .u .now)) l w2 e2 (c .before .before .before .before .before .before .scale-slot .last .0) (c .before .before .before .before .before .before .scale-slot .ensures) (ternary (a .q) (a .s .now)) (poly (a .v .now)) (a .work .now) (c .before .before .add .last .0) (head-length (a .q) (a .n) (p .0 .high) (p .0 .some) (p .0 .few) (ternary (a .q) (a .s .now)) (a .work .now) w1 (p .2) x) (x .holds) (c .before .before .add .ensures)
+    stands-less-product (a .q) (a .n) (p .0 .high) (p .0 .some) (p .0 .few) w1 (poly (a .u .now)) l w2 e2 (c .before .before .before .before .before .before .scale-slot .last .0) (c .before .before .before .before .before .before .scale-slot .ensures) (ternary (a .q) (a .s .now)) (poly (a .v .now)) (a .work .now) (c .before .before .add .last .0) (head-length (a .q) (a .n) (p .0 .high) (p .0 .some) (p .0 .few) (ternary (a .q) (a .s .now)) (a .work .now) w1 (p .2) x) (x .holds) (c .before .before .add .ensures)
 
 pub opened-spec : {M : Type 1} → statement M
 opened-spec = tie.close (tie.spec (λ c κs. search needs) multiply-requires (λ c. search needs) scale-slot-requires add-requires (λ c. search needs) returns)

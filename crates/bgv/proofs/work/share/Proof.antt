@@ -7,7 +7,8 @@ use Rattle.call.proofs.Slots.{stands-alike}
 use Rattle.bgv.specs.Scheme.{residues}
 use Rattle.bgv.specs.Calls.{lentMask}
 use Rattle.bgv.proofs.Form.{noisy-either}
-use Rattle.bgv.proofs.Steps.{combine-asks, stands-noisy, lent-load, residues-load, loaded-length}
+use Rattle.call.proofs.Loads.{both-asks, lent-load, residues-load, loaded-length}
+use Rattle.bgv.proofs.Steps.{stands-noisy}
 use Rattle.bgv.proofs.work.share.Statement.{statement}
 use Rattle.bgv.proofs.work.share.Tie as tie
 
@@ -19,7 +20,7 @@ combine-requires c κs =
     let w2 = c .before .before .before .load-mask .last .0 in
     let x = lent-load (a .q) (a .n) (p .0 .high) (p .0 .some) (p .0 .few) (a .work .now) w1 0 (p .3) (omega (arith, p .0 .high)) (a .s .now) (p .0 .sized) (p .0 .below) (c .before .before .before .before .before .before .before .copy .ensures) in
     let y = residues-load (a .q) (a .n) (p .0 .high) (p .0 .some) (p .0 .few) w1 w2 16384 (loaded-length (a .q) (a .n) (p .0 .high) (p .0 .some) (p .0 .few) (poly (a .s .now)) (a .work .now) w1 (p .3) x) (omega (arith, p .0 .high)) (lentMask (a .mask .now)) (c .before .before .before .load-mask .ensures) in
-    let h = combine-asks (a .q) (a .n) (p .0 .high) (p .0 .some) (p .0 .few) (poly (a .s .now)) (residues (a .q) (lentMask (a .mask .now))) (a .work .now) w1 w2 (p .3) x y in
+    let h = both-asks (a .q) (a .n) (p .0 .high) (p .0 .some) (p .0 .few) (poly (a .s .now)) (residues (a .q) (lentMask (a .mask .now))) (a .work .now) w1 w2 (p .3) x y in
     ((p .1, h .0), (h .1, h .2))
 
 returns : tie.Need-returns
