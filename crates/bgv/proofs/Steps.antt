@@ -1,34 +1,18 @@
 -- The steps of the work in scratch: what each leaves at 0 and at 16,384, and what the next one asks. Assumes nothing.
-use mathlib.Core.Path.{_≡_, refl, sym, _∙_}
+use mathlib.Core.Path.{_≡_, sym, _∙_}
 use mathlib.Core.Logic.{inl}
-use mathlib.Core.Bool.{true, cond}
-use Prim.Native.Nat.{ℕ, zero, suc, _+_, _-_, _*_, _^_, _≤_, _<_}
+use Prim.Native.Nat.{ℕ, _+_, _*_, _^_, _≤_, _<_}
 use native.Mathlib.Omega.{arith}
-use lib.Dec.{eqb}
-use lib.ListN.{length, getD}
+use lib.ListN.{length}
 use Rattle.codec.specs.Bytes.{Bytes, put, zeros}
-use Rattle.modular.proofs.Congruence.{same-eq}
 use Rattle.ring.specs.Poly.{Poly, plus, scale, mul, Below}
-use Rattle.ring.specs.Slots.{slot, encode, store, Slots, allBelow}
-use Rattle.ring.specs.Ternary.{ternary}
-use Rattle.ring.proofs.Bridge.{length-encode}
-use Rattle.ring.proofs.Ranges.{allBelow-sound}
-use Rattle.ring.proofs.Sizes.{ternary-value}
+use Rattle.ring.specs.Slots.{slot, encode, store, Slots}
 use Rattle.ring.proofs.Polynomials.{alike-eq, alike-refl, _so_, alike-plus, alike-scale}
 use Rattle.call.specs.Call.{coefficients, Stands}
-use Rattle.call.proofs.Slots.{Holds, holds-alike, holds-slot, stored, stored-length, stored-other, loaded, put-length, put-other, stands-alike, stands-after, stands-stored}
-use Rattle.call.proofs.Loads.{below-ternary, Loaded, both-length, first-kept, length1, x1, y1, add-slots-asks}
+use Rattle.call.proofs.Slots.{Holds, holds-alike, holds-slot, stored, stored-length, stored-other, put-length, put-other, stands-alike, stands-after, stands-stored}
+use Rattle.call.proofs.Loads.{Loaded, written-load, both-length, first-kept, length1, x1, y1, add-slots-asks}
 use Rattle.bgv.specs.Scheme.{noisy}
 use Rattle.bgv.proofs.Form.{noisy-turned, noisy-alike}
-
--- bytes 0 and 1 mean themselves
-message : (q : ℕ) (m : Bytes) → 1 < q → allBelow 2 m ≡ true → (k : ℕ) → k < length m → ternary q m k ≡ coefficients m k
-message q m h e k l = ternary-value q m k h ∙ go (getD m k 0) (allBelow-sound 2 m e k l)
-  where
-    go : (b : ℕ) → b < 2 → cond (eqb b 1) 1 (cond (eqb b 2) (q - 1) 0) ≡ b
-    go zero x = refl
-    go (suc zero) x = refl
-    go (suc (suc b)) x = absurd (omega arith)
 
 module _ (q n : ℕ) (high : n ≤ 2048) (some : 3 ≤ q) (few : q < 2 ^ 56) where
   positive : 0 < q
@@ -67,24 +51,23 @@ module _ (q n : ℕ) (high : n ≤ 2048) (some : 3 ≤ q) (few : q < 2 ^ 56) whe
 
   -- ---- a message is added
 
-  module _ (w w1 : Bytes) (m : Bytes) (l : length w ≡ 1048576) (lm : length m ≡ n) (bits : allBelow 2 m ≡ true) (x : Below q n (slot w 0))
-      (e1 : w1 ≡ put w 16384 (encode n (ternary q m))) where
-    coded : length (encode n (ternary q m)) ≡ 8 * n
-    coded = length-encode n (ternary q m)
+  module _ (w w1 : Bytes) (m : Bytes) (l : length w ≡ 1048576) (below : Below q n (coefficients m)) (x : Below q n (slot w 0)) (e1 : w1 ≡ put w 16384 (encode n (coefficients m))) where
+    y : Loaded q n 16384 (coefficients m) w w1
+    y = written-load q n high some few w w1 16384 l (omega arith) (coefficients m) below e1
+
+    fits : 16384 + length (y .bytes) ≤ length w
+    fits = omega (arith, y .sized)
 
     length-message : length w1 ≡ length w
-    length-message = put-length q n w w1 16384 (encode n (ternary q m)) (omega (arith, coded)) e1
+    length-message = put-length q n w w1 16384 (y .bytes) fits (y .is)
 
     x-kept : Holds q n 0 (slot w 0) w1
-    x-kept = put-other q n w w1 16384 (encode n (ternary q m)) (omega (arith, coded)) e1 (inl (omega arith)) (holds-slot w x)
-
-    m-loaded : Holds q n 16384 (ternary q m) w1
-    m-loaded = loaded q n positive few w w1 16384 (omega arith) (ternary q m) (below-ternary q n m positive) e1
+    x-kept = put-other q n w w1 16384 (y .bytes) fits (y .is) (inl (omega arith)) (holds-slot w x)
 
     pub message-asks : Slots n 0 16384 w1 × Below q n (slot w1 0) × Below q n (slot w1 16384)
-    message-asks = add-slots-asks q n high some few w1 (length-message ∙ l) x-kept m-loaded
+    message-asks = add-slots-asks q n high some few w1 (length-message ∙ l) x-kept (y .holds)
 
     pub stands-message : (w2 : Bytes) → w2 ≡ store q n w1 0 (plus (slot w1 0) (slot w1 16384)) → Stands q n (plus (slot w 0) (coefficients m)) w w2
     stands-message w2 e2 =
         stands-alike (stands-stored q n (plus (slot w1 0) (slot w1 16384)) w w1 w2 (omega (arith, length-message)) length-message e2)
-        (alike-plus (holds-alike x-kept) (holds-alike m-loaded so record { at = λ k h. same-eq (message q m (omega arith) bits k (omega arith)) }))
+        (alike-plus (holds-alike x-kept) (holds-alike (y .holds)))

@@ -5,22 +5,19 @@ use Prim.Native.Nat.{ℕ, _+_, _-_, _*_, _^_, _≤_, _<_}
 use native.Mathlib.Nat.{mod-mod}
 use native.Mathlib.Omega.{arith}
 use lib.IntN.{ℤ}
-use lib.ListN.{length, getD, length-replicate}
+use lib.ListN.{length, length-replicate}
 use Rattle.codec.specs.Bytes.{Bytes, put, zeros}
 use Rattle.codec.proofs.Laws.{put-put}
 use Rattle.modular.specs.Modulo.{remainder}
 use Rattle.modular.proofs.Centring.{remainder-lt}
 use Rattle.ring.specs.Poly.{Poly, plus, minus, scale, mul, modulo, Below}
 use Rattle.ring.specs.Slots.{poly, slot, encode, store, Slots}
-use Rattle.ring.specs.Ternary.{meaning, ternary}
+use Rattle.ring.specs.Ternary.{ternary}
 use Rattle.ring.proofs.Bridge.{length-encode, encode-alike}
+use Rattle.ring.proofs.Ranges.{below-ternary}
 use Rattle.ring.proofs.Polynomials.{plus-comm, alike-eq, alike-refl, _so_, alike-plus, alike-minus, alike-scale, alike-mul, below-modulo}
 use Rattle.call.specs.Call.{Stands}
 use Rattle.call.proofs.Slots.{Holds, holds-below, holds-alike, holds-slot, stored, stored-length, stored-other, loaded, copied, put-length, put-other, stands-alike, stands-stored}
-
-pub below-ternary : (q n : ℕ) (t : Bytes) → 0 < q → Below q n (ternary q t)
-unfolding ternary
-below-ternary q n t h = record { at = λ k l. remainder-lt q (meaning (getD t k 0)) h }
 
 -- the polynomial f is put into a slot, whatever stood there
 pub record Loaded (q n at : ℕ) (f : Poly) (w w' : Bytes) : Type 0 where
