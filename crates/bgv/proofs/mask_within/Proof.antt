@@ -1,10 +1,10 @@
 -- `bgv::mask_within` meets its contract. Assumes nothing.
-use mathlib.Core.Path.{_≡_, _∙_}
+use mathlib.Core.Path.{_∙_}
 use native.Mathlib.Omega.{arith}
 use borrow.Author.Needs.{needs}
 use Rattle.ring.specs.Slots.{poly}
 use Rattle.ring.proofs.Polynomials.{alike-refl, alike-minus, alike-mul}
-use Rattle.call.proofs.Slots.{holds-alike, stands-alike, stands-after, stands-below}
+use Rattle.call.proofs.Slots.{holds-alike, stands-alike, stands-below}
 use Rattle.call.proofs.Loads.{lent-load, loaded-length, head-asks, head-length}
 use Rattle.bgv.specs.Scheme.{worked}
 use Rattle.bgv.proofs.Votes.{halves-stand}

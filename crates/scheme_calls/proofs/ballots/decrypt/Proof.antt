@@ -1,5 +1,5 @@
 -- `ballots::decrypt` meets its contract. Assumes nothing.
-use mathlib.Core.Path.{_≡_, sym, _∙_}
+use mathlib.Core.Path.{_∙_}
 use borrow.Author.Needs.{needs}
 use Rattle.call.proofs.Sweeping.{untouched, spent, leaves-taken, leaves-refused}
 use Rattle.scheme_calls.proofs.Passed.{decrypt-passed}
@@ -10,7 +10,7 @@ write-vote-requires : tie.Need-write-vote-requires
 write-vote-requires c κs =
     let a = c .before .before .before .before .before .before .before .before .before .before .before .args in
     let p = c .before .before .before .before .before .before .before .before .before .before .before .pre in
-    let h = decrypt-passed (a .n) (a .q) (a .s .now) (a .ciphertext .now) (a .vote .now) (a .scratch .now) (sym (c .before .before .before .before .decrypt-tests .ensures) ∙ c .before .before .enum-told .given .1) in
+    let h = decrypt-passed (a .n) (a .q) (a .s .now) (a .ciphertext .now) (a .vote .now) (a .scratch .now) (c .before .before .before .before .decrypt-tests .result) (c .before .before .before .before .decrypt-tests .ensures) (c .before .before .enum-told .given .1) in
     (p, h .0, h .1, h .2, h .3, h .4)
 
 returns : tie.Need-returns

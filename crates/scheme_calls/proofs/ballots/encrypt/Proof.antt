@@ -1,5 +1,5 @@
 -- `ballots::encrypt` meets its contract. Assumes nothing.
-use mathlib.Core.Path.{_≡_, sym, _∙_}
+use mathlib.Core.Path.{_∙_}
 use borrow.Author.Needs.{needs}
 use Rattle.call.proofs.Sweeping.{untouched, spent, leaves-taken, leaves-refused}
 use Rattle.scheme_calls.proofs.Passed.{encrypt-passed}
@@ -13,7 +13,7 @@ write-ciphertext-requires : tie.Need-write-ciphertext-requires
 write-ciphertext-requires c κs =
     let a = c .before .before .before .before .before .before .before .before .before .before .before .before .before .before .before .args in
     let p = c .before .before .before .before .before .before .before .before .before .before .before .before .before .before .before .pre in
-    let h = encrypt-passed (a .n) (a .q) (a .r .now) (a .e1 .now) (a .e2 .now) (a .m .now) (a .ciphertext .now) (a .scratch .now) (p .0 .some) (sym (c .before .before .before .before .encrypt-tests .ensures) ∙ c .before .before .enum-told .given .1) in
+    let h = encrypt-passed (a .n) (a .q) (a .r .now) (a .e1 .now) (a .e2 .now) (a .m .now) (a .ciphertext .now) (a .scratch .now) (p .0 .some) (c .before .before .before .before .encrypt-tests .result) (c .before .before .before .before .encrypt-tests .ensures) (c .before .before .enum-told .given .1) in
     (p .0, p .1, h .0, h .1, h .2, h .3, h .4, h .5, h .6)
 
 returns : tie.Need-returns

@@ -6,7 +6,7 @@ use borrow.Author.Needs.{needs}
 use borrow.Author.Tests.{not-true, not-false}
 use Rattle.ring.specs.Slots.{allBelow}
 use Rattle.call.specs.Call.{bytesBelow}
-use Rattle.call.proofs.Order.{fails, goes-on, last}
+use Rattle.call.proofs.Order.{last}
 use Rattle.scheme_calls.proofs.ballots.encrypt_ranged.Statement.{statement}
 use Rattle.scheme_calls.proofs.ballots.encrypt_ranged.Tie as tie
 

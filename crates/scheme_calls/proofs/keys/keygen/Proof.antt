@@ -1,5 +1,5 @@
 -- `keys::keygen` meets its contract. Assumes nothing.
-use mathlib.Core.Path.{_≡_, sym, _∙_}
+use mathlib.Core.Path.{_∙_}
 use native.Mathlib.Omega.{arith}
 use Rattle.scheme_calls.specs.Calls.{keygenWrites}
 use Rattle.scheme_calls.proofs.Places.{one-written}
@@ -16,7 +16,7 @@ noisy-requires : tie.Need-noisy-requires
 noisy-requires c κs =
     let a = c .before .before .before .before .before .before .before .before .before .before .before .before .args in
     let p = c .before .before .before .before .before .before .before .before .before .before .before .before .pre in
-    let h = keygen-passed (a .n) (a .q) (a .s .now) (a .e .now) (a .b .now) (a .scratch .now) (sym (c .before .before .before .before .keygen-tests .ensures) ∙ c .before .before .enum-told .given .1) in
+    let h = keygen-passed (a .n) (a .q) (a .s .now) (a .e .now) (a .b .now) (a .scratch .now) (c .before .before .before .before .keygen-tests .result) (c .before .before .before .before .keygen-tests .ensures) (c .before .before .enum-told .given .1) in
     (p, h .0, h .1, h .2, omega (arith, h .3))
 
 returns : tie.Need-returns
@@ -26,7 +26,7 @@ returns c =
     let p = c .before .before .before .before .before .before .before .before .before .before .before .before .before .before .before .before .before .pre in
     let r = c .before .before .before .before .before .before .before .before .before .keygen-tests .result in
     let taken = c .before .before .before .before .before .before .before .enum-told .given .1 in
-    let h = keygen-passed (a .n) (a .q) (a .s .now) (a .e .now) (a .b .now) (a .scratch .now) (sym (c .before .before .before .before .before .before .before .before .before .keygen-tests .ensures) ∙ c .before .before .before .before .before .before .before .enum-told .given .1) in
+    let h = keygen-passed (a .n) (a .q) (a .s .now) (a .e .now) (a .b .now) (a .scratch .now) (c .before .before .before .before .before .before .before .before .before .keygen-tests .result) (c .before .before .before .before .before .before .before .before .before .keygen-tests .ensures) (c .before .before .before .before .before .before .before .enum-told .given .1) in
     (c .before .before .before .before .before .before .before .before .before .keygen-tests .ensures, (one-written (a .q) (a .n) _ (a .b .now) _ (h .3) (c .before .before .before .before .noisy .ensures .0) ∙ leaves-taken r _ taken, spent r _ _ taken (c .before .before .before .before .noisy .ensures .1)))
 
 returns-2 : tie.Need-returns-2

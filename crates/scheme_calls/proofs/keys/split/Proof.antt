@@ -1,5 +1,5 @@
 -- `keys::split` meets its contract. Assumes nothing.
-use mathlib.Core.Path.{_≡_, sym, _∙_}
+use mathlib.Core.Path.{_∙_}
 use borrow.Author.Needs.{needs}
 use Rattle.call.proofs.Sweeping.{untouched, spent, leaves-taken, leaves-refused}
 use Rattle.scheme_calls.proofs.Passed.{split-passed}
@@ -13,7 +13,7 @@ write-split-requires : tie.Need-write-split-requires
 write-split-requires c κs =
     let a = c .before .before .before .before .before .before .before .before .before .before .before .before .before .before .args in
     let p = c .before .before .before .before .before .before .before .before .before .before .before .before .before .before .pre in
-    let h = split-passed (a .n) (a .q) (p .low) (p .high) (p .some) (p .few) (a .s .now) (a .e .now) (a .s0 .now) (a .e0 .now) (a .out .now) (a .scratch .now) (sym (c .before .before .before .before .split-tests .ensures) ∙ c .before .before .enum-told .given .1) in
+    let h = split-passed (a .n) (a .q) (p .low) (p .high) (p .some) (p .few) (a .s .now) (a .e .now) (a .s0 .now) (a .e0 .now) (a .out .now) (a .scratch .now) (c .before .before .before .before .split-tests .result) (c .before .before .before .before .split-tests .ensures) (c .before .before .enum-told .given .1) in
     (p, h .0 .0, h .0 .1, h .1, h .2, h .3, h .4)
 
 returns : tie.Need-returns

@@ -1,5 +1,5 @@
 -- `shares::reconstruct` meets its contract. Assumes nothing.
-use mathlib.Core.Path.{_≡_, sym, _∙_}
+use mathlib.Core.Path.{_∙_}
 use borrow.Author.Needs.{needs}
 use Rattle.call.proofs.Sweeping.{untouched, spent, leaves-taken, leaves-refused}
 use Rattle.scheme_calls.proofs.Passed.{reconstruct-passed}
@@ -10,7 +10,7 @@ write-rebuilt-requires : tie.Need-write-rebuilt-requires
 write-rebuilt-requires c κs =
     let a = c .before .before .before .before .before .before .before .before .before .before .before .before .args in
     let p = c .before .before .before .before .before .before .before .before .before .before .before .before .pre in
-    let h = reconstruct-passed (a .n) (a .q) (p .0) (p .1) (p .2) (p .3) (a .v .now) (a .t0 .now) (a .t1 .now) (a .vote .now) (a .scratch .now) (sym (c .before .before .before .before .reconstruct-tests .ensures) ∙ c .before .before .enum-told .given .1) in
+    let h = reconstruct-passed (a .n) (a .q) (p .0) (p .1) (p .2) (p .3) (a .v .now) (a .t0 .now) (a .t1 .now) (a .vote .now) (a .scratch .now) (c .before .before .before .before .reconstruct-tests .result) (c .before .before .before .before .reconstruct-tests .ensures) (c .before .before .enum-told .given .1) in
     (h .0, h .1 .0, h .1 .1, h .2, h .3)
 
 returns : tie.Need-returns
