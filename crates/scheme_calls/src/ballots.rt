@@ -1,4 +1,4 @@
-// Encryption and decryption once the sheet is taken: the tests of the lent slices, and then the work.
+// Encryption and decryption once the sheet is taken: the tests of the lent slices, and then the work. What is made from secrets is left in scratch, which the caller sweeps.
 use crate::written;
 use codec::Reply;
 ghost use mathlib.Core.Path.{_≡_};
@@ -26,6 +26,7 @@ fn encrypt_ranged(r: &[u8], e1: &[u8], e2: &[u8], m: &[u8], p: u64) -> bool
     bgv::is_message(m, p)
 }
 
+// What `encrypt` refuses, in order.
 fn encrypt_tests(
     r: &[u8],
     e1: &[u8],
@@ -63,6 +64,7 @@ fn encrypt_tests(
     Reply::Taken
 }
 
+// The work of `encrypt`, for slices that passed its tests.
 fn write_ciphertext(
     a: &[u8],
     b: &[u8],
@@ -157,6 +159,7 @@ fn decrypt_ranged(s: &[u8], ciphertext: &[u8], n: usize, q: u64) -> bool
     }
 }
 
+// What `decrypt` refuses, in order.
 fn decrypt_tests(
     s: &[u8],
     ciphertext: &[u8],
@@ -186,6 +189,7 @@ fn decrypt_tests(
     Reply::Taken
 }
 
+// The work of `decrypt`, for slices that passed its tests.
 fn write_vote(s: &[u8], ciphertext: &[u8], vote: &mut [u8], scratch: &mut [u8], n: usize, q: u64)
     requires { ⌜ ((4 ≤ n) × (n ≤ 2048) × (3 ≤ q) × (q < 2 ^ 56)) × (length (now s) ≡ n) × (length (now ciphertext) ≡ 16 * n) × (allBelow q (list (2 * n) (poly (now ciphertext))) ≡ true) × (length (now vote) ≡ n) × (length (now scratch) ≡ scratchLength) ⌝ }
     ensures { λ _. ⌜ now (vote .exit) ≡ decryptWrites 2 q n (now (s .entry)) (now (ciphertext .entry)) ⌝ }

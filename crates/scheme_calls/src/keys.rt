@@ -1,4 +1,4 @@
-// The key and its split once the sheet is taken: the tests of the lent slices, and then the work.
+// The key and its split once the sheet is taken: the tests of the lent slices, and then the work. What is made from secrets is left in scratch, which the caller sweeps.
 use crate::written;
 use codec::Reply;
 ghost use mathlib.Core.Path.{_≡_};
@@ -11,6 +11,7 @@ ghost use Rattle.ring.specs.Slots.{poly};
 ghost use Rattle.call.specs.Call.{scratchLength, bytesBelow, coefficientsBelow, Public, Used};
 ghost use Rattle.scheme_calls.specs.Calls.{keygenTests, keygenWrites, splitTests, splitWrites};
 
+// What `keygen` refuses, in order.
 fn keygen_tests(s: &[u8], e: &[u8], b: &[u8], scratch: &[u8], n: usize) -> Reply
     requires { ⌜ n ≤ 2048 ⌝ }
     ensures { λ reply. ⌜ reply ≡ first (keygenTests n (now (s .entry)) (now (e .entry)) (now (b .entry)) (now (scratch .entry))) ⌝ }
@@ -73,6 +74,7 @@ fn split_ranged(s: &[u8], e: &[u8], s0: &[u8], e0: &[u8], n: usize, q: u64) -> b
     }
 }
 
+// What `split` refuses, in order.
 fn split_tests(
     s: &[u8],
     e: &[u8],
@@ -111,6 +113,7 @@ fn split_tests(
     Reply::Taken
 }
 
+// The work of `split`, for slices that passed its tests.
 fn write_split(
     a: &[u8],
     s: &[u8],

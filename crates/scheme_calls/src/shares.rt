@@ -1,4 +1,4 @@
-// Decryption shares and the vote of two once the sheet is taken: the tests of the lent slices, and then the work.
+// Decryption shares and the vote of two once the sheet is taken: the tests of the lent slices, and then the work. What is made from secrets is left in scratch, which the caller sweeps.
 use crate::written;
 use codec::Reply;
 ghost use mathlib.Core.Path.{_≡_};
@@ -9,7 +9,7 @@ ghost use Rattle.codec.specs.Reply.{first, leaves};
 ghost use Rattle.call.specs.Call.{scratchLength, coefficientsBelow, Public, Used};
 ghost use Rattle.scheme_calls.specs.Calls.{shareTests, shareWrites, reconstructTests, reconstructWrites};
 
-// A lent mask is bounded as it is lent.
+// What `share` refuses, in order. A lent mask is bounded as it is lent.
 fn share_tests(
     half: &[u8],
     u: &[u8],
@@ -88,6 +88,7 @@ fn reconstruct_ranged(v: &[u8], t0: &[u8], t1: &[u8], n: usize, q: u64) -> bool
     }
 }
 
+// What `reconstruct` refuses, in order.
 fn reconstruct_tests(
     v: &[u8],
     t0: &[u8],
@@ -118,6 +119,7 @@ fn reconstruct_tests(
     Reply::Taken
 }
 
+// The work of `reconstruct`, for slices that passed its tests.
 fn write_rebuilt(
     v: &[u8],
     t0: &[u8],
