@@ -1,7 +1,6 @@
 pub mod Form
 pub mod Round
 pub mod Ballot
+pub mod Sheets
 pub mod Steps
 pub mod Votes
-pub mod Outer
-pub mod Sheets

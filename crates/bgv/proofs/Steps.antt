@@ -1,228 +1,73 @@
 -- The steps of the work in scratch: what each leaves at 0 and at 16,384, and what the next one asks. Assumes nothing.
-use mathlib.Core.Path.{_≡_, refl, sym, ap, _∙_}
-use mathlib.Core.Logic.{inl, inr}
-use mathlib.Core.Bool.{true, cond}
-use Prim.Native.Nat.{ℕ, zero, suc, _+_, _-_, _*_, _^_, _≤_, _<_}
-use native.Mathlib.Nat.{mod-mod}
+use mathlib.Core.Path.{_≡_, sym, _∙_}
+use mathlib.Core.Logic.{inl}
+use Prim.Native.Nat.{ℕ, _+_, _*_, _^_, _≤_, _<_}
 use native.Mathlib.Omega.{arith}
-use lib.Dec.{eqb}
-use lib.ListN.{length, getD, length-replicate}
+use lib.ListN.{length}
 use Rattle.codec.specs.Bytes.{Bytes, put, zeros}
-use Rattle.codec.proofs.Laws.{put-put}
-use Rattle.modular.proofs.Congruence.{same-eq}
-use Rattle.modular.proofs.Centring.{remainder-lt}
-use Rattle.ring.specs.Poly.{Poly, plus, minus, scale, mul, modulo, Below}
-use Rattle.ring.specs.Slots.{poly, slot, encode, store, Slots, allBelow}
-use Rattle.ring.specs.Ternary.{meaning, ternary}
-use Rattle.ring.proofs.Bridge.{length-encode, encode-alike}
-use Rattle.ring.proofs.Ranges.{allBelow-sound}
-use Rattle.ring.proofs.Sizes.{ternary-value}
-use Rattle.ring.proofs.Polynomials.{plus-comm, alike-eq, alike-refl, _so_, alike-plus, alike-minus, alike-scale, alike-mul, below-modulo}
+use Rattle.ring.specs.Poly.{Poly, plus, scale, mul, Below}
+use Rattle.ring.specs.Slots.{slot, encode, store, Slots}
+use Rattle.ring.proofs.Polynomials.{alike-eq, alike-refl, _so_, alike-plus, alike-scale}
 use Rattle.call.specs.Call.{coefficients, Stands}
-use Rattle.call.proofs.Slots.{Holds, holds-below, holds-alike, holds-slot, stored, stored-length, stored-other, loaded, copied, put-length, put-other, stands-alike, stands-after, stands-stored}
-use Rattle.bgv.specs.Scheme.{Wholes, residues, noisy, opened, rebuilt}
+use Rattle.call.proofs.Slots.{Holds, holds-alike, holds-slot, stored, stored-length, stored-other, put-length, put-other, stands-alike, stands-after, stands-stored}
+use Rattle.call.proofs.Loads.{Loaded, written-load, both-length, first-kept, length1, x1, y1, add-slots-asks}
+use Rattle.bgv.specs.Scheme.{noisy}
 use Rattle.bgv.proofs.Form.{noisy-turned, noisy-alike}
-
-pub below-ternary : (q n : ℕ) (t : Bytes) → 0 < q → Below q n (ternary q t)
-unfolding ternary
-below-ternary q n t h = record { at = λ k l. remainder-lt q (meaning (getD t k 0)) h }
-
--- bytes 0 and 1 mean themselves
-pub message : (q : ℕ) (m : Bytes) → 1 < q → allBelow 2 m ≡ true → (k : ℕ) → k < length m → ternary q m k ≡ coefficients m k
-message q m h e k l = ternary-value q m k h ∙ go (getD m k 0) (allBelow-sound 2 m e k l)
-  where
-    go : (b : ℕ) → b < 2 → cond (eqb b 1) 1 (cond (eqb b 2) (q - 1) 0) ≡ b
-    go zero x = refl
-    go (suc zero) x = refl
-    go (suc (suc b)) x = absurd (omega arith)
-
--- the polynomial f is put into a slot, whatever stood there
-pub record Loaded (q n at : ℕ) (f : Poly) (w w' : Bytes) : Type 0 where
-  pub bytes : Bytes
-  pub sized : length bytes ≡ 8 * n
-  pub is : w' ≡ put w at bytes
-  pub holds : Holds q n at f w'
 
 module _ (q n : ℕ) (high : n ≤ 2048) (some : 3 ≤ q) (few : q < 2 ^ 56) where
   positive : 0 < q
   positive = omega arith
 
-  -- ---- a product at 0
+  -- ---- a x + 2 y
 
-  module _ (w : Bytes) (a : Poly) (l : length w ≡ 1048576) (w1 : Bytes) (e1 : w1 ≡ put (store q n w 0 (mul q n (slot w 0) a)) 32768 (zeros (24 * n))) where
-    abbrev product : Bytes
-    product = store q n w 0 (mul q n (slot w 0) a)
-
-    product-length : length product ≡ length w
-    product-length = stored-length q n positive few w product 0 (omega arith) (mul q n (slot w 0) a) refl
-
-    room : 32768 + length (zeros (24 * n)) ≤ length product
-    room = let z : length (zeros (24 * n)) ≡ 24 * n = length-replicate (24 * n) 0 in omega (arith, product-length)
-
-    pub length1 : length w1 ≡ length w
-    length1 = put-length q n product w1 32768 (zeros (24 * n)) room e1 ∙ product-length
-
-    pub x1 : Holds q n 0 (mul q n (slot w 0) a) w1
-    x1 = put-other q n product w1 32768 (zeros (24 * n)) room e1 (inl (omega arith)) (stored q n positive few w product 0 (omega arith) (mul q n (slot w 0) a) refl)
-
-    -- ---- a x + 2 y
-
-    module _ (y : Below q n (slot w 16384)) where
-      y1 : Holds q n 16384 (slot w 16384) w1
-      y1 =
-          put-other q n product w1 32768 (zeros (24 * n)) room e1 (inl (omega arith))
-          (stored-other q n positive few w product 0 (omega arith) (mul q n (slot w 0) a) refl (inr (omega arith)) (holds-slot w y))
-
-      pub scale-asks : (16384 + 8 * n ≤ length w1) × Below q n (slot w1 16384)
-      scale-asks = (omega (arith, length1), holds-below positive y1)
-
-      module _ (w2 : Bytes) (e2 : w2 ≡ store q n w1 16384 (scale 2 (slot w1 16384))) where
-        length2 : length w2 ≡ length w
-        length2 = stored-length q n positive few w1 w2 16384 (omega (arith, length1)) (scale 2 (slot w1 16384)) e2 ∙ length1
-
-        x2 : Holds q n 0 (mul q n (slot w 0) a) w2
-        x2 = stored-other q n positive few w1 w2 16384 (omega (arith, length1)) (scale 2 (slot w1 16384)) e2 (inl (omega arith)) x1
-
-        y2 : Holds q n 16384 (scale 2 (slot w1 16384)) w2
-        y2 = stored q n positive few w1 w2 16384 (omega (arith, length1)) (scale 2 (slot w1 16384)) e2
-
-        pub add-asks : Slots n 0 16384 w2 × Below q n (slot w2 0) × Below q n (slot w2 16384)
-        add-asks = let m = length2 in (record { one = omega arith; other = omega arith; apart = inr (omega arith) }, holds-below positive x2, holds-below positive y2)
-
-        pub combined : (w3 : Bytes) → w3 ≡ store q n w2 0 (plus (slot w2 0) (slot w2 16384)) → Stands q n (noisy q n 2 a (slot w 0) (slot w 16384)) w w3
-        combined w3 e3 =
-            stands-alike (stands-stored q n (plus (slot w2 0) (slot w2 16384)) w w2 w3 (omega (arith, length2)) length2 e3)
-            (alike-plus (holds-alike x2) (holds-alike y2 so alike-scale 2 (holds-alike y1)) so alike-eq (sym (noisy-turned q n 2 a (slot w 0) (slot w 16384))))
-
-    -- ---- v - x u
-
-    module _ (w2 : Bytes) (e2 : w2 ≡ store q n w1 0 (scale (q - 1) (slot w1 0))) where
-      length2-opened : length w2 ≡ length w
-      length2-opened = stored-length q n positive few w1 w2 0 (omega (arith, length1)) (scale (q - 1) (slot w1 0)) e2 ∙ length1
-
-      x2-opened : Holds q n 0 (scale (q - 1) (slot w1 0)) w2
-      x2-opened = stored q n positive few w1 w2 0 (omega (arith, length1)) (scale (q - 1) (slot w1 0)) e2
-
-      pub add-lent-asks : (8 * n ≤ length w2) × Below q n (slot w2 0)
-      add-lent-asks = (omega (arith, length2-opened), holds-below positive x2-opened)
-
-      pub stands-opened : (s v : Poly) (w0 w3 : Bytes) → length w ≡ length w0 → Holds q n 0 s w → w3 ≡ store q n w2 0 (plus (slot w2 0) v) → Stands q n (opened q n s a v) w0 w3
-      unfolding opened
-      stands-opened s v w0 w3 l0 h e3 =
-          stands-alike (stands-stored q n (plus (slot w2 0) v) w0 w2 w3 (omega (arith, length2-opened)) (length2-opened ∙ l0) e3)
-          (alike-plus (holds-alike x2-opened so alike-scale (q - 1) (holds-alike x1 so alike-mul (holds-alike h) alike-refl)) alike-refl
-          so alike-eq (plus-comm (scale (q - 1) (mul q n s a)) v))
-
-  -- ---- two polynomials are put at 0 and at 16,384
-
-  module _ (f g : Poly) (w w1 w2 : Bytes) (l : length w ≡ 1048576) (x : Loaded q n 0 f w w1) (y : Loaded q n 16384 g w1 w2) where
+  module _ (w : Bytes) (a : Poly) (l : length w ≡ 1048576) (w1 : Bytes) (e1 : w1 ≡ put (store q n w 0 (mul q n (slot w 0) a)) 32768 (zeros (24 * n))) (y : Below q n (slot w 16384))
+      (w2 : Bytes) (e2 : w2 ≡ store q n w1 16384 (scale 2 (slot w1 16384))) where
     one-length : length w1 ≡ length w
-    one-length = put-length q n w w1 0 (x .bytes) (omega (arith, x .sized)) (x .is)
+    one-length = length1 q n high some few w a l w1 e1
 
-    fits : 16384 + length (y .bytes) ≤ length w1
-    fits = omega (arith, y .sized, one-length)
+    two-length : length w2 ≡ length w
+    two-length = stored-length q n positive few w1 w2 16384 (omega (arith, one-length)) (scale 2 (slot w1 16384)) e2 ∙ one-length
 
-    both-length : length w2 ≡ length w
-    both-length = put-length q n w1 w2 16384 (y .bytes) fits (y .is) ∙ one-length
+    x2 : Holds q n 0 (mul q n (slot w 0) a) w2
+    x2 = stored-other q n positive few w1 w2 16384 (omega (arith, one-length)) (scale 2 (slot w1 16384)) e2 (inl (omega arith)) (x1 q n high some few w a l w1 e1)
 
-    first-kept : Holds q n 0 f w2
-    first-kept = put-other q n w1 w2 16384 (y .bytes) fits (y .is) (inl (omega arith)) (x .holds)
+    y2 : Holds q n 16384 (scale 2 (slot w1 16384)) w2
+    y2 = stored q n positive few w1 w2 16384 (omega (arith, one-length)) (scale 2 (slot w1 16384)) e2
 
-    pub combine-asks : (length w2 ≡ 1048576) × Below q n (slot w2 0) × Below q n (slot w2 16384)
-    combine-asks = (both-length ∙ l, holds-below positive first-kept, holds-below positive (y .holds))
+    pub add-asks : Slots n 0 16384 w2 × Below q n (slot w2 0) × Below q n (slot w2 16384)
+    add-asks = add-slots-asks q n high some few w2 (two-length ∙ l) x2 y2
 
-    -- and then combined
-    pub stands-noisy : (a : Poly) (w3 : Bytes) → Stands q n (noisy q n 2 a (slot w2 0) (slot w2 16384)) w2 w3 → Stands q n (noisy q n 2 a f g) w w3
-    stands-noisy a w3 h = stands-after both-length (stands-alike h (noisy-alike q n 2 alike-refl (holds-alike first-kept) (holds-alike (y .holds))))
+    pub combined : (w3 : Bytes) → w3 ≡ store q n w2 0 (plus (slot w2 0) (slot w2 16384)) → Stands q n (noisy q n 2 a (slot w 0) (slot w 16384)) w w3
+    combined w3 e3 =
+        stands-alike (stands-stored q n (plus (slot w2 0) (slot w2 16384)) w w2 w3 (omega (arith, two-length)) two-length e3)
+        (alike-plus (holds-alike x2) (holds-alike y2 so alike-scale 2 (holds-alike (y1 q n high some few w a l w1 e1 y))) so alike-eq (sym (noisy-turned q n 2 a (slot w 0) (slot w 16384))))
 
-  -- ---- a polynomial is put at 0, and lent ones are subtracted or added
-
-  module _ (f : Poly) (w w1 : Bytes) (l : length w ≡ 1048576) (x : Loaded q n 0 f w w1) where
-    pub head-length : length w1 ≡ length w
-    head-length = put-length q n w w1 0 (x .bytes) (omega (arith, x .sized)) (x .is)
-
-    pub head-asks : (8 * n ≤ length w1) × Below q n (slot w1 0)
-    head-asks = (omega (arith, head-length), holds-below positive (x .holds))
-
-    module _ (g : Poly) (w2 : Bytes) (e2 : w2 ≡ store q n w1 0 (minus q (slot w1 0) g)) where
-      less : Holds q n 0 (minus q (slot w1 0) g) w2
-      less = stored q n positive few w1 w2 0 (omega (arith, head-length)) (minus q (slot w1 0) g) e2
-
-      less-length : length w2 ≡ length w
-      less-length = stored-length q n positive few w1 w2 0 (omega (arith, head-length)) (minus q (slot w1 0) g) e2 ∙ head-length
-
-      pub less-asks : (8 * n ≤ length w2) × Below q n (slot w2 0)
-      less-asks = (omega (arith, less-length), holds-below positive less)
-
-      pub stands-less : Stands q n (minus q f g) w w2
-      stands-less =
-          stands-alike (stands-stored q n (minus q (slot w1 0) g) w w1 w2 (omega (arith, head-length)) head-length e2) (alike-minus (holds-alike (x .holds)) alike-refl)
-
-      pub stands-rebuilt : (g' : Poly) (w3 : Bytes) → w3 ≡ store q n w2 0 (minus q (slot w2 0) g') → Stands q n (rebuilt q f g g') w w3
-      unfolding rebuilt
-      stands-rebuilt g' w3 e3 =
-          stands-alike (stands-stored q n (minus q (slot w2 0) g') w w2 w3 (omega (arith, less-length)) less-length e3)
-          (alike-minus (holds-alike less so alike-minus (holds-alike (x .holds)) alike-refl) alike-refl)
+  -- two polynomials are put at 0 and at 16,384, and then combined
+  pub stands-noisy : (f g : Poly) (w w1 w2 : Bytes) → length w ≡ 1048576 → Loaded q n 0 f w w1 → Loaded q n 16384 g w1 w2
+      → (a : Poly) (w3 : Bytes) → Stands q n (noisy q n 2 a (slot w2 0) (slot w2 16384)) w2 w3 → Stands q n (noisy q n 2 a f g) w w3
+  stands-noisy f g w w1 w2 l x y a w3 h =
+      stands-after (both-length q n high some few f g w w1 w2 l x y)
+      (stands-alike h (noisy-alike q n 2 alike-refl (holds-alike (first-kept q n high some few f g w w1 w2 l x y)) (holds-alike (y .holds))))
 
   -- ---- a message is added
 
-  module _ (w w1 : Bytes) (m : Bytes) (l : length w ≡ 1048576) (lm : length m ≡ n) (bits : allBelow 2 m ≡ true) (x : Below q n (slot w 0))
-      (e1 : w1 ≡ put w 16384 (encode n (ternary q m))) where
-    coded : length (encode n (ternary q m)) ≡ 8 * n
-    coded = length-encode n (ternary q m)
+  module _ (w w1 : Bytes) (m : Bytes) (l : length w ≡ 1048576) (below : Below q n (coefficients m)) (x : Below q n (slot w 0)) (e1 : w1 ≡ put w 16384 (encode n (coefficients m))) where
+    y : Loaded q n 16384 (coefficients m) w w1
+    y = written-load q n high some few w w1 16384 l (omega arith) (coefficients m) below e1
+
+    fits : 16384 + length (y .bytes) ≤ length w
+    fits = omega (arith, y .sized)
 
     length-message : length w1 ≡ length w
-    length-message = put-length q n w w1 16384 (encode n (ternary q m)) (omega (arith, coded)) e1
+    length-message = put-length q n w w1 16384 (y .bytes) fits (y .is)
 
     x-kept : Holds q n 0 (slot w 0) w1
-    x-kept = put-other q n w w1 16384 (encode n (ternary q m)) (omega (arith, coded)) e1 (inl (omega arith)) (holds-slot w x)
-
-    m-loaded : Holds q n 16384 (ternary q m) w1
-    m-loaded = loaded q n positive few w w1 16384 (omega arith) (ternary q m) (below-ternary q n m positive) e1
+    x-kept = put-other q n w w1 16384 (y .bytes) fits (y .is) (inl (omega arith)) (holds-slot w x)
 
     pub message-asks : Slots n 0 16384 w1 × Below q n (slot w1 0) × Below q n (slot w1 16384)
-    message-asks = let k = length-message in (record { one = omega arith; other = omega arith; apart = inr (omega arith) }, holds-below positive x-kept, holds-below positive m-loaded)
+    message-asks = add-slots-asks q n high some few w1 (length-message ∙ l) x-kept (y .holds)
 
     pub stands-message : (w2 : Bytes) → w2 ≡ store q n w1 0 (plus (slot w1 0) (slot w1 16384)) → Stands q n (plus (slot w 0) (coefficients m)) w w2
     stands-message w2 e2 =
         stands-alike (stands-stored q n (plus (slot w1 0) (slot w1 16384)) w w1 w2 (omega (arith, length-message)) length-message e2)
-        (alike-plus (holds-alike x-kept) (holds-alike m-loaded so record { at = λ k h. same-eq (message q m (omega arith) bits k (omega arith)) }))
-
-  -- ---- what the loads leave
-
-  module _ (w w1 : Bytes) (at : ℕ) (l : length w ≡ 1048576) (h : at + 8 * n ≤ 1048576) where
-    written-load : (f : Poly) → Below q n f → w1 ≡ put w at (encode n f) → Loaded q n at f w w1
-    written-load f b e = record { bytes = encode n f; sized = length-encode n f; is = e; holds = loaded q n positive few w w1 at (omega arith) f b e }
-
-    pub ternary-load : (t : Bytes) → length t ≡ n → w1 ≡ put w at (encode (length t) (ternary q t)) → Loaded q n at (ternary q t) w w1
-    ternary-load t lt e = written-load (ternary q t) (below-ternary q n t positive) (e ∙ ap (λ (k : ℕ). put w at (encode k (ternary q t))) lt)
-
-    pub residues-load : (E : Wholes) → w1 ≡ put w at (encode n (residues q E)) → Loaded q n at (residues q E) w w1
-    residues-load E e = written-load (residues q E) (record { at = λ k m. remainder-lt q (E k) positive }) e
-
-    pub lent-load : (s : Bytes) → length s ≡ 8 * n → Below q n (poly s) → w1 ≡ put w at s → Loaded q n at (poly s) w w1
-    lent-load s ls b e = record { bytes = s; sized = ls; is = e; holds = copied q n positive few w w1 at (omega arith) s ls b e }
-
-  -- the length is still that of scratch
-  pub loaded-length : (f : Poly) (w w1 : Bytes) → length w ≡ 1048576 → Loaded q n 0 f w w1 → length w1 ≡ 1048576
-  loaded-length f w w1 l x = head-length f w w1 l x ∙ l
-
-  -- x - g in a slot, where x was loaded
-  pub subtracted : (at : ℕ) (f g : Poly) (w w1 w2 : Bytes) → length w ≡ 1048576 → at + 8 * n ≤ 1048576 → (x : Loaded q n at f w w1) → w2 ≡ store q n w1 at (minus q (slot w1 at) g) → w2 ≡ put w at (encode n (modulo q (minus q f g)))
-  unfolding store
-  subtracted at f g w w1 w2 l h x e =
-      e ∙ ap (put w1 at) (encode-alike (alike-minus (holds-alike (x .holds)) alike-refl)) ∙ ap (λ (v : Bytes). put v at (encode n (modulo q (minus q f g)))) (x .is)
-      ∙ put-put w at (x .bytes) (encode n (modulo q (minus q f g))) (omega (arith, x .sized)) (length-encode n (modulo q (minus q f g)) ∙ sym (x .sized))
-
-  -- what a slot asks that is loaded at any place
-  pub loaded-asks : (at : ℕ) (f : Poly) (w w1 : Bytes) → length w ≡ 1048576 → at + 8 * n ≤ 1048576 → (x : Loaded q n at f w w1) → (at + 8 * n ≤ length w1) × Below q n (slot w1 at)
-  loaded-asks at f w w1 l h x = (omega (arith, put-length q n w w1 at (x .bytes) (omega (arith, x .sized)) (x .is)), holds-below positive (x .holds))
-
-  pub modulo-load : (w w1 : Bytes) (at : ℕ) (f : Poly) → length w ≡ 1048576 → at + 8 * n ≤ 1048576 → w1 ≡ put w at (encode n (modulo q f)) → Loaded q n at f w w1
-  modulo-load w w1 at f l h e =
-      let x = loaded q n positive few w w1 at (omega arith) (modulo q f) (below-modulo f positive) e in
-      record { bytes = encode n (modulo q f); sized = length-encode n (modulo q f); is = e; holds = record { is = λ k m. x .is k m ∙ (unfold modulo in mod-mod (f k) q) } }
-
-  pub stands-put : (f : Poly) (w w1 : Bytes) → length w ≡ 1048576 → w1 ≡ put w 0 (encode n (modulo q f)) → Stands q n f w w1
-  unfolding store
-  stands-put f w w1 l e = stands-stored q n f w w w1 (omega arith) refl e
+        (alike-plus (holds-alike x-kept) (holds-alike (y .holds)))

@@ -1,20 +1,24 @@
--- What the calls write out: a vote byte by byte, and polynomials side by side. Assumes nothing.
+-- What is read from the coefficients at the head of scratch: a vote, byte by byte, and a mask that is worked out. Assumes nothing.
 use mathlib.Core.Path.{_≡_, sym, ap, ap₂, _∙_}
-use mathlib.Core.List.{[], _∷_, _++_, append-assoc}
-use Prim.Native.Nat.{ℕ, _+_, _*_, _^_, _<_}
+use mathlib.Core.List.{[], _∷_}
+use Prim.Native.Nat.{ℕ, suc, _+_, _*_, _%_, _^_, _<_}
+use native.Mathlib.Nat.{mod-lt}
 use native.Mathlib.Numerals.{add-one}
 use native.Mathlib.Omega.{arith}
-use lib.ListN.{length, length-append}
-use Rattle.codec.specs.Bytes.{Bytes, part, put}
+use lib.IntN.{natAbs}
+use lib.ListN.{length}
+use Rattle.codec.specs.Bytes.{Bytes, put}
 use Rattle.codec.proofs.Laws.{put-none, put-whole, put-append}
 use Rattle.modular.specs.Modulo.{centre, remainder}
+use Rattle.modular.specs.Division.{inverse, divide}
+use Rattle.modular.proofs.Congruence.{mod-mul-left}
 use Rattle.modular.proofs.Centring.{centre-mod}
-use Rattle.ring.specs.Poly.{Poly, modulo}
-use Rattle.ring.specs.Slots.{poly, list, encode}
-use Rattle.ring.proofs.Bridge.{length-list, list-cong, length-encode}
+use Rattle.ring.specs.Poly.{Poly}
+use Rattle.ring.specs.Slots.{poly, list, allBelow}
+use Rattle.ring.proofs.Bridge.{length-list, list-cong}
 use Rattle.call.specs.Call.{Stands}
-use Rattle.call.proofs.Slots.{stands-poly, written-next}
-use Rattle.bgv.specs.Scheme.{plain}
+use Rattle.call.proofs.Slots.{stands-poly}
+use Rattle.bgv.specs.Scheme.{plain, within}
 
 -- d with the first i bytes of a vote
 pub voted : Bytes → Poly → ℕ → Bytes
@@ -41,32 +45,17 @@ pub plain-stands : (q p n : ℕ) (f : Poly) (w w' : Bytes) → 0 < q → q < 2 ^
 unfolding plain
 plain-stands q p n f w w' h b s = list-cong n (λ k l. ap (remainder p) (ap (centre q) (stands-poly q n f w w' s h b k l) ∙ centre-mod q (f k)))
 
--- two polynomials written side by side
-pub pair-written : (q n : ℕ) (f g : Poly) (w w1 v v1 : Bytes) → Stands q n f w w1 → Stands q n g v v1 → (d d1 d2 : Bytes) → length d ≡ 16 * n
-    → d1 ≡ put d 0 (part w1 0 (8 * n)) → d2 ≡ put d1 (8 * n) (part v1 0 (8 * n)) → d2 ≡ encode n (modulo q f) ++ encode n (modulo q g)
-pair-written q n f g w w1 v v1 x y d d1 d2 l e1 e2 =
-    let lf = length-encode n (modulo q f) in
-    let lg = length-encode n (modulo q g) in
-    written-next q n g v v1 y d d1 d2 (encode n (modulo q f)) (8 * n) lf (omega arith) (e1 ∙ ap (put d 0) (x .bytes)) e2
-    ∙ put-whole d (encode n (modulo q f) ++ encode n (modulo q g)) (length-append (encode n (modulo q f)) (encode n (modulo q g)) ∙ omega arith)
+pub divide-lt : (q p x : ℕ) → 0 < q → divide q p x < q
+unfolding divide
+divide-lt q p x h = mod-lt (x * inverse q p) h
 
-pub four-written : (q n : ℕ) (f g h i : Poly) (w w1 v v1 u u1 t t1 : Bytes) → Stands q n f w w1 → Stands q n g v v1 → Stands q n h u u1 → Stands q n i t t1 → (d d1 d2 d3 d4 : Bytes) → length d ≡ 32 * n
-    → d1 ≡ put d 0 (part w1 0 (8 * n)) → d2 ≡ put d1 (8 * n) (part v1 0 (8 * n)) → d3 ≡ put d2 (16 * n) (part u1 0 (8 * n)) → d4 ≡ put d3 (24 * n) (part t1 0 (8 * n))
-    → d4 ≡ encode n (modulo q f) ++ (encode n (modulo q g) ++ (encode n (modulo q h) ++ encode n (modulo q i)))
-four-written q n f g h i w w1 v v1 u u1 t t1 x y z o d d1 d2 d3 d4 l e1 e2 e3 e4 =
-    let a = encode n (modulo q f) in
-    let b = encode n (modulo q g) in
-    let c = encode n (modulo q h) in
-    let e = encode n (modulo q i) in
-    let la : length a ≡ 8 * n = length-encode n (modulo q f) in
-    let lb : length b ≡ 8 * n = length-encode n (modulo q g) in
-    let lc : length c ≡ 8 * n = length-encode n (modulo q h) in
-    let le : length e ≡ 8 * n = length-encode n (modulo q i) in
-    let lab : length (a ++ b) ≡ 16 * n = length-append a b ∙ omega arith in
-    let labc : length ((a ++ b) ++ c) ≡ 24 * n = length-append (a ++ b) c ∙ omega arith in
-    let p1 : d1 ≡ put d 0 a = e1 ∙ ap (put d 0) (x .bytes) in
-    let p2 : d2 ≡ put d 0 (a ++ b) = written-next q n g v v1 y d d1 d2 a (8 * n) la (omega arith) p1 e2 in
-    let p3 : d3 ≡ put d 0 ((a ++ b) ++ c) = written-next q n h u u1 z d d2 d3 (a ++ b) (16 * n) lab (omega arith) p2 e3 in
-    written-next q n i t t1 o d d3 d4 ((a ++ b) ++ c) (24 * n) labc (omega arith) p3 e4
-    ∙ put-whole d (((a ++ b) ++ c) ++ e) (length-append ((a ++ b) ++ c) e ∙ omega arith)
-    ∙ append-assoc (a ++ b) c e ∙ append-assoc a b (c ++ e)
+divide-mod : (q p x : ℕ) → divide q p (x % q) ≡ divide q p x
+unfolding divide
+divide-mod q p x = mod-mul-left q x (inverse q p)
+
+-- and so does the bound of a mask that is worked out
+pub halves-stand : (q p n K : ℕ) (f : Poly) (w w' : Bytes) → 0 < q → q < 2 ^ 56 → Stands q n f w w'
+    → within K n (λ k. centre q (divide q p (poly w' k))) ≡ within K n (λ k. centre q (divide q p (f k)))
+unfolding within
+halves-stand q p n K f w w' h b s =
+    ap (allBelow (suc K)) (list-cong n (λ k l. ap (λ (x : ℕ). natAbs (centre q x)) (ap (divide q p) (stands-poly q n f w w' s h b k l) ∙ divide-mod q p (f k))))

@@ -1,3 +1,2 @@
 pub mod Scheme
 pub mod Examples
-pub mod Calls

@@ -1,11 +1,14 @@
 -- BGV encryption and its distributed decryption (document 000, sections 5.3 and 6.1; document 01, "Ring and scheme" and "One round"), with N, q and the
 -- plaintext modulus p as parameters. A polynomial's coefficients count modulo q. Assumes nothing.
-use Prim.Native.Nat.{ℕ, _+_, _-_, _*_, _/_, _%_, _≤_, _<_}
+use Prim.Native.Nat.{ℕ, suc, _+_, _-_, _*_, _/_, _%_, _≤_, _<_}
 use mathlib.Core.Path.{_≡_}
+use mathlib.Core.Bool.{Bool}
 use lib.IntN.{ℤ, natAbs}
+use Rattle.codec.specs.Bytes.{Bytes, signed}
 use Rattle.modular.specs.Modulo.{centre, remainder}
 use Rattle.modular.specs.Division.{Coprime, divide}
 use Rattle.ring.specs.Poly.{Poly, plus, minus, scale, mul}
+use Rattle.ring.specs.Slots.{poly, list, allBelow}
 
 -- a x + p y: a product with p times an error. Keys, ciphertexts and decryption shares have this form
 unfoldable pub noisy : (q N p : ℕ) (a x y : Poly) → Poly
@@ -27,6 +30,10 @@ residues q E = λ k. remainder q (E k)
 -- each of the first N is at most K in size
 pub record Bounded (N K : ℕ) (E : Wholes) : Type 0 where
   pub at : (k : ℕ) → k < N → natAbs (E k) ≤ K
+
+-- the same as a test
+unfoldable pub within : (K N : ℕ) → Wholes → Bool
+within K N E = allBelow (suc K) (list N (λ k. natAbs (E k)))
 
 -- every centred coefficient is at most K in size; K = 1 is short
 abbrev pub Small : (q N K : ℕ) → Poly → Type 0
@@ -62,6 +69,10 @@ decrypted q N p s u v = plain q p (opened q N s u v)
 -- the half of s or of e that is left when x0 is taken: x1 = x - x0
 abbrev pub other : ℕ → Poly → Poly → Poly
 other q x x0 = minus q x x0
+
+-- a lent mask: signed 64-bit numbers, bounded as they are, uncentred
+abbrev pub lentMask : Bytes → Wholes
+lentMask mask = λ k. signed (poly mask k)
 
 -- t = s_i u + p E, for a lent mask E of whole numbers
 abbrev pub share : (q N p : ℕ) (s u : Poly) → Wholes → Poly

@@ -1,189 +1,233 @@
-// Encryption, decryption, the key split and decryption shares (document 000, sections 5.3 and 6.1), over the sheet and lent bytes. p is 2.
-mod taken;
-mod work;
-
+// BGV encryption and decryption shares over slots of scratch (document 000, sections 5.3 and 6.1): what is worked on stands at 0, a second operand at ERROR,
+// and a product has its room from ROOM on. p is 2 in a x + p y and in a vote; a message has bytes below any p. What is made from secrets is left in scratch.
 ghost use mathlib.Core.Path.{_≡_};
-ghost use Rattle.codec.specs.Reply.{leaves};
-ghost use Rattle.call.specs.Call.{swept};
-ghost use Rattle.bgv.specs.Calls.{ringOf, modulusOf, aOf, bOf, keygenReply, keygenWrites, encryptReply, encryptWrites, decryptReply, decryptWrites, splitReply, splitWrites, shareReply, shareWrites, reconstructReply, reconstructWrites};
+ghost use Prim.Native.Nat.{_+_, _*_, _%_, _≤_, _<_, _^_};
+ghost use lib.ListN.{length};
+ghost use Rattle.codec.specs.Bytes.{put};
+ghost use Rattle.modular.specs.Modulo.{centre};
+ghost use Rattle.modular.specs.Division.{divide};
+ghost use Rattle.ring.specs.Poly.{plus, minus, mul, modulo, Below};
+ghost use Rattle.ring.specs.Slots.{poly, slot, list, encode, allBelow};
+ghost use Rattle.ring.specs.Ternary.{ternary};
+ghost use Rattle.call.specs.Call.{scratchLength, coefficients, Public, Stands};
+ghost use Rattle.bgv.specs.Scheme as scheme;
+ghost use Rattle.bgv.specs.Scheme.{lentMask, within};
 
-// Writes the key b = a s + p e.
-pub fn keygen(sheet: &[u8], s: &[u8], e: &[u8], b: &mut [u8], scratch: &mut [u8]) -> codec::Reply
-    ensures { λ reply. ⌜ reply ≡ keygenReply 2 (now (sheet .entry)) (now (s .entry)) (now (e .entry)) (now (b .entry)) (now (scratch .entry)) ⌝ }
-    ensures { λ reply. ⌜ now (b .exit) ≡ leaves reply (keygenWrites 2 (modulusOf (now (sheet .entry))) (ringOf (now (sheet .entry))) (aOf (now (sheet .entry))) (now (s .entry)) (now (e .entry))) (now (b .entry)) ⌝ }
-    ensures { λ reply. ⌜ now (scratch .exit) ≡ swept reply (now (scratch .entry)) ⌝ }
+const ERROR: usize = 16384;
+
+const ROOM: usize = 32768;
+
+// a x + 2 y, for x at 0 and y at ERROR.
+pub fn combine(work: &mut [u8], a: &[u8], n: usize, q: u64)
+    requires { ⌜ Public n q (now a) × (length (now work) ≡ scratchLength) ⌝ }
+    requires { ⌜ Below q n (slot (now work) 0) × Below q n (slot (now work) 16384) ⌝ }
+    ensures { λ _. ⌜ Stands q n (scheme.noisy q n 2 (poly (now (a .entry))) (slot (now (work .entry)) 0) (slot (now (work .entry)) 16384)) (now (work .entry)) (now (work .exit)) ⌝ }
 {
-    let mut public = [0u8; 81920];
-    let reading = sheet::load(sheet, &mut public);
-    match reading {
-        sheet::Reading::Taken(k) => {
-            let n = k.ring as usize;
-            let q = k.modulus;
-            let reply = taken::keygen(&public[0..8 * n], s, e, b, scratch, n, q);
-            call::sweep(reply, scratch);
-            reply
+    ring::multiply(work, 0, ROOM, a, n, q);
+    ring::scale_slot(work, ERROR, 2, n, q);
+    ring::add_slot(work, 0, ERROR, n, q);
+}
+
+// a x + 2 y, for ternary bytes x and y.
+pub fn noisy(work: &mut [u8], a: &[u8], x: &[u8], y: &[u8], n: usize, q: u64)
+    requires { ⌜ Public n q (now a) × (length (now work) ≡ scratchLength) × (length (now x) ≡ n) × (length (now y) ≡ n) ⌝ }
+    ensures { λ _. ⌜ Stands q n (scheme.noisy q n 2 (poly (now (a .entry))) (ternary q (now (x .entry))) (ternary q (now (y .entry)))) (now (work .entry)) (now (work .exit)) ⌝ }
+{
+    ring::load_ternary(work, 0, x, q);
+    ring::load_ternary(work, ERROR, y, q);
+    combine(work, a, n, q);
+}
+
+// a x + 2 y, for lent polynomials x and y.
+pub fn noisy_lent(work: &mut [u8], a: &[u8], x: &[u8], y: &[u8], n: usize, q: u64)
+    requires { ⌜ Public n q (now a) × Public n q (now x) × Public n q (now y) × (length (now work) ≡ scratchLength) ⌝ }
+    ensures { λ _. ⌜ Stands q n (scheme.noisy q n 2 (poly (now (a .entry))) (poly (now (x .entry))) (poly (now (y .entry)))) (now (work .entry)) (now (work .exit)) ⌝ }
+{
+    codec::copy(work, 0, x);
+    codec::copy(work, ERROR, y);
+    combine(work, a, n, q);
+}
+
+// A byte as a number of 64 bits.
+fn wide(b: u8) -> u64
+    ensures { λ r. ⌜ r ≡ b ⌝ }
+{
+    b as u64
+}
+
+// Whether every byte is below p.
+pub fn is_message(m: &[u8], p: u64) -> bool
+    ensures { λ r. ⌜ r ≡ allBelow p (now (m .entry)) ⌝ }
+{
+    let mut i = 0;
+    while i < m.len() {
+        if p <= wide(m[i]) {
+            return false;
         }
-        sheet::Reading::Refused { number } => {
-            let reply = codec::Reply::Refused { number, place: 0 };
-            call::sweep(reply, scratch);
-            reply
-        }
+        i += 1;
+    }
+    true
+}
+
+// Loads bytes into a slot, one as one coefficient.
+pub fn load_bytes(work: &mut [u8], at: usize, m: &[u8])
+    requires { ⌜ at + 8 * length (now m) ≤ length (now work) ⌝ }
+    ensures { λ _. ⌜ now (work .exit) ≡ put (now (work .entry)) at (encode (length (now (m .entry))) (coefficients (now (m .entry)))) ⌝ }
+{
+    let mut i = 0;
+    while i < m.len() {
+        let v = wide(m[i]);
+        codec::write64(work, at + 8 * i, v);
+        i += 1;
     }
 }
 
-// Writes the ciphertext u = a r + p e', v = b r + p e'' + m.
-pub fn encrypt(
-    sheet: &[u8],
-    r: &[u8],
-    e1: &[u8],
-    e2: &[u8],
-    m: &[u8],
-    ciphertext: &mut [u8],
-    scratch: &mut [u8],
-) -> codec::Reply
-    ensures { λ reply. ⌜ reply ≡ encryptReply 2 (now (sheet .entry)) (now (r .entry)) (now (e1 .entry)) (now (e2 .entry)) (now (m .entry)) (now (ciphertext .entry)) (now (scratch .entry)) ⌝ }
-    ensures { λ reply. ⌜ now (ciphertext .exit) ≡ leaves reply (encryptWrites 2 (modulusOf (now (sheet .entry))) (ringOf (now (sheet .entry))) (aOf (now (sheet .entry))) (bOf (now (sheet .entry))) (now (r .entry)) (now (e1 .entry)) (now (e2 .entry)) (now (m .entry))) (now (ciphertext .entry)) ⌝ }
-    ensures { λ reply. ⌜ now (scratch .exit) ≡ swept reply (now (scratch .entry)) ⌝ }
+// Adds a message to what stands at 0.
+pub fn add_message(work: &mut [u8], m: &[u8], n: usize, q: u64)
+    requires { ⌜ (n ≤ 2048) × (3 ≤ q) × (q < 2 ^ 56) × (length (now work) ≡ scratchLength) × (length (now m) ≡ n) × Below q n (coefficients (now m)) × Below q n (slot (now work) 0) ⌝ }
+    ensures { λ _. ⌜ Stands q n (plus (slot (now (work .entry)) 0) (coefficients (now (m .entry)))) (now (work .entry)) (now (work .exit)) ⌝ }
 {
-    let mut public = [0u8; 81920];
-    let reading = sheet::load(sheet, &mut public);
-    match reading {
-        sheet::Reading::Taken(k) => {
-            let n = k.ring as usize;
-            let q = k.modulus;
-            let reply = taken::encrypt_from(&public, r, e1, e2, m, ciphertext, scratch, n, q);
-            call::sweep(reply, scratch);
-            reply
-        }
-        sheet::Reading::Refused { number } => {
-            let reply = codec::Reply::Refused { number, place: 0 };
-            call::sweep(reply, scratch);
-            reply
-        }
+    load_bytes(work, ERROR, m);
+    ring::add_slot(work, 0, ERROR, n, q);
+}
+
+// x - x0 in the slot at a place, for ternary bytes x and a lent polynomial x0.
+pub fn difference(work: &mut [u8], at: usize, x: &[u8], x0: &[u8], n: usize, q: u64)
+    requires { ⌜ Public n q (now x0) × (length (now work) ≡ scratchLength) × (length (now x) ≡ n) × (at ≤ 16384) ⌝ }
+    ensures { λ _. ⌜ now (work .exit) ≡ put (now (work .entry)) at (encode n (modulo q (scheme.other q (ternary q (now (x .entry))) (poly (now (x0 .entry)))))) ⌝ }
+{
+    ring::load_ternary(work, at, x, q);
+    ring::subtract(work, at, x0, n, q);
+}
+
+// a (x - x0) + 2 (y - y0).
+pub fn noisy_difference(
+    work: &mut [u8],
+    a: &[u8],
+    x: &[u8],
+    x0: &[u8],
+    y: &[u8],
+    y0: &[u8],
+    n: usize,
+    q: u64,
+)
+    requires { ⌜ Public n q (now a) × Public n q (now x0) × Public n q (now y0) × (length (now work) ≡ scratchLength) × (length (now x) ≡ n) × (length (now y) ≡ n) ⌝ }
+    ensures { λ _. ⌜ Stands q n (scheme.noisy q n 2 (poly (now (a .entry))) (scheme.other q (ternary q (now (x .entry))) (poly (now (x0 .entry)))) (scheme.other q (ternary q (now (y .entry))) (poly (now (y0 .entry))))) (now (work .entry)) (now (work .exit)) ⌝ }
+{
+    difference(work, 0, x, x0, n, q);
+    difference(work, ERROR, y, y0, n, q);
+    combine(work, a, n, q);
+}
+
+// v - x u, for x at 0.
+fn less_product(work: &mut [u8], u: &[u8], v: &[u8], n: usize, q: u64)
+    requires { ⌜ Public n q (now u) × Public n q (now v) × (length (now work) ≡ scratchLength) × Below q n (slot (now work) 0) ⌝ }
+    ensures { λ _. ⌜ Stands q n (minus q (poly (now (v .entry))) (mul q n (slot (now (work .entry)) 0) (poly (now (u .entry))))) (now (work .entry)) (now (work .exit)) ⌝ }
+{
+    ring::multiply(work, 0, ROOM, u, n, q);
+    ring::scale_slot(work, 0, q - 1, n, q);
+    ring::add(work, 0, v, n, q);
+}
+
+// v - s u, for ternary bytes s.
+pub fn opened(work: &mut [u8], s: &[u8], u: &[u8], v: &[u8], n: usize, q: u64)
+    requires { ⌜ Public n q (now u) × Public n q (now v) × (length (now work) ≡ scratchLength) × (length (now s) ≡ n) ⌝ }
+    ensures { λ _. ⌜ Stands q n (scheme.opened q n (ternary q (now (s .entry))) (poly (now (u .entry))) (poly (now (v .entry)))) (now (work .entry)) (now (work .exit)) ⌝ }
+{
+    ring::load_ternary(work, 0, s, q);
+    less_product(work, u, v, n, q);
+}
+
+// v - t0 - t1.
+pub fn rebuilt(work: &mut [u8], v: &[u8], t0: &[u8], t1: &[u8], n: usize, q: u64)
+    requires { ⌜ Public n q (now v) × Public n q (now t0) × Public n q (now t1) × (length (now work) ≡ scratchLength) ⌝ }
+    ensures { λ _. ⌜ Stands q n (scheme.rebuilt q (poly (now (v .entry))) (poly (now (t0 .entry))) (poly (now (t1 .entry)))) (now (work .entry)) (now (work .exit)) ⌝ }
+{
+    codec::copy(work, 0, v);
+    ring::subtract(work, 0, t0, n, q);
+    ring::subtract(work, 0, t1, n, q);
+}
+
+// The remainders by 2 of the centred coefficients of a polynomial, one byte each.
+pub fn plain(work: &[u8], vote: &mut [u8], n: usize, q: u64)
+    requires { ⌜ (8 * n ≤ length (now work)) × (length (now vote) ≡ n) × (0 < q) × Below q n (poly (now work)) ⌝ }
+    ensures { λ _. ⌜ now (vote .exit) ≡ list n (scheme.plain q 2 (poly (now (work .entry)))) ⌝ }
+{
+    let mut i = 0;
+    while i < n {
+        let x = codec::read64(work, 8 * i);
+        let v = modular::residue(x, 2, q);
+        codec::write8(vote, i, v as u8);
+        i += 1;
     }
 }
 
-// Writes the vote: v - s u centred, by p.
-pub fn decrypt(
-    sheet: &[u8],
-    s: &[u8],
-    ciphertext: &[u8],
-    vote: &mut [u8],
-    scratch: &mut [u8],
-) -> codec::Reply
-    ensures { λ reply. ⌜ reply ≡ decryptReply 2 (now (sheet .entry)) (now (s .entry)) (now (ciphertext .entry)) (now (vote .entry)) (now (scratch .entry)) ⌝ }
-    ensures { λ reply. ⌜ now (vote .exit) ≡ leaves reply (decryptWrites 2 (modulusOf (now (sheet .entry))) (ringOf (now (sheet .entry))) (now (s .entry)) (now (ciphertext .entry))) (now (vote .entry)) ⌝ }
-    ensures { λ reply. ⌜ now (scratch .exit) ≡ swept reply (now (scratch .entry)) ⌝ }
+// Whether every number of a lent mask is at most a bound in size.
+pub fn bounded(mask: &[u8], bound: u64, n: usize) -> bool
+    requires { ⌜ 8 * n ≤ length (now mask) ⌝ }
+    ensures { λ r. ⌜ r ≡ within bound n (lentMask (now (mask .entry))) ⌝ }
 {
-    let mut public = [0u8; 81920];
-    let reading = sheet::load(sheet, &mut public);
-    match reading {
-        sheet::Reading::Taken(k) => {
-            let n = k.ring as usize;
-            let q = k.modulus;
-            let reply = taken::decrypt(s, ciphertext, vote, scratch, n, q);
-            call::sweep(reply, scratch);
-            reply
+    let mut i = 0;
+    while i < n {
+        if bound < modular::magnitude(codec::read_signed(mask, 8 * i)) {
+            return false;
         }
-        sheet::Reading::Refused { number } => {
-            let reply = codec::Reply::Refused { number, place: 0 };
-            call::sweep(reply, scratch);
-            reply
-        }
+        i += 1;
     }
+    true
 }
 
-// Writes the key split s1, e1, b0, b1.
-pub fn split(
-    sheet: &[u8],
-    s: &[u8],
-    e: &[u8],
-    s0: &[u8],
-    e0: &[u8],
-    out: &mut [u8],
-    scratch: &mut [u8],
-) -> codec::Reply
-    ensures { λ reply. ⌜ reply ≡ splitReply 2 (now (sheet .entry)) (now (s .entry)) (now (e .entry)) (now (s0 .entry)) (now (e0 .entry)) (now (out .entry)) (now (scratch .entry)) ⌝ }
-    ensures { λ reply. ⌜ now (out .exit) ≡ leaves reply (splitWrites 2 (modulusOf (now (sheet .entry))) (ringOf (now (sheet .entry))) (aOf (now (sheet .entry))) (now (s .entry)) (now (e .entry)) (now (s0 .entry)) (now (e0 .entry))) (now (out .entry)) ⌝ }
-    ensures { λ reply. ⌜ now (scratch .exit) ≡ swept reply (now (scratch .entry)) ⌝ }
+// Loads a lent mask into the slot at ERROR.
+pub fn load_mask(work: &mut [u8], mask: &[u8], n: usize, q: u64)
+    requires { ⌜ (8 * n ≤ length (now mask)) × (16384 + 8 * n ≤ length (now work)) × (0 < q) ⌝ }
+    ensures { λ _. ⌜ now (work .exit) ≡ put (now (work .entry)) 16384 (encode n (scheme.residues q (lentMask (now (mask .entry))))) ⌝ }
 {
-    let mut public = [0u8; 81920];
-    let reading = sheet::load(sheet, &mut public);
-    match reading {
-        sheet::Reading::Taken(k) => {
-            let n = k.ring as usize;
-            let q = k.modulus;
-            let reply = taken::split(&public[0..8 * n], s, e, s0, e0, out, scratch, n, q);
-            call::sweep(reply, scratch);
-            reply
-        }
-        sheet::Reading::Refused { number } => {
-            let reply = codec::Reply::Refused { number, place: 0 };
-            call::sweep(reply, scratch);
-            reply
-        }
-    }
+    ring::load_signed(work, ERROR, mask, n, q);
 }
 
-// Writes the decryption share t = s_i u + p E, for a half s_i of the key.
-pub fn share(
-    sheet: &[u8],
+// s u + 2 E, for a lent mask E.
+pub fn share(work: &mut [u8], s: &[u8], u: &[u8], mask: &[u8], n: usize, q: u64)
+    requires { ⌜ Public n q (now s) × Public n q (now u) × (length (now mask) ≡ 8 * n) × (length (now work) ≡ scratchLength) ⌝ }
+    ensures { λ _. ⌜ Stands q n (scheme.share q n 2 (poly (now (s .entry))) (poly (now (u .entry))) (lentMask (now (mask .entry)))) (now (work .entry)) (now (work .exit)) ⌝ }
+{
+    codec::copy(work, 0, s);
+    load_mask(work, mask, n, q);
+    combine(work, u, n, q);
+}
+
+// Whether the coefficients at the head of scratch, halved modulo q and then centred, are at most a bound in size.
+fn halves_within(work: &[u8], bound: u64, n: usize, q: u64) -> bool
+    requires { ⌜ (8 * n ≤ length (now work)) × Below q n (poly (now work)) × (q % 2 ≡ 1) × (q < 2 ^ 56) ⌝ }
+    ensures { λ r. ⌜ r ≡ within bound n (λ k. centre q (divide q 2 (poly (now (work .entry)) k))) ⌝ }
+{
+    let mut i = 0;
+    while i < n {
+        let x = codec::read64(work, 8 * i);
+        let half = modular::halve(x, q);
+        let size = modular::size(half, q);
+        if bound < size {
+            return false;
+        }
+        i += 1;
+    }
+    true
+}
+
+// Whether the mask that is worked out from a share t of the half key s_i, (t - s_i u) / 2 modulo q and then centred, is at most a bound in size.
+pub fn mask_within(
+    work: &mut [u8],
     half: &[u8],
     u: &[u8],
-    mask: &[u8],
-    t: &mut [u8],
-    scratch: &mut [u8],
-) -> codec::Reply
-    ensures { λ reply. ⌜ reply ≡ shareReply 2 (now (sheet .entry)) (now (half .entry)) (now (u .entry)) (now (mask .entry)) (now (t .entry)) (now (scratch .entry)) ⌝ }
-    ensures { λ reply. ⌜ now (t .exit) ≡ leaves reply (shareWrites 2 (modulusOf (now (sheet .entry))) (ringOf (now (sheet .entry))) (now (half .entry)) (now (u .entry)) (now (mask .entry))) (now (t .entry)) ⌝ }
-    ensures { λ reply. ⌜ now (scratch .exit) ≡ swept reply (now (scratch .entry)) ⌝ }
+    t: &[u8],
+    bound: u64,
+    n: usize,
+    q: u64,
+) -> bool
+    requires { ⌜ Public n q (now half) × Public n q (now u) × Public n q (now t) × (length (now work) ≡ scratchLength) × (q % 2 ≡ 1) ⌝ }
+    ensures { λ r. ⌜ r ≡ within bound n (scheme.worked q n 2 (poly (now (half .entry))) (poly (now (u .entry))) (poly (now (t .entry)))) ⌝ }
+    ensures { λ _. ⌜ length (now (work .exit)) ≡ length (now (work .entry)) ⌝ }
 {
-    let mut public = [0u8; 81920];
-    let reading = sheet::load(sheet, &mut public);
-    match reading {
-        sheet::Reading::Taken(k) => {
-            let n = k.ring as usize;
-            let q = k.modulus;
-            let bound = sheet::mask_bound(k.ring, k.drown);
-            let reply = taken::share(half, u, mask, t, scratch, n, q, bound);
-            call::sweep(reply, scratch);
-            reply
-        }
-        sheet::Reading::Refused { number } => {
-            let reply = codec::Reply::Refused { number, place: 0 };
-            call::sweep(reply, scratch);
-            reply
-        }
-    }
-}
-
-// Writes the vote: v - t0 - t1 centred, by p.
-pub fn reconstruct(
-    sheet: &[u8],
-    v: &[u8],
-    t0: &[u8],
-    t1: &[u8],
-    vote: &mut [u8],
-    scratch: &mut [u8],
-) -> codec::Reply
-    ensures { λ reply. ⌜ reply ≡ reconstructReply 2 (now (sheet .entry)) (now (v .entry)) (now (t0 .entry)) (now (t1 .entry)) (now (vote .entry)) (now (scratch .entry)) ⌝ }
-    ensures { λ reply. ⌜ now (vote .exit) ≡ leaves reply (reconstructWrites 2 (modulusOf (now (sheet .entry))) (ringOf (now (sheet .entry))) (now (v .entry)) (now (t0 .entry)) (now (t1 .entry))) (now (vote .entry)) ⌝ }
-    ensures { λ reply. ⌜ now (scratch .exit) ≡ swept reply (now (scratch .entry)) ⌝ }
-{
-    let mut public = [0u8; 81920];
-    let reading = sheet::load(sheet, &mut public);
-    match reading {
-        sheet::Reading::Taken(k) => {
-            let n = k.ring as usize;
-            let q = k.modulus;
-            let reply = taken::reconstruct(v, t0, t1, vote, scratch, n, q);
-            call::sweep(reply, scratch);
-            reply
-        }
-        sheet::Reading::Refused { number } => {
-            let reply = codec::Reply::Refused { number, place: 0 };
-            call::sweep(reply, scratch);
-            reply
-        }
-    }
+    codec::copy(work, 0, half);
+    less_product(work, u, t, n, q);
+    halves_within(work, bound, n, q)
 }

@@ -5,3 +5,4 @@ pub mod Order
 pub mod Sheets
 pub mod Lent
 pub mod Ranges
+pub mod Loads

@@ -1,6 +1,6 @@
 -- Lent polynomials that passed their range test. Assumes nothing.
 use mathlib.Core.Path.{_≡_, sym, ap, _∙_}
-use mathlib.Core.Bool.{true}
+use mathlib.Core.Bool.{Bool, true}
 use Prim.Native.Nat.{ℕ, _+_, _*_, _/_, _^_, _≤_, _<_}
 use native.Mathlib.Nat.{zero-add}
 use native.Mathlib.Omega.{arith}
@@ -14,12 +14,12 @@ use Rattle.ring.proofs.Bridge.{poly-part, slot-later, slot-poly}
 use Rattle.ring.proofs.Ranges.{below-sound}
 use Rattle.call.specs.Call.{Public}
 
--- 8n bytes are n coefficients, and 16n are 2n
+-- 8n bytes are n coefficients
 pub eighth : (n l : ℕ) → l ≡ 8 * n → n ≡ l / 8
 eighth n l e = omega arith
 
-pub eighth-twice : (n l : ℕ) → l ≡ 16 * n → 2 * n ≡ l / 8
-eighth-twice n l e = omega arith
+pub whole-range : (q n : ℕ) (s : Bytes) {b : Bool} → length s ≡ 8 * n → b ≡ allBelow q (list (length s / 8) (poly s)) → b ≡ allBelow q (list n (poly s))
+whole-range q n s l e = e ∙ ap (λ (k : ℕ). allBelow q (list k (poly s))) (sym (eighth n (length s) l))
 
 module _ (n q : ℕ) (low : 4 ≤ n) (high : n ≤ 2048) (some : 3 ≤ q) (few : q < 2 ^ 56) (s : Bytes) where
   pub ranged : length s ≡ 8 * n → allBelow q (list n (poly s)) ≡ true → Public n q s

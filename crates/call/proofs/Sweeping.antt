@@ -45,3 +45,11 @@ pub swept-used : (r : Reply) (w w' : Bytes) → Used r w w' → swept r w' ≡ s
 unfolding swept leaves
 swept-used Taken w w' u = ap zeros (u .sized)
 swept-used (Refused n p) w w' u = ap (swept (Refused n p)) (u .kept)
+
+pub leaves-taken : {A : Type 0} (r : Reply) {x : A} (y : A) → r ≡ Taken → x ≡ leaves r x y
+unfolding leaves
+leaves-taken r y e = rw e
+
+pub leaves-refused : {A : Type 0} (r : Reply) (n p : ℕ) (x : A) {y : A} → r ≡ Refused n p → y ≡ leaves r x y
+unfolding leaves
+leaves-refused r n p x e = rw e

@@ -1,8 +1,10 @@
 // What the calls that are lent the sheet have in common: scratch, the test of lengths, and the reply to a sheet that is refused.
 ghost use mathlib.Core.Path.{_≡_};
-ghost use Prim.Native.Nat.{_*_, _≤_};
-ghost use Rattle.codec.specs.Bytes.{same};
-ghost use Rattle.call.specs.Call.{swept};
+ghost use mathlib.Core.List.{[], _∷_};
+ghost use Prim.Native.Nat.{_+_, _*_, _≤_};
+ghost use lib.ListN.{length};
+ghost use Rattle.codec.specs.Bytes.{part, put, same};
+ghost use Rattle.call.specs.Call.{bytesBelow, coefficientsBelow, swept};
 
 // The length of scratch, for every call that is lent one: 64 slots.
 pub const SCRATCH: usize = 1048576;
@@ -24,6 +26,29 @@ pub fn sized(lengths: [usize; 6], wanted: [usize; 6]) -> bool
     true
 }
 
+// Whether all bytes of two slices are ternary.
+pub fn both_ternary(s: &[u8], e: &[u8]) -> bool
+    ensures { λ r. ⌜ r ≡ bytesBelow 3 (now (s .entry) ∷ now (e .entry) ∷ []) ⌝ }
+{
+    if ring::is_ternary(s) {
+        ring::is_ternary(e)
+    } else {
+        false
+    }
+}
+
+// Whether all coefficients of two lent polynomials are below q.
+pub fn both_in_range(x: &[u8], y: &[u8], n: usize, q: u64) -> bool
+    requires { ⌜ (length (now x) ≡ 8 * n) × (length (now y) ≡ 8 * n) ⌝ }
+    ensures { λ r. ⌜ r ≡ coefficientsBelow q n (now (x .entry) ∷ now (y .entry) ∷ []) ⌝ }
+{
+    if ring::in_range(x, q) {
+        ring::in_range(y, q)
+    } else {
+        false
+    }
+}
+
 // Zeroes scratch as a call ends, unless the call was refused 1 or 31.
 pub fn sweep(reply: codec::Reply, scratch: &mut [u8])
     ensures { λ _. ⌜ now (scratch .exit) ≡ swept reply (now (scratch .entry)) ⌝ }
@@ -40,4 +65,12 @@ pub fn sweep(reply: codec::Reply, scratch: &mut [u8])
             }
         }
     }
+}
+
+// Writes the polynomial that stands at the head of scratch out.
+pub fn write_out(out: &mut [u8], at: usize, scratch: &[u8], n: usize)
+    requires { ⌜ (at + 8 * n ≤ length (now out)) × (8 * n ≤ length (now scratch)) ⌝ }
+    ensures { λ _. ⌜ now (out .exit) ≡ put (now (out .entry)) at (part (now (scratch .entry)) 0 (8 * n)) ⌝ }
+{
+    codec::copy(out, at, &scratch[0..8 * n]);
 }

@@ -2,7 +2,7 @@
 ghost use mathlib.Core.Path.{_≡_};
 ghost use Rattle.codec.specs.Reply.{packed, leaves};
 ghost use Rattle.call.specs.Call.{swept};
-ghost use Rattle.bgv.specs.Calls.{ringOf, modulusOf, aOf, bOf, keygenReply, keygenWrites, encryptReply, encryptWrites, decryptReply, decryptWrites, splitReply, splitWrites, shareReply, shareWrites, reconstructReply, reconstructWrites};
+ghost use Rattle.scheme_calls.specs.Calls.{ringOf, modulusOf, aOf, bOf, keygenReply, keygenWrites, encryptReply, encryptWrites, decryptReply, decryptWrites, splitReply, splitWrites, shareReply, shareWrites, reconstructReply, reconstructWrites};
 ghost use Rattle.sha3.specs.Digest.{digestReply, digestOut};
 ghost use Rattle.sheet_calls.specs.Calls.{describeReply, describeOut};
 
@@ -37,7 +37,7 @@ pub extern "C" fn jdn_keygen(
     ensures output { λ _. ⌜ now (b .exit) ≡ leaves (keygenReply 2 (now (sheet .entry)) (now (s .entry)) (now (e .entry)) (now (b .entry)) (now (scratch .entry))) (keygenWrites 2 (modulusOf (now (sheet .entry))) (ringOf (now (sheet .entry))) (aOf (now (sheet .entry))) (now (s .entry)) (now (e .entry))) (now (b .entry)) ⌝ }
     ensures swept { λ _. ⌜ now (scratch .exit) ≡ swept (keygenReply 2 (now (sheet .entry)) (now (s .entry)) (now (e .entry)) (now (b .entry)) (now (scratch .entry))) (now (scratch .entry)) ⌝ }
 {
-    codec::pack(bgv::keygen(sheet, s, e, b, scratch))
+    codec::pack(scheme_calls::keygen(sheet, s, e, b, scratch))
 }
 
 // Writes the ciphertext: u = a r + p e', then v = b r + p e'' + m.
@@ -55,7 +55,7 @@ pub extern "C" fn jdn_encrypt(
     ensures output { λ _. ⌜ now (ciphertext .exit) ≡ leaves (encryptReply 2 (now (sheet .entry)) (now (r .entry)) (now (e1 .entry)) (now (e2 .entry)) (now (m .entry)) (now (ciphertext .entry)) (now (scratch .entry))) (encryptWrites 2 (modulusOf (now (sheet .entry))) (ringOf (now (sheet .entry))) (aOf (now (sheet .entry))) (bOf (now (sheet .entry))) (now (r .entry)) (now (e1 .entry)) (now (e2 .entry)) (now (m .entry))) (now (ciphertext .entry)) ⌝ }
     ensures swept { λ _. ⌜ now (scratch .exit) ≡ swept (encryptReply 2 (now (sheet .entry)) (now (r .entry)) (now (e1 .entry)) (now (e2 .entry)) (now (m .entry)) (now (ciphertext .entry)) (now (scratch .entry))) (now (scratch .entry)) ⌝ }
 {
-    codec::pack(bgv::encrypt(sheet, r, e1, e2, m, ciphertext, scratch))
+    codec::pack(scheme_calls::encrypt(sheet, r, e1, e2, m, ciphertext, scratch))
 }
 
 // Writes the vote of a ciphertext: v - s u centred, by p.
@@ -71,7 +71,7 @@ pub extern "C" fn jdn_decrypt(
     ensures output { λ _. ⌜ now (vote .exit) ≡ leaves (decryptReply 2 (now (sheet .entry)) (now (s .entry)) (now (ciphertext .entry)) (now (vote .entry)) (now (scratch .entry))) (decryptWrites 2 (modulusOf (now (sheet .entry))) (ringOf (now (sheet .entry))) (now (s .entry)) (now (ciphertext .entry))) (now (vote .entry)) ⌝ }
     ensures swept { λ _. ⌜ now (scratch .exit) ≡ swept (decryptReply 2 (now (sheet .entry)) (now (s .entry)) (now (ciphertext .entry)) (now (vote .entry)) (now (scratch .entry))) (now (scratch .entry)) ⌝ }
 {
-    codec::pack(bgv::decrypt(sheet, s, ciphertext, vote, scratch))
+    codec::pack(scheme_calls::decrypt(sheet, s, ciphertext, vote, scratch))
 }
 
 // Writes the other half of a key split and the keys of both: s1, e1, b0, b1.
@@ -89,7 +89,7 @@ pub extern "C" fn jdn_split(
     ensures output { λ _. ⌜ now (out .exit) ≡ leaves (splitReply 2 (now (sheet .entry)) (now (s .entry)) (now (e .entry)) (now (s0 .entry)) (now (e0 .entry)) (now (out .entry)) (now (scratch .entry))) (splitWrites 2 (modulusOf (now (sheet .entry))) (ringOf (now (sheet .entry))) (aOf (now (sheet .entry))) (now (s .entry)) (now (e .entry)) (now (s0 .entry)) (now (e0 .entry))) (now (out .entry)) ⌝ }
     ensures swept { λ _. ⌜ now (scratch .exit) ≡ swept (splitReply 2 (now (sheet .entry)) (now (s .entry)) (now (e .entry)) (now (s0 .entry)) (now (e0 .entry)) (now (out .entry)) (now (scratch .entry))) (now (scratch .entry)) ⌝ }
 {
-    codec::pack(bgv::split(sheet, s, e, s0, e0, out, scratch))
+    codec::pack(scheme_calls::split(sheet, s, e, s0, e0, out, scratch))
 }
 
 // Writes the decryption share t = s_i u + p E.
@@ -106,7 +106,7 @@ pub extern "C" fn jdn_share(
     ensures output { λ _. ⌜ now (t .exit) ≡ leaves (shareReply 2 (now (sheet .entry)) (now («key_share» .entry)) (now (u .entry)) (now (mask .entry)) (now (t .entry)) (now (scratch .entry))) (shareWrites 2 (modulusOf (now (sheet .entry))) (ringOf (now (sheet .entry))) (now («key_share» .entry)) (now (u .entry)) (now (mask .entry))) (now (t .entry)) ⌝ }
     ensures swept { λ _. ⌜ now (scratch .exit) ≡ swept (shareReply 2 (now (sheet .entry)) (now («key_share» .entry)) (now (u .entry)) (now (mask .entry)) (now (t .entry)) (now (scratch .entry))) (now (scratch .entry)) ⌝ }
 {
-    codec::pack(bgv::share(sheet, key_share, u, mask, t, scratch))
+    codec::pack(scheme_calls::share(sheet, key_share, u, mask, t, scratch))
 }
 
 // Writes the vote of two decryption shares: v - t0 - t1 centred, by p.
@@ -123,5 +123,5 @@ pub extern "C" fn jdn_reconstruct(
     ensures output { λ _. ⌜ now (vote .exit) ≡ leaves (reconstructReply 2 (now (sheet .entry)) (now (v .entry)) (now (t0 .entry)) (now (t1 .entry)) (now (vote .entry)) (now (scratch .entry))) (reconstructWrites 2 (modulusOf (now (sheet .entry))) (ringOf (now (sheet .entry))) (now (v .entry)) (now (t0 .entry)) (now (t1 .entry))) (now (vote .entry)) ⌝ }
     ensures swept { λ _. ⌜ now (scratch .exit) ≡ swept (reconstructReply 2 (now (sheet .entry)) (now (v .entry)) (now (t0 .entry)) (now (t1 .entry)) (now (vote .entry)) (now (scratch .entry))) (now (scratch .entry)) ⌝ }
 {
-    codec::pack(bgv::reconstruct(sheet, v, t0, t1, vote, scratch))
+    codec::pack(scheme_calls::reconstruct(sheet, v, t0, t1, vote, scratch))
 }

@@ -1,60 +1,38 @@
--- `share` meets its contract. Assumes nothing.
-use mathlib.Core.Path.{_≡_, refl, sym, ap, _∙_}
-use Prim.Native.Nat.{ℕ}
+-- `bgv::share` meets its contract. Assumes nothing.
+use native.Mathlib.Omega.{arith}
 use borrow.Author.Needs.{needs}
-use Rattle.codec.specs.Bytes.{Bytes}
-use Rattle.codec.specs.Reply.{first, leaves}
-use Rattle.sheet.specs.Sheet.{reading}
-use Rattle.sheet.specs.declared.Numbers.{Numbers}
-use Rattle.sheet.specs.declared.Reading.the-variants.{Taken, Refused}
-use Rattle.sheet.proofs.Taken.{taken}
-use Rattle.call.proofs.Lent.{order-taken, order-refused, numbers-are}
-use Rattle.call.proofs.Sweeping.{swept-used}
-use Rattle.bgv.specs.Calls.{shareTests, shareReply, shareWrites}
-use Rattle.sheet.specs.Bounds as bounds
+use Rattle.ring.specs.Slots.{poly}
+use Rattle.ring.proofs.Polynomials.{alike-eq}
+use Rattle.call.proofs.Slots.{stands-alike}
+use Rattle.bgv.specs.Scheme.{residues}
+use Rattle.bgv.specs.Scheme.{lentMask}
+use Rattle.bgv.proofs.Form.{noisy-either}
+use Rattle.call.proofs.Loads.{both-asks, lent-load, residues-load, loaded-length}
+use Rattle.bgv.proofs.Steps.{stands-noisy}
 use Rattle.bgv.proofs.share.Statement.{statement}
 use Rattle.bgv.proofs.share.Tie as tie
 
-share-requires : tie.Need-share-requires
-share-requires c κs =
-    let a = c .before .before .before .before .before .before .before .before .before .before .before .before .before .before .args in
-    let k : Numbers = c .before .before .before .before .reading .given .0 .0 in
-    let e : reading 2 (a .sheet .now) ≡ Taken k = sym (c .before .before .before .before .before .before .load .ensures .0) ∙ c .before .before .before .before .reading .given .1 in
-    let r = taken 2 (a .sheet .now) e .ranged in
-    (r .ring-low, r .ring-high, r .modulus-low, r .modulus-high)
-
-mask-bound-requires : tie.Need-mask-bound-requires
-mask-bound-requires c κs =
-    let a = c .before .before .before .before .before .before .before .before .before .before .before .args in
-    let k : Numbers = c .before .reading .given .0 .0 in
-    let e : reading 2 (a .sheet .now) ≡ Taken k = sym (c .before .before .before .load .ensures .0) ∙ c .before .reading .given .1 in
-    let r = taken 2 (a .sheet .now) e .ranged in
-    (r .ring-high, r .drown-high)
+combine-requires : tie.Need-combine-requires
+combine-requires c κs =
+    let a = c .before .before .before .before .before .before .before .before .before .before .before .before .before .args in
+    let p = c .before .before .before .before .before .before .before .before .before .before .before .before .before .pre in
+    let w1 = c .before .before .before .before .before .before .before .copy .last .0 in
+    let w2 = c .before .before .before .load-mask .last .0 in
+    let x = lent-load (a .q) (a .n) (p .0 .high) (p .0 .some) (p .0 .few) (a .work .now) w1 0 (p .3) (omega (arith, p .0 .high)) (a .s .now) (p .0 .sized) (p .0 .below) (c .before .before .before .before .before .before .before .copy .ensures) in
+    let y = residues-load (a .q) (a .n) (p .0 .high) (p .0 .some) (p .0 .few) w1 w2 16384 (loaded-length (a .q) (a .n) (p .0 .high) (p .0 .some) (p .0 .few) (poly (a .s .now)) (a .work .now) w1 (p .3) x) (omega (arith, p .0 .high)) (lentMask (a .mask .now)) (c .before .before .before .load-mask .ensures) in
+    let h = both-asks (a .q) (a .n) (p .0 .high) (p .0 .some) (p .0 .few) (poly (a .s .now)) (residues (a .q) (lentMask (a .mask .now))) (a .work .now) w1 w2 (p .3) x y in
+    ((p .1, h .0), (h .1, h .2))
 
 returns : tie.Need-returns
-unfolding shareReply
 returns c =
-    let a = c .before .before .before .before .before .before .before .before .before .before .before .before .before .before .before .before .before .before .before .before .before .before .before .args in
-    let k : Numbers = c .before .before .before .before .before .before .before .before .before .before .before .before .before .reading .given .0 .0 in
-    let e : reading 2 (a .sheet .now) ≡ Taken k = sym (c .before .before .before .before .before .before .before .before .before .before .before .before .before .before .before .load .ensures .0) ∙ c .before .before .before .before .before .before .before .before .before .before .before .before .before .reading .given .1 in
-    let r = taken 2 (a .sheet .now) e .ranged in
-    let m = numbers-are 2 (a .sheet .now) k e in
-    let c' = c .before .before .before .before .before .before .before .before .share in
-    let o = c .before .before .before .before .before .before .before .before .before .before .before .mask-bound in (
-      c' .ensures .0 ∙ ap (λ (x : ℕ). first (shareTests (k .modulus) (k .ring) (x) (a .half .now) (a .u .now) (a .mask .now) (a .t .now) (a .scratch .now))) (o .ensures) ∙ ap (λ (x : Numbers). first (shareTests (x .modulus) (x .ring) (bounds.mask 2 (x .ring) (x .drown)) (a .half .now) (a .u .now) (a .mask .now) (a .t .now) (a .scratch .now))) (sym m) ∙ order-taken 2 (a .sheet .now) _ k e,
-      (
-        c' .ensures .1 .0 ∙ ap (λ (x : Bytes). leaves (c' .result) x (a .t .now)) (ap (λ (x : Numbers). shareWrites 2 (x .modulus) (x .ring) (a .half .now) (a .u .now) (a .mask .now)) (sym m)),
-        c .before .before .sweep .ensures ∙ swept-used _ _ _ (c' .ensures .1 .1),
-      ),
-    )
-
-returns-2 : tie.Need-returns-2
-unfolding leaves shareReply
-returns-2 c =
-    let a = c .before .before .before .before .before .before .before .before .before .before .before .before .before .before .before .args in
-    let k = c .before .before .before .before .before .reading2 .given .0 .0 in
-    let e : reading 2 (a .sheet .now) ≡ Refused k = sym (c .before .before .before .before .before .before .before .load .ensures .0) ∙ c .before .before .before .before .before .reading2 .given .1 in
-    (order-refused 2 (a .sheet .now) _ k e, (refl, c .before .before .sweep2 .ensures))
+    let a = c .before .before .before .before .before .before .before .before .before .before .before .before .before .before .before .before .args in
+    let p = c .before .before .before .before .before .before .before .before .before .before .before .before .before .before .before .before .pre in
+    let w1 = c .before .before .before .before .before .before .before .before .before .before .copy .last .0 in
+    let w2 = c .before .before .before .before .before .before .load-mask .last .0 in
+    let x = lent-load (a .q) (a .n) (p .0 .high) (p .0 .some) (p .0 .few) (a .work .now) w1 0 (p .3) (omega (arith, p .0 .high)) (a .s .now) (p .0 .sized) (p .0 .below) (c .before .before .before .before .before .before .before .before .before .before .copy .ensures) in
+    let y = residues-load (a .q) (a .n) (p .0 .high) (p .0 .some) (p .0 .few) w1 w2 16384 (loaded-length (a .q) (a .n) (p .0 .high) (p .0 .some) (p .0 .few) (poly (a .s .now)) (a .work .now) w1 (p .3) x) (omega (arith, p .0 .high)) (lentMask (a .mask .now)) (c .before .before .before .before .before .before .load-mask .ensures) in
+    stands-alike (stands-noisy (a .q) (a .n) (p .0 .high) (p .0 .some) (p .0 .few) (poly (a .s .now)) (residues (a .q) (lentMask (a .mask .now))) (a .work .now) w1 w2 (p .3) x y (poly (a .u .now)) (c .before .before .combine .last .0) (c .before .before .combine .ensures)
+    ) (alike-eq (noisy-either (a .q) (a .n) 2 (poly (a .u .now)) (poly (a .s .now)) (residues (a .q) (lentMask (a .mask .now)))))
 
 pub share-spec : {M : Type 1} → statement M
-share-spec = tie.close (tie.spec (λ c κs. search needs) (λ c. search needs) mask-bound-requires share-requires (λ c κs. search needs) (λ c. search needs) (λ c κs. search needs) (λ c. search needs) (λ c. search needs) returns (λ c. search needs) returns-2)
+share-spec = tie.close (tie.spec (λ c κs. search needs) (λ c κs. search needs) combine-requires (λ c. search needs) returns)
