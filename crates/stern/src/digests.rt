@@ -1,7 +1,7 @@
 // The digests of a repetition: SHA3-256 over a leading byte, a salt and what the digest covers.
 use crate::equations::equation_pair;
 ghost use mathlib.Core.Path.{_≡_};
-ghost use mathlib.Core.Bool.{cond};
+ghost use mathlib.Core.Bool.{true, cond};
 ghost use mathlib.Core.List.{_∷_, _++_};
 ghost use Prim.Native.Nat.{_+_, _*_, _/_, _≤_, _<_};
 ghost use lib.ListN.{length, take};
@@ -60,7 +60,7 @@ pub fn equations_digest(
     q: u64,
 ) -> [u8; 32]
     requires { ⌜ PublicKeys n q (now k) × (length (now work) ≡ scratchLength) × (length (now x) ≡ 336 * n) × Below q (length (now x) / 8) (poly (now x)) ⌝ }
-    requires { ⌜ (length (now c) ≡ 64 * n) × Below q (length (now c) / 8) (poly (now c)) × (length (now salt) ≡ 32) ⌝ }
+    requires { ⌜ (less ≡ true → (length (now c) ≡ 64 * n) × Below q (length (now c) / 8) (poly (now c))) × (length (now salt) ≡ 32) ⌝ }
     ensures { λ r. ⌜ r ≡ sha3 (string1 (now (salt .entry)) (now (p .entry)) (cond less (subtract q (equations q n (keysOf n (now (k .entry))) (take (14 * n) (vector (now (x .entry))))) (sides q n (now (c .entry)))) (equations q n (keysOf n (now (k .entry))) (take (14 * n) (vector (now (x .entry))))))) ⌝ }
     ensures { λ _. ⌜ length (now (work .exit)) ≡ length (now (work .entry)) ⌝ }
 {

@@ -1,6 +1,7 @@
 // The four equations of the shortness argument, two at a time: the pair made from the summed r of two sides and a message, which stand in a lent vector, is left in
 // scratch, where a commitment leaves it.
 ghost use mathlib.Core.Path.{_≡_};
+ghost use mathlib.Core.Bool.{true};
 ghost use Prim.Native.Nat.{_+_, _*_, _/_, _≤_, _<_, _^_};
 ghost use lib.ListN.{length};
 ghost use Rattle.codec.specs.Bytes.{part, put};
@@ -62,7 +63,7 @@ pub fn equation_pair(
     q: u64,
 )
     requires { ⌜ PublicKeys n q (now k) × (length (now work) ≡ scratchLength) × (8 * first + 48 * n ≤ length (now x)) × (8 * message + 8 * n ≤ length (now x)) × Below q (length (now x) / 8) (poly (now x)) ⌝ }
-    requires { ⌜ (8 * from + 32 * n ≤ length (now c)) × Below q (length (now c) / 8) (poly (now c)) ⌝ }
+    requires { ⌜ (less ≡ true → (8 * from + 32 * n ≤ length (now c)) × Below q (length (now c) / 8) (poly (now c))) ⌝ }
     ensures { λ _. ⌜ PairStands q n (equationPair q n (keysOf n (now (k .entry))) (now (c .entry)) less (now (x .entry)) first message from) (now (work .entry)) (now (work .exit)) ⌝ }
 {
     sums(work, k, x, first, message, n, q);

@@ -16,15 +16,13 @@ equation-pair-requires : tie.Need-equation-pair-requires
 equation-pair-requires c κs =
     let p = c .before .before .before .before .before .before .before .before .before .before .pre in
     let l = p .0 .2 in
-    let m = p .1 .0 in
-    ((p .0 .0, p .0 .1, omega arith, omega arith, p .0 .3), (omega arith, p .1 .1))
+    ((p .0 .0, p .0 .1, omega arith, omega arith, p .0 .3), λ t. (omega (arith, p .1 .0 t .0), p .1 .0 t .1))
 
 equation-pair-requires-2 : tie.Need-equation-pair-requires-2
 equation-pair-requires-2 c κs =
     let p = c .before .before .before .before .before .before .before .before .before .before .before .before .before .before .before .before .before .pre in
     let l = p .0 .2 in
-    let m = p .1 .0 in
-    ((p .0 .0, c .before .before .before .before .before .before .equation-pair .ensures .sized ∙ p .0 .1, omega arith, omega arith, p .0 .3), (omega arith, p .1 .1))
+    ((p .0 .0, c .before .before .before .before .before .before .equation-pair .ensures .sized ∙ p .0 .1, omega arith, omega arith, p .0 .3), λ t. (omega (arith, p .1 .0 t .0), p .1 .0 t .1))
 
 absorb-pair-requires-2 : tie.Need-absorb-pair-requires-2
 absorb-pair-requires-2 c κs =
@@ -45,7 +43,7 @@ returns c =
     let u = equationPair (a .q) (a .n) k (a .c .now) (a .less) (a .x .now) (2 * a .n) 0 0 in
     let v = equationPair (a .q) (a .n) k (a .c .now) (a .less) (a .x .now) (8 * a .n) (a .n) (4 * a .n) in (
       c .finish .ensures
-          ∙ equations-absorbed (a .q) (a .n) (a .salt .now) (a .p .now) (pairBytes (a .q) (a .n) u) (pairBytes (a .q) (a .n) v) _ (c .before .before .before .before .before .before .before .before .before .before .before .before .before .before .before .before .before .begin .result) (c .before .before .before .before .before .before .before .before .before .before .before .before .before .before .before .before .absorb .result) (c .before .before .before .before .before .before .before .before .before .absorb-pair .result) (c .before .before .absorb-pair2 .result) (c .before .before .before .before .before .before .before .before .before .before .before .before .before .before .before .advance .result) (c .before .before .before .before .before .before .before .before .advance2 .result) (c .before .advance3 .result) (p .1 .2) (c .before .before .before .before .before .before .before .before .before .before .before .before .before .before .before .before .before .begin .ensures) (c .before .before .before .before .before .before .before .before .before .before .before .before .before .before .before .before .absorb .ensures) (c .before .before .before .before .before .before .before .before .before .before .before .before .before .before .before .advance .ensures)
+          ∙ equations-absorbed (a .q) (a .n) (a .salt .now) (a .p .now) (pairBytes (a .q) (a .n) u) (pairBytes (a .q) (a .n) v) _ (c .before .before .before .before .before .before .before .before .before .before .before .before .before .before .before .before .before .begin .result) (c .before .before .before .before .before .before .before .before .before .before .before .before .before .before .before .before .absorb .result) (c .before .before .before .before .before .before .before .before .before .absorb-pair .result) (c .before .before .absorb-pair2 .result) (c .before .before .before .before .before .before .before .before .before .before .before .before .before .before .before .advance .result) (c .before .before .before .before .before .before .before .before .advance2 .result) (c .before .advance3 .result) (p .1 .1) (c .before .before .before .before .before .before .before .before .before .before .before .before .before .before .before .before .before .begin .ensures) (c .before .before .before .before .before .before .before .before .before .before .before .before .before .before .before .before .absorb .ensures) (c .before .before .before .before .before .before .before .before .before .before .before .before .before .before .before .advance .ensures)
           (length-pairBytes (a .q) (a .n) u) (c .before .before .before .before .before .before .before .before .before .absorb-pair .ensures ∙ ap (absorb (c .before .before .before .before .before .before .before .before .before .before .before .before .before .before .before .before .absorb .result) (c .before .before .before .before .before .before .before .before .before .before .before .before .before .before .before .advance .result)) (stands-bytes (a .q) (a .n) u _ _ (c .before .before .before .before .before .before .before .before .before .before .before .before .before .equation-pair .ensures))) (c .before .before .before .before .before .before .before .before .advance2 .ensures)
           (length-pairBytes (a .q) (a .n) v) (c .before .before .absorb-pair2 .ensures ∙ ap (absorb (c .before .before .before .before .before .before .before .before .before .absorb-pair .result) (c .before .before .before .before .before .before .before .before .advance2 .result)) (stands-bytes (a .q) (a .n) v _ _ (c .before .before .before .before .before .before .equation-pair2 .ensures))) (c .before .advance3 .ensures)
           (covered (a .q) (a .n) z k (a .c .now) (a .x .now) (p .0 .2) (a .less)),

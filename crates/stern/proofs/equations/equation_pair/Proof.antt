@@ -11,7 +11,7 @@ subtract-two-requires : tie.Need-subtract-two-requires
 subtract-two-requires c κs =
     let a = c .before .before .before .before .before .before .before .before .before .before .args in
     let p = c .before .before .before .before .before .before .before .before .before .before .pre .0 in
-    let r = c .before .before .before .before .before .before .before .before .before .before .pre .1 in
+    let r = c .before .before .before .before .before .before .before .before .before .before .pre .1 (c .before .if1 .taken) in
     let t = p .0 .one .some in
     let h = p .0 .one .high in
     let z : 0 < a .q = omega arith in
@@ -22,12 +22,22 @@ subtract-two-requires-2 : tie.Need-subtract-two-requires-2
 subtract-two-requires-2 c κs =
     let a = c .before .before .before .before .before .before .before .before .before .before .before .before .before .before .args in
     let p = c .before .before .before .before .before .before .before .before .before .before .before .before .before .before .pre .0 in
-    let r = c .before .before .before .before .before .before .before .before .before .before .before .before .before .before .pre .1 in
+    let r = c .before .before .before .before .before .before .before .before .before .before .before .before .before .before .pre .1 (c .before .before .before .before .before .if1 .taken) in
     let t = p .0 .one .some in
     let h = p .0 .one .high in
     let z : 0 < a .q = omega arith in
     let l = second-length (a .q) (a .n) h z (p .0 .one .few) (a .work .now) _ (a .c .now) _ (a .from) (p .1) (c .before .before .before .before .before .before .before .before .sums .ensures) _ (c .before .before .before .subtract-two .ensures) in
     (t, p .0 .one .few, omega (arith, l), second-below (a .q) (a .n) h z (p .0 .one .few) (a .work .now) _ (a .c .now) _ (a .from) (p .1) (c .before .before .before .before .before .before .before .before .sums .ensures) _ (c .before .before .before .subtract-two .ensures), omega (arith, r .0), omega (arith, r .0), r .1)
+
+-- the places of the pairs fit
+add-subtract-two : tie.Need-add-subtract-two
+add-subtract-two c = let r = c .before .before .before .before .before .before .before .before .before .before .pre .1 (c .before .if1 .taken) .0 in search needs
+
+add-subtract-two-2 : tie.Need-add-subtract-two-2
+add-subtract-two-2 c = let r = c .before .before .before .before .before .before .before .before .before .before .before .before .before .before .pre .1 (c .before .before .before .before .before .if1 .taken) .0 in search needs
+
+add-subtract-two-3 : tie.Need-add-subtract-two-3
+add-subtract-two-3 c = let r = c .before .before .before .before .before .before .before .before .before .before .before .before .before .before .pre .1 (c .before .before .before .before .before .if1 .taken) .0 in search needs
 
 returns : tie.Need-returns
 returns c =
@@ -44,4 +54,4 @@ returns-2 c =
     when-not-less (a .q) (a .n) (keysOf (a .n) (a .k .now)) (a .c .now) (a .less) (a .x .now) (a .first) (a .message) (a .from) (a .work .now) _ (c .if1 .left) (c .before .before .before .sums .ensures)
 
 pub equation-pair-spec : {M : Type 1} → statement M
-equation-pair-spec = tie.close (tie.spec (λ c κs. search needs) (λ c. search needs) (λ c. search needs) subtract-two-requires (λ c. search needs) (λ c. search needs) (λ c. search needs) subtract-two-requires-2 (λ c. search needs) returns (λ c. search needs) returns-2)
+equation-pair-spec = tie.close (tie.spec (λ c κs. search needs) (λ c. search needs) add-subtract-two subtract-two-requires add-subtract-two-2 (λ c. search needs) add-subtract-two-3 subtract-two-requires-2 (λ c. search needs) returns (λ c. search needs) returns-2)
