@@ -25,6 +25,7 @@ use Rattle.vector.proofs.Vectors.{at-each}
 use Rattle.commitment.specs.Commitment.{Keys, plus3, row, second}
 use Rattle.stern.specs.Argument.{Short, Solves, Passes1, Passes2, Passes3, Extracted, two-by1, three-by1, one-by2, three-by2, one-by3, two-by3}
 use Rattle.stern.specs.Shortness.{polynomial, threeFrom, numbers, equations, sides, setting, firstOf, answerLength, answer1Of, answer2Of, answer3Of, tests1, tests2, tests3}
+use Rattle.stern.specs.Claims.{Meets}
 use Rattle.stern.proofs.FourEquations.{alike-numbers, setting-valid}
 use Rattle.stern.proofs.Layouts.{vector-of, permutes-of}
 use Rattle.stern.proofs.Sound.{parts, extract}
@@ -97,15 +98,6 @@ module _ (q N : ℕ) (k : Keys) (c d : Bytes) (place : ℕ) where
       (none-passes1 a la va na) (none-passes2 b lb vb nb) (none-passes3 e le ve ne)
 
 -- ---- what a solution says in polynomials
-
--- 14 polynomials with short coefficients; the pairs of s0 and s1 add up to the pair made from the first of them, those of e0 and e1 to that of the second
-pub record Meets (q N : ℕ) (k : Keys) (c : Bytes) (x : List ℕ) : Type 0 where
-  pub short : (j : ℕ) → j < 14 → (i : ℕ) → i < N → Short (setting q N k c) (polynomial N x j i)
-  pub small : (j : ℕ) → j < 14 → (i : ℕ) → i < N → natAbs (centre q (polynomial N x j i)) ≤ 1
-  pub one-s : Alike q N (row q N k (plus3 (threeFrom N x 2) (threeFrom N x 5))) (plus (slot c 0) (slot c (16 * N)))
-  pub two-s : Alike q N (second q N k (plus3 (threeFrom N x 2) (threeFrom N x 5)) (polynomial N x 0)) (plus (slot c (8 * N)) (slot c (24 * N)))
-  pub one-e : Alike q N (row q N k (plus3 (threeFrom N x 8) (threeFrom N x 11))) (plus (slot c (32 * N)) (slot c (48 * N)))
-  pub two-e : Alike q N (second q N k (plus3 (threeFrom N x 8) (threeFrom N x 11)) (polynomial N x 1)) (plus (slot c (40 * N)) (slot c (56 * N)))
 
 module _ (q N : ℕ) (k : Keys) (c : Bytes) (three : 2 < q) where
   -- what is short has a centred form of size at most 1

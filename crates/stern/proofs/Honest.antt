@@ -25,22 +25,11 @@ use Rattle.vector.proofs.Balance.{balanced-sound, balanced-ternary}
 use Rattle.commitment.specs.Commitment.{Keys, Three, Pair, Alike3, threeOf, plus3, row, second, committed, pairBytes, Opens}
 use Rattle.commitment.proofs.Additive.{row-alike, second-alike, opens-add}
 use Rattle.stern.specs.Argument.{Setting, Valid, Drawn, Answer1, Answer2, Answer3, Fit, Passes1, Passes2, Passes3, masked, first, answer1, answer2, answer3}
-use Rattle.stern.specs.Shortness.{polynomial, threeFrom, equations, sides, setting, drawnOf, firstOf, firstBytes, answerLength, answer1Of, answer2Of, answer3Of, answer1Bytes, answer2Bytes, answer3Bytes, tests1, tests2, tests3, answerTests}
+use Rattle.stern.specs.Shortness.{polynomial, threeFrom, equations, sides, setting, drawnOf, firstOf, firstBytes, answerLength, honestAnswer, inRange, answer1Of, answer2Of, answer3Of, answer1Bytes, answer2Bytes, answer3Bytes, tests1, tests2, tests3, answerTests}
+use Rattle.stern.specs.Claims.{Split}
 use Rattle.stern.proofs.Complete as Complete
 use Rattle.stern.proofs.FourEquations.{numbers-alike, setting-valid, polynomial-ternaries}
 use Rattle.stern.proofs.Layouts.{part-first, part-rest, four-read, vector-of, permutes-of, of-permutes, firstOf-firstBytes, answer1Of-answer1Bytes, answer2Of-answer2Bytes, answer3Of-answer3Bytes, length-answer1Bytes, length-answer2Bytes, length-answer3Bytes}
-
--- what the committer of a split has: x is s, e and the three r of s0, of s1, of e0, of e1 as ternary bytes, and c the pairs of s0, s1, e0, e1
-pub record Split (q N : ℕ) (k : Keys) (x c : Bytes) (s0 s1 e0 e1 : Poly) : Type 0 where
-  pub sized : length x ≡ 14 * N
-  pub below : allBelow 3 x ≡ true
-  pub adds-s : Alike q N (plus s0 s1) (ternary q (part x 0 N))
-  pub adds-e : Alike q N (plus e0 e1) (ternary q (part x N N))
-  pub pairs : c
-      ≡ pairBytes q N (committed q N k (threeOf q N (part x (2 * N) (3 * N))) s0)
-      ++ (pairBytes q N (committed q N k (threeOf q N (part x (5 * N) (3 * N))) s1)
-      ++ (pairBytes q N (committed q N k (threeOf q N (part x (8 * N) (3 * N))) e0)
-      ++ pairBytes q N (committed q N k (threeOf q N (part x (11 * N) (3 * N))) e1)))
 
 -- ---- the unknowns as polynomials
 
@@ -110,19 +99,6 @@ module _ (q N : ℕ) (k : Keys) (c d : Bytes) (place : ℕ) where
 
   passes3-none : (a : Answer3) → Passes3 (setting q N k c) (firstOf d) a → None (tests3 q N k c d place a)
   passes3-none a h = (rw (of-permutes N (entries (a .p)) (h .permutes)), (digests-match _ _ _ _ (h .d1) (h .d2), tt))
-
--- ---- an honest answer
-
--- the bytes of the answer to a challenge; one out of range counts as 3
-abbrev pub honestAnswer : (s : Setting) → Bytes → Drawn → (challenge : ℕ) → Bytes
-honestAnswer s x drawn challenge =
-    cond (eqb challenge 1) (answer1Bytes (answer1 s x drawn)) (cond (eqb challenge 2) (answer2Bytes (answer2 s x drawn)) (answer3Bytes (answer3 s drawn)))
-
--- whether an answer's coefficients are below q, and the ternary bytes of answer 1 below 3
-abbrev pub inRange : (q N challenge : ℕ) → Bytes → Bool
-inRange q N challenge answer =
-    cond (eqb challenge 1) (allBelow 3 (answer1Of N answer .w) && allBelow q (vector (answer1Of N answer .t)))
-    (cond (eqb challenge 2) (allBelow q (vector (answer2Of N answer .u))) (allBelow q (vector (answer3Of N answer .r))))
 
 -- ---- the equations are met
 

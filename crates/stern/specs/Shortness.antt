@@ -9,10 +9,11 @@ use Rattle.codec.specs.Bytes.{Bytes, part, same}
 use Rattle.codec.specs.Reply.{Test, test}
 use Rattle.sha3.specs.Sponge.{sha3}
 use Rattle.ring.specs.Poly.{Poly, plus, modulo}
-use Rattle.ring.specs.Slots.{slot, list}
+use Rattle.ring.specs.Slots.{slot, list, allBelow}
 use Rattle.commitment.specs.Commitment.{Keys, Three, Pair, plus3, row, second}
+use Rattle.vector.specs.Vector.{vector}
 use Rattle.vector.specs.Permutation.{entries, permutes, balanced}
-use Rattle.stern.specs.Argument.{Setting, Drawn, First, Answer1, Answer2, Answer3, one-by2, one-by3, two-by1, two-by3, three-by1, three-by2}
+use Rattle.stern.specs.Argument.{Setting, Drawn, First, Answer1, Answer2, Answer3, first, answer1, answer2, answer3, one-by2, one-by3, two-by1, two-by3, three-by1, three-by2}
 
 -- ---- the equations
 
@@ -85,6 +86,23 @@ answer2Bytes b = b .p ++ (b .u ++ (b .salt1 ++ b .salt3))
 
 abbrev pub answer3Bytes : Answer3 → Bytes
 answer3Bytes c = c .p ++ (c .r ++ (c .salt1 ++ c .salt2))
+
+-- ---- what the producer of a round writes for L ternary bytes x
+
+-- the digests of a repetition; the committed pairs do not enter
+abbrev pub honestDigests : (q N : ℕ) → Keys → Bytes → Drawn → Bytes
+honestDigests q N k x drawn = firstBytes (first (setting q N k []) x drawn)
+
+-- the bytes of the answer to a challenge; one out of range counts as 3
+abbrev pub honestAnswer : (s : Setting) → Bytes → Drawn → (challenge : ℕ) → Bytes
+honestAnswer s x drawn challenge =
+    cond (eqb challenge 1) (answer1Bytes (answer1 s x drawn)) (cond (eqb challenge 2) (answer2Bytes (answer2 s x drawn)) (answer3Bytes (answer3 s drawn)))
+
+-- whether an answer's coefficients are below q, and the ternary bytes of answer 1 below 3
+abbrev pub inRange : (q N challenge : ℕ) → Bytes → Bool
+inRange q N challenge answer =
+    cond (eqb challenge 1) (allBelow 3 (answer1Of N answer .w) && allBelow q (vector (answer1Of N answer .t)))
+    (cond (eqb challenge 2) (allBelow q (vector (answer2Of N answer .u))) (allBelow q (vector (answer3Of N answer .r))))
 
 -- ---- the tests of an answer to a challenge of 1, 2, 3, at a place: 9, then 10, then 11
 
