@@ -4,5 +4,6 @@ pub mod Extraction
 pub mod Honest
 pub mod Layouts
 pub mod Sound
+pub mod Gathered
 pub mod Pairs
 pub mod Strings

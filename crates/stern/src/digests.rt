@@ -3,16 +3,17 @@ use crate::equations::equation_pair;
 ghost use mathlib.Core.Path.{_≡_};
 ghost use mathlib.Core.Bool.{true, cond};
 ghost use mathlib.Core.List.{_∷_, _++_};
-ghost use Prim.Native.Nat.{_+_, _*_, _/_, _≤_, _<_};
+ghost use Prim.Native.Nat.{_+_, _*_, _/_, _≤_, _<_, _^_};
 ghost use lib.ListN.{length, take};
-ghost use Rattle.codec.specs.Bytes.{part};
+ghost use Rattle.codec.specs.Bytes.{part, words};
 ghost use Rattle.sha3.specs.Sponge.{absorb, zeroState, sha3};
 ghost use Rattle.ring.specs.Poly.{Below};
-ghost use Rattle.ring.specs.Slots.{poly};
+ghost use Rattle.ring.specs.Slots.{poly, allBelow};
 ghost use Rattle.call.specs.Call.{scratchLength};
 ghost use Rattle.commitment.specs.Commitment.{keysOf, PublicKeys};
-ghost use Rattle.vector.specs.Vector.{vector, subtract};
-ghost use Rattle.stern.specs.Argument.{string1};
+ghost use Rattle.vector.specs.Vector.{vector, ternaries, add, subtract};
+ghost use Rattle.vector.specs.Permutation.{entries, apply, extend};
+ghost use Rattle.stern.specs.Argument.{string1, string3};
 ghost use Rattle.stern.specs.Shortness.{equations, sides};
 
 // The state after a leading byte and a salt: 33 bytes.
@@ -72,4 +73,42 @@ pub fn equations_digest(
     equation_pair(work, k, c, less, x, 8 * n, n, 4 * n, n, q);
     let d = absorb_pair(b, j, work, n);
     sha3::finish(d, sha3::advance(j, 16 * n))
+}
+
+// Digest 2 or 3 of a permuted vector, which is gathered in scratch.
+pub fn gathered_digest(
+    lead: u8,
+    work: &mut [u8],
+    p: &[u8],
+    x: &[u8],
+    salt: &[u8],
+    n: usize,
+) -> [u8; 32]
+    requires { ⌜ (n ≤ 2048) × (length (now work) ≡ scratchLength) × (length (now p) ≡ 168 * n) × (length (now x) ≡ 336 * n) × (length (now salt) ≡ 32) × (allBelow (42 * n) (entries (now p)) ≡ true) ⌝ }
+    ensures { λ r. ⌜ r ≡ sha3 (lead ∷ (now (salt .entry) ++ words (apply (entries (now (p .entry))) (vector (now (x .entry)))))) ⌝ }
+    ensures { λ _. ⌜ length (now (work .exit)) ≡ length (now (work .entry)) ⌝ }
+{
+    vector::gather(work, 0, p, x, 42 * n);
+    tagged(lead, salt, &work[0..336 * n])
+}
+
+// Digest 3 of the producer: the extended unknowns and the mask vector, added and permuted.
+fn masked_digest(
+    work: &mut [u8],
+    p: &[u8],
+    x: &[u8],
+    r: &[u8],
+    salt: &[u8],
+    n: usize,
+    q: u64,
+) -> [u8; 32]
+    requires { ⌜ (n ≤ 2048) × (3 ≤ q) × (q < 2 ^ 56) × (length (now work) ≡ scratchLength) × (length (now p) ≡ 168 * n) × (length (now x) ≡ 14 * n) × (length (now r) ≡ 336 * n) × (length (now salt) ≡ 32) ⌝ }
+    requires { ⌜ (allBelow (42 * n) (entries (now p)) ≡ true) × (allBelow q (vector (now r)) ≡ true) ⌝ }
+    ensures { λ d. ⌜ d ≡ sha3 (string3 (now (salt .entry)) (apply (entries (now (p .entry))) (add q (ternaries q (extend (14 * n) (now (x .entry)))) (vector (now (r .entry)))))) ⌝ }
+    ensures { λ _. ⌜ length (now (work .exit)) ≡ length (now (work .entry)) ⌝ }
+{
+    let minus = 14 * n - ring::count_of(x, 2);
+    let zeros = 14 * n - ring::count_of(x, 0);
+    vector::gather_masked(work, 0, p, x, minus, zeros, r, 42 * n, q);
+    tagged(3, salt, &work[0..336 * n])
 }
