@@ -25,19 +25,19 @@ module _ (s : Setting) (ok : Valid s) (x : Bytes) (size : length x ≡ s .L) (te
   read-t : vector (words (apply (entries (c .p)) (vector (c .r)))) ≡ apply (entries (c .p)) (vector (c .r))
   read-t = vector-words (ok .fits) (apply-each (fit .permutes .indices) (fit .below))
 
-  pub masked-vector : Vector q (3 * L) (masked s x c)
+  pub masked-vector : Vector q (3 * L) (masked q L x c)
   masked-vector = add-vector extended (fit .below)
 
-  read-u : vector (words (masked s x c)) ≡ masked s x c
+  read-u : vector (words (masked q L x c)) ≡ masked q L x c
   read-u = vector-words (ok .fits) masked-vector
 
   -- P(extended) + P(R) = P(extended + R)
-  summed : add q (ternaries q (apply (entries (c .p)) (extend L x))) (vector (words (apply (entries (c .p)) (vector (c .r))))) ≡ apply (entries (c .p)) (masked s x c)
+  summed : add q (ternaries q (apply (entries (c .p)) (extend L x))) (vector (words (apply (entries (c .p)) (vector (c .r))))) ≡ apply (entries (c .p)) (masked q L x c)
   summed =
       let within : Each (λ i. i < length (extend L x)) (3 * L) (entries (c .p)) = rw (length-extend L x size ternary) (fit .permutes .indices) in
       rw (read-t, ternaries-apply q (extend L x) within) (sym (apply-add (entries (c .p)) extended (fit .below)))
 
-  pub passes1 : Passes1 s (first s x c) (answer1 s x c)
+  pub passes1 : Passes1 s (first s x c) (answer1 L x c)
   passes1 = record {
     balanced = balanced-apply L (entries (c .p)) (extend L x) (fit .permutes) (extend-balanced L x size ternary);
     sized = length-words (apply (entries (c .p)) (vector (c .r))) ∙ ap (λ (n : ℕ). 8 * n) (length-apply (entries (c .p)) (vector (c .r)) ∙ each-length (fit .permutes .indices));
@@ -49,13 +49,13 @@ module _ (s : Setting) (ok : Valid s) (x : Bytes) (size : length x ≡ s .L) (te
   }
 
   -- A (extended + R) - y = A R
-  opened : subtract q (A (take L (vector (words (masked s x c))))) y ≡ A (take L (vector (c .r)))
+  opened : subtract q (A (take L (vector (words (masked q L x c))))) y ≡ A (take L (vector (c .r)))
   opened =
       let r : Vector q L (take L (vector (c .r))) = take-each L (2 * L) (omega arith) (fit .below) in
       let e : Vector q L (take L (ternaries q (extend L x))) = take-each L (2 * L) (omega arith) extended in
       rw (read-u, add-take, ok .linear .sum e r, take-extend q L x size, equation, commute) (add-subtract (ok .linear .vector r) (ok .right))
 
-  pub passes2 : Passes2 s (first s x c) (answer2 s x c)
+  pub passes2 : Passes2 s (first s x c) (answer2 q L x c)
   passes2 = record {
     permutes = fit .permutes;
     sized = fit .size-p;
@@ -66,5 +66,5 @@ module _ (s : Setting) (ok : Valid s) (x : Bytes) (size : length x ≡ s .L) (te
     d3 = rw read-u refl;
   }
 
-  pub passes3 : Passes3 s (first s x c) (answer3 s c)
+  pub passes3 : Passes3 s (first s x c) (answer3 c)
   passes3 = record { permutes = fit .permutes; sized = fit .size-p; below = fit .below; size1 = fit .size1; size2 = fit .size2; d1 = refl; d2 = refl }

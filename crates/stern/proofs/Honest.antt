@@ -176,44 +176,44 @@ module _ (q N : ℕ) (k : Keys) (x c : Bytes) (s0 s1 e0 e1 : Poly) (split : Spli
       size3 = length-part salts 64 32 (omega arith);
     }
 
-    pass1 : Passes1 s (first s x drawn) (answer1 s x drawn)
+    pass1 : Passes1 s (first s x drawn) (answer1 (14 * N) x drawn)
     pass1 = Complete.passes1 s valid x (split .sized) (split .below) honest-equations drawn fit
 
-    pass2 : Passes2 s (first s x drawn) (answer2 s x drawn)
+    pass2 : Passes2 s (first s x drawn) (answer2 q (14 * N) x drawn)
     pass2 = Complete.passes2 s valid x (split .sized) (split .below) honest-equations drawn fit
 
-    pass3 : Passes3 s (first s x drawn) (answer3 s drawn)
+    pass3 : Passes3 s (first s x drawn) (answer3 drawn)
     pass3 = Complete.passes3 s valid x (split .sized) (split .below) honest-equations drawn fit
 
     -- the fields have the lengths that the layouts give them
-    size-w : length (answer1 s x drawn .w) ≡ 42 * N
-    size-w = omega (arith, balanced-sound (14 * N) (answer1 s x drawn .w) (pass1 .balanced) .size)
+    size-w : length (answer1 (14 * N) x drawn .w) ≡ 42 * N
+    size-w = omega (arith, balanced-sound (14 * N) (answer1 (14 * N) x drawn .w) (pass1 .balanced) .size)
 
-    size-t : length (answer1 s x drawn .t) ≡ 336 * N
+    size-t : length (answer1 (14 * N) x drawn .t) ≡ 336 * N
     size-t = omega (arith, pass1 .sized)
 
-    size-u : length (answer2 s x drawn .u) ≡ 336 * N
-    size-u = omega (arith, length-words (masked s x drawn), each-length (Complete.masked-vector s valid x (split .sized) (split .below) honest-equations drawn fit))
+    size-u : length (answer2 q (14 * N) x drawn .u) ≡ 336 * N
+    size-u = omega (arith, length-words (masked q (14 * N) x drawn), each-length (Complete.masked-vector s valid x (split .sized) (split .below) honest-equations drawn fit))
 
     -- what is written is read back
-    read1 : answer1Of N (answer1Bytes (answer1 s x drawn)) ≡ answer1 s x drawn
-    read1 = answer1Of-answer1Bytes N (answer1 s x drawn) size-w size-t (fit .size2) (fit .size3)
+    read1 : answer1Of N (answer1Bytes (answer1 (14 * N) x drawn)) ≡ answer1 (14 * N) x drawn
+    read1 = answer1Of-answer1Bytes N (answer1 (14 * N) x drawn) size-w size-t (fit .size2) (fit .size3)
 
-    read2 : answer2Of N (answer2Bytes (answer2 s x drawn)) ≡ answer2 s x drawn
-    read2 = answer2Of-answer2Bytes N (answer2 s x drawn) size-p size-u (fit .size1) (fit .size3)
+    read2 : answer2Of N (answer2Bytes (answer2 q (14 * N) x drawn)) ≡ answer2 q (14 * N) x drawn
+    read2 = answer2Of-answer2Bytes N (answer2 q (14 * N) x drawn) size-p size-u (fit .size1) (fit .size3)
 
-    read3 : answer3Of N (answer3Bytes (answer3 s drawn)) ≡ answer3 s drawn
-    read3 = answer3Of-answer3Bytes N (answer3 s drawn) size-p size-r (fit .size1) (fit .size2)
+    read3 : answer3Of N (answer3Bytes (answer3 drawn)) ≡ answer3 drawn
+    read3 = answer3Of-answer3Bytes N (answer3 drawn) size-p size-r (fit .size1) (fit .size2)
 
-    pub honest-length : (challenge : ℕ) → length (honestAnswer (setting q N k c) x (drawnOf P R salts) challenge) ≡ answerLength N challenge
+    pub honest-length : (challenge : ℕ) → length (honestAnswer q N x (drawnOf P R salts) challenge) ≡ answerLength N challenge
     honest-length challenge = go (eqb challenge 1) (eqb challenge 2)
       where
-        go : (one two : Bool) → length (cond one (answer1Bytes (answer1 s x drawn)) (cond two (answer2Bytes (answer2 s x drawn)) (answer3Bytes (answer3 s drawn)))) ≡ cond one (378 * N + 64) (504 * N + 64)
-        go true two = length-answer1Bytes N (answer1 s x drawn) size-w size-t (fit .size2) (fit .size3)
-        go false true = length-answer2Bytes N (answer2 s x drawn) size-p size-u (fit .size1) (fit .size3)
-        go false false = length-answer3Bytes N (answer3 s drawn) size-p size-r (fit .size1) (fit .size2)
+        go : (one two : Bool) → length (cond one (answer1Bytes (answer1 (14 * N) x drawn)) (cond two (answer2Bytes (answer2 q (14 * N) x drawn)) (answer3Bytes (answer3 drawn)))) ≡ cond one (378 * N + 64) (504 * N + 64)
+        go true two = length-answer1Bytes N (answer1 (14 * N) x drawn) size-w size-t (fit .size2) (fit .size3)
+        go false true = length-answer2Bytes N (answer2 q (14 * N) x drawn) size-p size-u (fit .size1) (fit .size3)
+        go false false = length-answer3Bytes N (answer3 drawn) size-p size-r (fit .size1) (fit .size2)
 
-    pub honest-range : (challenge : ℕ) → inRange q N challenge (honestAnswer (setting q N k c) x (drawnOf P R salts) challenge) ≡ true
+    pub honest-range : (challenge : ℕ) → inRange q N challenge (honestAnswer q N x (drawnOf P R salts) challenge) ≡ true
     honest-range challenge = go (eqb challenge 1) (eqb challenge 2)
       where
         range1 : (a : Answer1) → Passes1 s (first s x drawn) a → (allBelow 3 (a .w) && allBelow q (vector (a .t))) ≡ true
@@ -226,23 +226,23 @@ module _ (q N : ℕ) (k : Keys) (x c : Bytes) (s0 s1 e0 e1 : Poly) (split : Spli
         range3 a h = each-allBelow (h .below)
 
         go : (one two : Bool)
-            → (let answer = cond one (answer1Bytes (answer1 s x drawn)) (cond two (answer2Bytes (answer2 s x drawn)) (answer3Bytes (answer3 s drawn))) in
+            → (let answer = cond one (answer1Bytes (answer1 (14 * N) x drawn)) (cond two (answer2Bytes (answer2 q (14 * N) x drawn)) (answer3Bytes (answer3 drawn))) in
             cond one (allBelow 3 (answer1Of N answer .w) && allBelow q (vector (answer1Of N answer .t))) (cond two (allBelow q (vector (answer2Of N answer .u))) (allBelow q (vector (answer3Of N answer .r))))) ≡ true
-        go true two = range1 (answer1Of N (answer1Bytes (answer1 s x drawn))) (rw read1 pass1)
-        go false true = range2 (answer2Of N (answer2Bytes (answer2 s x drawn))) (rw read2 pass2)
-        go false false = range3 (answer3Of N (answer3Bytes (answer3 s drawn))) (rw read3 pass3)
+        go true two = range1 (answer1Of N (answer1Bytes (answer1 (14 * N) x drawn))) (rw read1 pass1)
+        go false true = range2 (answer2Of N (answer2Bytes (answer2 q (14 * N) x drawn))) (rw read2 pass2)
+        go false false = range3 (answer3Of N (answer3Bytes (answer3 drawn))) (rw read3 pass3)
 
     -- no test of an honest answer holds
     pub honest-none : (d : Bytes) → d ≡ firstBytes (first (setting q N k c) x (drawnOf P R salts)) → (place challenge : ℕ)
-        → None (answerTests q N k c d place challenge (honestAnswer (setting q N k c) x (drawnOf P R salts) challenge))
+        → None (answerTests q N k c d place challenge (honestAnswer q N x (drawnOf P R salts) challenge))
     honest-none d e place challenge = go (eqb challenge 1) (eqb challenge 2)
       where
         digests : firstOf d ≡ first s x drawn
         digests = rw e (firstOf-firstBytes (first s x drawn) (length-sha3 _) (length-sha3 _) (length-sha3 _))
 
         go : (one two : Bool)
-            → None (let answer = cond one (answer1Bytes (answer1 s x drawn)) (cond two (answer2Bytes (answer2 s x drawn)) (answer3Bytes (answer3 s drawn))) in
+            → None (let answer = cond one (answer1Bytes (answer1 (14 * N) x drawn)) (cond two (answer2Bytes (answer2 q (14 * N) x drawn)) (answer3Bytes (answer3 drawn))) in
             cond one (tests1 q N k c d place (answer1Of N answer)) (cond two (tests2 q N k c d place (answer2Of N answer)) (tests3 q N k c d place (answer3Of N answer))))
-        go true two = passes1-none q N k c d place (answer1Of N (answer1Bytes (answer1 s x drawn))) (rw (digests, read1) pass1)
-        go false true = passes2-none q N k c d place (answer2Of N (answer2Bytes (answer2 s x drawn))) (rw (digests, read2) pass2)
-        go false false = passes3-none q N k c d place (answer3Of N (answer3Bytes (answer3 s drawn))) (rw (digests, read3) pass3)
+        go true two = passes1-none q N k c d place (answer1Of N (answer1Bytes (answer1 (14 * N) x drawn))) (rw (digests, read1) pass1)
+        go false true = passes2-none q N k c d place (answer2Of N (answer2Bytes (answer2 q (14 * N) x drawn))) (rw (digests, read2) pass2)
+        go false false = passes3-none q N k c d place (answer3Of N (answer3Bytes (answer3 drawn))) (rw (digests, read3) pass3)

@@ -55,6 +55,21 @@ string2 salt v = 2 ∷ (salt ++ v)
 abbrev pub string3 : (salt : Bytes) → List ℕ → Bytes
 string3 salt v = 3 ∷ (salt ++ words v)
 
+-- ---- what the prover answers, for L ternary bytes x
+
+-- extended + R
+abbrev pub masked : (q L : ℕ) → Bytes → Drawn → List ℕ
+masked q L x c = add q (ternaries q (extend L x)) (vector (c .r))
+
+abbrev pub answer1 : (L : ℕ) → Bytes → Drawn → Answer1
+answer1 L x c = record { w = apply (entries (c .p)) (extend L x); t = words (apply (entries (c .p)) (vector (c .r))); salt2 = c .salt2; salt3 = c .salt3 }
+
+abbrev pub answer2 : (q L : ℕ) → Bytes → Drawn → Answer2
+answer2 q L x c = record { p = c .p; u = words (masked q L x c); salt1 = c .salt1; salt3 = c .salt3 }
+
+abbrev pub answer3 : Drawn → Answer3
+answer3 c = record { p = c .p; r = c .r; salt1 = c .salt1; salt2 = c .salt2 }
+
 -- what prover and checker share
 pub record Setting : Type 0 where
   pub q : ℕ  -- the modulus
@@ -96,25 +111,12 @@ module _ (s : Setting) where
 
   -- ---- the prover, for L ternary bytes x
 
-  -- extended + R
-  abbrev pub masked : Bytes → Drawn → List ℕ
-  masked x c = add q (ternaries q (extend L x)) (vector (c .r))
-
   abbrev pub first : Bytes → Drawn → First
   first x c = record {
     d1 = H (string1 (c .salt1) (c .p) (A (take L (vector (c .r)))));
     d2 = H (string2 (c .salt2) (words (apply (entries (c .p)) (vector (c .r)))));
-    d3 = H (string3 (c .salt3) (apply (entries (c .p)) (masked x c)));
+    d3 = H (string3 (c .salt3) (apply (entries (c .p)) (masked q L x c)));
   }
-
-  abbrev pub answer1 : Bytes → Drawn → Answer1
-  answer1 x c = record { w = apply (entries (c .p)) (extend L x); t = words (apply (entries (c .p)) (vector (c .r))); salt2 = c .salt2; salt3 = c .salt3 }
-
-  abbrev pub answer2 : Bytes → Drawn → Answer2
-  answer2 x c = record { p = c .p; u = words (masked x c); salt1 = c .salt1; salt3 = c .salt3 }
-
-  abbrev pub answer3 : Drawn → Answer3
-  answer3 c = record { p = c .p; r = c .r; salt1 = c .salt1; salt2 = c .salt2 }
 
   -- ---- the checker
 

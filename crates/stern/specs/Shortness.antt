@@ -1,10 +1,11 @@
 -- The shortness argument of a round (document 01, "One round", second paragraph, and "Layouts"): 14N unknowns, the four equations that they meet, and the
 -- strings, digests and answers in bytes, with N and q as parameters. Assumes nothing.
-use mathlib.Core.Bool.{Bool, cond, not, _&&_}
+use mathlib.Core.Path.{_≡_}
+use mathlib.Core.Bool.{Bool, true, cond, not, _&&_}
 use mathlib.Core.List.{List, [], _∷_, _++_}
 use Prim.Native.Nat.{ℕ, _+_, _*_}
 use lib.Dec.{eqb}
-use lib.ListN.{getD}
+use lib.ListN.{length, getD}
 use Rattle.codec.specs.Bytes.{Bytes, part, same}
 use Rattle.codec.specs.Reply.{Test, test}
 use Rattle.sha3.specs.Sponge.{sha3}
@@ -87,16 +88,25 @@ answer2Bytes b = b .p ++ (b .u ++ (b .salt1 ++ b .salt3))
 abbrev pub answer3Bytes : Answer3 → Bytes
 answer3Bytes c = c .p ++ (c .r ++ (c .salt1 ++ c .salt2))
 
--- ---- what the producer of a round writes for L ternary bytes x
+-- ---- what the producer of a round writes for 14N ternary bytes x
+
+-- what it is lent for a repetition, in range
+pub record Material (q N : ℕ) (x r p salts : Bytes) : Type 0 where
+  pub size-x : length x ≡ 14 * N
+  pub size-r : length r ≡ 336 * N
+  pub size-p : length p ≡ 168 * N
+  pub size-salts : length salts ≡ 96
+  pub below : allBelow q (vector r) ≡ true
+  pub permutes : permutes (42 * N) (entries p) ≡ true
 
 -- the digests of a repetition; the committed pairs do not enter
 abbrev pub honestDigests : (q N : ℕ) → Keys → Bytes → Drawn → Bytes
 honestDigests q N k x drawn = firstBytes (first (setting q N k []) x drawn)
 
 -- the bytes of the answer to a challenge; one out of range counts as 3
-abbrev pub honestAnswer : (s : Setting) → Bytes → Drawn → (challenge : ℕ) → Bytes
-honestAnswer s x drawn challenge =
-    cond (eqb challenge 1) (answer1Bytes (answer1 s x drawn)) (cond (eqb challenge 2) (answer2Bytes (answer2 s x drawn)) (answer3Bytes (answer3 s drawn)))
+abbrev pub honestAnswer : (q N : ℕ) → Bytes → Drawn → (challenge : ℕ) → Bytes
+honestAnswer q N x drawn challenge =
+    cond (eqb challenge 1) (answer1Bytes (answer1 (14 * N) x drawn)) (cond (eqb challenge 2) (answer2Bytes (answer2 q (14 * N) x drawn)) (answer3Bytes (answer3 drawn)))
 
 -- whether an answer's coefficients are below q, and the ternary bytes of answer 1 below 3
 abbrev pub inRange : (q N challenge : ℕ) → Bytes → Bool

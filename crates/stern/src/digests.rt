@@ -93,7 +93,7 @@ pub fn gathered_digest(
 }
 
 // Digest 3 of the producer: the extended unknowns and the mask vector, added and permuted.
-fn masked_digest(
+pub fn masked_digest(
     work: &mut [u8],
     p: &[u8],
     x: &[u8],

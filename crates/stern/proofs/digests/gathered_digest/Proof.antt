@@ -15,8 +15,7 @@ returns c =
     let a = c .before .before .before .before .before .before .before .before .before .before .before .args in
     let p = c .before .before .before .before .before .before .before .before .before .before .before .pre in
     let h = p .0 in
-    let l = permuted-length (a .n) (a .p .now) _ (p .2) in
-    (
+    let l = permuted-length (a .n) (a .p .now) _ (p .2) in (
       c .tagged .ensures ∙ ap (λ (s : Bytes). sha3 (a .lead ∷ (a .salt .now ++ s))) (head-lent (a .work .now) _ _ (336 * a .n) l (omega (arith, p .1)) (c .before .before .before .before .before .gather .ensures)),
       head-length (a .work .now) _ _ (336 * a .n) l (omega (arith, p .1)) (c .before .before .before .before .before .gather .ensures),
     )

@@ -35,10 +35,9 @@ returns c =
     let a = c .before .before .before .before .before .before .before .before .before .before .before .before .before .before .args in
     let p = c .before .before .before .before .before .before .before .before .before .before .before .before .before .before .pre .0 in
     let h = p .0 in
-    let l = permuted-length (a .n) (a .p .now) _ (p .4) in
-    (
+    let l = permuted-length (a .n) (a .p .now) _ (p .4) in (
       c .tagged .ensures ∙ ap (λ (s : Bytes). sha3 (3 ∷ (a .salt .now ++ s))) (head-lent (a .work .now) _ _ (336 * a .n) l (omega (arith, p .3)) (c .before .before .before .before .before .gather-masked .ensures))
-      ∙ ap (λ (k : ℕ). sha3 (3 ∷ (a .salt .now ++ words (apply (entries (a .p .now)) (add (a .q) (ternaries (a .q) (extend k (a .x .now))) (vector (a .r .now))))))) (p .5),
+          ∙ ap (λ (k : ℕ). sha3 (3 ∷ (a .salt .now ++ words (apply (entries (a .p .now)) (add (a .q) (ternaries (a .q) (extend k (a .x .now))) (vector (a .r .now))))))) (p .5),
       head-length (a .work .now) _ _ (336 * a .n) l (omega (arith, p .3)) (c .before .before .before .before .before .gather-masked .ensures),
     )
 
