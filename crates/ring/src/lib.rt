@@ -59,8 +59,9 @@ pub fn count_of(t: &[u8], v: u8) -> usize
 
 // ---- slots
 
-// The coefficient that a ternary byte means. The byte may be secret, so there is no jump that depends on it: `above0`, `above1` and
-// `above2` say whether it is above 0, 1 and 2, since t + 2^62 - 1 - m is at least 2^62 where t is above m, and only there.
+// The coefficient that a ternary byte means. The byte may be secret, so there is no jump and no division that depends on it: `above0`,
+// `above1` and `above2` say whether it is above 0, 1 and 2, since t + 2^62 - 1 - m is at least 2^62 where t is above m, and only
+// there. What is divided by 2^62 is shifted.
 pub fn from_ternary(b: u8, q: u64) -> u64
     requires { ⌜ 1 < q ⌝ }
     ensures { λ r. ⌜ r ≡ remainder q (meaning b) ⌝ }
