@@ -6,3 +6,4 @@ pub mod Sheets
 pub mod Lent
 pub mod Ranges
 pub mod Loads
+pub mod Writing

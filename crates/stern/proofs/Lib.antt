@@ -7,3 +7,4 @@ pub mod Sound
 pub mod Gathered
 pub mod Pairs
 pub mod Strings
+pub mod Written

@@ -33,12 +33,14 @@ pub fn write_digests(
     ensures { λ _. ⌜ now (out .exit) ≡ put (now (out .entry)) at (honestDigests q n (keysOf n (now (k .entry))) (now (x .entry)) (drawnOf (now (p .entry)) (now (r .entry)) (now (salts .entry)))) ⌝ }
     ensures { λ _. ⌜ length (now (work .exit)) ≡ length (now (work .entry)) ⌝ }
 {
+    let second = at + 32;
+    let third = at + 64;
     let one = equations_digest(work, k, k, false, r, p, &salts[0..32], n, q);
     codec::copy(out, at, &one);
     let two = gathered_digest(2, work, p, r, &salts[32..64], n);
-    codec::copy(out, at + 32, &two);
+    codec::copy(out, second, &two);
     let three = masked_digest(work, p, x, r, &salts[64..96], n, q);
-    codec::copy(out, at + 64, &three);
+    codec::copy(out, third, &three);
 }
 
 // Answer 1: P(extended), P(R), salts 2 and 3.
