@@ -14,7 +14,7 @@ ghost use Rattle.commitment.specs.Commitment.{keysOf, PublicKeys};
 ghost use Rattle.vector.specs.Vector.{vector};
 ghost use Rattle.vector.specs.Permutation.{entries};
 ghost use Rattle.stern.specs.Argument.{answer1, answer2, answer3};
-ghost use Rattle.stern.specs.Shortness.{Material, drawnOf, honestDigests, answer1Bytes, answer2Bytes, answer3Bytes};
+ghost use Rattle.stern.specs.Shortness.{Material, drawnOf, answerLength, honestDigests, honestAnswer, answer1Bytes, answer2Bytes, answer3Bytes};
 
 // The three digests, 96 bytes at a place of an output.
 pub fn write_digests(
@@ -76,4 +76,27 @@ pub fn write_answer3(out: &mut [u8], r: &[u8], p: &[u8], salts: &[u8], n: usize)
     codec::copy(out, 0, p);
     codec::copy(out, 168 * n, r);
     codec::copy(out, 504 * n, &salts[0..64]);
+}
+
+// The answer to a challenge, over the whole of an output; a challenge out of range counts as 3.
+pub fn write_answer(
+    out: &mut [u8],
+    challenge: u8,
+    x: &[u8],
+    r: &[u8],
+    p: &[u8],
+    salts: &[u8],
+    n: usize,
+    q: u64,
+)
+    requires { ⌜ (n ≤ 2048) × (3 ≤ q) × (q < 2 ^ 56) × (length (now out) ≡ answerLength n challenge) × Material q n (now x) (now r) (now p) (now salts) ⌝ }
+    ensures { λ _. ⌜ now (out .exit) ≡ honestAnswer q n (now (x .entry)) (drawnOf (now (p .entry)) (now (r .entry)) (now (salts .entry))) challenge ⌝ }
+{
+    if challenge == 1 {
+        write_answer1(out, x, r, p, salts, n, q);
+    } else if challenge == 2 {
+        write_answer2(out, x, r, p, salts, n, q);
+    } else {
+        write_answer3(out, r, p, salts, n);
+    }
 }

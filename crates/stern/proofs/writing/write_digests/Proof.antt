@@ -36,8 +36,7 @@ masked-digest-requires : tie.Need-masked-digest-requires
 masked-digest-requires c κs =
     let a = c .before .before .before .before .before .before .before .before .before .before .before .before .before .before .before .before .before .before .before .before .before .before .before .before .before .before .before .before .before .args in
     let p = c .before .before .before .before .before .before .before .before .before .before .before .before .before .before .before .before .before .before .before .before .before .before .before .before .before .before .before .before .before .pre in
-    let m = p .3 in
-    (
+    let m = p .3 in (
       (p .0 .one .high, p .0 .one .some, p .0 .one .few, c .before .before .before .before .before .before .before .before .before .gathered-digest .ensures .1 ∙ c .before .before .before .before .before .before .before .before .before .before .before .before .before .before .before .before .before .before .before .equations-digest .ensures .1 ∙ p .1, m .size-p, m .size-x, m .size-r, length-part (a .salts .now) 64 32 (omega (arith, m .size-salts))),
       (permutes-below (42 * a .n) (entries (a .p .now)) (m .permutes), m .below),
     )
@@ -56,10 +55,9 @@ copy-requires-3 c κs =
 returns : tie.Need-returns
 returns c =
     let a = c .before .before .before .before .before .before .before .before .before .before .before .before .before .before .before .before .before .before .before .before .before .before .before .before .before .before .before .before .before .before .before .before .before .before .before .before .before .args in
-    let p = c .before .before .before .before .before .before .before .before .before .before .before .before .before .before .before .before .before .before .before .before .before .before .before .before .before .before .before .before .before .before .before .before .before .before .before .before .before .pre in
-    (
+    let p = c .before .before .before .before .before .before .before .before .before .before .before .before .before .before .before .before .before .before .before .before .before .before .before .before .before .before .before .before .before .before .before .before .before .before .before .before .before .pre in (
       three-at (a .out .now) (c .before .before .before .before .before .before .before .before .before .before .before .before .before .before .before .before .before .before .before .before .before .before .copy .last .0) (c .before .before .before .before .before .before .before .before .before .before .before .before .copy2 .last .0) _ _ _ _ (a .at) (p .2) (length-sha3 _) (length-sha3 _) (length-sha3 _)
-      (c .before .before .before .before .before .before .before .before .before .before .before .before .before .before .before .before .before .before .before .before .before .before .copy .ensures ∙ ap (put (a .out .now) (a .at)) (c .before .before .before .before .before .before .before .before .before .before .before .before .before .before .before .before .before .before .before .before .before .before .before .before .before .before .before .equations-digest .ensures .0)) (c .before .before .before .before .before .before .before .before .before .before .before .before .copy2 .ensures ∙ ap (put (c .before .before .before .before .before .before .before .before .before .before .before .before .before .before .before .before .before .before .before .before .before .before .copy .last .0) (a .at + 32)) (c .before .before .before .before .before .before .before .before .before .before .before .before .before .before .before .before .before .gathered-digest .ensures .0)) (c .before .before .copy3 .ensures ∙ ap (put (c .before .before .before .before .before .before .before .before .before .before .before .before .copy2 .last .0) (a .at + 64)) (c .before .before .before .before .before .before .before .masked-digest .ensures .0)),
+          (c .before .before .before .before .before .before .before .before .before .before .before .before .before .before .before .before .before .before .before .before .before .before .copy .ensures ∙ ap (put (a .out .now) (a .at)) (c .before .before .before .before .before .before .before .before .before .before .before .before .before .before .before .before .before .before .before .before .before .before .before .before .before .before .before .equations-digest .ensures .0)) (c .before .before .before .before .before .before .before .before .before .before .before .before .copy2 .ensures ∙ ap (put (c .before .before .before .before .before .before .before .before .before .before .before .before .before .before .before .before .before .before .before .before .before .before .copy .last .0) (a .at + 32)) (c .before .before .before .before .before .before .before .before .before .before .before .before .before .before .before .before .before .gathered-digest .ensures .0)) (c .before .before .copy3 .ensures ∙ ap (put (c .before .before .before .before .before .before .before .before .before .before .before .before .copy2 .last .0) (a .at + 64)) (c .before .before .before .before .before .before .before .masked-digest .ensures .0)),
       c .before .before .before .before .before .before .before .masked-digest .ensures .1 ∙ c .before .before .before .before .before .before .before .before .before .before .before .before .before .before .before .before .before .gathered-digest .ensures .1 ∙ c .before .before .before .before .before .before .before .before .before .before .before .before .before .before .before .before .before .before .before .before .before .before .before .before .before .before .before .equations-digest .ensures .1,
     )
 

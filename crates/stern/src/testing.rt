@@ -1,0 +1,94 @@
+// The tests of an answer in a check: 9, then 10, then 11 (document 01, "One round" and "Refused because of the input").
+use crate::digests::equations_digest;
+use crate::digests::gathered_digest;
+use crate::digests::tagged;
+use codec::Reply;
+ghost use mathlib.Core.Path.{_≡_};
+ghost use mathlib.Core.Bool.{true, cond, not, _&&_};
+ghost use mathlib.Core.List.{[], _∷_, _++_};
+ghost use Prim.Native.Nat.{_+_, _*_, _≤_, _<_, _^_};
+ghost use lib.ListN.{length, take};
+ghost use Rattle.codec.specs.Bytes.{words, same};
+ghost use Rattle.codec.specs.Reply.{test, first};
+ghost use Rattle.sha3.specs.Sponge.{sha3};
+ghost use Rattle.ring.specs.Slots.{allBelow};
+ghost use Rattle.call.specs.Call.{scratchLength};
+ghost use Rattle.commitment.specs.Commitment.{keysOf, PublicKeys};
+ghost use Rattle.vector.specs.Vector.{vector, ternaries, add, subtract};
+ghost use Rattle.vector.specs.Permutation.{entries, apply, permutes, balanced};
+ghost use Rattle.stern.specs.Argument.{string1, string2, string3};
+ghost use Rattle.stern.specs.Shortness.{equations, sides, answerLength, answerTests, inRange};
+
+// Answer 1: there are L of each, and digests 2 and 3 are those of P(R) and of P(extended) + P(R).
+fn test_balanced(
+    work: &mut [u8],
+    two: &[u8],
+    three: &[u8],
+    w: &[u8],
+    t: &[u8],
+    salt2: &[u8],
+    salt3: &[u8],
+    place: u32,
+    n: usize,
+    q: u64,
+) -> Reply
+    requires { ⌜ (n ≤ 2048) × (3 ≤ q) × (q < 2 ^ 56) × (length (now work) ≡ scratchLength) × (length (now w) ≡ 42 * n) × (length (now t) ≡ 336 * n) × (length (now salt2) ≡ 32) × (length (now salt3) ≡ 32) × (allBelow q (vector (now t)) ≡ true) ⌝ }
+    ensures { λ reply. ⌜ reply ≡ first (test 10 place (not (balanced (14 * n) (now (w .entry)))) ∷ test 11 place (not (same (now (two .entry)) (sha3 (string2 (now (salt2 .entry)) (now (t .entry)))) && same (now (three .entry)) (sha3 (string3 (now (salt3 .entry)) (add q (ternaries q (now (w .entry))) (vector (now (t .entry)))))))) ∷ []) ⌝ }
+    ensures { λ _. ⌜ length (now (work .exit)) ≡ length (now (work .entry)) ⌝ }
+{
+    if !vector::is_balanced(w, 14 * n) {
+        return Reply::Refused { number: 10, place };
+    }
+    let second = tagged(2, salt2, t);
+    vector::sum(work, 0, w, t, 42 * n, q);
+    let third = tagged(3, salt3, &work[0..336 * n]);
+    if both_equal(two, &second, three, &third) {
+        Reply::Taken
+    } else {
+        Reply::Refused { number: 11, place }
+    }
+}
+
+// Whether two digests are two others.
+fn both_equal(a: &[u8], b: &[u8], c: &[u8], d: &[u8]) -> bool
+    ensures { λ r. ⌜ r ≡ (same (now (a .entry)) (now (b .entry)) && same (now (c .entry)) (now (d .entry))) ⌝ }
+{
+    if codec::equal(a, b) {
+        codec::equal(c, d)
+    } else {
+        false
+    }
+}
+
+// Answers 2 and 3: P is a permutation, and two digests are those of the equations and of P applied to the vector x, which is extended + R or R.
+fn test_permuted(
+    work: &mut [u8],
+    k: &[u8],
+    c: &[u8],
+    less: bool,
+    one: &[u8],
+    lead: u8,
+    other: &[u8],
+    p: &[u8],
+    x: &[u8],
+    salt1: &[u8],
+    salt: &[u8],
+    place: u32,
+    n: usize,
+    q: u64,
+) -> Reply
+    requires { ⌜ PublicKeys n q (now k) × (length (now work) ≡ scratchLength) × (length (now p) ≡ 168 * n) × (length (now x) ≡ 336 * n) × (length (now salt1) ≡ 32) × (length (now salt) ≡ 32) × (allBelow q (vector (now x)) ≡ true) × (length (now c) ≡ 64 * n) × (allBelow q (vector (now c)) ≡ true) ⌝ }
+    ensures { λ reply. ⌜ reply ≡ first (test 9 place (not (permutes (42 * n) (entries (now (p .entry))))) ∷ test 11 place (not (same (now (one .entry)) (sha3 (string1 (now (salt1 .entry)) (now (p .entry)) (cond less (subtract q (equations q n (keysOf n (now (k .entry))) (take (14 * n) (vector (now (x .entry))))) (sides q n (now (c .entry)))) (equations q n (keysOf n (now (k .entry))) (take (14 * n) (vector (now (x .entry)))))))) && same (now (other .entry)) (sha3 (lead ∷ (now (salt .entry) ++ words (apply (entries (now (p .entry))) (vector (now (x .entry))))))))) ∷ []) ⌝ }
+    ensures { λ _. ⌜ length (now (work .exit)) ≡ length (now (work .entry)) ⌝ }
+{
+    if !vector::is_permutation(p, work, 0, 42 * n) {
+        return Reply::Refused { number: 9, place };
+    }
+    let first = equations_digest(work, k, c, less, x, p, salt1, n, q);
+    let second = gathered_digest(lead, work, p, x, salt, n);
+    if both_equal(one, &first, other, &second) {
+        Reply::Taken
+    } else {
+        Reply::Refused { number: 11, place }
+    }
+}
