@@ -17,7 +17,7 @@ ghost use Rattle.commitment.specs.Commitment.{keysOf, PublicKeys};
 ghost use Rattle.vector.specs.Vector.{vector, ternaries, add, subtract};
 ghost use Rattle.vector.specs.Permutation.{entries, apply, permutes, balanced};
 ghost use Rattle.stern.specs.Argument.{string1, string2, string3};
-ghost use Rattle.stern.specs.Shortness.{equations, sides, answerLength, answerTests, inRange};
+ghost use Rattle.stern.specs.Shortness.{equations, sides, answer1Of, answer2Of, answer3Of, tests1, tests2, tests3, answerLength, answerTests, inRange};
 
 // Answer 1: there are L of each, and digests 2 and 3 are those of P(R) and of P(extended) + P(R).
 fn test_balanced(
@@ -91,4 +91,115 @@ fn test_permuted(
     } else {
         Reply::Refused { number: 11, place }
     }
+}
+
+// Answer 1 from its bytes; the keys and the committed pairs do not enter.
+fn test_first(work: &mut [u8], d: &[u8], answer: &[u8], place: u32, n: usize, q: u64) -> Reply
+    requires { ⌜ (n ≤ 2048) × (3 ≤ q) × (q < 2 ^ 56) × (length (now work) ≡ scratchLength) × (length (now d) ≡ 96) × (length (now answer) ≡ 378 * n + 64) × (allBelow q (vector (answer1Of n (now answer) .t)) ≡ true) ⌝ }
+    ensures { λ reply. ⌜ reply ≡ first (tests1 q n (keysOf n []) [] (now (d .entry)) place (answer1Of n (now (answer .entry)))) ⌝ }
+    ensures { λ _. ⌜ length (now (work .exit)) ≡ length (now (work .entry)) ⌝ }
+{
+    test_balanced(
+        work,
+        &d[32..64],
+        &d[64..96],
+        &answer[0..42 * n],
+        &answer[42 * n..378 * n],
+        &answer[378 * n..378 * n + 32],
+        &answer[378 * n + 32..378 * n + 64],
+        place,
+        n,
+        q,
+    )
+}
+
+// Answer 2 from its bytes.
+fn test_second(
+    work: &mut [u8],
+    k: &[u8],
+    c: &[u8],
+    d: &[u8],
+    answer: &[u8],
+    place: u32,
+    n: usize,
+    q: u64,
+) -> Reply
+    requires { ⌜ PublicKeys n q (now k) × (length (now work) ≡ scratchLength) × (length (now d) ≡ 96) × (length (now answer) ≡ 504 * n + 64) × (length (now c) ≡ 64 * n) × (allBelow q (vector (now c)) ≡ true) × (allBelow q (vector (answer2Of n (now answer) .u)) ≡ true) ⌝ }
+    ensures { λ reply. ⌜ reply ≡ first (tests2 q n (keysOf n (now (k .entry))) (now (c .entry)) (now (d .entry)) place (answer2Of n (now (answer .entry)))) ⌝ }
+    ensures { λ _. ⌜ length (now (work .exit)) ≡ length (now (work .entry)) ⌝ }
+{
+    test_permuted(
+        work,
+        k,
+        c,
+        true,
+        &d[0..32],
+        3,
+        &d[64..96],
+        &answer[0..168 * n],
+        &answer[168 * n..504 * n],
+        &answer[504 * n..504 * n + 32],
+        &answer[504 * n + 32..504 * n + 64],
+        place,
+        n,
+        q,
+    )
+}
+
+// Answer 3 from its bytes.
+fn test_third(
+    work: &mut [u8],
+    k: &[u8],
+    c: &[u8],
+    d: &[u8],
+    answer: &[u8],
+    place: u32,
+    n: usize,
+    q: u64,
+) -> Reply
+    requires { ⌜ PublicKeys n q (now k) × (length (now work) ≡ scratchLength) × (length (now d) ≡ 96) × (length (now answer) ≡ 504 * n + 64) × (length (now c) ≡ 64 * n) × (allBelow q (vector (now c)) ≡ true) × (allBelow q (vector (answer3Of n (now answer) .r)) ≡ true) ⌝ }
+    ensures { λ reply. ⌜ reply ≡ first (tests3 q n (keysOf n (now (k .entry))) (now (c .entry)) (now (d .entry)) place (answer3Of n (now (answer .entry)))) ⌝ }
+    ensures { λ _. ⌜ length (now (work .exit)) ≡ length (now (work .entry)) ⌝ }
+{
+    test_permuted(
+        work,
+        k,
+        c,
+        false,
+        &d[0..32],
+        2,
+        &d[32..64],
+        &answer[0..168 * n],
+        &answer[168 * n..504 * n],
+        &answer[504 * n..504 * n + 32],
+        &answer[504 * n + 32..504 * n + 64],
+        place,
+        n,
+        q,
+    )
+}
+
+// An answer to a challenge of 1, 2, 3 from its bytes.
+pub fn test_answer(
+    work: &mut [u8],
+    k: &[u8],
+    c: &[u8],
+    d: &[u8],
+    challenge: u8,
+    answer: &[u8],
+    place: u32,
+    n: usize,
+    q: u64,
+) -> Reply
+    requires { ⌜ PublicKeys n q (now k) × (length (now work) ≡ scratchLength) × (length (now d) ≡ 96) × (length (now c) ≡ 64 * n) × (allBelow q (vector (now c)) ≡ true) × (length (now answer) ≡ answerLength n challenge) × (inRange q n challenge (now answer) ≡ true) ⌝ }
+    ensures { λ reply. ⌜ reply ≡ first (answerTests q n (keysOf n (now (k .entry))) (now (c .entry)) (now (d .entry)) place challenge (now (answer .entry))) ⌝ }
+    ensures { λ _. ⌜ length (now (work .exit)) ≡ length (now (work .entry)) ⌝ }
+{
+    if challenge == 1 {
+        return test_first(work, d, answer, place, n, q);
+    }
+    if challenge == 2 {
+        return test_second(work, k, c, d, answer, place, n, q);
+    }
+    test_third(work, k, c, d, answer, place, n, q)
 }

@@ -39,8 +39,7 @@ returns-2 c =
     let p = c .before .before .before .before .before .before .before .before .before .before .before .before .before .before .before .before .before .before .before .before .before .pre in
     let h = p .0 in
     let l = sum-length (a .q) (a .n) (a .w .now) (a .t .now) (p .4) (p .5) in
-    let d3 = c .before .before .before .before .tagged2 .ensures ∙ ap (λ (s : Bytes). sha3 (3 ∷ (a .salt3 .now ++ s))) (head-lent (a .work .now) _ _ (336 * a .n) l (omega (arith, p .3)) (c .before .before .before .before .before .before .before .before .before .sum .ensures)) in
-    (
+    let d3 = c .before .before .before .before .tagged2 .ensures ∙ ap (λ (s : Bytes). sha3 (3 ∷ (a .salt3 .now ++ s))) (head-lent (a .work .now) _ _ (336 * a .n) l (omega (arith, p .3)) (c .before .before .before .before .before .before .before .before .before .sum .ensures)) in (
       both-hold 10 11 (a .place) _ _ (ap not (sym (c .before .before .before .before .before .before .before .before .before .before .before .before .before .is-balanced .ensures) ∙ not-false (c .before .before .before .before .before .before .before .before .before .before .before .before .before .is-balanced .result) (c .before .before .before .before .before .before .before .before .before .before .before .before .if1 .left))) (compared (a .two .now) (a .three .now) _ _ _ _ (c .before .both-equal .result) _ (c .before .both-equal .ensures) (c .before .before .before .before .before .before .before .before .before .before .before .tagged .ensures) d3 (c .if2 .taken)),
       head-length (a .work .now) _ _ (336 * a .n) l (omega (arith, p .3)) (c .before .before .before .before .before .before .before .before .before .sum .ensures),
     )
@@ -51,8 +50,7 @@ returns-3 c =
     let p = c .before .before .before .before .before .before .before .before .before .before .before .before .before .before .before .before .before .before .before .before .before .pre in
     let h = p .0 in
     let l = sum-length (a .q) (a .n) (a .w .now) (a .t .now) (p .4) (p .5) in
-    let d3 = c .before .before .before .before .tagged2 .ensures ∙ ap (λ (s : Bytes). sha3 (3 ∷ (a .salt3 .now ++ s))) (head-lent (a .work .now) _ _ (336 * a .n) l (omega (arith, p .3)) (c .before .before .before .before .before .before .before .before .before .sum .ensures)) in
-    (
+    let d3 = c .before .before .before .before .tagged2 .ensures ∙ ap (λ (s : Bytes). sha3 (3 ∷ (a .salt3 .now ++ s))) (head-lent (a .work .now) _ _ (336 * a .n) l (omega (arith, p .3)) (c .before .before .before .before .before .before .before .before .before .sum .ensures)) in (
       second-fails 10 11 (a .place) _ _ (ap not (sym (c .before .before .before .before .before .before .before .before .before .before .before .before .before .is-balanced .ensures) ∙ not-false (c .before .before .before .before .before .before .before .before .before .before .before .before .before .is-balanced .result) (c .before .before .before .before .before .before .before .before .before .before .before .before .if1 .left))) (compared (a .two .now) (a .three .now) _ _ _ _ (c .before .both-equal .result) _ (c .before .both-equal .ensures) (c .before .before .before .before .before .before .before .before .before .before .before .tagged .ensures) d3 (c .if2 .left)),
       head-length (a .work .now) _ _ (336 * a .n) l (omega (arith, p .3)) (c .before .before .before .before .before .before .before .before .before .sum .ensures),
     )

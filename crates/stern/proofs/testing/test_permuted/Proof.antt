@@ -19,8 +19,7 @@ returns : tie.Need-returns
 returns c =
     let a = c .before .before .before .before .before .before .before .before .before .before .before .before .before .before .args in
     let p = c .before .before .before .before .before .before .before .before .before .before .before .before .before .before .pre in
-    let h = p .0 .one .high in
-    (
+    let h = p .0 .one .high in (
       first-fails 9 11 (a .place) _ _ (ap not (sym (c .before .before .before .is-permutation .ensures .0) ∙ not-true (c .before .before .before .is-permutation .result) (c .if1 .taken))),
       written-length (a .work .now) _ (zeros (42 * a .n)) 0 (omega (arith, p .1, length-replicate {A = ℕ} (42 * a .n) 0)) (c .before .before .before .is-permutation .ensures .1),
     )
@@ -47,8 +46,7 @@ returns-2 c =
     let a = c .before .before .before .before .before .before .before .before .before .before .before .before .before .before .before .before .before .before .before .before .before .before .before .before .before .before .args in
     let p = c .before .before .before .before .before .before .before .before .before .before .before .before .before .before .before .before .before .before .before .before .before .before .before .before .before .before .pre in
     let h = p .0 .one .high in
-    let l = written-length (a .work .now) _ (zeros (42 * a .n)) 0 (omega (arith, p .1, length-replicate {A = ℕ} (42 * a .n) 0)) (c .before .before .before .before .before .before .before .before .before .before .before .before .before .before .before .is-permutation .ensures .1) in
-    (
+    let l = written-length (a .work .now) _ (zeros (42 * a .n)) 0 (omega (arith, p .1, length-replicate {A = ℕ} (42 * a .n) 0)) (c .before .before .before .before .before .before .before .before .before .before .before .before .before .before .before .is-permutation .ensures .1) in (
       both-hold 9 11 (a .place) _ _ (ap not (sym (c .before .before .before .before .before .before .before .before .before .before .before .before .before .before .before .is-permutation .ensures .0) ∙ not-false (c .before .before .before .before .before .before .before .before .before .before .before .before .before .before .before .is-permutation .result) (c .before .before .before .before .before .before .before .before .before .before .before .before .if1 .left))) (compared (a .one .now) (a .other .now) _ _ _ _ (c .before .both-equal .result) _ (c .before .both-equal .ensures) (c .before .before .before .before .before .before .before .before .before .before .equations-digest .ensures .0) (c .before .before .before .before .before .before .gathered-digest .ensures .0) (c .if2 .taken)),
       c .before .before .before .before .before .before .gathered-digest .ensures .1 ∙ c .before .before .before .before .before .before .before .before .before .before .equations-digest .ensures .1 ∙ l,
     )
@@ -58,8 +56,7 @@ returns-3 c =
     let a = c .before .before .before .before .before .before .before .before .before .before .before .before .before .before .before .before .before .before .before .before .before .before .before .before .before .before .args in
     let p = c .before .before .before .before .before .before .before .before .before .before .before .before .before .before .before .before .before .before .before .before .before .before .before .before .before .before .pre in
     let h = p .0 .one .high in
-    let l = written-length (a .work .now) _ (zeros (42 * a .n)) 0 (omega (arith, p .1, length-replicate {A = ℕ} (42 * a .n) 0)) (c .before .before .before .before .before .before .before .before .before .before .before .before .before .before .before .is-permutation .ensures .1) in
-    (
+    let l = written-length (a .work .now) _ (zeros (42 * a .n)) 0 (omega (arith, p .1, length-replicate {A = ℕ} (42 * a .n) 0)) (c .before .before .before .before .before .before .before .before .before .before .before .before .before .before .before .is-permutation .ensures .1) in (
       second-fails 9 11 (a .place) _ _ (ap not (sym (c .before .before .before .before .before .before .before .before .before .before .before .before .before .before .before .is-permutation .ensures .0) ∙ not-false (c .before .before .before .before .before .before .before .before .before .before .before .before .before .before .before .is-permutation .result) (c .before .before .before .before .before .before .before .before .before .before .before .before .if1 .left))) (compared (a .one .now) (a .other .now) _ _ _ _ (c .before .both-equal .result) _ (c .before .both-equal .ensures) (c .before .before .before .before .before .before .before .before .before .before .equations-digest .ensures .0) (c .before .before .before .before .before .before .gathered-digest .ensures .0) (c .if2 .left)),
       c .before .before .before .before .before .before .gathered-digest .ensures .1 ∙ c .before .before .before .before .before .before .before .before .before .before .equations-digest .ensures .1 ∙ l,
     )
