@@ -142,3 +142,17 @@ length-answer2Bytes N b ep eu e1 e3 = length-four (b .p) (b .u) (b .salt1) (b .s
 pub length-answer3Bytes : (N : ℕ) (c : Answer3) → length (c .p) ≡ 168 * N → length (c .r) ≡ 336 * N → length (c .salt1) ≡ 32 → length (c .salt2) ≡ 32
     → length (answer3Bytes c) ≡ answerLength N 3
 length-answer3Bytes N c ep er e1 e2 = length-four (c .p) (c .r) (c .salt1) (c .salt2) (504 * N + 64) (omega arith)
+
+-- ---- so the encodings are injective
+
+by-reading : {A : Type 0} (read : Bytes → A) (write : A → Bytes) (s t : Bytes) → write (read s) ≡ s → write (read t) ≡ t → read s ≡ read t → s ≡ t
+by-reading read write s t es et e = sym es ∙ ap write e ∙ et
+
+pub answer1-injective : (N : ℕ) (s t : Bytes) → length s ≡ answerLength N 1 → length t ≡ answerLength N 1 → answer1Of N s ≡ answer1Of N t → s ≡ t
+answer1-injective N s t ls lt = by-reading (answer1Of N) answer1Bytes s t (answer1Bytes-answer1Of N s ls) (answer1Bytes-answer1Of N t lt)
+
+pub answer2-injective : (N : ℕ) (s t : Bytes) → length s ≡ answerLength N 2 → length t ≡ answerLength N 2 → answer2Of N s ≡ answer2Of N t → s ≡ t
+answer2-injective N s t ls lt = by-reading (answer2Of N) answer2Bytes s t (answer2Bytes-answer2Of N s ls) (answer2Bytes-answer2Of N t lt)
+
+pub answer3-injective : (N : ℕ) (s t : Bytes) → length s ≡ answerLength N 3 → length t ≡ answerLength N 3 → answer3Of N s ≡ answer3Of N t → s ≡ t
+answer3-injective N s t ls lt = by-reading (answer3Of N) answer3Bytes s t (answer3Bytes-answer3Of N s ls) (answer3Bytes-answer3Of N t lt)

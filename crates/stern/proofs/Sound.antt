@@ -2,7 +2,7 @@
 -- solution. Assumes nothing.
 use mathlib.Core.Path.{_≡_, refl, sym, ap, _∙_}
 use mathlib.Core.List.{List, _++_, List-discrete}
-use Prim.Native.Nat.{ℕ, _*_}
+use Prim.Native.Nat.{ℕ, _*_, _^_, _≤_}
 use native.Mathlib.Omega.{arith}
 use native.Mathlib.Decide.{ℕ-discrete}
 use lib.ListN.{length, take, drop}
@@ -13,7 +13,7 @@ use Rattle.vector.specs.Permutation.{entries, apply}
 use Rattle.vector.proofs.Vectors.{each-length, take-each, add-vector, subtract-vector, subtract-add, commute, cancel, add-take, apply-add, apply-each, vector-words, words-injective, ternaries-vector, ternaries-short}
 use Rattle.vector.proofs.Counts.{unapply}
 use Rattle.vector.proofs.Balance.{balanced-sound}
-use Rattle.stern.specs.Argument.{Setting, Valid, Short, Solves, First, Answer1, Answer2, Answer3, Passes1, Passes2, Passes3, Extracted, broken1, broken2, broken3, found, solution, one-by2, one-by3, two-by1, two-by3, three-by1, three-by2}
+use Rattle.stern.specs.Argument.{Setting, Valid, string1, Short, Solves, First, Answer1, Answer2, Answer3, Passes1, Passes2, Passes3, Extracted, broken1, broken2, broken3, found, solution, one-by2, one-by3, two-by1, two-by3, three-by1, three-by2}
 
 -- joined strings whose first parts are as long are equal part by part
 pub parts : (a c : Bytes) {b d : Bytes} → length a ≡ length c → a ++ b ≡ c ++ d → (a ≡ c) × (b ≡ d)
@@ -93,3 +93,11 @@ module _ (s : Setting) (ok : Valid s) (f : First) (a : Answer1) (b : Answer2) (c
       decide (yes e1) (no n2) d3 = broken2 e1 (record { differ = n2; collide = sym (pa .d2) ∙ pc .d2 })
       decide (yes e1) (yes e2) (no n3) = broken3 e1 e2 (record { differ = n3; collide = sym (pa .d3) ∙ pb .d3 })
       decide (yes e1) (yes e2) (yes e3) = found e1 e2 e3 (solved e1 e2 e3)
+
+-- the strings are injective encodings: equal strings have equal salts, permutations and vectors
+pub string1-injective : {q n : ℕ} (salt salt' p p' : Bytes) {v v' : List ℕ} → q ≤ 2 ^ 64 → length salt ≡ length salt' → length p ≡ length p' → Vector q n v → Vector q n v'
+    → string1 salt p v ≡ string1 salt' p' v' → (salt ≡ salt') × (p ≡ p') × (v ≡ v')
+string1-injective salt salt' p p' {v} {v'} fits ls lp hv hv' e =
+    let a = parts salt salt' {b = p ++ words v} {d = p' ++ words v'} ls (ap (drop 1) e) in
+    let b = parts p p' {b = words v} {d = words v'} lp (a .1) in
+    (a .0, b .0, words-injective fits hv hv' (b .1))
