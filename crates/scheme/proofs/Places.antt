@@ -4,7 +4,7 @@ use mathlib.Core.List.{_++_, append-assoc}
 use Prim.Native.Nat.{ℕ, _+_, _*_, _≤_}
 use native.Mathlib.Nat.{zero-add}
 use native.Mathlib.Omega.{arith}
-use lib.ListN.{length, take, drop, length-append}
+use lib.ListN.{length, length-append}
 use Rattle.codec.specs.Bytes.{Bytes, part, put}
 use Rattle.codec.proofs.Laws.{put-whole, put-append}
 use Rattle.ring.specs.Poly.{Poly, modulo}
@@ -51,8 +51,6 @@ module _ (q n : ℕ) where
         ∙ append-assoc two (bytes h) (bytes i) ∙ append-assoc (bytes f) (bytes g) (bytes h ++ bytes i)
 
   -- the halves of a commitment, from the head of scratch and from where m was put
-  pub pair-written : (c : Pair) (w w' d d1 d2 : Bytes) (x y : ℕ) → PairStands q n c w w' → length d ≡ 16 * n → x ≡ 8 * n → y ≡ 8 * n → d1 ≡ put d 0 (take x w') → d2 ≡ put d1 (8 * n) (take y (drop 49152 w'))
-      → d2 ≡ pairBytes q n c
+  pub pair-written : (c : Pair) (w w' d d1 d2 : Bytes) → PairStands q n c w w' → length d ≡ 16 * n → d1 ≡ put d 0 (part w' 0 (8 * n)) → d2 ≡ put d1 (8 * n) (part w' 49152 (8 * n)) → d2 ≡ pairBytes q n c
   unfolding pairBytes
-  pair-written c w w' d d1 d2 x y h l ex ey e1 e2 =
-      two-written (c .one) (c .two) d d1 d2 l (e1 ∙ ap (put d 0) (ap (λ (k : ℕ). take k w') ex ∙ h .one)) (e2 ∙ ap (put d1 (8 * n)) (ap (λ (k : ℕ). take k (drop 49152 w')) ey ∙ h .two))
+  pair-written c w w' d d1 d2 h l e1 e2 = two-written (c .one) (c .two) d d1 d2 l (e1 ∙ ap (put d 0) (h .one)) (e2 ∙ ap (put d1 (8 * n)) (h .two))

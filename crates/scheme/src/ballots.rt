@@ -10,7 +10,7 @@ ghost use Rattle.codec.specs.Bytes.{part};
 ghost use Rattle.codec.specs.Reply.{first, leaves};
 ghost use Rattle.ring.specs.Poly.{Below};
 ghost use Rattle.ring.specs.Slots.{poly, list, allBelow};
-ghost use Rattle.call.specs.Call.{scratchLength, bytesBelow, coefficientsBelow, coefficients, Public, Used};
+ghost use Rattle.call.specs.Call.{scratchLength, bytesBelow, coefficients, Public, Used};
 ghost use Rattle.scheme.specs.Calls.{encryptTests, encryptWrites, decryptTests, decryptWrites};
 
 // r, e' and e'' are ternary, and m is a message.
@@ -116,7 +116,7 @@ pub fn encrypt(
     reply
 }
 
-// The same, from the bytes that hold the sheet's polynomials: a at their head, then b.
+// The same, from the bytes that hold the sheet's polynomials, a at their head, then b: of an array only one part can be lent at a time, of a slice several.
 pub fn encrypt_from(
     public: &[u8],
     r: &[u8],
@@ -147,18 +147,6 @@ pub fn encrypt_from(
     )
 }
 
-// s is ternary, and both halves of the ciphertext in range.
-fn decrypt_ranged(s: &[u8], ciphertext: &[u8], n: usize, q: u64) -> bool
-    requires { ⌜ length (now ciphertext) ≡ 16 * n ⌝ }
-    ensures { λ r. ⌜ r ≡ bytesBelow 3 (now (s .entry) ∷ []) && coefficientsBelow q (2 * n) (now (ciphertext .entry) ∷ []) ⌝ }
-{
-    if ring::is_ternary(s) {
-        ring::in_range(ciphertext, q)
-    } else {
-        false
-    }
-}
-
 // What `decrypt` refuses, in order.
 fn decrypt_tests(
     s: &[u8],
@@ -180,7 +168,7 @@ fn decrypt_tests(
             place: 0,
         };
     }
-    if !decrypt_ranged(s, ciphertext, n, q) {
+    if !call::ternary_and_in_range(s, ciphertext, 2 * n, q) {
         return Reply::Refused {
             number: 5,
             place: 0,

@@ -1,36 +1,15 @@
 // The commitment once the sheet is taken: the tests of the lent slices, and then the work. What is made from secrets is left in scratch, which the caller sweeps.
 use codec::Reply;
 ghost use mathlib.Core.Path.{_≡_};
-ghost use mathlib.Core.Bool.{_&&_};
-ghost use mathlib.Core.List.{[], _∷_};
 ghost use Prim.Native.Nat.{_*_, _≤_};
 ghost use lib.ListN.{length};
 ghost use Rattle.codec.specs.Reply.{first, leaves};
-ghost use Rattle.call.specs.Call.{scratchLength, bytesBelow, coefficientsBelow, Public, Used};
+ghost use Rattle.call.specs.Call.{scratchLength, Public, Used};
 ghost use Rattle.commitment.specs.Commitment.{keysOf, PublicKeys};
 ghost use Rattle.scheme.specs.Calls.{commitmentTests, commitmentWrites};
 
-// The three r are ternary, and m is in range.
-fn commitment_ranged(m: &[u8], r: &[u8], n: usize, q: u64) -> bool
-    requires { ⌜ length (now m) ≡ 8 * n ⌝ }
-    ensures { λ answer. ⌜ answer ≡ bytesBelow 3 (now (r .entry) ∷ []) && coefficientsBelow q n (now (m .entry) ∷ []) ⌝ }
-{
-    if ring::is_ternary(r) {
-        ring::in_range(m, q)
-    } else {
-        false
-    }
-}
-
 // What `commitment` refuses, in order.
-fn commitment_tests(
-    m: &[u8],
-    r: &[u8],
-    pair: &[u8],
-    scratch: &[u8],
-    n: usize,
-    q: u64,
-) -> Reply
+fn commitment_tests(m: &[u8], r: &[u8], pair: &[u8], scratch: &[u8], n: usize, q: u64) -> Reply
     requires { ⌜ n ≤ 2048 ⌝ }
     ensures { λ reply. ⌜ reply ≡ first (commitmentTests q n (now (m .entry)) (now (r .entry)) (now (pair .entry)) (now (scratch .entry))) ⌝ }
 {
@@ -43,7 +22,7 @@ fn commitment_tests(
             place: 0,
         };
     }
-    if !commitment_ranged(m, r, n, q) {
+    if !call::ternary_and_in_range(r, m, n, q) {
         return Reply::Refused {
             number: 5,
             place: 0,
@@ -53,26 +32,14 @@ fn commitment_tests(
 }
 
 // The work of `commitment`, for slices that passed its tests: the row stands at the head of scratch, the second half where m was put.
-fn write_pair(
-    k: &[u8],
-    m: &[u8],
-    r: &[u8],
-    pair: &mut [u8],
-    scratch: &mut [u8],
-    n: usize,
-    q: u64,
-)
+fn write_pair(k: &[u8], m: &[u8], r: &[u8], pair: &mut [u8], scratch: &mut [u8], n: usize, q: u64)
     requires { ⌜ PublicKeys n q (now k) × Public n q (now m) × (length (now r) ≡ 3 * n) × (length (now pair) ≡ 16 * n) × (length (now scratch) ≡ scratchLength) ⌝ }
     ensures { λ _. ⌜ now (pair .exit) ≡ commitmentWrites q n (keysOf n (now (k .entry))) (now (m .entry)) (now (r .entry)) ⌝ }
     ensures { λ _. ⌜ length (now (scratch .exit)) ≡ length (now (scratch .entry)) ⌝ }
 {
     commitment::pair(scratch, k, m, r, n, q);
-    codec::copy(pair, 0, &scratch[0..8 * n]);
-    codec::copy(
-        pair,
-        8 * n,
-        &scratch[commitment::MESSAGE..commitment::MESSAGE + 8 * n],
-    );
+    call::write_out(pair, 0, scratch, 0, n);
+    call::write_out(pair, 8 * n, scratch, commitment::MESSAGE, n);
 }
 
 // The pair that commits to m, from k1, k2, k3 in 24n bytes.

@@ -27,7 +27,7 @@ pub fn noisy(
     ensures { λ _. ⌜ length (now (scratch .exit)) ≡ length (now (scratch .entry)) ⌝ }
 {
     bgv::noisy(scratch, a, x, y, n, q);
-    call::write_out(out, at, scratch, n);
+    call::write_out(out, at, scratch, 0, n);
 }
 
 // v of a ciphertext: b r + 2 e'' + m.
@@ -48,7 +48,7 @@ pub fn cipher_v(
 {
     bgv::noisy(scratch, b, r, e2, n, q);
     bgv::add_message(scratch, m, n, q);
-    call::write_out(out, at, scratch, n);
+    call::write_out(out, at, scratch, 0, n);
 }
 
 // x - x0, for ternary bytes x and a lent polynomial x0: the other half of s or of e.
@@ -66,7 +66,7 @@ pub fn difference(
     ensures { λ _. ⌜ length (now (scratch .exit)) ≡ length (now (scratch .entry)) ⌝ }
 {
     bgv::difference(scratch, 0, x, x0, n, q);
-    call::write_out(out, at, scratch, n);
+    call::write_out(out, at, scratch, 0, n);
 }
 
 // a x0 + 2 y0, for lent polynomials: the key of the half that was lent.
@@ -85,7 +85,7 @@ pub fn lent_key(
     ensures { λ _. ⌜ length (now (scratch .exit)) ≡ length (now (scratch .entry)) ⌝ }
 {
     bgv::noisy_lent(scratch, a, x0, y0, n, q);
-    call::write_out(out, at, scratch, n);
+    call::write_out(out, at, scratch, 0, n);
 }
 
 // a (x - x0) + 2 (y - y0): the key of the other half.
@@ -106,7 +106,7 @@ pub fn other_key(
     ensures { λ _. ⌜ length (now (scratch .exit)) ≡ length (now (scratch .entry)) ⌝ }
 {
     bgv::noisy_difference(scratch, a, x, x0, y, y0, n, q);
-    call::write_out(out, at, scratch, n);
+    call::write_out(out, at, scratch, 0, n);
 }
 
 // A decryption share: s_i u + 2 E, for a lent mask E.
@@ -125,5 +125,5 @@ pub fn share(
     ensures { λ _. ⌜ length (now (scratch .exit)) ≡ length (now (scratch .entry)) ⌝ }
 {
     bgv::share(scratch, half, u, mask, n, q);
-    call::write_out(out, at, scratch, n);
+    call::write_out(out, at, scratch, 0, n);
 }

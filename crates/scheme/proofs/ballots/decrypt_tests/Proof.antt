@@ -3,6 +3,7 @@ use mathlib.Core.Path.{_≡_, sym, _∙_}
 use mathlib.Core.Bool.{true, not, _&&_}
 use mathlib.Core.List.{List, [], _∷_}
 use Prim.Native.Nat.{ℕ, _*_}
+use native.Mathlib.Omega.{arith}
 use borrow.Author.Needs.{needs}
 use borrow.Author.Tests.{not-true, not-false}
 use lib.ListN.{length}
@@ -21,14 +22,14 @@ returns c =
     let ys : List ℕ = a .n ∷ 16 * a .n ∷ a .n ∷ 1048576 ∷ [] in
     wrong-length xs ys (test 5 0 (not (bytesBelow 3 (a .s .now ∷ []) && coefficientsBelow (a .q) (2 * a .n) (a .ciphertext .now ∷ []))) ∷ []) (sym (c .before .sized .ensures) ∙ not-true (c .before .sized .result) (c .if1 .taken))
 
-decrypt-ranged-requires : tie.Need-decrypt-ranged-requires
+ternary-and-in-range-requires : tie.Need-ternary-and-in-range-requires
 unfolding same
-decrypt-ranged-requires c κs =
+ternary-and-in-range-requires c κs =
     let a = c .before .before .before .before .before .before .args in
     let xs : List ℕ = length (a .s .now) ∷ length (a .ciphertext .now) ∷ length (a .vote .now) ∷ length (a .scratch .now) ∷ [] in
     let ys : List ℕ = a .n ∷ 16 * a .n ∷ a .n ∷ 1048576 ∷ [] in
     let l : same xs ys ≡ true = sym (c .before .sized .ensures) ∙ not-false (c .before .sized .result) (c .if1 .left) in
-    length-at xs ys 1 l
+    omega (arith, length-at xs ys 1 l)
 
 returns-2 : tie.Need-returns-2
 unfolding same
@@ -36,7 +37,7 @@ returns-2 c =
     let a = c .before .before .before .before .before .before .before .before .args in
     let xs : List ℕ = length (a .s .now) ∷ length (a .ciphertext .now) ∷ length (a .vote .now) ∷ length (a .scratch .now) ∷ [] in
     let ys : List ℕ = a .n ∷ 16 * a .n ∷ a .n ∷ 1048576 ∷ [] in
-    out-of-range xs ys (bytesBelow 3 (a .s .now ∷ []) && coefficientsBelow (a .q) (2 * a .n) (a .ciphertext .now ∷ [])) [] (sym (c .before .before .before .sized .ensures) ∙ not-false (c .before .before .before .sized .result) (c .before .before .if1 .left)) (sym (c .before .decrypt-ranged .ensures) ∙ not-true (c .before .decrypt-ranged .result) (c .if2 .taken))
+    out-of-range xs ys (bytesBelow 3 (a .s .now ∷ []) && coefficientsBelow (a .q) (2 * a .n) (a .ciphertext .now ∷ [])) [] (sym (c .before .before .before .sized .ensures) ∙ not-false (c .before .before .before .sized .result) (c .before .before .if1 .left)) (sym (c .before .ternary-and-in-range .ensures) ∙ not-true (c .before .ternary-and-in-range .result) (c .if2 .taken))
 
 returns-3 : tie.Need-returns-3
 unfolding first same
@@ -44,7 +45,7 @@ returns-3 c =
     let a = c .before .before .before .before .before .before .before .before .args in
     let xs : List ℕ = length (a .s .now) ∷ length (a .ciphertext .now) ∷ length (a .vote .now) ∷ length (a .scratch .now) ∷ [] in
     let ys : List ℕ = a .n ∷ 16 * a .n ∷ a .n ∷ 1048576 ∷ [] in
-    in-order xs ys (bytesBelow 3 (a .s .now ∷ []) && coefficientsBelow (a .q) (2 * a .n) (a .ciphertext .now ∷ [])) [] (sym (c .before .before .before .sized .ensures) ∙ not-false (c .before .before .before .sized .result) (c .before .before .if1 .left)) (sym (c .before .decrypt-ranged .ensures) ∙ not-false (c .before .decrypt-ranged .result) (c .if2 .left))
+    in-order xs ys (bytesBelow 3 (a .s .now ∷ []) && coefficientsBelow (a .q) (2 * a .n) (a .ciphertext .now ∷ [])) [] (sym (c .before .before .before .sized .ensures) ∙ not-false (c .before .before .before .sized .result) (c .before .before .if1 .left)) (sym (c .before .ternary-and-in-range .ensures) ∙ not-false (c .before .ternary-and-in-range .result) (c .if2 .left))
 
 pub decrypt-tests-spec : {M : Type 1} → statement M
-decrypt-tests-spec = tie.close (tie.spec (λ c. search needs) (λ c κs. search needs) returns decrypt-ranged-requires returns-2 returns-3)
+decrypt-tests-spec = tie.close (tie.spec (λ c. search needs) (λ c κs. search needs) returns (λ c. search needs) ternary-and-in-range-requires returns-2 returns-3)
