@@ -85,39 +85,8 @@ fn write_ciphertext(
     written::cipher_v(ciphertext, 8 * n, scratch, b, r, e2, m, n, q);
 }
 
-// The ciphertext u, v.
+// The ciphertext u, v, from the bytes that hold the sheet's polynomials, a at their head, then b: of an array only one part can be lent at a time, of a slice several.
 pub fn encrypt(
-    a: &[u8],
-    b: &[u8],
-    r: &[u8],
-    e1: &[u8],
-    e2: &[u8],
-    m: &[u8],
-    ciphertext: &mut [u8],
-    scratch: &mut [u8],
-    n: usize,
-    q: u64,
-) -> Reply
-    requires { ⌜ Public n q (now a) × Public n q (now b) ⌝ }
-    ensures { λ reply. ⌜ reply ≡ first (encryptTests 2 n (now (r .entry)) (now (e1 .entry)) (now (e2 .entry)) (now (m .entry)) (now (ciphertext .entry)) (now (scratch .entry))) ⌝ }
-    ensures { λ reply. ⌜ now (ciphertext .exit) ≡ leaves reply (encryptWrites 2 q n (poly (now (a .entry))) (poly (now (b .entry))) (now (r .entry)) (now (e1 .entry)) (now (e2 .entry)) (now (m .entry))) (now (ciphertext .entry)) ⌝ }
-    ensures { λ reply. ⌜ Used reply (now (scratch .entry)) (now (scratch .exit)) ⌝ }
-{
-    let reply = encrypt_tests(r, e1, e2, m, ciphertext, scratch, n);
-    match reply {
-        Reply::Taken => {
-            write_ciphertext(a, b, r, e1, e2, m, ciphertext, scratch, n, q);
-        }
-        Reply::Refused {
-            number: _,
-            place: _,
-        } => {}
-    }
-    reply
-}
-
-// The same, from the bytes that hold the sheet's polynomials, a at their head, then b: of an array only one part can be lent at a time, of a slice several.
-pub fn encrypt_from(
     public: &[u8],
     r: &[u8],
     e1: &[u8],
@@ -133,18 +102,28 @@ pub fn encrypt_from(
     ensures { λ reply. ⌜ now (ciphertext .exit) ≡ leaves reply (encryptWrites 2 q n (poly (part (now (public .entry)) 0 (8 * n))) (poly (part (now (public .entry)) (8 * n) (8 * n))) (now (r .entry)) (now (e1 .entry)) (now (e2 .entry)) (now (m .entry))) (now (ciphertext .entry)) ⌝ }
     ensures { λ reply. ⌜ Used reply (now (scratch .entry)) (now (scratch .exit)) ⌝ }
 {
-    encrypt(
-        &public[0..8 * n],
-        &public[8 * n..16 * n],
-        r,
-        e1,
-        e2,
-        m,
-        ciphertext,
-        scratch,
-        n,
-        q,
-    )
+    let reply = encrypt_tests(r, e1, e2, m, ciphertext, scratch, n);
+    match reply {
+        Reply::Taken => {
+            write_ciphertext(
+                &public[0..8 * n],
+                &public[8 * n..16 * n],
+                r,
+                e1,
+                e2,
+                m,
+                ciphertext,
+                scratch,
+                n,
+                q,
+            );
+        }
+        Reply::Refused {
+            number: _,
+            place: _,
+        } => {}
+    }
+    reply
 }
 
 // What `decrypt` refuses, in order.

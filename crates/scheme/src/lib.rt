@@ -7,7 +7,7 @@ mod shares;
 mod written;
 
 pub use ballots::decrypt;
-pub use ballots::encrypt_from;
+pub use ballots::encrypt;
 pub use commitments::commitment;
 pub use keys::keygen;
 pub use keys::split;

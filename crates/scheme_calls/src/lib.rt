@@ -49,7 +49,7 @@ pub fn encrypt(
         sheet::Reading::Taken(k) => {
             let n = k.ring as usize;
             let q = k.modulus;
-            let reply = scheme::encrypt_from(&public, r, e1, e2, m, ciphertext, scratch, n, q);
+            let reply = scheme::encrypt(&public, r, e1, e2, m, ciphertext, scratch, n, q);
             call::sweep(reply, scratch);
             reply
         }
