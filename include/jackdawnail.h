@@ -44,6 +44,8 @@ uint64_t jdn_split(JDN_IN(sheet), JDN_IN(s), JDN_IN(e), JDN_IN(s0), JDN_IN(e0), 
 uint64_t jdn_share(JDN_IN(sheet), JDN_IN(key_share), JDN_IN(u), JDN_IN(mask), JDN_OUT(t), JDN_OUT(scratch));
 /* vote: v - t0 - t1 centred, by 2, N bytes. */
 uint64_t jdn_reconstruct(JDN_IN(sheet), JDN_IN(v), JDN_IN(t0), JDN_IN(t1), JDN_OUT(vote), JDN_OUT(scratch));
+/* m: a polynomial. r: r1, r2, r3, 3N ternary bytes. pair: r1 + k1 r2 + k2 r3, then r2 + k3 r3 + m, 16N bytes. */
+uint64_t jdn_commitment(JDN_IN(sheet), JDN_IN(m), JDN_IN(r), JDN_OUT(pair), JDN_OUT(scratch));
 
 #ifdef __cplusplus
 }

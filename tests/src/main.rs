@@ -1,4 +1,5 @@
 //! Compares the library, over its C interface, with independent implementations. The last line is `N passed, M failed`.
+mod calls;
 mod digest;
 mod polynomials;
 mod random;

@@ -1,153 +1,11 @@
-//! The calls of encryption and decryption shares against plain 128-bit arithmetic: what each writes, and each refusal in its order.
-use crate::polynomials::{encode, list, poly, signed, ternary, words, Poly, Ring};
+//! The calls of encryption, decryption shares and commitment against plain 128-bit arithmetic: what each writes, and each refusal in its order.
+use crate::calls::{decrypt, encrypt, keygen, reconstruct, share, split, Call, Kind, CALLS};
+use crate::polynomials::{signed, words, Ring};
 use crate::random::Random;
 use crate::sheet::{self, Sheet};
 use crate::tally::{Comparison, Tally};
 
 const SCRATCH: usize = 1_048_576;
-
-/// Declares the C calls with so many slices before the output, and for each a function over slices.
-macro_rules! calls {
-    ($($name:ident($($input:ident),+) as $safe:ident;)+) => {
-        extern "C" {
-            $(fn $name(sheet: *const u8, sheet_length: usize, $($input: *const u8, _: usize,)+ out: *mut u8, out_length: usize, scratch: *mut u8, scratch_length: usize) -> u64;)+
-        }
-        $(fn $safe(sheet: &[u8], inputs: &[Vec<u8>], out: &mut [u8], scratch: &mut [u8]) -> u64 {
-            let [$($input),+] = inputs else { panic!("the call has other slices") };
-            // All slices are live and apart for the call.
-            unsafe { $name(sheet.as_ptr(), sheet.len(), $($input.as_ptr(), $input.len(),)+ out.as_mut_ptr(), out.len(), scratch.as_mut_ptr(), scratch.len()) }
-        })+
-    };
-}
-
-calls! {
-    jdn_keygen(s, e) as keygen;
-    jdn_encrypt(r, e1, e2, m) as encrypt;
-    jdn_decrypt(s, ciphertext) as decrypt;
-    jdn_split(s, e, s0, e0) as split;
-    jdn_share(key_share, u, mask) as share;
-    jdn_reconstruct(v, t0, t1) as reconstruct;
-}
-
-/// What a slice of a call holds.
-#[derive(Clone, Copy, PartialEq)]
-enum Kind {
-    /// so many times N ternary bytes
-    Ternary(usize),
-    /// a message: N bytes below p
-    Message,
-    /// so many polynomials
-    Polynomials(usize),
-    /// N signed numbers
-    Mask,
-}
-
-impl Kind {
-    fn length(self, n: usize) -> usize {
-        match self {
-            Kind::Ternary(k) => k * n,
-            Kind::Message => n,
-            Kind::Polynomials(k) => 8 * k * n,
-            Kind::Mask => 8 * n,
-        }
-    }
-
-    fn in_range(self, bytes: &[u8], q: u64) -> bool {
-        match self {
-            Kind::Ternary(_) => bytes.iter().all(|b| *b < 3),
-            Kind::Message => bytes.iter().all(|b| *b < 2),
-            Kind::Polynomials(_) => words(bytes).iter().all(|x| *x < q),
-            Kind::Mask => true,
-        }
-    }
-
-    fn random(self, random: &mut Random, n: usize, q: u64, bound: u64) -> Vec<u8> {
-        let length = self.length(n);
-        let extreme = random.below(6);
-        match self {
-            Kind::Ternary(_) if extreme == 0 => vec![2; length],
-            Kind::Ternary(_) => (0..length).map(|_| random.below(3) as u8).collect(),
-            Kind::Message => (0..length).map(|_| random.below(2) as u8).collect(),
-            Kind::Polynomials(_) => (0..length / 8).flat_map(|_| (if extreme == 0 { q - 1 } else { random.below(q) }).to_le_bytes()).collect(),
-            Kind::Mask => (0..n)
-                .flat_map(|_| {
-                    let size = (if extreme == 0 { bound } else { random.below(bound + 1) }) as i64;
-                    (if random.below(2) == 0 { size } else { -size }).to_le_bytes()
-                })
-                .collect(),
-        }
-    }
-}
-
-struct Call {
-    name: &'static str,
-    kinds: &'static [Kind],
-    /// the output in multiples of N
-    out: usize,
-    run: fn(&[u8], &[Vec<u8>], &mut [u8], &mut [u8]) -> u64,
-    writes: fn(&Ring, &Sheet, &[Vec<u8>]) -> Vec<u8>,
-}
-
-const P: i128 = 2;
-
-const CALLS: [Call; 6] = [
-    Call {
-        name: "keygen",
-        kinds: &[Kind::Ternary(1), Kind::Ternary(1)],
-        out: 8,
-        run: keygen,
-        writes: |z, t, x| encode(z, vec![z.sum(&z.times(&list(&t.lists[0]), &ternary(&x[0])), &ternary(&x[1]), P)]),
-    },
-    Call {
-        name: "encrypt",
-        kinds: &[Kind::Ternary(1), Kind::Ternary(1), Kind::Ternary(1), Kind::Message],
-        out: 16,
-        run: encrypt,
-        writes: |z, t, x| {
-            let r = ternary(&x[0]);
-            let u = z.sum(&z.times(&list(&t.lists[0]), &r), &ternary(&x[1]), P);
-            let v = z.sum(&z.times(&list(&t.lists[1]), &r), &ternary(&x[2]), P);
-            encode(z, vec![u, z.sum(&v, &x[3].iter().map(|b| i128::from(*b)).collect(), 1)])
-        },
-    },
-    Call {
-        name: "decrypt",
-        kinds: &[Kind::Ternary(1), Kind::Polynomials(2)],
-        out: 1,
-        run: decrypt,
-        writes: |z, _, x| {
-            let c = poly(&x[1]);
-            z.vote(z.sum(&c[z.n..].to_vec(), &z.times(&ternary(&x[0]), &c[..z.n].to_vec()), -1))
-        },
-    },
-    Call {
-        name: "split",
-        kinds: &[Kind::Ternary(1), Kind::Ternary(1), Kind::Polynomials(1), Kind::Polynomials(1)],
-        out: 32,
-        run: split,
-        writes: |z, t, x| {
-            let (s0, e0) = (poly(&x[2]), poly(&x[3]));
-            let (s1, e1) = (z.sum(&ternary(&x[0]), &s0, -1), z.sum(&ternary(&x[1]), &e0, -1));
-            let key = |s: &Poly, e: &Poly| z.sum(&z.times(&list(&t.lists[0]), s), e, P);
-            let keys = [key(&s0, &e0), key(&s1, &e1)];
-            encode(z, [vec![s1, e1], keys.to_vec()].concat())
-        },
-    },
-    Call {
-        name: "share",
-        kinds: &[Kind::Polynomials(1), Kind::Polynomials(1), Kind::Mask],
-        out: 8,
-        run: share,
-        writes: |z, _, x| encode(z, vec![z.sum(&z.times(&poly(&x[0]), &poly(&x[1])), &signed(&x[2]), P)]),
-    },
-    Call {
-        name: "reconstruct",
-        kinds: &[Kind::Polynomials(1), Kind::Polynomials(1), Kind::Polynomials(1)],
-        out: 1,
-        run: reconstruct,
-        writes: |z, _, x| z.vote(z.sum(&z.sum(&poly(&x[0]), &poly(&x[1]), -1), &poly(&x[2]), -1)),
-    },
-];
 
 /// The number, what the output holds, and whether scratch is zeroed.
 fn expected(call: &Call, text: &[u8], inputs: &[Vec<u8>], out: &[u8], scratch: usize) -> (u64, Vec<u8>, bool) {
@@ -182,14 +40,15 @@ fn compare(c: &mut Comparison, call: &Call, text: &[u8], inputs: &[Vec<u8>], out
 }
 
 /// One slice longer or shorter, one byte or number out of range, another scratch, or another sheet.
-fn damage(random: &mut Random, call: &Call, text: &mut Vec<u8>, inputs: &mut [Vec<u8>], out: &mut Vec<u8>, scratch: &mut usize, q: u64, bound: u64) {
+fn damage(random: &mut Random, call: &Call, text: &mut Vec<u8>, inputs: &mut [Vec<u8>], out: &mut Vec<u8>, scratch: &mut usize, sheet: &Sheet, bound: u64) {
+    let q = sheet.numbers[1];
     let i = random.below(inputs.len() as u64) as usize;
     match random.below(8) {
         0 => inputs[i].push(0),
         1 => drop(inputs[i].pop()),
         2 => out.push(7),
         3 => *scratch = [0, 1, SCRATCH - 1, SCRATCH + 1][random.below(4) as usize],
-        4 => *text = sheet::damaged(random, text),
+        4 => *text = if random.below(2) == 0 { sheet::damaged(random, text) } else { sheet::changed(random, sheet) },
         _ => {
             let at = random.below(inputs[i].len() as u64) as usize;
             let word = (at / 8).min((inputs[i].len() / 8).saturating_sub(1)) * 8;
@@ -212,6 +71,27 @@ fn material(random: &mut Random, call: &Call, sheet: &Sheet) -> (Vec<Vec<u8>>, V
     let bound = (((1_u128 << d) * u128::from(2 * (2 * n + 1) + 1)) / 4) as u64;
     let inputs = call.kinds.iter().map(|k| k.random(random, n as usize, q, bound)).collect();
     (inputs, random.bytes(call.out * n as usize), bound)
+}
+
+/// Every number of the slices and of the sheet's lists at the end of its range, and then one past it in each slice in turn.
+fn ends(c: &mut Comparison, random: &mut Random, call: &Call, n: u64) {
+    let mut sheet = sheet::right(random, n);
+    let q = sheet.numbers[1];
+    sheet.lists = std::array::from_fn(|_| vec![q - 1; n as usize]);
+    let text = sheet.text().into_bytes();
+    let (_, out, bound) = material(random, call, &sheet);
+    let highest: Vec<Vec<u8>> = call.kinds.iter().map(|k| k.highest(n as usize, q, bound)).collect();
+    let reply = compare(c, call, &text, &highest, &out, SCRATCH);
+    c.same(|| format!("{} at the ends, N = {n}", call.name), reply, 0);
+    for (i, kind) in call.kinds.iter().enumerate() {
+        let numbers = if matches!(kind, Kind::Polynomials(_) | Kind::Mask) { highest[i].len() / 8 } else { highest[i].len() };
+        for place in [0, numbers - 1] {
+            let mut inputs = highest.clone();
+            kind.past(&mut inputs[i], place, q, bound);
+            let reply = compare(c, call, &text, &inputs, &out, SCRATCH);
+            c.same(|| format!("{} past the end at {place} of slice {i}", call.name), reply, if *kind == Kind::Mask { 12 } else { 5 });
+        }
+    }
 }
 
 /// Key, ballot, split, shares and votes from one end to the other: decryption and reconstruction give the message.
@@ -261,7 +141,7 @@ pub fn run(tally: &mut Tally) {
             for _ in 0..4 {
                 let (mut text, mut inputs, mut out, mut scratch) = (text.clone(), inputs.clone(), out.clone(), SCRATCH);
                 for _ in 0..1 + random.below(2) {
-                    damage(&mut random, call, &mut text, &mut inputs, &mut out, &mut scratch, sheet.numbers[1], bound);
+                    damage(&mut random, call, &mut text, &mut inputs, &mut out, &mut scratch, &sheet, bound);
                 }
                 reached.insert((call.name, compare(&mut refused, call, &text, &inputs, &out, scratch)));
             }
@@ -275,12 +155,20 @@ pub fn run(tally: &mut Tally) {
 
     let mut c = Comparison::default();
     for call in &CALLS {
-        for number in [1, 2, 5] {
+        for number in 1..=5 {
             c.same(|| format!("{} refused {number}", call.name), reached.contains(&(call.name, number)), true);
         }
     }
     c.same(|| "share refused 12".into(), reached.contains(&("share", 12)), true);
     c.claim(tally, "the scheme's refusals were reached");
+
+    let mut c = Comparison::default();
+    for call in &CALLS {
+        for n in [4, 64, 2048] {
+            ends(&mut c, &mut random, call, n);
+        }
+    }
+    c.claim(tally, "the scheme's numbers at the ends of their ranges, and past them at the first and the last place");
 
     let mut c = Comparison::default();
     for round in 0..60 {

@@ -147,7 +147,7 @@ fn boundary(random: &mut Random, was: u64) -> u64 {
 }
 
 /// A sheet with one thing other than it was, still written as a sheet is.
-fn changed(random: &mut Random, sheet: &Sheet) -> Vec<u8> {
+pub fn changed(random: &mut Random, sheet: &Sheet) -> Vec<u8> {
     let mut s = sheet.clone();
     let list = random.below(5) as usize;
     match random.below(5) {

@@ -1,41 +1,80 @@
 -- A call by what is said of its sheet: refused with it, or on with the rest of its order and the sheet's polynomials. Assumes nothing.
-use mathlib.Core.Path.{_≡_, sym, ap, ap₂, _∙_}
-use mathlib.Core.List.{List, _++_}
-use Prim.Native.Nat.{ℕ, _*_}
+use mathlib.Core.Path.{_≡_, refl, sym, ap, ap₂, _∙_}
+use mathlib.Core.List.{List, [], _++_}
+use Prim.Native.Nat.{ℕ, _*_, _<_}
 use native.Mathlib.Omega.{arith}
-use lib.ListN.{length, take, drop}
+use lib.ListN.{length, take, drop, replicate, getD, length-replicate}
 use Rattle.codec.specs.Bytes.{Bytes, part, put}
-use Rattle.codec.specs.Reply.{Test, first}
+use Rattle.codec.specs.Reply.{Test, first, leaves}
+use Rattle.codec.specs.declared.Reply.{Reply}
 use Rattle.codec.specs.declared.Reply.the-variants as reply
+use Rattle.ring.specs.Poly.{Alike}
+use Rattle.ring.specs.Slots.{poly}
 use Rattle.sheet.specs.Reader.{sheetOf}
-use Rattle.sheet.specs.Sheet.{order, reading, filled, loaded, polynomials}
+use Rattle.sheet.specs.Sheet.{order, reading, lists, filled, loaded, polynomials}
 use Rattle.sheet.specs.declared.Numbers.{Numbers}
 use Rattle.sheet.specs.declared.Reading.{Reading}
 use Rattle.sheet.specs.declared.Reading.the-variants.{Taken, Refused}
+use Rattle.sheet.proofs.Ranges.{InRange}
 use Rattle.sheet.proofs.Taken.{onwards, order-first, taken}
-use Rattle.call.proofs.Sheets.{put-room}
+use Rattle.call.specs.Call.{coefficients, swept, Public, Used}
+use Rattle.call.proofs.Sheets.{put-room, lent-public, lent-alike}
+use Rattle.call.proofs.Sweeping.{swept-used}
 
-module _ (p : ℕ) (text : Bytes) (ts : List Test) where
-  pub order-taken : (k : Numbers) → reading p text ≡ Taken k → first ts ≡ first (order p text ++ ts)
-  order-taken k e = sym (order-first p text ts ∙ ap (λ (r : Reading). onwards r (first ts)) e)
+-- what holds where the sheet was taken with the numbers k, and its polynomials were put into lent bytes: polynomial i is the part of them from 8N i on
+pub record Lent (p : ℕ) (text public : Bytes) (k : Numbers) : Type 0 where
+  pub said : reading p text ≡ Taken k
+  pub numbers : sheetOf text .numbers ≡ k
+  pub ranged : InRange k
+  pub sized : length public ≡ 81920
+  pub polynomial : (i from long : ℕ) → i < 5 → from ≡ 8 * k .ring * i → long ≡ 8 * k .ring → Public (k .ring) (k .modulus) (take long (drop from public))
+  pub alike : (i from long : ℕ) → i < 5 → from ≡ 8 * k .ring * i → long ≡ 8 * k .ring → Alike (k .modulus) (k .ring) (poly (take long (drop from public))) (coefficients (getD (lists (sheetOf text)) i []))
 
-  pub order-refused : (n : ℕ) → reading p text ≡ Refused n → reply.Refused n 0 ≡ first (order p text ++ ts)
-  order-refused n e = sym (order-first p text ts ∙ ap (λ (r : Reading). onwards r (first ts)) e)
+-- that is so after `sheet::load` into zeros
+module _ (p : ℕ) (text : Bytes) {public : Bytes} {r : Reading} {k : Numbers} (load : (r ≡ reading p text) × (public ≡ loaded p text (replicate 81920 0))) (e : r ≡ Taken k) where
+  abbrev d : Bytes
+  d = replicate 81920 0
 
-pub numbers-are : (p : ℕ) (text : Bytes) (k : Numbers) → reading p text ≡ Taken k → sheetOf text .numbers ≡ k
-numbers-are p text k e = taken p text e .numbers
+  room : length d ≡ 81920
+  room = length-replicate {A = ℕ} 81920 0
 
--- what the bytes hold that the sheet's polynomials were put into
-held : (p : ℕ) (text d public : Bytes) (k : Numbers) → reading p text ≡ Taken k → public ≡ loaded p text d → public ≡ put d 0 (polynomials text)
-unfolding loaded
-held p text d public k e f = f ∙ ap (λ (x : Reading). filled x text d) e
+  said : reading p text ≡ Taken k
+  said = sym (load .0) ∙ e
 
--- a part of them
-pub lent-part : (p : ℕ) (text d public : Bytes) (k : Numbers) (n i from long : ℕ) → reading p text ≡ Taken k → public ≡ loaded p text d → from ≡ 8 * n * i → long ≡ 8 * n
-    → take long (drop from public) ≡ part (put d 0 (polynomials text)) (8 * n * i) (8 * n)
-lent-part p text d public k n i from long e f g h =
-    ap₂ (λ (x y : ℕ). take x (drop y public)) h g ∙ ap (λ (s : Bytes). part s (8 * n * i) (8 * n)) (held p text d public k e f)
+  -- what the bytes hold
+  held : public ≡ put d 0 (polynomials text)
+  unfolding loaded
+  held = load .1 ∙ ap (λ (x : Reading). filled x text d) said
 
--- they are still as many
-pub lent-length : (p : ℕ) (text d public : Bytes) (k : Numbers) → reading p text ≡ Taken k → length d ≡ 81920 → public ≡ loaded p text d → length public ≡ 81920
-lent-length p text d public k e room f = ap length (held p text d public k e f) ∙ put-room p text k e d room 0 (omega arith)
+  -- a part of them
+  held-part : (i from long : ℕ) → from ≡ 8 * k .ring * i → long ≡ 8 * k .ring → take long (drop from public) ≡ part (put d 0 (polynomials text)) (8 * k .ring * i) (8 * k .ring)
+  held-part i from long g h = ap₂ (λ (x y : ℕ). take x (drop y public)) h g ∙ ap (λ (s : Bytes). part s (8 * k .ring * i) (8 * k .ring)) held
+
+  pub lent : Lent p text public k
+  lent = record {
+    said = said;
+    numbers = taken p text said .numbers;
+    ranged = taken p text said .ranged;
+    sized = ap length held ∙ put-room p text k said d room 0 (omega arith);
+    polynomial = λ i from long l g h. lent-public p text k said d room i l _ (held-part i from long g h);
+    alike = λ i from long l g h. lent-alike p text k said d room i l _ (held-part i from long g h);
+  }
+
+-- ---- the promises of a call, from those of its part after the sheet
+
+-- the sheet was taken: the rest of the order decides, and scratch is swept
+pub call-taken : {p : ℕ} {text public : Bytes} {k : Numbers} → Lent p text public k → (tests : Numbers → List Test) (writes : Numbers → Bytes) (out : Bytes) {r : Reply} {x out' w w' w'' : Bytes}
+    → (r ≡ first (tests k)) × ((out' ≡ leaves r x out) × Used r w w') → x ≡ writes k → w'' ≡ swept r w'
+    → (r ≡ first (order p text ++ tests (sheetOf text .numbers))) × ((out' ≡ leaves r (writes (sheetOf text .numbers)) out) × (w'' ≡ swept r w))
+call-taken {p} {text} {public} {k} h tests writes out {r} {x} {out'} {w} {w'} made same zeroed =
+    let m = sym (h .numbers) in
+    let ts = tests (sheetOf text .numbers) in (
+      made .0 ∙ ap (λ (n : Numbers). first (tests n)) m ∙ sym (order-first p text ts ∙ ap (λ (s : Reading). onwards s (first ts)) (h .said)),
+      (made .1 .0 ∙ ap (λ (s : Bytes). leaves r s out) (same ∙ ap writes m), zeroed ∙ swept-used r w w' (made .1 .1)),
+    )
+
+-- the sheet was refused, and the call with it
+pub call-refused : (p : ℕ) (text : Bytes) (ts : List Test) (x w : Bytes) {out w' : Bytes} {s : Reading} {n : ℕ} → s ≡ reading p text → s ≡ Refused n → w' ≡ swept (reply.Refused n 0) w
+    → (reply.Refused n 0 ≡ first (order p text ++ ts)) × ((out ≡ leaves (reply.Refused n 0) x out) × (w' ≡ swept (reply.Refused n 0) w))
+unfolding leaves
+call-refused p text ts x w f e zeroed = (sym (order-first p text ts ∙ ap (λ (z : Reading). onwards z (first ts)) (sym f ∙ e)), (refl, zeroed))

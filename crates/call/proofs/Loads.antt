@@ -89,10 +89,6 @@ module _ (q n : ℕ) (high : n ≤ 2048) (some : 3 ≤ q) (few : q < 2 ^ 56) whe
       pub less-asks : (8 * n ≤ length w2) × Below q n (slot w2 0)
       less-asks = (omega (arith, less-length), holds-below positive less)
 
-      pub stands-less : Stands q n (minus q f g) w w2
-      stands-less =
-          stands-alike (stands-stored q n (minus q (slot w1 0) g) w w1 w2 (omega (arith, head-length)) head-length e2) (alike-minus (holds-alike (x .holds)) alike-refl)
-
       -- and then another
       pub stands-less-twice : (g' : Poly) (w3 : Bytes) → w3 ≡ store q n w2 0 (minus q (slot w2 0) g') → Stands q n (minus q (minus q f g) g') w w3
       stands-less-twice g' w3 e3 =

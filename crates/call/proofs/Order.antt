@@ -1,5 +1,5 @@
 -- The tests of lent slices: lengths that are wanted, and slices in range. Assumes nothing.
-use mathlib.Core.Path.{_≡_, refl, sym, ap, _∙_}
+use mathlib.Core.Path.{_≡_, sym, ap, _∙_}
 use mathlib.Core.Bool.{Bool, true, false, not, _&&_}
 use mathlib.Core.List.{List, [], _∷_}
 use Prim.Native.Nat.{ℕ}
@@ -12,15 +12,6 @@ use Rattle.codec.proofs.Laws.{same-equal}
 use Rattle.codec.proofs.Replies.{taken-exactly}
 use Rattle.call.specs.Call.{lengthTest}
 
--- zeros that fill up do not count
-pub four : (a b c d w x y z : ℕ) → same (a ∷ b ∷ c ∷ d ∷ 0 ∷ 0 ∷ []) (w ∷ x ∷ y ∷ z ∷ 0 ∷ 0 ∷ []) ≡ same (a ∷ b ∷ c ∷ d ∷ []) (w ∷ x ∷ y ∷ z ∷ [])
-unfolding same
-four a b c d w x y z = refl
-
-pub five : (a b c d e v w x y z : ℕ) → same (a ∷ b ∷ c ∷ d ∷ e ∷ 0 ∷ []) (v ∷ w ∷ x ∷ y ∷ z ∷ 0 ∷ []) ≡ same (a ∷ b ∷ c ∷ d ∷ e ∷ []) (v ∷ w ∷ x ∷ y ∷ z ∷ [])
-unfolding same
-five a b c d e v w x y z = refl
-
 -- lengths that are as wanted, one by one
 pub length-at : (xs ys : List ℕ) (i : ℕ) → same xs ys ≡ true → getD xs i 0 ≡ getD ys i 0
 length-at xs ys i e = ap (λ (l : List ℕ). getD l i 0) (same-equal xs ys e)
@@ -30,10 +21,6 @@ module _ (xs ys : List ℕ) where
   pub wrong-length : (ts : List Test) → same xs ys ≡ false → Refused 1 0 ≡ first (lengthTest xs ys ∷ ts)
   unfolding first
   wrong-length ts e = rw e
-
-  pub right-length : (ts : List Test) → same xs ys ≡ true → first (lengthTest xs ys ∷ ts) ≡ first ts
-  unfolding first
-  right-length ts e = rw e
 
   -- and then the ranges
   module _ (b : Bool) (ts : List Test) where

@@ -15,7 +15,7 @@ use Rattle.ring.proofs.Ranges.{below-sound}
 use Rattle.call.specs.Call.{Public}
 
 -- 8n bytes are n coefficients
-pub eighth : (n l : ℕ) → l ≡ 8 * n → n ≡ l / 8
+eighth : (n l : ℕ) → l ≡ 8 * n → n ≡ l / 8
 eighth n l e = omega arith
 
 pub whole-range : (q n : ℕ) (s : Bytes) {b : Bool} → length s ≡ 8 * n → b ≡ allBelow q (list (length s / 8) (poly s)) → b ≡ allBelow q (list n (poly s))
@@ -33,7 +33,7 @@ module _ (n q : ℕ) (low : 4 ≤ n) (high : n ≤ 2048) (some : 3 ≤ q) (few :
     halved : take long (drop from s) ≡ part s from (8 * n)
     halved = ap (λ (k : ℕ). take k (drop from s)) g
 
-    pub half-reads : (k : ℕ) → k < n → poly (take long (drop from s)) k ≡ slot s from k
+    half-reads : (k : ℕ) → k < n → poly (take long (drop from s)) k ≡ slot s from k
     half-reads k j = ap (λ (t : Bytes). poly t k) halved ∙ poly-part s from n k j
 
     pub half-alike : Alike q n (poly (take long (drop from s))) (slot s from)

@@ -49,7 +49,7 @@ module _ (q n : ℕ) (high : n ≤ 2048) (positive : 0 < q) (few : q < 2 ^ 56) w
 
   -- the bytes of a polynomial modulo q, at any place
   module _ (w : Bytes) (at : ℕ) (f : Poly) (e : part w at (8 * n) ≡ encode n (modulo q f)) where
-    pub encoded-reads : (k : ℕ) → k < n → slot w at k ≡ f k % q
+    encoded-reads : (k : ℕ) → k < n → slot w at k ≡ f k % q
     encoded-reads k l =
         sym (poly-part w at n k l) ∙ ap (λ (x : Bytes). poly x k) e
         ∙ poly-encode n (modulo q f) k l (unfold modulo in omega (arith, mod-lt (f k) {m = q} positive)) ∙ (unfold modulo in refl)
@@ -69,9 +69,6 @@ module _ (q n : ℕ) (high : n ≤ 2048) (positive : 0 < q) (few : q < 2 ^ 56) w
 
     pub shelf-alike : Alike q n (slot w (16384 * j)) (getD fs j zero-poly)
     shelf-alike = encoded-alike w (16384 * j) (getD fs j zero-poly) (s .stands j h)
-
-    pub shelf-room : j < 64 → 16384 * j + 8 * n ≤ length w
-    shelf-room g = let l = s .long in omega arith
 
   -- two slots do not meet
   pub shelf-slots : {fs : List Poly} {w : Bytes} → Shelf q n fs w → (j i : ℕ) → j < 64 → i < 64 → (i < j) ⊎ (j < i) → Slots n (16384 * j) (16384 * i) w

@@ -1,13 +1,12 @@
 -- What stands in the slots of scratch, step by step. Assumes nothing.
-use mathlib.Core.Path.{_≡_, refl, sym, ap, ap₂, _∙_}
+use mathlib.Core.Path.{_≡_, refl, sym, ap, _∙_}
 use mathlib.Core.Logic.{_⊎_, inl, inr}
-use mathlib.Core.List.{_++_}
 use Prim.Native.Nat.{ℕ, _+_, _*_, _%_, _^_, _≤_, _<_}
-use native.Mathlib.Nat.{mod-lt, mod-mod, mod-eq-of-lt, zero-add}
+use native.Mathlib.Nat.{mod-lt, mod-mod, mod-eq-of-lt}
 use native.Mathlib.Omega.{arith}
 use lib.ListN.{length}
 use Rattle.codec.specs.Bytes.{Bytes, part, put}
-use Rattle.codec.proofs.Laws.{length-put, part-put, put-whole, put-append}
+use Rattle.codec.proofs.Laws.{length-put, part-put}
 use Rattle.ring.specs.Poly.{Poly, modulo, Alike, Below}
 use Rattle.ring.specs.Slots.{poly, slot, encode, store}
 use Rattle.ring.proofs.Bridge.{length-encode, poly-encode, encode-alike, poly-part, slot-put, slot-put-before, slot-put-after, slot-store, length-store, slot-poly}
@@ -99,20 +98,8 @@ stands-stored q n f v w w' h l e =
       bytes = ap (λ (x : Bytes). part x 0 (8 * n)) e ∙ ap (part (put w 0 (encode n (modulo q f))) 0) (sym m) ∙ part-put w 0 (encode n (modulo q f)) (omega arith);
     }
 
--- ---- what stands at the head of scratch is written out
-
+-- its coefficients
 module _ (q n : ℕ) (f : Poly) (w w' : Bytes) (h : Stands q n f w w') where
-  -- over the whole of an output
-  pub written-whole : (b b' : Bytes) → length b ≡ 8 * n → b' ≡ put b 0 (part w' 0 (8 * n)) → b' ≡ encode n (modulo q f)
-  written-whole b b' l e = e ∙ ap (put b 0) (h .bytes) ∙ put-whole b (encode n (modulo q f)) (length-encode n (modulo q f) ∙ sym l)
-
-  -- behind what was written before
-  pub written-next : (b v v' s : Bytes) (at : ℕ) → length s ≡ at → at + 8 * n ≤ length b → v ≡ put b 0 s → v' ≡ put v at (part w' 0 (8 * n)) → v' ≡ put b 0 (s ++ encode n (modulo q f))
-  written-next b v v' s at l r e e' =
-      let m = length-encode n (modulo q f) in
-      e' ∙ ap₂ (λ (x y : Bytes). put x at y) e (h .bytes) ∙ ap (λ (k : ℕ). put (put b 0 s) k (encode n (modulo q f))) (sym l ∙ sym (zero-add (length s)))
-      ∙ put-append b 0 s (encode n (modulo q f)) (omega arith)
-
   pub stands-below : 0 < q → q < 2 ^ 56 → Below q n (poly w')
   stands-below p b = record { at = λ k l. rw (← slot-poly w' k) (holds-below p (stands-holds p b h) .at k l) }
 

@@ -1,5 +1,6 @@
 // What the calls that are lent the sheet have in common: scratch, the test of lengths, and the reply to a sheet that is refused.
 ghost use mathlib.Core.Path.{_≡_};
+ghost use mathlib.Core.Bool.{_&&_};
 ghost use mathlib.Core.List.{[], _∷_};
 ghost use Prim.Native.Nat.{_+_, _*_, _≤_};
 ghost use lib.ListN.{length};
@@ -49,6 +50,18 @@ pub fn both_in_range(x: &[u8], y: &[u8], n: usize, q: u64) -> bool
     }
 }
 
+// Whether all bytes of one slice are ternary, and all coefficients of another, n of them, below q.
+pub fn ternary_and_in_range(s: &[u8], x: &[u8], n: usize, q: u64) -> bool
+    requires { ⌜ length (now x) ≡ 8 * n ⌝ }
+    ensures { λ r. ⌜ r ≡ bytesBelow 3 (now (s .entry) ∷ []) && coefficientsBelow q n (now (x .entry) ∷ []) ⌝ }
+{
+    if ring::is_ternary(s) {
+        ring::in_range(x, q)
+    } else {
+        false
+    }
+}
+
 // Zeroes scratch as a call ends, unless the call was refused 1 or 31.
 pub fn sweep(reply: codec::Reply, scratch: &mut [u8])
     ensures { λ _. ⌜ now (scratch .exit) ≡ swept reply (now (scratch .entry)) ⌝ }
@@ -67,10 +80,10 @@ pub fn sweep(reply: codec::Reply, scratch: &mut [u8])
     }
 }
 
-// Writes the polynomial that stands at the head of scratch out.
-pub fn write_out(out: &mut [u8], at: usize, scratch: &[u8], n: usize)
-    requires { ⌜ (at + 8 * n ≤ length (now out)) × (8 * n ≤ length (now scratch)) ⌝ }
-    ensures { λ _. ⌜ now (out .exit) ≡ put (now (out .entry)) at (part (now (scratch .entry)) 0 (8 * n)) ⌝ }
+// Writes the polynomial that stands at a place of scratch out.
+pub fn write_out(out: &mut [u8], at: usize, scratch: &[u8], from: usize, n: usize)
+    requires { ⌜ (at + 8 * n ≤ length (now out)) × (from + 8 * n ≤ length (now scratch)) ⌝ }
+    ensures { λ _. ⌜ now (out .exit) ≡ put (now (out .entry)) at (part (now (scratch .entry)) from (8 * n)) ⌝ }
 {
-    codec::copy(out, at, &scratch[0..8 * n]);
+    codec::copy(out, at, &scratch[from..from + 8 * n]);
 }

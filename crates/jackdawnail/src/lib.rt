@@ -2,7 +2,8 @@
 ghost use mathlib.Core.Path.{_≡_};
 ghost use Rattle.codec.specs.Reply.{packed, leaves};
 ghost use Rattle.call.specs.Call.{swept};
-ghost use Rattle.scheme_calls.specs.Calls.{ringOf, modulusOf, aOf, bOf, keygenReply, keygenWrites, encryptReply, encryptWrites, decryptReply, decryptWrites, splitReply, splitWrites, shareReply, shareWrites, reconstructReply, reconstructWrites};
+ghost use Rattle.scheme.specs.Calls.{keygenWrites, encryptWrites, decryptWrites, splitWrites, shareWrites, reconstructWrites, commitmentWrites};
+ghost use Rattle.scheme_calls.specs.Replies.{ringOf, modulusOf, aOf, bOf, keysOfSheet, keygenReply, encryptReply, decryptReply, splitReply, shareReply, reconstructReply, commitmentReply};
 ghost use Rattle.sha3.specs.Digest.{digestReply, digestOut};
 ghost use Rattle.sheet_calls.specs.Calls.{describeReply, describeOut};
 
@@ -124,4 +125,20 @@ pub extern "C" fn jdn_reconstruct(
     ensures swept { λ _. ⌜ now (scratch .exit) ≡ swept (reconstructReply 2 (now (sheet .entry)) (now (v .entry)) (now (t0 .entry)) (now (t1 .entry)) (now (vote .entry)) (now (scratch .entry))) (now (scratch .entry)) ⌝ }
 {
     codec::pack(scheme_calls::reconstruct(sheet, v, t0, t1, vote, scratch))
+}
+
+// Writes the pair that commits to a polynomial m: r1 + k1 r2 + k2 r3, then r2 + k3 r3 + m.
+#[no_mangle]
+pub extern "C" fn jdn_commitment(
+    sheet: &[u8],
+    m: &[u8],
+    r: &[u8],
+    pair: &mut [u8],
+    scratch: &mut [u8],
+) -> u64
+    ensures reply { λ answer. ⌜ answer ≡ packed (commitmentReply 2 (now (sheet .entry)) (now (m .entry)) (now (r .entry)) (now (pair .entry)) (now (scratch .entry))) ⌝ }
+    ensures output { λ _. ⌜ now (pair .exit) ≡ leaves (commitmentReply 2 (now (sheet .entry)) (now (m .entry)) (now (r .entry)) (now (pair .entry)) (now (scratch .entry))) (commitmentWrites (modulusOf (now (sheet .entry))) (ringOf (now (sheet .entry))) (keysOfSheet (now (sheet .entry))) (now (m .entry)) (now (r .entry))) (now (pair .entry)) ⌝ }
+    ensures swept { λ _. ⌜ now (scratch .exit) ≡ swept (commitmentReply 2 (now (sheet .entry)) (now (m .entry)) (now (r .entry)) (now (pair .entry)) (now (scratch .entry))) (now (scratch .entry)) ⌝ }
+{
+    codec::pack(scheme_calls::commitment(sheet, m, r, pair, scratch))
 }

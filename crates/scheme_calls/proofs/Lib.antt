@@ -1,3 +1,1 @@
-pub mod Outer
-pub mod Passed
-pub mod Places
+pub mod Keys

@@ -1,13 +1,9 @@
-// The calls of encryption, decryption, the key split and decryption shares (document 000, sections 5.3 and 6.1) over the sheet and lent bytes. p is 2.
-mod ballots;
-mod keys;
-mod shares;
-mod written;
-
+// The calls of encryption, decryption, the key split, decryption shares (document 000, sections 5.3 and 6.1) and commitment (5.4) over the sheet and lent bytes. p is 2.
 ghost use mathlib.Core.Path.{_≡_};
 ghost use Rattle.codec.specs.Reply.{leaves};
 ghost use Rattle.call.specs.Call.{swept};
-ghost use Rattle.scheme_calls.specs.Calls.{ringOf, modulusOf, aOf, bOf, keygenReply, keygenWrites, encryptReply, encryptWrites, decryptReply, decryptWrites, splitReply, splitWrites, shareReply, shareWrites, reconstructReply, reconstructWrites};
+ghost use Rattle.scheme.specs.Calls.{keygenWrites, encryptWrites, decryptWrites, splitWrites, shareWrites, reconstructWrites, commitmentWrites};
+ghost use Rattle.scheme_calls.specs.Replies.{ringOf, modulusOf, aOf, bOf, keysOfSheet, keygenReply, encryptReply, decryptReply, splitReply, shareReply, reconstructReply, commitmentReply};
 
 // Writes the key b = a s + p e.
 pub fn keygen(sheet: &[u8], s: &[u8], e: &[u8], b: &mut [u8], scratch: &mut [u8]) -> codec::Reply
@@ -21,7 +17,7 @@ pub fn keygen(sheet: &[u8], s: &[u8], e: &[u8], b: &mut [u8], scratch: &mut [u8]
         sheet::Reading::Taken(k) => {
             let n = k.ring as usize;
             let q = k.modulus;
-            let reply = keys::keygen(&public[0..8 * n], s, e, b, scratch, n, q);
+            let reply = scheme::keygen(&public[0..8 * n], s, e, b, scratch, n, q);
             call::sweep(reply, scratch);
             reply
         }
@@ -53,7 +49,7 @@ pub fn encrypt(
         sheet::Reading::Taken(k) => {
             let n = k.ring as usize;
             let q = k.modulus;
-            let reply = ballots::encrypt_from(&public, r, e1, e2, m, ciphertext, scratch, n, q);
+            let reply = scheme::encrypt(&public, r, e1, e2, m, ciphertext, scratch, n, q);
             call::sweep(reply, scratch);
             reply
         }
@@ -83,7 +79,7 @@ pub fn decrypt(
         sheet::Reading::Taken(k) => {
             let n = k.ring as usize;
             let q = k.modulus;
-            let reply = ballots::decrypt(s, ciphertext, vote, scratch, n, q);
+            let reply = scheme::decrypt(s, ciphertext, vote, scratch, n, q);
             call::sweep(reply, scratch);
             reply
         }
@@ -115,7 +111,7 @@ pub fn split(
         sheet::Reading::Taken(k) => {
             let n = k.ring as usize;
             let q = k.modulus;
-            let reply = keys::split(&public[0..8 * n], s, e, s0, e0, out, scratch, n, q);
+            let reply = scheme::split(&public[0..8 * n], s, e, s0, e0, out, scratch, n, q);
             call::sweep(reply, scratch);
             reply
         }
@@ -147,7 +143,7 @@ pub fn share(
             let n = k.ring as usize;
             let q = k.modulus;
             let bound = sheet::mask_bound(k.ring, k.drown);
-            let reply = shares::share(half, u, mask, t, scratch, n, q, bound);
+            let reply = scheme::share(half, u, mask, t, scratch, n, q, bound);
             call::sweep(reply, scratch);
             reply
         }
@@ -178,7 +174,37 @@ pub fn reconstruct(
         sheet::Reading::Taken(k) => {
             let n = k.ring as usize;
             let q = k.modulus;
-            let reply = shares::reconstruct(v, t0, t1, vote, scratch, n, q);
+            let reply = scheme::reconstruct(v, t0, t1, vote, scratch, n, q);
+            call::sweep(reply, scratch);
+            reply
+        }
+        sheet::Reading::Refused { number } => {
+            let reply = codec::Reply::Refused { number, place: 0 };
+            call::sweep(reply, scratch);
+            reply
+        }
+    }
+}
+
+// Writes the pair r1 + k1 r2 + k2 r3, r2 + k3 r3 + m.
+pub fn commitment(
+    sheet: &[u8],
+    m: &[u8],
+    r: &[u8],
+    pair: &mut [u8],
+    scratch: &mut [u8],
+) -> codec::Reply
+    ensures { λ reply. ⌜ reply ≡ commitmentReply 2 (now (sheet .entry)) (now (m .entry)) (now (r .entry)) (now (pair .entry)) (now (scratch .entry)) ⌝ }
+    ensures { λ reply. ⌜ now (pair .exit) ≡ leaves reply (commitmentWrites (modulusOf (now (sheet .entry))) (ringOf (now (sheet .entry))) (keysOfSheet (now (sheet .entry))) (now (m .entry)) (now (r .entry))) (now (pair .entry)) ⌝ }
+    ensures { λ reply. ⌜ now (scratch .exit) ≡ swept reply (now (scratch .entry)) ⌝ }
+{
+    let mut public = [0u8; 81920];
+    let reading = sheet::load(sheet, &mut public);
+    match reading {
+        sheet::Reading::Taken(k) => {
+            let n = k.ring as usize;
+            let q = k.modulus;
+            let reply = scheme::commitment(&public[16 * n..40 * n], m, r, pair, scratch, n, q);
             call::sweep(reply, scratch);
             reply
         }

@@ -1,0 +1,129 @@
+// A polynomial that is worked out in scratch and written out at a place of an output. What is made from secrets is left in scratch.
+ghost use mathlib.Core.Path.{_≡_};
+ghost use Prim.Native.Nat.{_+_, _*_, _≤_};
+ghost use lib.ListN.{length};
+ghost use Rattle.codec.specs.Bytes.{put};
+ghost use Rattle.ring.specs.Poly.{Below};
+ghost use Rattle.ring.specs.Slots.{poly};
+ghost use Rattle.ring.specs.Ternary.{ternary};
+ghost use Rattle.call.specs.Call.{scratchLength, coefficients, Public};
+ghost use Rattle.bgv.specs.Scheme as scheme;
+ghost use Rattle.bgv.specs.Scheme.{lentMask};
+ghost use Rattle.scheme.specs.Calls.{written};
+
+// a x + 2 y, for ternary bytes x and y: a key b, or u of a ciphertext.
+pub fn noisy(
+    out: &mut [u8],
+    at: usize,
+    scratch: &mut [u8],
+    a: &[u8],
+    x: &[u8],
+    y: &[u8],
+    n: usize,
+    q: u64,
+)
+    requires { ⌜ Public n q (now a) × (length (now scratch) ≡ scratchLength) × (length (now x) ≡ n) × (length (now y) ≡ n) × (at + 8 * n ≤ length (now out)) ⌝ }
+    ensures { λ _. ⌜ now (out .exit) ≡ put (now (out .entry)) at (written q n (scheme.noisy q n 2 (poly (now (a .entry))) (ternary q (now (x .entry))) (ternary q (now (y .entry))))) ⌝ }
+    ensures { λ _. ⌜ length (now (scratch .exit)) ≡ length (now (scratch .entry)) ⌝ }
+{
+    bgv::noisy(scratch, a, x, y, n, q);
+    call::write_out(out, at, scratch, 0, n);
+}
+
+// v of a ciphertext: b r + 2 e'' + m.
+pub fn cipher_v(
+    out: &mut [u8],
+    at: usize,
+    scratch: &mut [u8],
+    b: &[u8],
+    r: &[u8],
+    e2: &[u8],
+    m: &[u8],
+    n: usize,
+    q: u64,
+)
+    requires { ⌜ Public n q (now b) × (length (now scratch) ≡ scratchLength) × (length (now r) ≡ n) × (length (now e2) ≡ n) × (length (now m) ≡ n) × Below q n (coefficients (now m)) × (at + 8 * n ≤ length (now out)) ⌝ }
+    ensures { λ _. ⌜ now (out .exit) ≡ put (now (out .entry)) at (written q n (scheme.cipher-v q n 2 (poly (now (b .entry))) (ternary q (now (r .entry))) (ternary q (now (e2 .entry))) (coefficients (now (m .entry))))) ⌝ }
+    ensures { λ _. ⌜ length (now (scratch .exit)) ≡ length (now (scratch .entry)) ⌝ }
+{
+    bgv::noisy(scratch, b, r, e2, n, q);
+    bgv::add_message(scratch, m, n, q);
+    call::write_out(out, at, scratch, 0, n);
+}
+
+// x - x0, for ternary bytes x and a lent polynomial x0: the other half of s or of e.
+pub fn difference(
+    out: &mut [u8],
+    at: usize,
+    scratch: &mut [u8],
+    x: &[u8],
+    x0: &[u8],
+    n: usize,
+    q: u64,
+)
+    requires { ⌜ Public n q (now x0) × (length (now scratch) ≡ scratchLength) × (length (now x) ≡ n) × (at + 8 * n ≤ length (now out)) ⌝ }
+    ensures { λ _. ⌜ now (out .exit) ≡ put (now (out .entry)) at (written q n (scheme.other q (ternary q (now (x .entry))) (poly (now (x0 .entry))))) ⌝ }
+    ensures { λ _. ⌜ length (now (scratch .exit)) ≡ length (now (scratch .entry)) ⌝ }
+{
+    bgv::difference(scratch, 0, x, x0, n, q);
+    call::write_out(out, at, scratch, 0, n);
+}
+
+// a x0 + 2 y0, for lent polynomials: the key of the half that was lent.
+pub fn lent_key(
+    out: &mut [u8],
+    at: usize,
+    scratch: &mut [u8],
+    a: &[u8],
+    x0: &[u8],
+    y0: &[u8],
+    n: usize,
+    q: u64,
+)
+    requires { ⌜ Public n q (now a) × Public n q (now x0) × Public n q (now y0) × (length (now scratch) ≡ scratchLength) × (at + 8 * n ≤ length (now out)) ⌝ }
+    ensures { λ _. ⌜ now (out .exit) ≡ put (now (out .entry)) at (written q n (scheme.key q n 2 (poly (now (a .entry))) (poly (now (x0 .entry))) (poly (now (y0 .entry))))) ⌝ }
+    ensures { λ _. ⌜ length (now (scratch .exit)) ≡ length (now (scratch .entry)) ⌝ }
+{
+    bgv::noisy_lent(scratch, a, x0, y0, n, q);
+    call::write_out(out, at, scratch, 0, n);
+}
+
+// a (x - x0) + 2 (y - y0): the key of the other half.
+pub fn other_key(
+    out: &mut [u8],
+    at: usize,
+    scratch: &mut [u8],
+    a: &[u8],
+    x: &[u8],
+    x0: &[u8],
+    y: &[u8],
+    y0: &[u8],
+    n: usize,
+    q: u64,
+)
+    requires { ⌜ Public n q (now a) × Public n q (now x0) × Public n q (now y0) × (length (now scratch) ≡ scratchLength) × (length (now x) ≡ n) × (length (now y) ≡ n) × (at + 8 * n ≤ length (now out)) ⌝ }
+    ensures { λ _. ⌜ now (out .exit) ≡ put (now (out .entry)) at (written q n (scheme.key q n 2 (poly (now (a .entry))) (scheme.other q (ternary q (now (x .entry))) (poly (now (x0 .entry)))) (scheme.other q (ternary q (now (y .entry))) (poly (now (y0 .entry)))))) ⌝ }
+    ensures { λ _. ⌜ length (now (scratch .exit)) ≡ length (now (scratch .entry)) ⌝ }
+{
+    bgv::noisy_difference(scratch, a, x, x0, y, y0, n, q);
+    call::write_out(out, at, scratch, 0, n);
+}
+
+// A decryption share: s_i u + 2 E, for a lent mask E.
+pub fn share(
+    out: &mut [u8],
+    at: usize,
+    scratch: &mut [u8],
+    half: &[u8],
+    u: &[u8],
+    mask: &[u8],
+    n: usize,
+    q: u64,
+)
+    requires { ⌜ Public n q (now half) × Public n q (now u) × (length (now mask) ≡ 8 * n) × (length (now scratch) ≡ scratchLength) × (at + 8 * n ≤ length (now out)) ⌝ }
+    ensures { λ _. ⌜ now (out .exit) ≡ put (now (out .entry)) at (written q n (scheme.share q n 2 (poly (now (half .entry))) (poly (now (u .entry))) (lentMask (now (mask .entry))))) ⌝ }
+    ensures { λ _. ⌜ length (now (scratch .exit)) ≡ length (now (scratch .entry)) ⌝ }
+{
+    bgv::share(scratch, half, u, mask, n, q);
+    call::write_out(out, at, scratch, 0, n);
+}
