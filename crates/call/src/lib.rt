@@ -1,4 +1,4 @@
-// What the calls that are lent the sheet have in common: scratch, the test of lengths, and the reply to a sheet that is refused.
+// What the calls that are lent the sheet have in common: scratch and its sweep, the tests of lengths and ranges, and a polynomial of scratch written out.
 ghost use mathlib.Core.Path.{_≡_};
 ghost use mathlib.Core.Bool.{_&&_};
 ghost use mathlib.Core.List.{[], _∷_};
