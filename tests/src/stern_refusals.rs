@@ -1,5 +1,5 @@
 //! What the calls of `stern_calls` refuse: a damaged P, an answer 1 that is not balanced, lengths and ranges.
-use crate::argument::is_permutation;
+use crate::argument::{is_permutation, Argument};
 use crate::random::Random;
 use crate::stern::{answer, answer_length, digests, material, place, repetition, test, Left, Lent, Scratch, MODULI, SCRATCH};
 use crate::tally::{Comparison, Tally};
@@ -109,6 +109,11 @@ fn refusals(tally: &mut Tally, random: &mut Random) {
             let kept = random.bytes(other);
             c.same(|| format!("answer {challenge} of {other} bytes"), answer(&l, challenge, &kept), Left(1, kept.clone(), Scratch::Kept));
         }
+    }
+    let third = Argument::new(8, 97, l.keys.clone()).answer(3, &l.x, &l.drawn);
+    for challenge in [0, 3, 4, 255] {
+        let kept = random.bytes(third.len());
+        c.same(|| format!("challenge {challenge} counts as 3"), answer(&l, challenge, &kept), Left(0, third.clone(), Scratch::Zeroed));
     }
     c.claim(tally, "stern: material of wrong length or out of range, and nothing written");
 }

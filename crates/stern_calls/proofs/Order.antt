@@ -12,9 +12,9 @@ use Rattle.codec.specs.Reply.{Test, test, first}
 use Rattle.codec.specs.declared.Reply.{Reply}
 use Rattle.codec.specs.declared.Reply.the-variants.{Taken, Refused}
 use Rattle.call.specs.Call.{swept}
+use Rattle.call.proofs.Sweeping.{swept-taken, swept-refused}
 use Rattle.commitment.specs.Commitment.{Keys}
 use Rattle.stern.specs.Shortness.{answer1Of, answer2Of, answer3Of, tests1, tests2, tests3, answerTests}
-use Rattle.call.proofs.Sweeping.{swept-taken, swept-refused}
 
 module _ (n : ℕ) {r : Reply} (b : Bool) (ts : List Test) {x : Bool} (is : x ≡ b) where
   -- a fact fails

@@ -97,7 +97,7 @@ fn answer(
 
 // uint64_t stern_answer(uint8_t challenge, const uint8_t *x, size_t, const uint8_t *r, size_t, const uint8_t *p, size_t, const uint8_t *salts, size_t,
 //     uint8_t *out, size_t, uint8_t *scratch, size_t, size_t n, uint64_t q);
-// Answer 1 into 378n + 64 bytes, answers 2 and 3 into 504n + 64.
+// Answer 1 into 378n + 64 bytes, answers 2 and 3 into 504n + 64; a challenge out of range counts as 3.
 #[no_mangle]
 pub extern "C" fn stern_answer(
     challenge: u8,
