@@ -1,4 +1,5 @@
 //! Compares the library, over its C interface, with independent implementations. The last line is `N passed, M failed`.
+mod argument;
 mod calls;
 mod digest;
 mod polynomials;
@@ -7,6 +8,8 @@ mod ring;
 mod scheme;
 mod sha3;
 mod sheet;
+mod stern;
+mod stern_refusals;
 mod tally;
 
 fn main() {
@@ -16,5 +19,6 @@ fn main() {
     ring::run(&mut tally);
     sheet::run(&mut tally);
     scheme::run(&mut tally);
+    stern::run(&mut tally);
     std::process::exit(tally.finish());
 }

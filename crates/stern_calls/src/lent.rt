@@ -1,0 +1,156 @@
+// What is lent to a call, one test at a time.
+use codec::Reply;
+ghost use mathlib.Core.Path.{_≡_};
+ghost use mathlib.Core.Bool.{_&&_};
+ghost use mathlib.Core.List.{_∷_, []};
+ghost use Prim.Native.Nat.{_*_, _≤_};
+ghost use lib.ListN.{length};
+ghost use Rattle.codec.specs.Bytes.{same};
+ghost use Rattle.codec.specs.Reply.{first};
+ghost use Rattle.codec.specs.declared.Reply.the-variants.{Refused};
+ghost use Rattle.ring.specs.Slots.{allBelow};
+ghost use Rattle.call.specs.Call.{scratchLength, swept};
+ghost use Rattle.vector.specs.Vector.{vector};
+ghost use Rattle.stern.specs.Shortness.{answerLength, inRange};
+ghost use Rattle.stern_calls.specs.Calls.{ringFits, rangeTests, lengths, wanted};
+
+// A refusal, which names no place.
+pub fn refused(number: u8) -> Reply
+    ensures { λ reply. ⌜ reply ≡ Refused number 0 ⌝ }
+{
+    Reply::Refused { number, place: 0 }
+}
+
+// Whether the ring size and the modulus are such as the code takes.
+pub fn ring_fits(n: usize, q: u64) -> bool
+    ensures { λ r. ⌜ r ≡ ringFits n q ⌝ }
+{
+    if n < 4 {
+        return false;
+    }
+    if 2048 < n {
+        return false;
+    }
+    if q < 3 {
+        return false;
+    }
+    q < 72057594037927936
+}
+
+// The length of the answer to a challenge.
+pub fn answer_length(n: usize, challenge: u8) -> usize
+    requires { ⌜ n ≤ 2048 ⌝ }
+    ensures { λ r. ⌜ r ≡ answerLength n challenge ⌝ }
+{
+    if challenge == 1 {
+        378 * n + 64
+    } else {
+        504 * n + 64
+    }
+}
+
+// Whether what is lent for a repetition has its lengths, with an output of so many bytes.
+pub fn material_sized(
+    x: &[u8],
+    r: &[u8],
+    p: &[u8],
+    salts: &[u8],
+    out: &[u8],
+    scratch: &[u8],
+    room: usize,
+    n: usize,
+) -> bool
+    requires { ⌜ n ≤ 2048 ⌝ }
+    ensures { λ b. ⌜ b ≡ same (lengths (now (x .entry)) (now (r .entry)) (now (p .entry)) (now (salts .entry)) (now (out .entry)) (now (scratch .entry))) (wanted n room) ⌝ }
+{
+    call::sized(
+        [
+            x.len(),
+            r.len(),
+            p.len(),
+            salts.len(),
+            out.len(),
+            scratch.len(),
+        ],
+        [14 * n, 336 * n, 168 * n, 96, room, call::SCRATCH],
+    )
+}
+
+// Whether it is in range, and P a permutation, whose indices are marked in scratch.
+pub fn material_ranged(x: &[u8], r: &[u8], p: &[u8], scratch: &mut [u8], n: usize, q: u64) -> Reply
+    requires { ⌜ (n ≤ 2048) × (length (now p) ≡ 168 * n) × (length (now scratch) ≡ scratchLength) ⌝ }
+    ensures { λ reply. ⌜ reply ≡ first (rangeTests q n (now (x .entry)) (now (r .entry)) (now (p .entry))) ⌝ }
+    ensures { λ reply. ⌜ (swept reply (now (scratch .exit)) ≡ swept reply (now (scratch .entry))) × (length (now (scratch .exit)) ≡ length (now (scratch .entry))) ⌝ }
+{
+    if !ring::is_ternary(x) {
+        return refused(5);
+    }
+    if !ring::in_range(r, q) {
+        return refused(5);
+    }
+    if !vector::is_permutation(p, scratch, 0, 42 * n) {
+        return refused(9);
+    }
+    Reply::Taken
+}
+
+// Whether the numbers of an answer are in range.
+pub fn answer_ranged(challenge: u8, answer: &[u8], n: usize, q: u64) -> bool
+    requires { ⌜ (n ≤ 2048) × (length (now answer) ≡ answerLength n challenge) ⌝ }
+    ensures { λ b. ⌜ b ≡ inRange q n challenge (now (answer .entry)) ⌝ }
+{
+    if challenge == 1 {
+        if !ring::is_ternary(&answer[0..42 * n]) {
+            return false;
+        }
+        return ring::in_range(&answer[42 * n..378 * n], q);
+    }
+    ring::in_range(&answer[168 * n..504 * n], q)
+}
+
+// Whether the slices of a test have their lengths.
+pub fn test_sized(
+    keys: &[u8],
+    pairs: &[u8],
+    digests: &[u8],
+    answer: &[u8],
+    scratch: &[u8],
+    long: usize,
+    n: usize,
+) -> bool
+    requires { ⌜ n ≤ 2048 ⌝ }
+    ensures { λ b. ⌜ b ≡ same (length (now (keys .entry)) ∷ length (now (pairs .entry)) ∷ length (now (digests .entry)) ∷ length (now (answer .entry)) ∷ length (now (scratch .entry)) ∷ []) (24 * n ∷ 64 * n ∷ 96 ∷ long ∷ scratchLength ∷ []) ⌝ }
+{
+    call::sized(
+        [
+            keys.len(),
+            pairs.len(),
+            digests.len(),
+            answer.len(),
+            scratch.len(),
+            0,
+        ],
+        [24 * n, 64 * n, 96, long, call::SCRATCH, 0],
+    )
+}
+
+// Whether the keys, the committed pairs and the numbers of an answer are in range.
+pub fn test_ranged(
+    keys: &[u8],
+    pairs: &[u8],
+    challenge: u8,
+    answer: &[u8],
+    n: usize,
+    q: u64,
+) -> bool
+    requires { ⌜ (n ≤ 2048) × (length (now answer) ≡ answerLength n challenge) ⌝ }
+    ensures { λ b. ⌜ b ≡ allBelow q (vector (now (keys .entry))) && (allBelow q (vector (now (pairs .entry))) && inRange q n challenge (now (answer .entry))) ⌝ }
+{
+    if !ring::in_range(keys, q) {
+        return false;
+    }
+    if !ring::in_range(pairs, q) {
+        return false;
+    }
+    answer_ranged(challenge, answer, n, q)
+}
