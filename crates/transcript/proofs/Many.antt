@@ -15,7 +15,7 @@ use Rattle.codec.proofs.Laws.{both}
 use Rattle.transcript.specs.Layout.{all, each, joined}
 
 -- below n + 1: below n, or n
-last : (n j : ℕ) → j < suc n → (j < n) ⊎ (j ≡ n)
+pub last : (n j : ℕ) → j < suc n → (j < n) ⊎ (j ≡ n)
 last n j h = go (decLt j n)
   where
     go : Dec (j < n) → (j < n) ⊎ (j ≡ n)
