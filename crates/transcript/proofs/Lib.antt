@@ -1,3 +1,4 @@
 pub mod Many
 pub mod Written
 pub mod Answers
+pub mod Produced
