@@ -2,3 +2,5 @@ pub mod Many
 pub mod Written
 pub mod Answers
 pub mod Produced
+pub mod Passed
+pub mod Honest
