@@ -33,11 +33,7 @@ use Rattle.transcript.proofs.Many.{all-complete, none-append, each-none
 use Rattle.transcript.proofs.Written.{Coefficients, below-append, below-joined, below-part, below-first, coefficients-written, coefficients-append, coefficients-joined, coefficients-vector, coefficients-part}
 use Rattle.transcript.proofs.Answers.{stretch}
 use Rattle.transcript.proofs.Produced.{pairs-written, pair-s-written, pair-e-written, digests-written, key-written, key-alike, share-alike, claim-written, opening-written, opening-s, opening-e, permutation-sized, vector-sized, salts-sized, answer-written}
-use Rattle.transcript.proofs.Passed.{Fit, within-complete, material-fit}
-
--- bytes that are equal are the same
-equal-same : {s t : Bytes} → s ≡ t → same s t ≡ true
-equal-same {s} e = ap (same s) (sym e) ∙ same-refl s
+use Rattle.transcript.proofs.Passed.{equal-same, within-complete, Fit, material-fit}
 
 module _ (P : Parameters) (m : ℕ) (x : Material) where
   open Parameters P using (q, N, p, B, D, repeats, a, b, k)

@@ -4,3 +4,4 @@ pub mod Answers
 pub mod Produced
 pub mod Passed
 pub mod Honest
+pub mod Accepted

@@ -8,7 +8,7 @@ use borrow.Author.Tests.{not-false}
 use lib.IntN.{natAbs}
 use Rattle.codec.specs.Bytes.{Bytes, part, same}
 use Rattle.codec.specs.Reply.{Test, test, None}
-use Rattle.codec.proofs.Laws.{both, same-equal}
+use Rattle.codec.proofs.Laws.{both, same-refl, same-equal}
 use Rattle.ring.specs.Poly.{Poly, modulo, Alike}
 use Rattle.ring.specs.Slots.{poly, list, encode, allBelow}
 use Rattle.ring.proofs.Ranges.{below-sound, below-complete}
@@ -21,7 +21,10 @@ use Rattle.transcript.specs.Producer.{Material, secret-s, secret-e, mask
 use Rattle.transcript.proofs.Many.{append-none, none-each}
 use Rattle.transcript.proofs.Written.{written-decides}
 
--- ---- the test of a bound
+-- ---- tests of equal bytes and of a bound
+
+pub equal-same : {s t : Bytes} → s ≡ t → same s t ≡ true
+equal-same {s} e = ap (same s) (sym e) ∙ same-refl s
 
 pub within-sound : (K N : ℕ) (E : Wholes) → within K N E ≡ true → Bounded N K E
 unfolding within
