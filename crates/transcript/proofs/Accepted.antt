@@ -1,28 +1,28 @@
 -- Accepted exactly: no test of a round holds if and only if the round is what `Accepted` says, for a head of the right length. Assumes nothing.
 use mathlib.Core.Path.{_≡_, sym, ap, ap₂, _∙_}
 use mathlib.Core.Logic.{_↔_}
-use mathlib.Core.Bool.{Bool, true, false, not, _&&_}
-use mathlib.Core.List.{List, [], _∷_, _++_}
+use mathlib.Core.Bool.{true, false, not, _&&_}
+use mathlib.Core.List.{List, [], _∷_}
 use Prim.Native.Nat.{ℕ, _+_, _*_, _^_, _≤_, _<_}
 use native.Mathlib.Nat.{zero-add, mul-assoc}
 use native.Mathlib.Omega.{arith}
 use borrow.Author.Tests.{ltb-true, not-false}
 use lib.Dec.{ltb}
 use lib.ListN.{length}
-use Rattle.codec.specs.Bytes.{Bytes, Octets, part, same}
+use Rattle.codec.specs.Bytes.{Bytes, Octets, part}
 use Rattle.codec.specs.Reply.{Test, None, first}
 use Rattle.codec.specs.declared.Reply.the-variants.{Taken}
 use Rattle.codec.proofs.Laws.{both, length-part, octets-part, same-equal}
 use Rattle.codec.proofs.Replies.{taken-exactly}
-use Rattle.ring.specs.Poly.{Poly, plus, modulo, Alike, Below}
-use Rattle.ring.specs.Slots.{poly, slot, list, encode, allBelow}
+use Rattle.ring.specs.Poly.{Poly, plus, Alike, Below}
+use Rattle.ring.specs.Slots.{poly, slot, allBelow}
 use Rattle.ring.proofs.Bridge.{encode-alike, poly-part, slot-poly, slot-later}
 use Rattle.ring.proofs.Ranges.{below-sound}
-use Rattle.bgv.specs.Scheme.{key, worked, within, reconstructed}
+use Rattle.bgv.specs.Scheme.{key}
 use Rattle.commitment.specs.Commitment.{Three, threeOf, pairOf, Opens, opens}
 use Rattle.commitment.proofs.Opening.{opens-exactly}
 use Rattle.stern.specs.Shortness.{answerTests}
-use Rattle.transcript.specs.Layout.{Opening, each, headLength, uAt, vAt, shareAt, claimAt, keyAt, pairsOf, pairAt, digestsAt, openingOf, answerAt}
+use Rattle.transcript.specs.Layout.{Opening, each, headLength, keyAt, pairsOf, pairAt, digestsAt, openingOf, answerAt}
 use Rattle.transcript.specs.Round.{Parameters, Round, Accepted, challengeAt, sharesOf, ballotsRanged, headRanged, answersRanged, ranged, splits, opensKey, opensPairs, maskTest, claimTest, roundTests}
 use Rattle.transcript.proofs.Many.{none-append, append-none, each-none, none-each}
 use Rattle.transcript.proofs.Written.{alike-written, written-decides, written-slot}
@@ -98,17 +98,17 @@ module _ (P : Parameters) (m : ℕ) (positive : 0 < P .q) (fits : P .q ≤ 2 ^ 6
 
     -- ---- both ways
 
-    abbrev answerNone : ℕ → List Test
-    answerNone i = answerTests q N k (pairsOf N head) (digestsAt N head i) i (challengeAt r i) (answerAt N (r .challenges) (r .answers) i)
+    abbrev answer-tests : ℕ → List Test
+    answer-tests i = answerTests q N k (pairsOf N head) (digestsAt N head i) i (challengeAt r i) (answerAt N (r .challenges) (r .answers) i)
 
-    abbrev ballotNone : ℕ → List Test
-    ballotNone j = maskTest P m (r .ballots) (sharesOf r (r .side)) opening j ∷ claimTest P m (r .ballots) (r .claims) (r .shares0) (r .shares1) j ∷ []
+    abbrev ballot-tests : ℕ → List Test
+    ballot-tests j = maskTest P m (r .ballots) (sharesOf r (r .side)) opening j ∷ claimTest P m (r .ballots) (r .claims) (r .shares0) (r .shares1) j ∷ []
 
     accepted : None (roundTests P m r) → Accepted P m r
     unfolding roundTests
     accepted none =
         let in-range = not-false (ranged P m r) (none .0) in
-        let rest = append-none (each repeats (λ i. answerNone i)) (each m (λ j. ballotNone j)) (none .1 .1 .1 .1) in
+        let rest = append-none (each repeats (λ i. answer-tests i)) (each m (λ j. ballot-tests j)) (none .1 .1 .1 .1) in
         let pairs = pairs-open (none .1 .1 .1 .0) in
         record {
           in-range = in-range;
@@ -116,9 +116,9 @@ module _ (P : Parameters) (m : ℕ) (positive : 0 < P .q) (fits : P .q ≤ 2 ^ 6
           key-opened = key-exactly in-range .0 (not-false _ (none .1 .1 .0));
           s-committed = pair-exactly in-range (r .side) (omega (arith, low in-range)) (threeOf q N (opening .rs)) (opening .s) .0 (pairs .0);
           e-committed = pair-exactly in-range (2 + r .side) (omega (arith, low in-range)) (threeOf q N (opening .re)) (opening .e) .0 (pairs .1);
-          answered = none-each repeats (λ i. answerNone i) (rest .0);
-          masked = λ j l. within-sound B N _ (not-false _ (none-each m (λ i. ballotNone i) (rest .1) j l .0));
-          claimed = λ j l. same-equal _ _ (not-false _ (none-each m (λ i. ballotNone i) (rest .1) j l .1 .0));
+          answered = none-each repeats (λ i. answer-tests i) (rest .0);
+          masked = λ j l. within-sound B N _ (not-false _ (none-each m (λ i. ballot-tests i) (rest .1) j l .0));
+          claimed = λ j l. same-equal _ _ (not-false _ (none-each m (λ i. ballot-tests i) (rest .1) j l .1 .0));
         }
       where
         pairs-open : not (opensPairs P m head (r .side) opening) ≡ false
@@ -141,8 +141,8 @@ module _ (P : Parameters) (m : ℕ) (positive : 0 < P .q) (fits : P .q ≤ 2 ^ 6
           ap not (key-exactly (c .in-range) .1 (c .key-opened)),
           (
             ap not (pairs-opened c),
-            none-append (each repeats (λ i. answerNone i)) (each m (λ j. ballotNone j)) (each-none repeats (λ i. answerNone i) (c .answered))
-                (each-none m (λ j. ballotNone j) (λ j l. (ap not (within-complete B N _ (c .masked j l)), (ap not (equal-same (c .claimed j l)), tt)))),
+            none-append (each repeats (λ i. answer-tests i)) (each m (λ j. ballot-tests j)) (each-none repeats (λ i. answer-tests i) (c .answered))
+                (each-none m (λ j. ballot-tests j) (λ j l. (ap not (within-complete B N _ (c .masked j l)), (ap not (equal-same (c .claimed j l)), tt)))),
           ),
         ),
       ),

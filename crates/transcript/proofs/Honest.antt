@@ -1,33 +1,33 @@
 -- The producer's round meets none of 5 to 13: material that meets none of the producer's refusals, with any side and challenges in range. Assumes nothing.
 use mathlib.Core.Path.{_≡_, refl, sym, ap, ap₂, subst, _∙_}
-use mathlib.Core.Bool.{Bool, true, false, not, _&&_}
-use mathlib.Core.List.{List, [], _∷_, _++_, append-assoc}
+use mathlib.Core.Bool.{true, not, _&&_}
+use mathlib.Core.List.{[], _∷_, _++_, append-assoc}
 use Prim.Native.Nat.{ℕ, zero, suc, _+_, _*_, _^_, _≤_, _<_}
 use native.Mathlib.Nat.{mul-assoc}
 use native.Mathlib.Omega.{arith}
 use borrow.Author.Tests.{lt-ltb, le-leb}
-use lib.Dec.{leb, ltb}
+use lib.Dec.{leb}
 use lib.ListN.{length, getD}
-use Rattle.codec.specs.Bytes.{Bytes, part, same}
-use Rattle.codec.specs.Reply.{Test, None}
-use Rattle.codec.proofs.Laws.{part-append, same-refl}
+use Rattle.codec.specs.Bytes.{Bytes, part}
+use Rattle.codec.specs.Reply.{None}
+use Rattle.codec.proofs.Laws.{part-append}
 use Rattle.modular.proofs.Centring.{remainder-lt}
 use Rattle.ring.specs.Poly.{Poly, plus, modulo, Alike}
-use Rattle.ring.specs.Slots.{poly, slot, list, encode, allBelow}
+use Rattle.ring.specs.Slots.{poly, list, encode, allBelow}
 use Rattle.ring.proofs.Bridge.{list-cong, encode-alike}
 use Rattle.ring.proofs.Polynomials.{alike-refl, alike-sym, _so_, alike-plus}
 use Rattle.ring.proofs.Ranges.{below-complete}
-use Rattle.bgv.specs.Scheme.{Bounded, key, plain, decrypted, share, worked, within, lentMask, reconstructed, Sound}
+use Rattle.bgv.specs.Scheme.{plain, decrypted, share, worked, within, lentMask, reconstructed, Sound}
 use Rattle.bgv.proofs.Form.{noisy-alike, halves, split-key}
 use Rattle.bgv.proofs.Round.{worked-share, reconstructs}
-use Rattle.commitment.specs.Commitment.{Alike3, Pair, Three, threeOf, committed, pairBytes, opens}
+use Rattle.commitment.specs.Commitment.{Pair, threeOf, committed, pairBytes, opens}
 use Rattle.commitment.proofs.Additive.{second-alike}
 use Rattle.vector.specs.Vector.{vector}
 use Rattle.stern.specs.Shortness.{inRange, honestAnswer, answerTests}
 use Rattle.stern.specs.Claims.{Split}
 use Rattle.stern.proofs.Honest.{honest-range, honest-none}
-use Rattle.transcript.specs.Layout.{Opening, each, joined, uAt, vAt, shareAt, claimAt, keyAt, pairsOf, pairAt, digestsAt, openingOf, answerAt}
-use Rattle.transcript.specs.Round.{Parameters, Round, challengeAt, sharesOf, ballotsRanged, openingRanged, headRanged, answersRanged, ranged, splits, opensKey, opensPairs, maskTest, claimTest, roundTests}
+use Rattle.transcript.specs.Layout.{Opening, each, uAt, vAt, shareAt, claimAt, pairsOf, pairAt, digestsAt, openingOf, answerAt}
+use Rattle.transcript.specs.Round.{Parameters, Round, challengeAt, sharesOf, openingRanged, headRanged, answersRanged, ranged, splits, opensKey, opensPairs, maskTest, claimTest, roundTests}
 use Rattle.transcript.specs.Producer.{Material, Sized, secret-s, secret-e, half-s, half-e, hides-s, hides-e, maskAt, permutationAt, drawnAt, pairBytesOf, producerTests, producedPairs, producedHead, producedShares, producedClaims, producedOpening, producedAnswers, producedRound}
 use Rattle.transcript.proofs.Many.{all-complete, none-append, each-none}
 use Rattle.transcript.proofs.Written.{Coefficients, below-append, below-joined, below-part, below-first, coefficients-written, coefficients-append, coefficients-joined, coefficients-vector, coefficients-part}

@@ -1,15 +1,15 @@
 -- What passed tests say: masks and noise within their bounds, and what the producer was lent if it meets none of its refusals. Assumes nothing.
 use mathlib.Core.Path.{_≡_, sym, ap, _∙_}
-use mathlib.Core.Bool.{Bool, true, not, _&&_}
-use mathlib.Core.List.{[], _∷_, _++_}
+use mathlib.Core.Bool.{true, not, _&&_}
+use mathlib.Core.List.{[], _∷_}
 use Prim.Native.Nat.{ℕ, zero, suc, _*_, _^_, _≤_, _<_}
 use native.Mathlib.Omega.{arith}
 use borrow.Author.Tests.{not-false}
 use lib.IntN.{natAbs}
-use Rattle.codec.specs.Bytes.{Bytes, part, same}
-use Rattle.codec.specs.Reply.{Test, test, None}
+use Rattle.codec.specs.Bytes.{Bytes, same}
+use Rattle.codec.specs.Reply.{test, None}
 use Rattle.codec.proofs.Laws.{both, same-refl, same-equal}
-use Rattle.ring.specs.Poly.{Poly, modulo, Alike}
+use Rattle.ring.specs.Poly.{modulo, Alike}
 use Rattle.ring.specs.Slots.{poly, list, encode, allBelow}
 use Rattle.ring.proofs.Ranges.{below-sound, below-complete}
 use Rattle.bgv.specs.Scheme.{Wholes, centred, Bounded, within, Small, key, opened, lentMask}

@@ -1,9 +1,9 @@
 -- Where the parts of what the producer writes stand: each layout reads back what was written, for material of the right lengths. Assumes nothing.
-use mathlib.Core.Path.{_≡_, refl, sym, ap, _∙_}
-use mathlib.Core.List.{List, [], _∷_, _++_}
+use mathlib.Core.Path.{_≡_, sym, ap, _∙_}
+use mathlib.Core.List.{[]}
 use Prim.Native.Nat.{ℕ, zero, suc, _+_, _*_, _^_, _≤_, _<_}
 use native.Mathlib.Omega.{arith}
-use lib.ListN.{length, take, getD, length-append}
+use lib.ListN.{length, getD, length-append}
 use lib.Seq.{take-all}
 use Rattle.codec.specs.Bytes.{Bytes, part}
 use Rattle.codec.proofs.Laws.{length-part, part-part}
@@ -12,7 +12,7 @@ use Rattle.ring.specs.Poly.{Poly, modulo, Alike}
 use Rattle.ring.specs.Slots.{list, encode}
 use Rattle.ring.proofs.Bridge.{length-list, length-encode}
 use Rattle.bgv.specs.Scheme.{key, decrypted, share, lentMask}
-use Rattle.stern.specs.Argument.{Setting, First, first}
+use Rattle.stern.specs.Argument.{First, first}
 use Rattle.stern.specs.Shortness.{setting, firstBytes, answerLength, honestDigests, honestAnswer}
 use Rattle.stern.proofs.Layouts.{four-read}
 use Rattle.stern.proofs.Honest.{length-pairBytes}

@@ -2,18 +2,18 @@
 use mathlib.Core.Path.{_≡_, refl, sym, ap, _∙_}
 use mathlib.Core.Logic.{_⊎_, inl, inr}
 use mathlib.Core.Bool.{true}
-use mathlib.Core.List.{List, [], _∷_, _++_}
+use mathlib.Core.List.{List, _++_}
 use Prim.Native.Nat.{ℕ, zero, suc, _+_, _-_, _*_, _/_, _%_, _^_, _≤_, _<_}
-use native.Mathlib.Nat.{mod-lt, mod-eq-of-lt, mul-zero, mul-suc, mul-comm, zero-add}
+use native.Mathlib.Nat.{mod-lt, mod-eq-of-lt, mul-zero, mul-suc, zero-add}
 use native.Mathlib.Omega.{arith}
-use lib.ListN.{length, take, drop, getD, length-append}
+use lib.ListN.{length, length-append}
 use Rattle.codec.specs.Bytes.{Bytes, Octets, part}
-use Rattle.codec.proofs.Laws.{both, length-part, octets-part}
+use Rattle.codec.proofs.Laws.{length-part, octets-part}
 use Rattle.modular.proofs.Congruence.{same-eq, _then_, same-mod}
 use Rattle.ring.specs.Poly.{Poly, modulo, Alike, Below}
-use Rattle.ring.specs.Slots.{poly, slot, list, encode, allBelow}
+use Rattle.ring.specs.Slots.{poly, slot, encode, allBelow}
 use Rattle.ring.proofs.Bridge.{length-encode, poly-encode, encode-cong, encode-poly, poly-part, slot-poly, slot-later}
-use Rattle.ring.proofs.Ranges.{allBelow-sound, allBelow-complete, below-sound, below-complete}
+use Rattle.ring.proofs.Ranges.{below-complete}
 use Rattle.ring.proofs.Sums.{side}
 use Rattle.vector.specs.Vector.{vector}
 use Rattle.vector.proofs.Vectors.{words-injective, allBelow-each, each-allBelow, append-each, take-each, drop-each}
@@ -25,7 +25,7 @@ use Rattle.transcript.specs.Layout.{joined}
 -- ---- a polynomial at a place
 
 module _ (q N : ℕ) (positive : 0 < q) (fits : q ≤ 2 ^ 64) where
-  pub slot-written : (c : Bytes) (at : ℕ) (f : Poly) → part c at (8 * N) ≡ encode N (modulo q f) → (k : ℕ) → k < N → slot c at k ≡ f k % q
+  slot-written : (c : Bytes) (at : ℕ) (f : Poly) → part c at (8 * N) ≡ encode N (modulo q f) → (k : ℕ) → k < N → slot c at k ≡ f k % q
   unfolding modulo
   slot-written c at f e k l =
       sym (poly-part c at N k l) ∙ ap (λ (s : Bytes). poly s k) e ∙ poly-encode N (modulo q f) k l (omega (arith, mod-lt (f k) {m = q} positive))
