@@ -1,4 +1,5 @@
--- Accepted exactly: no test of a round holds if and only if the round is what `Accepted` says, for a head of the right length. Assumes nothing.
+-- Accepted exactly: no test of a round holds if and only if the round is what `Accepted` says, for a head of the right length; and the
+-- producer's round is. Assumes nothing.
 use mathlib.Core.Path.{_≡_, sym, ap, ap₂, _∙_}
 use mathlib.Core.Logic.{_↔_}
 use mathlib.Core.Bool.{true, false, not, _&&_}
@@ -8,7 +9,7 @@ use native.Mathlib.Nat.{zero-add, mul-assoc}
 use native.Mathlib.Omega.{arith}
 use borrow.Author.Tests.{ltb-true, not-false}
 use lib.Dec.{ltb}
-use lib.ListN.{length}
+use lib.ListN.{length, getD}
 use Rattle.codec.specs.Bytes.{Bytes, Octets, part}
 use Rattle.codec.specs.Reply.{Test, None, first}
 use Rattle.codec.specs.declared.Reply.the-variants.{Taken}
@@ -18,16 +19,19 @@ use Rattle.ring.specs.Poly.{Poly, plus, Alike, Below}
 use Rattle.ring.specs.Slots.{poly, slot, allBelow}
 use Rattle.ring.proofs.Bridge.{encode-alike, poly-part, slot-poly, slot-later}
 use Rattle.ring.proofs.Ranges.{below-sound}
-use Rattle.bgv.specs.Scheme.{key}
+use Rattle.bgv.specs.Scheme.{key, Sound}
 use Rattle.commitment.specs.Commitment.{Three, threeOf, pairOf, Opens, opens}
 use Rattle.commitment.proofs.Opening.{opens-exactly}
 use Rattle.stern.specs.Shortness.{answerTests}
 use Rattle.transcript.specs.Layout.{Opening, each, headLength, keyAt, pairsOf, pairAt, digestsAt, openingOf, answerAt}
 use Rattle.transcript.specs.Round.{Parameters, Round, Accepted, challengeAt, sharesOf, ballotsRanged, headRanged, answersRanged, ranged, splits, opensKey, opensPairs, maskTest, claimTest, roundTests}
+use Rattle.transcript.specs.Producer.{Material, Sized, producerTests, producedRound}
 use Rattle.transcript.proofs.Many.{none-append, append-none, each-none, none-each}
 use Rattle.transcript.proofs.Written.{alike-written, written-decides, written-slot}
 use Rattle.transcript.proofs.Answers.{stretch}
+use Rattle.transcript.proofs.Produced.{length-producedHead, octets-producedHead}
 use Rattle.transcript.proofs.Passed.{equal-same, within-sound, within-complete}
+use Rattle.transcript.proofs.Honest.{honest-round}
 
 -- a slot of bytes that hold n coefficients below q
 below-slot : (q n : ℕ) (s : Bytes) (d l at : ℕ) → at ≡ 8 * d → d + l ≤ n → Below q n (poly s) → Below q l (slot s at)
@@ -157,3 +161,11 @@ module _ (P : Parameters) (m : ℕ) (positive : 0 < P .q) (fits : P .q ≤ 2 ^ 6
     accepted-exactly =
         let t = taken-exactly (roundTests P m r) in
         (λ e. accepted (t .0 e), λ c. t .1 (tests-pass c))
+
+-- so the producer's round is accepted
+pub honest-accepted : (P : Parameters) (m : ℕ) (x : Material) → Sound (P .q) (P .p) (P .D) (P .B) → 2 < P .q → P .q ≤ 2 ^ 64 → Sized P m x → None (producerTests P m x)
+    → (side : ℕ) → side < 2 → (challenges : Bytes) → length challenges ≡ P .repeats → ((i : ℕ) → i < P .repeats → (1 ≤ getD challenges i 0) × (getD challenges i 0 ≤ 3))
+    → Accepted P m (producedRound P m x side challenges)
+honest-accepted P m x ok three fits sized none side low challenges size valid =
+    none-exactly P m (omega arith) fits (producedRound P m x side challenges) (length-producedHead P m x) (octets-producedHead P m x) .0
+    (honest-round P m x ok three fits sized none side low challenges size valid)

@@ -1,17 +1,18 @@
 -- Where the parts of what the producer writes stand: each layout reads back what was written, for material of the right lengths. Assumes nothing.
 use mathlib.Core.Path.{_≡_, sym, ap, _∙_}
-use mathlib.Core.List.{[]}
+use mathlib.Core.List.{[], _++_}
 use Prim.Native.Nat.{ℕ, zero, suc, _+_, _*_, _^_, _≤_, _<_}
 use native.Mathlib.Omega.{arith}
 use lib.ListN.{length, getD, length-append}
 use lib.Seq.{take-all}
-use Rattle.codec.specs.Bytes.{Bytes, part}
-use Rattle.codec.proofs.Laws.{length-part, part-part}
-use Rattle.sha3.proofs.Squeezing.{length-sha3}
+use Rattle.codec.specs.Bytes.{Bytes, Octets, part}
+use Rattle.codec.proofs.Laws.{length-part, part-part, octets-append}
+use Rattle.sha3.proofs.Squeezing.{length-sha3, octets-sha3}
 use Rattle.ring.specs.Poly.{Poly, modulo, Alike}
 use Rattle.ring.specs.Slots.{list, encode}
 use Rattle.ring.proofs.Bridge.{length-list, length-encode}
 use Rattle.bgv.specs.Scheme.{key, decrypted, share, lentMask}
+use Rattle.commitment.specs.Commitment.{Pair, pairBytes}
 use Rattle.stern.specs.Argument.{First, first}
 use Rattle.stern.specs.Shortness.{setting, firstBytes, answerLength, honestDigests, honestAnswer}
 use Rattle.stern.proofs.Layouts.{four-read}
@@ -20,7 +21,7 @@ use Rattle.transcript.specs.Layout.{joined, headLength, uAt, vAt, shareA
 use Rattle.transcript.specs.Round.{Parameters}
 use Rattle.transcript.specs.Producer.{Material, Sized, secret-s, half-s, half-e, hides-s, hides-e, maskAt, permutationAt, drawnAt, pairBytesOf, producedPairs, producedHead, producedShares, producedClaims, producedOpening, producedAnswers}
 use Rattle.transcript.proofs.Many.{length-joined, joined-at}
-use Rattle.transcript.proofs.Written.{alike-written}
+use Rattle.transcript.proofs.Written.{alike-written, octets-encode, octets-joined}
 use Rattle.transcript.proofs.Answers.{stretch, length-answers, answers-at, length-honestAnswer}
 
 -- three digests are 96 bytes
@@ -100,6 +101,28 @@ module _ (P : Parameters) (m : ℕ) (x : Material) where
   digests-written i h =
       sym (part-part (producedHead P m x) (80 * N) (96 * repeats) (96 * i) 96 (stretch 96 i repeats h))
       ∙ ap (λ (s : Bytes). part s (96 * i) 96) (head-read .3) ∙ joined-at 96 (λ j. digests j) repeats (λ j l. digests-sized j) i h
+
+  -- and its bytes are below 256
+  octets-pair : (c : Pair) → Octets (pairBytes q N c)
+  unfolding pairBytes
+  octets-pair c = octets-append (written (c .one)) (written (c .two)) (octets-encode N _) (octets-encode N _)
+
+  octets-pairs : Octets (producedPairs P m x)
+  unfolding producedPairs
+  octets-pairs =
+      octets-append (pair-s 0) (pair-s 1 ++ (pair-e 0 ++ pair-e 1)) (octets-pair _)
+      (octets-append (pair-s 1) (pair-e 0 ++ pair-e 1) (octets-pair _) (octets-append (pair-e 0) (pair-e 1) (octets-pair _) (octets-pair _)))
+
+  octets-digests : (f : First) → Octets (f .d1) → Octets (f .d2) → Octets (f .d3) → Octets (firstBytes f)
+  octets-digests f o1 o2 o3 = octets-append (f .d1) (f .d2 ++ f .d3) o1 (octets-append (f .d2) (f .d3) o2 o3)
+
+  pub octets-producedHead : Octets (producedHead P m x)
+  unfolding producedHead
+  octets-producedHead =
+      octets-append (written (keyOf 0)) (written (keyOf 1) ++ (producedPairs P m x ++ joined repeats (λ i. digests i))) (octets-encode N _)
+      (octets-append (written (keyOf 1)) (producedPairs P m x ++ joined repeats (λ i. digests i)) (octets-encode N _)
+      (octets-append (producedPairs P m x) (joined repeats (λ i. digests i)) octets-pairs
+      (octets-joined repeats (λ i. digests i) (λ i h. octets-digests (first (setting q N k []) (x .secrets) (drawnAt P m x i)) (octets-sha3 _) (octets-sha3 _) (octets-sha3 _)))))
 
   -- ---- shares and claims
 

@@ -2,16 +2,17 @@
 use mathlib.Core.Path.{_≡_, refl, sym, ap, _∙_}
 use mathlib.Core.Logic.{_⊎_, inl, inr}
 use mathlib.Core.Bool.{true}
-use mathlib.Core.List.{List, _++_}
+use mathlib.Core.List.{List, [], _∷_, _++_}
 use Prim.Native.Nat.{ℕ, zero, suc, _+_, _-_, _*_, _/_, _%_, _^_, _≤_, _<_}
 use native.Mathlib.Nat.{mod-lt, mod-eq-of-lt, mul-zero, mul-suc, zero-add}
 use native.Mathlib.Omega.{arith}
 use lib.ListN.{length, length-append}
-use Rattle.codec.specs.Bytes.{Bytes, Octets, part}
-use Rattle.codec.proofs.Laws.{length-part, octets-part}
+use Rattle.codec.specs.Bytes.{Bytes, Octets, bytes, words, part}
+use Rattle.codec.proofs.Laws.{length-part, octets-part, octets-append}
+use Rattle.codec.proofs.Numbers.{bytes-octets}
 use Rattle.modular.proofs.Congruence.{same-eq, _then_, same-mod}
 use Rattle.ring.specs.Poly.{Poly, modulo, Alike, Below}
-use Rattle.ring.specs.Slots.{poly, slot, encode, allBelow}
+use Rattle.ring.specs.Slots.{poly, slot, list, encode, allBelow}
 use Rattle.ring.proofs.Bridge.{length-encode, poly-encode, encode-cong, encode-poly, poly-part, slot-poly, slot-later}
 use Rattle.ring.proofs.Ranges.{below-complete}
 use Rattle.ring.proofs.Sums.{side}
@@ -44,6 +45,25 @@ unfolding modulo
 written-slot q N c at octets l b =
     sym (encode-poly (part c at (8 * N)) N (octets-part c at (8 * N) octets) (length-part c at (8 * N) l))
     ∙ encode-cong N (λ k m. poly-part c at N k m ∙ sym (mod-eq-of-lt (b .at k m)))
+
+-- ---- what is written is bytes
+
+octets-none : Octets []
+octets-none i h = absurd (omega arith)
+
+octets-words : (xs : List ℕ) → Octets (words xs)
+unfolding words
+octets-words [] = octets-none
+octets-words (x ∷ xs) = octets-append (bytes 8 x) (words xs) (bytes-octets 8 x) (octets-words xs)
+
+pub octets-encode : (n : ℕ) (f : Poly) → Octets (encode n f)
+unfolding encode
+octets-encode n f = octets-words (list n f)
+
+pub octets-joined : (n : ℕ) (f : ℕ → Bytes) → ((j : ℕ) → j < n → Octets (f j)) → Octets (joined n f)
+unfolding joined
+octets-joined zero f h = octets-none
+octets-joined (suc n) f h = octets-append (joined n f) (f n) (octets-joined n f (λ j l. h j (omega arith))) (h n (omega arith))
 
 -- ---- bytes below a bound
 
