@@ -30,7 +30,7 @@ use Rattle.transcript.specs.Layout.{Opening, each, uAt, vAt, shareAt, cl
 use Rattle.transcript.specs.Round.{Parameters, Round, challengeAt, sharesOf, openingRanged, headRanged, answersRanged, ranged, splits, opensKey, opensPairs, maskTest, claimTest, roundTests}
 use Rattle.transcript.specs.Producer.{Material, Sized, secret-s, secret-e, half-s, half-e, hides-s, hides-e, maskAt, permutationAt, drawnAt, pairBytesOf, producerTests, producedPairs, producedHead, producedShares, producedClaims, producedOpening, producedAnswers, producedRound}
 use Rattle.transcript.proofs.Many.{all-complete, none-append, each-none}
-use Rattle.transcript.proofs.Written.{Coefficients, below-append, below-joined, below-part, below-first, coefficients-written, coefficients-append, coefficients-joined, coefficients-vector, coefficients-part}
+use Rattle.transcript.proofs.Written.{Coefficients, below-append, below-joined, below-part, ranged-first, coefficients-written, coefficients-append, coefficients-joined, coefficients-vector, coefficients-part}
 use Rattle.transcript.proofs.Answers.{stretch}
 use Rattle.transcript.proofs.Produced.{pairs-written, pair-s-written, pair-e-written, digests-written, key-written, key-alike, share-alike, claim-written, opening-written, opening-s, opening-e, permutation-sized, vector-sized, salts-sized, answer-written}
 use Rattle.transcript.proofs.Passed.{equal-same, within-complete, Fit, material-fit}
@@ -77,10 +77,9 @@ module _ (P : Parameters) (m : ℕ) (x : Material) where
     ten-below : (f g : Poly) (pairs rest : Bytes) → Coefficients q ((N + N) + ((N + N) + ((N + N) + (N + N)))) pairs
         → allBelow q (list (10 * N) (poly (written f ++ (written g ++ (pairs ++ rest))))) ≡ true
     ten-below f g pairs rest c =
-        let e : (written f ++ (written g ++ pairs)) ++ rest ≡ written f ++ (written g ++ (pairs ++ rest)) = append-assoc (written f) (written g ++ pairs) rest ∙ ap (λ (s : Bytes). written f ++ s) (append-assoc (written g) pairs rest) in
-        let n : N + (N + ((N + N) + ((N + N) + ((N + N) + (N + N))))) ≡ 10 * N = omega arith in
-        let ten = coefficients-append (written f) (written g ++ pairs) (written-below f) (coefficients-append (written g) pairs (written-below g) c) in
-        ap₂ (λ (i : ℕ) (s : Bytes). allBelow q (list i (poly s))) (sym n) (sym e) ∙ below-complete q _ (poly ((written f ++ (written g ++ pairs)) ++ rest)) (below-first (written f ++ (written g ++ pairs)) rest ten)
+        ranged-first (10 * N) (written f ++ (written g ++ pairs)) rest (written f ++ (written g ++ (pairs ++ rest)))
+        (coefficients-append (written f) (written g ++ pairs) (written-below f) (coefficients-append (written g) pairs (written-below g) c)) (omega arith)
+        (append-assoc (written f) (written g ++ pairs) rest ∙ ap (λ (s : Bytes). written f ++ s) (append-assoc (written g) pairs rest))
 
     head-ranged : headRanged P m head ≡ true
     unfolding headRanged producedHead
@@ -109,9 +108,8 @@ module _ (P : Parameters) (m : ℕ) (x : Material) where
         where
           two-below : (f g : Poly) (r : Bytes) → allBelow q (list (2 * N) (poly (written f ++ (written g ++ r)))) ≡ true
           two-below f g r =
-              let n : N + N ≡ 2 * N = omega arith in
-              ap₂ (λ (i : ℕ) (s : Bytes). allBelow q (list i (poly s))) (sym n) (sym (append-assoc (written f) (written g) r))
-              ∙ below-complete q (N + N) (poly ((written f ++ written g) ++ r)) (below-first (written f ++ written g) r (coefficients-append (written f) (written g) (written-below f) (written-below g)))
+              ranged-first (2 * N) (written f ++ written g) r (written f ++ (written g ++ r)) (coefficients-append (written f) (written g) (written-below f) (written-below g)) (omega arith)
+              (append-assoc (written f) (written g) r)
 
           front : allBelow q (list (2 * N) (poly (producedOpening P m x side))) ≡ true
           front = unfold producedOpening in two-below (half-s P m x side) (half-e P m x side) (hides-s P m x side ++ hides-e P m x side)

@@ -1,5 +1,5 @@
 -- Polynomials modulo q as bytes: what was written is read back, bytes in range are written as they stand, and what is written side by side is in range. Assumes nothing.
-use mathlib.Core.Path.{_≡_, refl, sym, ap, _∙_}
+use mathlib.Core.Path.{_≡_, refl, sym, ap, ap₂, _∙_}
 use mathlib.Core.Logic.{_⊎_, inl, inr}
 use mathlib.Core.Bool.{true}
 use mathlib.Core.List.{List, [], _∷_, _++_}
@@ -103,8 +103,12 @@ module _ {q : ℕ} where
     below = record { at = λ k l. rw (poly-encode N (modulo q f) k l (omega (arith, mod-lt (f k) {m = q} h))) (mod-lt (f k) h) };
   }
 
-  pub below-first : {n : ℕ} (a b : Bytes) → Coefficients q n a → Below q n (poly (a ++ b))
+  below-first : {n : ℕ} (a b : Bytes) → Coefficients q n a → Below q n (poly (a ++ b))
   below-first {n} a b c = record { at = λ k l. rw (poly-first a b n k (c .sized) l) (c .below .at k l) }
+
+  -- the same as a range test of a string that begins with them
+  pub ranged-first : {n : ℕ} (l : ℕ) (a b s : Bytes) → Coefficients q n a → n ≡ l → a ++ b ≡ s → allBelow q (list l (poly s)) ≡ true
+  ranged-first {n} l a b s c e f = ap₂ (λ (i : ℕ) (t : Bytes). allBelow q (list i (poly t))) (sym e) (sym f) ∙ below-complete q n (poly (a ++ b)) (below-first a b c)
 
   pub coefficients-append : {n m : ℕ} (a b : Bytes) → Coefficients q n a → Coefficients q m b → Coefficients q (n + m) (a ++ b)
   coefficients-append {n} {m} a b c d = record {
