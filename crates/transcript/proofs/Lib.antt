@@ -1,3 +1,6 @@
 pub mod Many
 pub mod ExtractionSizes
 pub mod ExtractionTests
+pub mod ExtractionHalves
+pub mod ExtractionVectors
+pub mod Extraction

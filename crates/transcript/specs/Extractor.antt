@@ -52,13 +52,13 @@ module _ (P : Parameters) (m : ℕ) (x : Openings) where
   abbrev pub pairs : Bytes
   pairs = pairsOf N (x .head)
 
-  abbrev digests : Bytes
+  abbrev pub digests : Bytes
   digests = digestsAt N (x .head) (x .repetition)
 
-  abbrev open0 : Opening
+  abbrev pub open0 : Opening
   open0 = openingOf N (x .opening0)
 
-  abbrev open1 : Opening
+  abbrev pub open1 : Opening
   open1 = openingOf N (x .opening1)
 
   -- ---- the order after the lengths: 5, 6; for side 0 and then 1: 7, 8 and by ballot 12, 13; then by answer 9, 10, 11
@@ -77,7 +77,7 @@ module _ (P : Parameters) (m : ℕ) (x : Openings) where
       && (inRange q N 2 (x .answer2)
       && inRange q N 3 (x .answer3))))))))))
 
-  abbrev sideTests : (side : ℕ) (shares : Bytes) → Opening → List Test
+  abbrev pub sideTests : (side : ℕ) (shares : Bytes) → Opening → List Test
   sideTests side shares o =
       test 7 0 (not (opensKey P m (x .head) side o))
       ∷ test 8 0 (not (opensPairs P m (x .head) side o))
