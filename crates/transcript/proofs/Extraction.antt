@@ -1,40 +1,37 @@
 -- Extraction (the third demand, first part): where no test of the extractor holds, its answer is two different strings with one SHA3-256, a short vector on which the
 -- commitment row is zero, or the key, under which every ballot with noise within D decrypts to its claim. Assumes nothing.
-use mathlib.Core.Path.{_≡_, refl, sym, ap, _∙_}
-use mathlib.Core.Logic.{_⊎_, inl, inr, _≢_}
+use mathlib.Core.Path.{_≡_, refl, sym, _∙_}
 use mathlib.Core.Bool.{Bool, true, false, cond, not, _&&_}
 use mathlib.Core.List.{List, [], _∷_, _++_}
-use Prim.Native.Nat.{ℕ, zero, suc, _+_, _-_, _*_, _/_, _%_, _^_, _≤_, _<_}
-use native.Mathlib.Nat.{zero-mod}
-use native.Mathlib.Decide.{ℕ-discrete}
+use Prim.Native.Nat.{ℕ, _+_, _*_, _^_, _≤_, _<_}
 use native.Mathlib.Omega.{arith}
 use borrow.Author.Tests.{not-false}
 use lib.Dec.{ltb}
 use lib.ListN.{length}
-use Rattle.codec.specs.Bytes.{Bytes, Octets, same, zeros}
+use Rattle.codec.specs.Bytes.{Bytes, Octets, same}
 use Rattle.codec.specs.Reply.{Test, None}
-use Rattle.codec.proofs.Laws.{both, same-refl, same-equal}
-use Rattle.ring.specs.Poly.{Poly, plus, zero-poly, Alike}
+use Rattle.codec.proofs.Laws.{both, same-equal}
+use Rattle.ring.specs.Poly.{Poly, plus, Alike}
 use Rattle.ring.specs.Slots.{slot, list, allBelow}
 use Rattle.ring.proofs.Bridge.{list-cong}
 use Rattle.ring.proofs.Polynomials.{alike-eq, alike-sym, alike-refl, _so_, alike-plus}
 use Rattle.bgv.specs.Scheme.{Bounded, Small, key, opened, decrypted, worked, within, reconstructed, Sound}
 use Rattle.bgv.proofs.Form.{noisy-adds, noisy-alike}
 use Rattle.bgv.proofs.Round.{share-worked, reconstructs}
-use Rattle.commitment.specs.Commitment.{Three, Alike3, Pair, threeOf, pairOf, plus3, row, second, Opens}
+use Rattle.commitment.specs.Commitment.{threeOf, pairOf, Opens}
 use Rattle.vector.specs.Vector.{vector}
-use Rattle.stern.specs.Argument.{Setting, Answer1, Answer2, Answer3, First, Solves, Passes1, Passes2, Passes3, Extracted, broken1, broken2, broken3, found, one-by2, one-by3, two-by1, two-by3, three-by1, three-by2}
-use Rattle.stern.specs.Shortness.{polynomial, threeFrom, setting, firstOf, answerLength, answer1Of, answer2Of, answer3Of, tests1, tests2, tests3, inRange}
+use Rattle.stern.specs.Argument.{Setting, Answer1, Answer2, Answer3, Passes1, Passes2, Passes3, Extracted, broken1, broken2, broken3, found, one-by2, one-by3, two-by1, two-by3, three-by1, three-by2}
+use Rattle.stern.specs.Shortness.{polynomial, setting, firstOf, answerLength, answer1Of, answer2Of, answer3Of, tests1, tests2, tests3, inRange}
 use Rattle.stern.specs.Claims.{Meets}
 use Rattle.stern.proofs.FourEquations.{setting-valid}
 use Rattle.stern.proofs.Sound.{extract}
 use Rattle.stern.proofs.Extraction.{none-passes1, none-passes2, none-passes3, solves-meets}
-use Rattle.transcript.specs.Layout.{Opening, ballotLength, headLength, each, uAt, vAt, shareAt, claimAt, keyAt, pairAt, openingOf}
+use Rattle.transcript.specs.Layout.{Opening, ballotLength, headLength, uAt, vAt, shareAt, claimAt, keyAt, pairAt}
 use Rattle.transcript.specs.Round.{Parameters, ballotsRanged, openingRanged, headRanged, splits, opensKey, opensPairs, maskTest, claimTest}
-use Rattle.transcript.specs.Extractor.{Openings, isZero, pairs, digests, open0, open1, lentRanged, sideTests, extractTests, unknowns, vector-s, vector-e, kind, Collision, Nonzero, ShortVector, Key, Found, collision1, collision2, collision3, short-s, short-e, secret}
+use Rattle.transcript.specs.Extractor.{Openings, isZero, pairs, digests, open0, open1, lentRanged, sideTests, extractTests, unknowns, vector-s, vector-e, kind, Collision, ShortVector, Key, Found, collision1, collision2, collision3, short-s, short-e, secret}
 use Rattle.transcript.proofs.Many.{append-none, none-each}
 use Rattle.transcript.proofs.ExtractionTests.{within-bounded, pair-half, splits-alike, key-alike, pairs-open}
-use Rattle.transcript.proofs.ExtractionVectors.{differ, vector-found, sum-found}
+use Rattle.transcript.proofs.ExtractionVectors.{differ, Decided, vector-decides}
 
 -- what is lent has the right lengths, for m ballots, and the first message is in bytes
 pub record Lent (P : Parameters) (m : ℕ) (x : Openings) : Type 0 where
@@ -174,29 +171,19 @@ module _ (P : Parameters) (m : ℕ) (x : Openings) where
             → Alike q N (plus (slot (pairs P m x) to) (slot (pairs P m x) to')) (plus (slot (pairAt N (x .head) i) at) (slot (pairAt N (x .head) j) at))
         halves i j at to to' e e' l h h' = alike-sym (alike-plus (pair-half N (x .head) i at to e l h) (pair-half N (x .head) j at to' e' l h'))
 
-        for-s : (isZero q N (vector-s P m x) ≡ false → ShortVector P m x (vector-s P m x)) × (isZero q N (vector-s P m x) ≡ true → Alike q N (plus (open0 P m x .s) (open1 P m x .s)) f)
+        for-s : Decided P m x (vector-s P m x) (open0 P m x .s) (open1 P m x .s) f
         for-s =
-            let c0 = pairOf N (pairAt N (x .head) 0) in
-            let c1 = pairOf N (pairAt N (x .head) 1) in
-            let made1 = solved .one-s so halves 0 1 0 0 (16 * N) (omega arith) (omega arith) (omega arith) (omega arith) (omega arith) in
-            let made2 = solved .two-s so halves 0 1 (8 * N) (8 * N) (24 * N) (omega arith) (omega arith) (omega arith) (omega arith) (omega arith) in (
-              vector-found P m x (ok .odd) three solved (open0 P m x .rs) (open1 P m x .rs) 2 5 0 (omega arith) (omega arith) c0 c1 (open0 P m x .s) (open1 P m x .s)
-                  (side0 .s-committed) (side1 .s-committed) made1 made2,
-              sum-found P m x (ok .odd) three solved (open0 P m x .rs) (open1 P m x .rs) 2 5 0 (omega arith) (omega arith) c0 c1 (open0 P m x .s) (open1 P m x .s)
-                  (side0 .s-committed) (side1 .s-committed) made1 made2 fits,
-            )
+            vector-decides P m x (ok .odd) three fits solved (open0 P m x .rs) (open1 P m x .rs) 2 5 0 (omega arith) (omega arith)
+            (pairOf N (pairAt N (x .head) 0)) (pairOf N (pairAt N (x .head) 1)) (open0 P m x .s) (open1 P m x .s) (side0 .s-committed) (side1 .s-committed)
+            (solved .one-s so halves 0 1 0 0 (16 * N) (omega arith) (omega arith) (omega arith) (omega arith) (omega arith))
+            (solved .two-s so halves 0 1 (8 * N) (8 * N) (24 * N) (omega arith) (omega arith) (omega arith) (omega arith) (omega arith))
 
-        for-e : (isZero q N (vector-e P m x) ≡ false → ShortVector P m x (vector-e P m x)) × (isZero q N (vector-e P m x) ≡ true → Alike q N (plus (open0 P m x .e) (open1 P m x .e)) g)
+        for-e : Decided P m x (vector-e P m x) (open0 P m x .e) (open1 P m x .e) g
         for-e =
-            let c0 = pairOf N (pairAt N (x .head) 2) in
-            let c1 = pairOf N (pairAt N (x .head) 3) in
-            let made1 = solved .one-e so halves 2 3 0 (32 * N) (48 * N) (omega arith) (omega arith) (omega arith) (omega arith) (omega arith) in
-            let made2 = solved .two-e so halves 2 3 (8 * N) (40 * N) (56 * N) (omega arith) (omega arith) (omega arith) (omega arith) (omega arith) in (
-              vector-found P m x (ok .odd) three solved (open0 P m x .re) (open1 P m x .re) 8 11 1 (omega arith) (omega arith) c0 c1 (open0 P m x .e) (open1 P m x .e)
-                  (side0 .e-committed) (side1 .e-committed) made1 made2,
-              sum-found P m x (ok .odd) three solved (open0 P m x .re) (open1 P m x .re) 8 11 1 (omega arith) (omega arith) c0 c1 (open0 P m x .e) (open1 P m x .e)
-                  (side0 .e-committed) (side1 .e-committed) made1 made2 fits,
-            )
+            vector-decides P m x (ok .odd) three fits solved (open0 P m x .re) (open1 P m x .re) 8 11 1 (omega arith) (omega arith)
+            (pairOf N (pairAt N (x .head) 2)) (pairOf N (pairAt N (x .head) 3)) (open0 P m x .e) (open1 P m x .e) (side0 .e-committed) (side1 .e-committed)
+            (solved .one-e so halves 2 3 0 (32 * N) (48 * N) (omega arith) (omega arith) (omega arith) (omega arith) (omega arith))
+            (solved .two-e so halves 2 3 (8 * N) (40 * N) (56 * N) (omega arith) (omega arith) (omega arith) (omega arith) (omega arith))
 
         key-found : Alike q N (plus (open0 P m x .s) (open1 P m x .s)) f → Alike q N (plus (open0 P m x .e) (open1 P m x .e)) g → Key P m x f g
         unfolding extractTests
@@ -237,9 +224,9 @@ module _ (P : Parameters) (m : ℕ) (x : Openings) where
       extraction ok =
           choose (same (one-by2 s two) (one-by3 s third)) (same (two-by1 s one) (two-by3 s third)) (same (three-by1 s one) (three-by2 s two)) (isZero q N (vector-s P m x)) (isZero q N (vector-e P m x))
           (λ e. collision1 (collides1 e)) (λ e. collision2 (collides2 e)) (λ e. collision3 (collides3 e))
-          (λ e1 e2 e3 e. short-s (for-s ok (met e1 e2 e3) .0 e))
-          (λ e1 e2 e3 e. short-e (for-e ok (met e1 e2 e3) .0 e))
-          (λ e1 e2 e3 es ee. secret (key-found ok (met e1 e2 e3) (for-s ok (met e1 e2 e3) .1 es) (for-e ok (met e1 e2 e3) .1 ee)))
+          (λ e1 e2 e3 e. short-s (for-s ok (met e1 e2 e3) .nonzero-short e))
+          (λ e1 e2 e3 e. short-e (for-e ok (met e1 e2 e3) .nonzero-short e))
+          (λ e1 e2 e3 es ee. secret (key-found ok (met e1 e2 e3) (for-s ok (met e1 e2 e3) .zero-adds es) (for-e ok (met e1 e2 e3) .zero-adds ee)))
         where
           met : same (one-by2 s two) (one-by3 s third) ≡ true → same (two-by1 s one) (two-by3 s third) ≡ true → same (three-by1 s one) (three-by2 s two) ≡ true → Meets q N k (pairs P m x) (unknowns P m x)
           met e1 e2 e3 = meets (same-equal (one-by2 s two) (one-by3 s third) e1) (same-equal (two-by1 s one) (two-by3 s third) e2) (same-equal (three-by1 s one) (three-by2 s two) e3)

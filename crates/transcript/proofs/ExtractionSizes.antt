@@ -1,18 +1,17 @@
 -- Polynomials, their bytes and their sizes, as an extraction needs them: bytes modulo q decide a polynomial, bytes are zeros exactly if it is zero, and sums and
 -- differences of short ones are small. Assumes nothing.
 use mathlib.Core.Path.{_≡_, refl, sym, ap, ap₂, _∙_}
-use mathlib.Core.Logic.{_⊎_, inl, inr, _≢_}
-use mathlib.Core.List.{List, _++_}
+use mathlib.Core.List.{_++_}
 use Prim.Native.Nat.{ℕ, zero, suc, _+_, _-_, _*_, _/_, _%_, _^_, _≤_, _<_}
 use native.Mathlib.Nat.{zero-mod, mod-lt, add-assoc}
 use native.Mathlib.Numerals.{add-one}
-use native.Mathlib.Decide.{ℕ-discrete, decLe}
+use native.Mathlib.Decide.{decLe}
 use native.Mathlib.Omega.{arith}
 use lib.IntN.{natAbs}
 use lib.ListN.{length, replicate-append-replicate}
 use Rattle.codec.specs.Bytes.{Bytes, bytes, number, part, zeros}
 use Rattle.codec.proofs.Laws.{part-part}
-use Rattle.modular.specs.Modulo.{Same, centre}
+use Rattle.modular.specs.Modulo.{centre}
 use Rattle.modular.proofs.Congruence.{same-eq, _then_, same-mod}
 use Rattle.modular.proofs.Centring.{Near, near-centre, near-size, centre-size}
 use Rattle.modular.proofs.Near.{near-le, near-add, near-negative}

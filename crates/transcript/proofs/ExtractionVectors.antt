@@ -10,13 +10,12 @@ use native.Mathlib.Omega.{arith}
 use Rattle.codec.specs.Bytes.{Bytes, same, zeros}
 use Rattle.codec.proofs.Laws.{same-refl, same-equal}
 use Rattle.ring.specs.Poly.{Poly, plus, zero-poly, Alike}
-use Rattle.bgv.specs.Scheme.{Small}
-use Rattle.commitment.specs.Commitment.{Three, Alike3, Pair, threeOf, plus3, row, second, Opens}
+use Rattle.commitment.specs.Commitment.{Three, Pair, threeOf, plus3, row, second, Opens}
 use Rattle.stern.specs.Shortness.{polynomial, threeFrom}
 use Rattle.stern.specs.Claims.{Meets}
 use Rattle.transcript.specs.Round.{Parameters}
 use Rattle.transcript.specs.Extractor.{Openings, threeBytes, isZero, pairs, unknowns, Nonzero, ShortVector}
-use Rattle.transcript.proofs.ExtractionSizes.{zero3, alike-zeros, zeros-alike}
+use Rattle.transcript.proofs.ExtractionSizes.{alike-zeros, zeros-alike}
 use Rattle.transcript.proofs.ExtractionHalves.{Small3, opened-short, difference, difference-small, row-vanishes, openings-add}
 
 -- a test of two byte strings that fails says that they differ
@@ -59,9 +58,14 @@ module _ (P : Parameters) (m : ℕ) (x : Openings) where
       go (inr a) (inr b) (inl w) = inr (inr w)
       go (inr a) (inr b) (inr c) = absurd (differ (threeBytes q N r) (zeros (24 * N)) e (alike-zeros q N r (record { r1 = a; r2 = b; r3 = c })))
 
+  -- what the bytes of the vector z decide: that it is found, or that m0 and m1 add up to n
+  pub record Decided (z : Three) (m0 m1 n : Poly) : Type 0 where
+    pub nonzero-short : isZero q N z ≡ false → ShortVector P m x z
+    pub zero-adds : isZero q N z ≡ true → Alike q N (plus m0 m1) n
+
   -- ---- one vector: two openings with r0 and r1 in ternary bytes, and the extracted polynomials from numbers i and j on, which hide polynomial l
 
-  module _ (odd : q % 2 ≡ 1) (three : 2 < q) (meets : Meets q N k (pairs P m x) (unknowns P m x)) (r0 r1 : Bytes) (i j l : ℕ) (first : i + 2 < 14) (last : j + 2 < 14)
+  module _ (odd : q % 2 ≡ 1) (three : 2 < q) (fits : q ≤ 2 ^ 64) (meets : Meets q N k (pairs P m x) (unknowns P m x)) (r0 r1 : Bytes) (i j l : ℕ) (first : i + 2 < 14) (last : j + 2 < 14)
       (c0 c1 : Pair) (m0 m1 : Poly) (open0 : Opens q N k c0 (threeOf q N r0) m0) (open1 : Opens q N k c1 (threeOf q N r1) m1)
       (made1 : Alike q N (row q N k (plus3 (threeFrom N (unknowns P m x) i) (threeFrom N (unknowns P m x) j))) (plus (c0 .one) (c1 .one)))
       (made2 : Alike q N (second q N k (plus3 (threeFrom N (unknowns P m x) i) (threeFrom N (unknowns P m x) j)) (polynomial N (unknowns P m x) l)) (plus (c0 .two) (c1 .two))) where
@@ -75,21 +79,24 @@ module _ (P : Parameters) (m : ℕ) (x : Openings) where
       r3 = record { at = meets .small (n + 2) h };
     }
 
-    pub vector-found : isZero q N z ≡ false
-        → ShortVector P m x z
-    vector-found e =
-        let small = difference-small q N k (threeOf q N r0) (threeOf q N r1) (threeFrom N (unknowns P m x) i) (threeFrom N (unknowns P m x) j) odd
-        (opened-short q N odd (omega arith) r0) (opened-short q N odd (omega arith) r1) (extracted-short i first) (extracted-short j last) in
-        record {
-          nonzero = nonzero z e;
-          vanishes = row-vanishes q N k (threeOf q N r0) (threeOf q N r1) (threeFrom N (unknowns P m x) i) (threeFrom N (unknowns P m x) j) (omega arith) c0 c1 m0 m1 (polynomial N (unknowns P m x) l) open0 open1 made1 made2;
-          small1 = small .r1;
-          small2 = small .r2;
-          small3 = small .r3;
-        }
+    pub vector-decides : Decided z m0 m1 (polynomial N (unknowns P m x) l)
+    vector-decides = record { nonzero-short = nonzero-short; zero-adds = zero-adds }
+      where
+        nonzero-short : isZero q N z ≡ false → ShortVector P m x z
+        nonzero-short e =
+            let small = difference-small q N k (threeOf q N r0) (threeOf q N r1) (threeFrom N (unknowns P m x) i) (threeFrom N (unknowns P m x) j) odd
+            (opened-short q N odd (omega arith) r0) (opened-short q N odd (omega arith) r1) (extracted-short i first) (extracted-short j last) in
+            record {
+              nonzero = nonzero z e;
+              vanishes = row-vanishes q N k (threeOf q N r0) (threeOf q N r1) (threeFrom N (unknowns P m x) i) (threeFrom N (unknowns P m x) j) (omega arith)
+                  c0 c1 m0 m1 (polynomial N (unknowns P m x) l) open0 open1 made1 made2;
+              small1 = small .r1;
+              small2 = small .r2;
+              small3 = small .r3;
+            }
 
-    pub sum-found : q ≤ 2 ^ 64 → isZero q N z ≡ true
-        → Alike q N (plus m0 m1) (polynomial N (unknowns P m x) l)
-    sum-found fits e =
-        openings-add q N k (threeOf q N r0) (threeOf q N r1) (threeFrom N (unknowns P m x) i) (threeFrom N (unknowns P m x) j) (omega arith) c0 c1 m0 m1 (polynomial N (unknowns P m x) l) open0 open1 made1 made2
-        (zeros-alike q N (omega arith) fits z (same-equal _ (zeros (24 * N)) e))
+        zero-adds : isZero q N z ≡ true → Alike q N (plus m0 m1) (polynomial N (unknowns P m x) l)
+        zero-adds e =
+            openings-add q N k (threeOf q N r0) (threeOf q N r1) (threeFrom N (unknowns P m x) i) (threeFrom N (unknowns P m x) j) (omega arith)
+            c0 c1 m0 m1 (polynomial N (unknowns P m x) l) open0 open1 made1 made2
+            (zeros-alike q N (omega arith) fits z (same-equal (threeBytes q N z) (zeros (24 * N)) e))

@@ -4,3 +4,4 @@ pub mod ExtractionTests
 pub mod ExtractionHalves
 pub mod ExtractionVectors
 pub mod Extraction
+pub mod ExtractionWritten
