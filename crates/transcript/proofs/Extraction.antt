@@ -28,7 +28,7 @@ use Rattle.stern.proofs.Sound.{extract}
 use Rattle.stern.proofs.Extraction.{none-passes1, none-passes2, none-passes3, solves-meets}
 use Rattle.transcript.specs.Layout.{Opening, ballotLength, headLength, uAt, vAt, shareAt, claimAt, keyAt, pairAt}
 use Rattle.transcript.specs.Round.{Parameters, ballotsRanged, openingRanged, headRanged, splits, opensKey, opensPairs, maskTest, claimTest}
-use Rattle.transcript.specs.Extractor.{Openings, isZero, pairs, digests, open0, open1, lentRanged, sideTests, extractTests, unknowns, vector-s, vector-e, kind, Collision, ShortVector, Key, Found, collision1, collision2, collision3, short-s, short-e, secret}
+use Rattle.transcript.specs.Extractor.{Openings, isZero, pairs, digests, open0, open1, lentRanged, sideTests, extractTests, unknowns, vector-s, vector-e, kind, Collision, Key, Found, collision1, collision2, collision3, short-s, short-e, secret}
 use Rattle.transcript.proofs.Many.{append-none, none-each}
 use Rattle.transcript.proofs.ExtractionTests.{within-bounded, pair-half, splits-alike, key-alike, pairs-open}
 use Rattle.transcript.proofs.ExtractionVectors.{differ, Decided, vector-decides}

@@ -13,12 +13,12 @@ use Rattle.codec.specs.Bytes.{Bytes, bytes, number, part, zeros}
 use Rattle.codec.proofs.Laws.{part-part}
 use Rattle.modular.specs.Modulo.{centre}
 use Rattle.modular.proofs.Congruence.{same-eq, _then_, same-mod}
-use Rattle.modular.proofs.Centring.{Near, near-centre, near-size, centre-size}
+use Rattle.modular.proofs.Centring.{Near, near-centre, near-size, centre-size, centre-mod}
 use Rattle.modular.proofs.Near.{near-le, near-add, near-negative}
 use Rattle.ring.specs.Poly.{Poly, plus, minus, scale, modulo, zero-poly, Alike}
 use Rattle.ring.specs.Slots.{poly, slot, encode}
 use Rattle.ring.specs.Ternary.{ternary}
-use Rattle.ring.proofs.Bridge.{length-encode, poly-encode, encode-none, encode-more, encode-alike}
+use Rattle.ring.proofs.Bridge.{length-encode, poly-encode, encode-none, encode-more, encode-alike, poly-part}
 use Rattle.ring.proofs.Polynomials.{alike-eq, alike-sym, _so_}
 use Rattle.ring.proofs.Sizes.{near-ternary}
 use Rattle.bgv.specs.Scheme.{Small}
@@ -45,6 +45,12 @@ module _ {q N : ℕ} (positive : 0 < q) (fits : q ≤ 2 ^ 64) where
   pub poly-written : (f : Poly) → Alike q N (poly (encode N (modulo q f))) f
   unfolding modulo
   poly-written f = record { at = λ k l. same-eq (poly-encode N (modulo q f) k l (omega (arith, mod-lt (f k) {m = q} positive))) then same-mod }
+
+  pub slot-written : (w : Bytes) (at : ℕ) (f : Poly) → part w at (8 * N) ≡ encode N (modulo q f) → Alike q N (slot w at) f
+  slot-written w at f e = stands so alike-eq (ap poly e) so poly-written f
+    where
+      stands : Alike q N (slot w at) (poly (part w at (8 * N)))
+      stands = record { at = λ k l. same-eq (sym (poly-part w at N k l)) }
 
   -- bytes decide the polynomial modulo q
   pub written-decides : (f g : Poly) → encode N (modulo q f) ≡ encode N (modulo q g) → Alike q N f g
@@ -90,6 +96,13 @@ module _ (q N : ℕ) where
       }
 
 -- ---- sizes
+
+-- the centred form goes by what a number is modulo q
+pub centre-alike : {q N : ℕ} {f g : Poly} → Alike q N f g → (k : ℕ) → k < N → centre q (f k) ≡ centre q (g k)
+centre-alike {q} {f} {g} e k l = sym (centre-mod q (f k)) ∙ ap (centre q) (e .at k l .is) ∙ centre-mod q (g k)
+
+pub small-alike : {q N : ℕ} (K : ℕ) {f g : Poly} → Alike q N f g → Small q N K f → Small q N K g
+small-alike K e h = record { at = λ k l. rw (← centre-alike e k l) (h .at k l) }
 
 module _ (q : ℕ) (odd : q % 2 ≡ 1) where
   positive : 0 < q

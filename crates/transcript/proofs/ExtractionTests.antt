@@ -6,20 +6,18 @@ use native.Mathlib.Nat.{mul-suc, mul-le-mul}
 use native.Mathlib.Omega.{arith}
 use lib.IntN.{natAbs}
 use lib.ListN.{length}
-use Rattle.codec.specs.Bytes.{Bytes, Octets, part}
+use Rattle.codec.specs.Bytes.{Bytes, Octets}
 use Rattle.codec.proofs.Laws.{length-part, octets-part, both, same-equal}
 use Rattle.modular.proofs.Congruence.{same-eq}
 use Rattle.ring.specs.Poly.{Poly, plus, Alike, Below}
 use Rattle.ring.specs.Slots.{poly, slot}
-use Rattle.ring.proofs.Bridge.{poly-part}
-use Rattle.ring.proofs.Polynomials.{alike-eq, _so_}
 use Rattle.ring.proofs.Ranges.{below-sound}
 use Rattle.bgv.specs.Scheme.{Wholes, Bounded, within, key}
 use Rattle.commitment.specs.Commitment.{Three, threeOf, pairOf, Opens, opens}
 use Rattle.commitment.proofs.Opening.{opens-exactly}
 use Rattle.transcript.specs.Layout.{Opening, headLength, keyAt, pairsOf, pairAt}
 use Rattle.transcript.specs.Round.{Parameters, headRanged, splits, opensKey, opensPairs}
-use Rattle.transcript.proofs.ExtractionSizes.{slot-part, slot-at, poly-written, written-decides}
+use Rattle.transcript.proofs.ExtractionSizes.{slot-part, slot-at, slot-written, written-decides}
 
 -- ---- 12: the test of a bound
 
@@ -49,10 +47,7 @@ module _ (P : Parameters) (m : ℕ) (positive : 0 < P .q) (fits : P .q ≤ 2 ^ 6
 
   pub key-alike : (head : Bytes) (side : ℕ) (o : Opening) → opensKey P m head side o ≡ true → Alike q N (keyAt N head side) (key q N p a (o .s) (o .e))
   unfolding opensKey
-  key-alike head side o e = stands so alike-eq (ap poly (same-equal _ _ e)) so poly-written positive fits (key q N p a (o .s) (o .e))
-    where
-      stands : Alike q N (keyAt N head side) (poly (part head (8 * N * side) (8 * N)))
-      stands = record { at = λ i l. same-eq (sym (poly-part head (8 * N * side) N i l)) }
+  key-alike head side o e = slot-written positive fits head (8 * N * side) (key q N p a (o .s) (o .e)) (same-equal _ _ e)
 
   -- ---- 8: the pairs
 

@@ -27,7 +27,7 @@ use Rattle.commitment.specs.Commitment.{Three}
 use Rattle.stern.specs.Shortness.{polynomial}
 use Rattle.stern.proofs.Layouts.{three-read}
 use Rattle.transcript.specs.Round.{Parameters}
-use Rattle.transcript.specs.Extractor.{Openings, threeBytes, ternaryBytes, extractTests, unknowns, vector-s, vector-e, kind, extracted, Key, Found, collision1, collision2, collision3, short-s, short-e, secret}
+use Rattle.transcript.specs.Extractor.{Openings, threeBytes, ternaryBytes, extractTests, unknowns, vector-s, vector-e, kind, extracted, ShortVector, Key, Found, collision1, collision2, collision3, short-s, short-e, secret}
 use Rattle.transcript.proofs.Extraction.{Lent, extraction}
 
 -- ---- ternary bytes of short numbers
@@ -123,13 +123,29 @@ module _ (P : Parameters) (m : ℕ) (x : Openings) where
   key-bytes e = rw e
 
   -- what is found is what the kind says
+  pub found-vector-s : {n : ℕ} → Found P m x n → n ≡ 4 → ShortVector P m x (vector-s P m x)
+  found-vector-s (collision1 c) e = absurd (omega arith)
+  found-vector-s (collision2 c) e = absurd (omega arith)
+  found-vector-s (collision3 c) e = absurd (omega arith)
+  found-vector-s (short-s v) e = v
+  found-vector-s (short-e v) e = absurd (omega arith)
+  found-vector-s (secret y) e = absurd (omega arith)
+
+  pub found-vector-e : {n : ℕ} → Found P m x n → n ≡ 5 → ShortVector P m x (vector-e P m x)
+  found-vector-e (collision1 c) e = absurd (omega arith)
+  found-vector-e (collision2 c) e = absurd (omega arith)
+  found-vector-e (collision3 c) e = absurd (omega arith)
+  found-vector-e (short-s v) e = absurd (omega arith)
+  found-vector-e (short-e v) e = v
+  found-vector-e (secret y) e = absurd (omega arith)
+
   pub found-secret : {n : ℕ} → Found P m x n → n ≡ 6 → Key P m x f g
   found-secret (collision1 c) e = absurd (omega arith)
   found-secret (collision2 c) e = absurd (omega arith)
   found-secret (collision3 c) e = absurd (omega arith)
   found-secret (short-s v) e = absurd (omega arith)
   found-secret (short-e v) e = absurd (omega arith)
-  found-secret (secret k) e = k
+  found-secret (secret y) e = y
 
   -- ternary bytes that stand for the extracted s and e, and then zeros
   pub record KeyWritten : Type 0 where

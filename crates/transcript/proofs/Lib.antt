@@ -5,3 +5,4 @@ pub mod ExtractionHalves
 pub mod ExtractionVectors
 pub mod Extraction
 pub mod ExtractionWritten
+pub mod ExtractionOutput
