@@ -1,4 +1,4 @@
--- What the tests of a round say once they are passed, in propositions on polynomials: 6, 7, 8, 12 and 13. Assumes nothing.
+-- What the tests of a round say once they are passed, in propositions on polynomials: 6, 7, 8 and 12. Assumes nothing.
 use mathlib.Core.Path.{_≡_, sym, ap, _∙_}
 use mathlib.Core.Bool.{true}
 use Prim.Native.Nat.{ℕ, suc, _+_, _*_, _^_, _≤_, _<_}
