@@ -4,11 +4,12 @@ use codec::Reply;
 ghost use mathlib.Core.Path.{_≡_};
 ghost use mathlib.Core.Bool.{not};
 ghost use mathlib.Core.List.{[], _∷_};
-ghost use Prim.Native.Nat.{_*_, _%_};
+ghost use Prim.Native.Nat.{_+_, _*_, _%_, _≤_};
 ghost use lib.ListN.{length};
-ghost use Rattle.codec.specs.Bytes.{same};
+ghost use Rattle.codec.specs.Bytes.{part, same};
 ghost use Rattle.codec.specs.Reply.{test, first};
-ghost use Rattle.ring.specs.Slots.{poly, list};
+ghost use Rattle.ring.specs.Poly.{Below};
+ghost use Rattle.ring.specs.Slots.{poly, slot, list};
 ghost use Rattle.call.specs.Call.{scratchLength, Public};
 ghost use Rattle.bgv.specs.Scheme.{worked, within, reconstructed};
 
@@ -38,4 +39,43 @@ fn test_ballot(
         return Reply::Refused { number: 13, place };
     }
     Reply::Taken
+}
+
+// One ballot where it stands: the ballot, its claim and its shares at places of their slices. `opened` is the opened side's shares.
+fn test_at(
+    work: &mut [u8],
+    s: &[u8],
+    ballots: &[u8],
+    at: usize,
+    claims: &[u8],
+    claim: usize,
+    shares0: &[u8],
+    shares1: &[u8],
+    opened: &[u8],
+    share: usize,
+    place: u32,
+    bound: u64,
+    n: usize,
+    q: u64,
+) -> Reply
+    requires { ⌜ Public n q (now s) × (q % 2 ≡ 1) × (length (now work) ≡ scratchLength) × (at + 4 + 16 * n ≤ length (now ballots)) × (claim + n ≤ length (now claims)) × (share + 8 * n ≤ length (now shares0)) × (share + 8 * n ≤ length (now shares1)) × (share + 8 * n ≤ length (now opened)) ⌝ }
+    requires { ⌜ Below q (2 * n) (slot (now ballots) (at + 4)) × Below q n (slot (now shares0) share) × Below q n (slot (now shares1) share) × Below q n (slot (now opened) share) ⌝ }
+    ensures { λ reply. ⌜ reply ≡ first (test 12 place (not (within bound n (worked q n 2 (poly (now (s .entry))) (slot (now (ballots .entry)) (at + 4)) (slot (now (opened .entry)) share)))) ∷ test 13 place (not (same (part (now (claims .entry)) claim n) (list n (reconstructed q 2 (slot (now (ballots .entry)) (at + 4 + 8 * n)) (slot (now (shares0 .entry)) share) (slot (now (shares1 .entry)) share))))) ∷ []) ⌝ }
+    ensures { λ _. ⌜ length (now (work .exit)) ≡ length (now (work .entry)) ⌝ }
+{
+    let end = share + 8 * n;
+    test_ballot(
+        work,
+        s,
+        &ballots[at + 4..at + 4 + 8 * n],
+        &ballots[at + 4 + 8 * n..at + 4 + 16 * n],
+        &claims[claim..claim + n],
+        &shares0[share..end],
+        &shares1[share..end],
+        &opened[share..end],
+        place,
+        bound,
+        n,
+        q,
+    )
 }
