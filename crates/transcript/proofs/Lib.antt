@@ -1,5 +1,6 @@
 pub mod Accepted
 pub mod Answers
+pub mod Compared
 pub mod Extraction
 pub mod ExtractionHalves
 pub mod ExtractionOutput
