@@ -30,8 +30,8 @@ use Rattle.transcript.specs.Layout.{Opening, ballotLength, headLength, u
 use Rattle.transcript.specs.Round.{Parameters, ballotsRanged, openingRanged, headRanged, splits, opensKey, opensPairs, maskTest, claimTest}
 use Rattle.transcript.specs.Extractor.{Openings, isZero, pairs, digests, open0, open1, lentRanged, sideTests, extractTests, unknowns, vector-s, vector-e, kind, Collision, Key, Found, collision1, collision2, collision3, short-s, short-e, secret}
 use Rattle.transcript.proofs.Many.{append-none, none-each}
-use Rattle.transcript.proofs.ExtractionTests.{within-bounded, pair-half, splits-alike, key-alike, pairs-open}
-use Rattle.transcript.proofs.ExtractionVectors.{differ, Decided, vector-decides}
+use Rattle.transcript.proofs.Tests.{differ, within-sound, pair-half, splits-exactly, key-exactly, pairs-exactly}
+use Rattle.transcript.proofs.ExtractionVectors.{Decided, vector-decides}
 
 -- what is lent has the right lengths, for m ballots, and the first message is in bytes
 pub record Lent (P : Parameters) (m : ℕ) (x : Openings) : Type 0 where
@@ -61,13 +61,13 @@ module _ (P : Parameters) (m : ℕ) (x : Openings) where
   module _ (three : 2 < q) (fits : q ≤ 2 ^ 64) (lent : Lent P m x) where
     side-passed : headRanged P m (x .head) ≡ true → (side : ℕ) → side < 2 → (shares : Bytes) (o : Opening) → None (sideTests P m x side shares o) → Side side shares o
     side-passed ranged side two shares o n =
-        let pair = pairs-open P m (omega arith) fits (x .head) (lent .head) (lent .octets) ranged side two o (not-false (opensPairs P m (x .head) side o) (n .1 .0)) in
+        let pair = pairs-exactly P m (omega arith) fits (x .head) (lent .head) (lent .octets) ranged side two o .0 (not-false (opensPairs P m (x .head) side o) (n .1 .0)) in
         let ballot = none-each m (λ j. maskTest P m (x .ballots) shares o j ∷ claimTest P m (x .ballots) (x .claims) (x .shares0) (x .shares1) j ∷ []) (n .1 .1) in
         record {
-          key-opened = key-alike P m (omega arith) fits (x .head) side o (not-false (opensKey P m (x .head) side o) (n .0));
+          key-opened = key-exactly P m (omega arith) fits (x .head) (lent .head) (lent .octets) ranged side two o .0 (not-false (opensKey P m (x .head) side o) (n .0));
           s-committed = pair .0;
           e-committed = pair .1;
-          masked = λ j l. within-bounded B N (worked q N p (o .s) (uAt N (x .ballots) j) (shareAt N shares j)) (not-false (within B N (worked q N p (o .s) (uAt N (x .ballots) j) (shareAt N shares j))) (ballot j l .0));
+          masked = λ j l. within-sound B N (worked q N p (o .s) (uAt N (x .ballots) j) (shareAt N shares j)) (not-false (within B N (worked q N p (o .s) (uAt N (x .ballots) j) (shareAt N shares j))) (ballot j l .0));
           claimed = λ j l. same-equal (claimAt N (x .claims) j) (list N (reconstructed q p (vAt N (x .ballots) j) (shareAt N (x .shares0) j) (shareAt N (x .shares1) j))) (not-false _ (ballot j l .1 .0));
         }
 
@@ -193,7 +193,7 @@ module _ (P : Parameters) (m : ℕ) (x : Openings) where
           matches = noisy-alike q N p alike-refl (alike-sym sums) (alike-sym errors)
               so alike-eq (noisy-adds q N p a (open0 P m x .s) (open1 P m x .s) (open0 P m x .e) (open1 P m x .e))
               so alike-sym (alike-plus (side0 .key-opened) (side1 .key-opened))
-              so splits-alike P m (omega arith) fits (x .head) (not-false (splits P m (x .head)) (none .1 .0));
+              so splits-exactly P m (omega arith) fits (x .head) .0 (not-false (splits P m (x .head)) (none .1 .0));
           opens = λ j l noise. sym (side0 .claimed j l ∙ list-cong N (decrypts j l noise));
         }
           where

@@ -15,11 +15,12 @@ use Rattle.bgv.specs.Scheme.{opened, plain, Sound}
 use Rattle.bgv.proofs.Form.{noisy-alike}
 use Rattle.commitment.specs.Commitment.{Three, Alike3}
 use Rattle.commitment.proofs.Additive.{row-alike}
+use Rattle.stern.proofs.Honest.{slot-alike}
 use Rattle.stern.proofs.Layouts.{three-read}
 use Rattle.transcript.specs.Layout.{uAt, vAt}
 use Rattle.transcript.specs.Round.{Parameters}
 use Rattle.transcript.specs.Extractor.{Openings, threeBytes, extractTests, vector-s, vector-e, kind, extracted, Nonzero, ShortVector, Key, short-s, short-e}
-use Rattle.transcript.proofs.ExtractionSizes.{slot-written, centre-alike, small-alike}
+use Rattle.transcript.proofs.ExtractionSizes.{centre-alike, small-alike}
 use Rattle.transcript.proofs.Extraction.{Lent, extraction}
 use Rattle.transcript.proofs.ExtractionWritten.{vector-s-written, vector-e-written, found-vector-s, found-vector-e, found-secret, key-written}
 
@@ -32,9 +33,9 @@ vectorOf-threeBytes {q} N r w positive fits e =
     let t = three-read (8 * N) (8 * N) (8 * N) (16 * N) (omega arith) (encode N (modulo q (r .r1))) (encode N (modulo q (r .r2))) (encode N (modulo q (r .r3)))
     (length-encode N _) (length-encode N _) (length-encode N _) in
     record {
-      r1 = alike-sym (slot-written positive fits w 0 (r .r1) (ap (λ (s : Bytes). part s 0 (8 * N)) e ∙ t .0));
-      r2 = alike-sym (slot-written positive fits w (8 * N) (r .r2) (ap (λ (s : Bytes). part s (8 * N) (8 * N)) e ∙ t .1));
-      r3 = alike-sym (slot-written positive fits w (16 * N) (r .r3) (ap (λ (s : Bytes). part s (16 * N) (8 * N)) e ∙ t .2));
+      r1 = alike-sym (slot-alike q N positive fits w 0 (r .r1) (ap (λ (s : Bytes). part s 0 (8 * N)) e ∙ t .0));
+      r2 = alike-sym (slot-alike q N positive fits w (8 * N) (r .r2) (ap (λ (s : Bytes). part s (8 * N) (8 * N)) e ∙ t .1));
+      r3 = alike-sym (slot-alike q N positive fits w (16 * N) (r .r3) (ap (λ (s : Bytes). part s (16 * N) (8 * N)) e ∙ t .2));
     }
 
 module _ (P : Parameters) (m : ℕ) (x : Openings) where

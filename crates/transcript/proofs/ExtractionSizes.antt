@@ -1,60 +1,28 @@
--- Polynomials, their bytes and their sizes, as an extraction needs them: bytes modulo q decide a polynomial, bytes are zeros exactly if it is zero, and sums and
--- differences of short ones are small. Assumes nothing.
+-- Polynomials, their bytes and their sizes, as an extraction needs them: bytes are zeros exactly if a polynomial is zero, and sums and differences of short ones
+-- are small. Assumes nothing.
 use mathlib.Core.Path.{_≡_, refl, sym, ap, ap₂, _∙_}
 use mathlib.Core.List.{_++_}
 use Prim.Native.Nat.{ℕ, zero, suc, _+_, _-_, _*_, _/_, _%_, _^_, _≤_, _<_}
-use native.Mathlib.Nat.{zero-mod, mod-lt, add-assoc}
+use native.Mathlib.Nat.{zero-mod}
 use native.Mathlib.Numerals.{add-one}
 use native.Mathlib.Decide.{decLe}
 use native.Mathlib.Omega.{arith}
 use lib.IntN.{natAbs}
 use lib.ListN.{length, replicate-append-replicate}
-use Rattle.codec.specs.Bytes.{Bytes, bytes, number, part, zeros}
-use Rattle.codec.proofs.Laws.{part-part}
+use Rattle.codec.specs.Bytes.{Bytes, bytes, zeros}
 use Rattle.modular.specs.Modulo.{centre}
-use Rattle.modular.proofs.Congruence.{same-eq, _then_, same-mod}
 use Rattle.modular.proofs.Centring.{Near, near-centre, near-size, centre-size, centre-mod}
 use Rattle.modular.proofs.Near.{near-le, near-add, near-negative}
 use Rattle.ring.specs.Poly.{Poly, plus, minus, scale, modulo, zero-poly, Alike}
-use Rattle.ring.specs.Slots.{poly, slot, encode}
+use Rattle.ring.specs.Slots.{encode}
 use Rattle.ring.specs.Ternary.{ternary}
-use Rattle.ring.proofs.Bridge.{length-encode, poly-encode, encode-none, encode-more, encode-alike, poly-part}
-use Rattle.ring.proofs.Polynomials.{alike-eq, alike-sym, _so_}
+use Rattle.ring.proofs.Bridge.{length-encode, encode-none, encode-more, encode-alike}
 use Rattle.ring.proofs.Sizes.{near-ternary}
 use Rattle.bgv.specs.Scheme.{Small}
 use Rattle.commitment.specs.Commitment.{Three, Alike3}
+use Rattle.commitment.proofs.Opening.{encode-decides}
 use Rattle.stern.proofs.Sound.{parts}
 use Rattle.transcript.specs.Extractor.{threeBytes}
-
--- ---- places
-
--- a slot of a part
-pub slot-part : (w : Bytes) (at n from k : ℕ) → from + 8 * k + 8 ≤ n → slot (part w at n) from k ≡ slot w (at + from) k
-unfolding slot
-slot-part w at n from k h = ap number (part-part w at n (from + 8 * k) 8 h ∙ ap (λ (j : ℕ). part w j 8) (sym (add-assoc at from (8 * k))))
-
--- a slot that begins at coefficient m
-pub slot-at : (w : Bytes) (at m k : ℕ) → at ≡ 8 * m → slot w at k ≡ poly w (m + k)
-unfolding slot poly
-slot-at w at m k e = let f : at + 8 * k ≡ 8 * (m + k) = omega arith in ap (λ (j : ℕ). number (part w j 8)) f
-
--- ---- bytes modulo q
-
-module _ {q N : ℕ} (positive : 0 < q) (fits : q ≤ 2 ^ 64) where
-  -- what is written modulo q is read back modulo q
-  pub poly-written : (f : Poly) → Alike q N (poly (encode N (modulo q f))) f
-  unfolding modulo
-  poly-written f = record { at = λ k l. same-eq (poly-encode N (modulo q f) k l (omega (arith, mod-lt (f k) {m = q} positive))) then same-mod }
-
-  pub slot-written : (w : Bytes) (at : ℕ) (f : Poly) → part w at (8 * N) ≡ encode N (modulo q f) → Alike q N (slot w at) f
-  slot-written w at f e = stands so alike-eq (ap poly e) so poly-written f
-    where
-      stands : Alike q N (slot w at) (poly (part w at (8 * N)))
-      stands = record { at = λ k l. same-eq (sym (poly-part w at N k l)) }
-
-  -- bytes decide the polynomial modulo q
-  pub written-decides : (f g : Poly) → encode N (modulo q f) ≡ encode N (modulo q g) → Alike q N f g
-  written-decides f g e = alike-sym (poly-written f) so alike-eq (ap poly e) so poly-written g
 
 -- ---- zero
 
@@ -90,9 +58,9 @@ module _ (q N : ℕ) where
       let a = parts (encode N (modulo q (r .r1))) (encode N (modulo q zero-poly)) (long (r .r1)) (e ∙ sym zero3-bytes) in
       let b = parts (encode N (modulo q (r .r2))) (encode N (modulo q zero-poly)) (long (r .r2)) (a .1) in
       record {
-        r1 = written-decides positive fits (r .r1) zero-poly (a .0);
-        r2 = written-decides positive fits (r .r2) zero-poly (b .0);
-        r3 = written-decides positive fits (r .r3) zero-poly (b .1);
+        r1 = encode-decides q N positive fits (a .0);
+        r2 = encode-decides q N positive fits (b .0);
+        r3 = encode-decides q N positive fits (b .1);
       }
 
 -- ---- sizes

@@ -1,26 +1,23 @@
 -- The vector for s or for e: where its bytes are not all zeros it is nonzero, small, and the commitment row takes it to zero; where they are, the openings add up to
 -- what was extracted. Assumes nothing.
-use mathlib.Core.Path.{_≡_, sym, ap, _∙_}
+use mathlib.Core.Path.{_≡_, sym, _∙_}
 use mathlib.Core.Logic.{_⊎_, inl, inr}
 use mathlib.Core.Bool.{true, false}
 use Prim.Native.Nat.{ℕ, zero, suc, _+_, _*_, _%_, _^_, _≤_, _<_}
 use native.Mathlib.Nat.{zero-mod}
 use native.Mathlib.Decide.{ℕ-discrete}
 use native.Mathlib.Omega.{arith}
-use Rattle.codec.specs.Bytes.{Bytes, same, zeros}
-use Rattle.codec.proofs.Laws.{same-refl, same-equal}
+use Rattle.codec.specs.Bytes.{Bytes, zeros}
+use Rattle.codec.proofs.Laws.{same-equal}
 use Rattle.ring.specs.Poly.{Poly, plus, zero-poly, Alike}
 use Rattle.commitment.specs.Commitment.{Three, Pair, threeOf, plus3, row, second, Opens}
 use Rattle.stern.specs.Shortness.{polynomial, threeFrom}
 use Rattle.stern.specs.Claims.{Meets}
 use Rattle.transcript.specs.Round.{Parameters}
 use Rattle.transcript.specs.Extractor.{Openings, threeBytes, isZero, pairs, unknowns, Nonzero, ShortVector}
+use Rattle.transcript.proofs.Tests.{differ}
 use Rattle.transcript.proofs.ExtractionSizes.{alike-zeros, zeros-alike}
 use Rattle.transcript.proofs.ExtractionHalves.{Small3, opened-short, difference, difference-small, row-vanishes, openings-add}
-
--- a test of two byte strings that fails says that they differ
-pub differ : (s t : Bytes) → same s t ≡ false → s ≡ t → ⊥
-differ s t e f = let z : true ≡ false = sym (ap (same s) (sym f) ∙ same-refl s) ∙ e in let y : _≡_ {A = ℕ} 0 1 = cc in omega arith
 
 module _ (P : Parameters) (m : ℕ) (x : Openings) where
   open Parameters P using (q, N, k)

@@ -5,11 +5,11 @@ pub mod Extraction
 pub mod ExtractionHalves
 pub mod ExtractionOutput
 pub mod ExtractionSizes
-pub mod ExtractionTests
 pub mod ExtractionVectors
 pub mod ExtractionWritten
 pub mod Honest
 pub mod Many
 pub mod Passed
 pub mod Produced
+pub mod Tests
 pub mod Written

@@ -1,40 +1,23 @@
--- What passed tests say: masks and noise within their bounds, and what the producer was lent if it meets none of its refusals. Assumes nothing.
-use mathlib.Core.Path.{_≡_, sym, ap, _∙_}
+-- What the producer was lent if it meets none of its refusals: material in range that matches b, with masks and noise within their bounds. Assumes nothing.
+use mathlib.Core.Path.{_≡_}
 use mathlib.Core.Bool.{true, not, _&&_}
 use mathlib.Core.List.{[], _∷_}
 use Prim.Native.Nat.{ℕ, zero, suc, _*_, _^_, _≤_, _<_}
 use native.Mathlib.Omega.{arith}
 use borrow.Author.Tests.{not-false}
-use lib.IntN.{natAbs}
-use Rattle.codec.specs.Bytes.{Bytes, same}
 use Rattle.codec.specs.Reply.{test, None}
-use Rattle.codec.proofs.Laws.{both, same-refl, same-equal}
+use Rattle.codec.proofs.Laws.{both, same-equal}
 use Rattle.ring.specs.Poly.{modulo, Alike}
 use Rattle.ring.specs.Slots.{poly, list, encode, allBelow}
-use Rattle.ring.proofs.Ranges.{below-sound, below-complete}
-use Rattle.bgv.specs.Scheme.{Wholes, centred, Bounded, within, Small, key, opened, lentMask}
+use Rattle.bgv.specs.Scheme.{centred, Bounded, within, Small, key, opened, lentMask}
+use Rattle.commitment.proofs.Opening.{encode-decides}
 use Rattle.vector.specs.Vector.{vector}
 use Rattle.vector.specs.Permutation.{entries, permutes}
 use Rattle.transcript.specs.Layout.{each, uAt, vAt}
 use Rattle.transcript.specs.Round.{Parameters, ballotsRanged}
 use Rattle.transcript.specs.Producer.{Material, secret-s, secret-e, maskAt, permutationAt, materialRanged, producerTests}
 use Rattle.transcript.proofs.Many.{append-none, none-each}
-use Rattle.transcript.proofs.Written.{written-decides}
-
--- ---- tests of equal bytes and of a bound
-
-pub equal-same : {s t : Bytes} → s ≡ t → same s t ≡ true
-equal-same {s} e = ap (same s) (sym e) ∙ same-refl s
-
-pub within-sound : (K N : ℕ) (E : Wholes) → within K N E ≡ true → Bounded N K E
-unfolding within
-within-sound K N E e = let b = below-sound (suc K) N (λ k. natAbs (E k)) e in record { at = λ k l. omega (arith, b .at k l) }
-
-pub within-complete : (K N : ℕ) (E : Wholes) → Bounded N K E → within K N E ≡ true
-unfolding within
-within-complete K N E b = below-complete (suc K) N (λ k. natAbs (E k)) (record { at = λ k l. omega (arith, b .at k l) })
-
--- ---- the producer's tests
+use Rattle.transcript.proofs.Tests.{within-sound}
 
 module _ (P : Parameters) (m : ℕ) (x : Material) where
   open Parameters P using (q, N, p, B, D, repeats, a, b, k)
@@ -83,7 +66,7 @@ module _ (P : Parameters) (m : ℕ) (x : Material) where
       secrets = ranges .0;
       vectors = ranges .1;
       ballots = ranges .2;
-      matches = written-decides q N positive fits (key q N p a (secret-s P m x) (secret-e P m x)) b (tests .1);
+      matches = encode-decides q N positive fits (tests .1);
       masked = bounded;
       permuting = λ i l. not-false _ (none-each repeats (λ j. test 9 j (not (permutes (42 * N) (entries (permutationAt P m x j)))) ∷ []) (tests .3) i l .0);
       quiet = λ j l.

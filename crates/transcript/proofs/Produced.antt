@@ -16,12 +16,12 @@ use Rattle.commitment.specs.Commitment.{Pair, pairBytes}
 use Rattle.stern.specs.Argument.{First, first}
 use Rattle.stern.specs.Shortness.{setting, firstBytes, answerLength, honestDigests, honestAnswer}
 use Rattle.stern.proofs.Layouts.{four-read}
-use Rattle.stern.proofs.Honest.{length-pairBytes}
+use Rattle.stern.proofs.Honest.{length-pairBytes, slot-alike}
 use Rattle.transcript.specs.Layout.{joined, headLength, uAt, vAt, shareAt, claimAt, keyAt, pairsOf, pairAt, digestsAt, openingOf, answersLength, answerAt}
 use Rattle.transcript.specs.Round.{Parameters}
 use Rattle.transcript.specs.Producer.{Material, Sized, secret-s, half-s, half-e, hides-s, hides-e, maskAt, permutationAt, drawnAt, pairBytesOf, producedPairs, producedHead, producedShares, producedClaims, producedOpening, producedAnswers}
 use Rattle.transcript.proofs.Many.{length-joined, joined-at}
-use Rattle.transcript.proofs.Written.{alike-written, octets-encode, octets-joined}
+use Rattle.transcript.proofs.Written.{octets-encode, octets-joined}
 use Rattle.transcript.proofs.Answers.{stretch, length-answers, answers-at, length-honestAnswer}
 
 -- three digests are 96 bytes
@@ -153,11 +153,11 @@ module _ (P : Parameters) (m : ℕ) (x : Material) where
 
   module _ (positive : 0 < q) (fits : q ≤ 2 ^ 64) where
     pub key-alike : (side : ℕ) → side < 2 → Alike q N (keyAt N (producedHead P m x) side) (key q N p a (half-s P m x side) (half-e P m x side))
-    key-alike side h = alike-written q N positive fits (producedHead P m x) (8 * N * side) (keyOf side) (key-written side h)
+    key-alike side h = slot-alike q N positive fits (producedHead P m x) (8 * N * side) (keyOf side) (key-written side h)
 
     pub share-alike : (side j : ℕ) → j < m
         → Alike q N (shareAt N (producedShares P m x side) j) (share q N p (half-s P m x side) (uAt N (x .ballots) j) (lentMask (maskAt P m x side j)))
-    share-alike side j h = alike-written q N positive fits (producedShares P m x side) (8 * N * j) (shareOf side j) (share-written side j h)
+    share-alike side j h = slot-alike q N positive fits (producedShares P m x side) (8 * N * j) (shareOf side j) (share-written side j h)
 
   -- ---- what the lengths of the material are for
 
@@ -212,7 +212,7 @@ module _ (P : Parameters) (m : ℕ) (x : Material) where
 
     module _ (positive : 0 < q) (fits : q ≤ 2 ^ 64) (side : ℕ) (h : side < 2) where
       pub opening-s : Alike q N (openingOf N (producedOpening P m x side) .s) (half-s P m x side)
-      opening-s = alike-written q N positive fits (producedOpening P m x side) 0 (half-s P m x side) (opening-written side h .0)
+      opening-s = slot-alike q N positive fits (producedOpening P m x side) 0 (half-s P m x side) (opening-written side h .0)
 
       pub opening-e : Alike q N (openingOf N (producedOpening P m x side) .e) (half-e P m x side)
-      opening-e = alike-written q N positive fits (producedOpening P m x side) (8 * N) (half-e P m x side) (opening-written side h .1)
+      opening-e = slot-alike q N positive fits (producedOpening P m x side) (8 * N) (half-e P m x side) (opening-written side h .1)

@@ -1,50 +1,41 @@
--- Polynomials modulo q as bytes: what was written is read back, bytes in range are written as they stand, and what is written side by side is in range. Assumes nothing.
+-- Polynomials modulo q as bytes: where they stand, that what is written is bytes, and that what is written side by side is in range. Assumes nothing.
 use mathlib.Core.Path.{_≡_, refl, sym, ap, ap₂, _∙_}
 use mathlib.Core.Logic.{_⊎_, inl, inr}
 use mathlib.Core.Bool.{true}
 use mathlib.Core.List.{List, [], _∷_, _++_}
-use Prim.Native.Nat.{ℕ, zero, suc, _+_, _-_, _*_, _/_, _%_, _^_, _≤_, _<_}
-use native.Mathlib.Nat.{mod-lt, mod-eq-of-lt, mul-zero, mul-suc, zero-add}
+use Prim.Native.Nat.{ℕ, zero, suc, _+_, _-_, _*_, _/_, _^_, _≤_, _<_}
+use native.Mathlib.Nat.{mod-lt, add-assoc, mul-zero, mul-suc}
 use native.Mathlib.Omega.{arith}
 use lib.ListN.{length, length-append}
-use Rattle.codec.specs.Bytes.{Bytes, Octets, bytes, words, part}
-use Rattle.codec.proofs.Laws.{length-part, octets-part, octets-append}
+use Rattle.codec.specs.Bytes.{Bytes, Octets, bytes, words, number, part}
+use Rattle.codec.proofs.Laws.{length-part, part-part, octets-append}
 use Rattle.codec.proofs.Numbers.{bytes-octets}
-use Rattle.modular.proofs.Congruence.{same-eq, _then_, same-mod}
-use Rattle.ring.specs.Poly.{Poly, modulo, Alike, Below}
+use Rattle.ring.specs.Poly.{Poly, modulo, Below}
 use Rattle.ring.specs.Slots.{poly, slot, list, encode, allBelow}
-use Rattle.ring.proofs.Bridge.{length-encode, poly-encode, encode-cong, encode-poly, poly-part, slot-poly, slot-later}
+use Rattle.ring.proofs.Bridge.{length-encode, poly-encode, poly-part, slot-poly}
 use Rattle.ring.proofs.Ranges.{below-complete}
 use Rattle.ring.proofs.Sums.{side}
 use Rattle.vector.specs.Vector.{vector}
-use Rattle.vector.proofs.Vectors.{words-injective, allBelow-each, each-allBelow, append-each, take-each, drop-each}
+use Rattle.vector.proofs.Vectors.{allBelow-each, each-allBelow, append-each, take-each, drop-each}
 use Rattle.stern.proofs.Layouts.{part-first, part-rest}
-use Rattle.stern.proofs.FourEquations.{numbers-vector, alike-numbers}
 use Rattle.stern.proofs.Written.{vector-below}
 use Rattle.transcript.specs.Layout.{joined}
 
 -- ---- a polynomial at a place
 
-module _ (q N : ℕ) (positive : 0 < q) (fits : q ≤ 2 ^ 64) where
-  slot-written : (c : Bytes) (at : ℕ) (f : Poly) → part c at (8 * N) ≡ encode N (modulo q f) → (k : ℕ) → k < N → slot c at k ≡ f k % q
-  unfolding modulo
-  slot-written c at f e k l =
-      sym (poly-part c at N k l) ∙ ap (λ (s : Bytes). poly s k) e ∙ poly-encode N (modulo q f) k l (omega (arith, mod-lt (f k) {m = q} positive))
+-- a slot of a part
+pub slot-part : (w : Bytes) (at n from k : ℕ) → from + 8 * k + 8 ≤ n → slot (part w at n) from k ≡ slot w (at + from) k
+unfolding slot
+slot-part w at n from k h = ap number (part-part w at n (from + 8 * k) 8 h ∙ ap (λ (j : ℕ). part w j 8) (sym (add-assoc at from (8 * k))))
 
-  pub alike-written : (c : Bytes) (at : ℕ) (f : Poly) → part c at (8 * N) ≡ encode N (modulo q f) → Alike q N (slot c at) f
-  alike-written c at f e = record { at = λ k l. same-eq (slot-written c at f e k l) then same-mod }
+-- a slot that begins at coefficient m
+pub slot-at : (w : Bytes) (at m k : ℕ) → at ≡ 8 * m → slot w at k ≡ poly w (m + k)
+unfolding slot poly
+slot-at w at m k e = let f : at + 8 * k ≡ 8 * (m + k) = omega arith in ap (λ (j : ℕ). number (part w j 8)) f
 
-  -- bytes decide the polynomial modulo q
-  pub written-decides : (f g : Poly) → encode N (modulo q f) ≡ encode N (modulo q g) → Alike q N f g
-  unfolding encode
-  written-decides f g e = alike-numbers f g (words-injective fits (numbers-vector N f positive) (numbers-vector N g positive) e)
-
--- bytes in range are those of the polynomial that they hold
-pub written-slot : (q N : ℕ) (c : Bytes) (at : ℕ) → Octets c → at + 8 * N ≤ length c → Below q N (slot c at) → part c at (8 * N) ≡ encode N (modulo q (slot c at))
-unfolding modulo
-written-slot q N c at octets l b =
-    sym (encode-poly (part c at (8 * N)) N (octets-part c at (8 * N) octets) (length-part c at (8 * N) l))
-    ∙ encode-cong N (λ k m. poly-part c at N k m ∙ sym (mod-eq-of-lt (b .at k m)))
+-- a slot of bytes that hold n coefficients below q
+pub below-slot : (q n : ℕ) (s : Bytes) (d l at : ℕ) → at ≡ 8 * d → d + l ≤ n → Below q n (poly s) → Below q l (slot s at)
+below-slot q n s d l at e h b = record { at = λ k j. rw (slot-at s at d k e) (b .at (d + k) (omega arith)) }
 
 -- ---- what is written is bytes
 
@@ -92,8 +83,7 @@ poly-first a b n k e l = sym (slot-poly (a ++ b) k) ∙ sym (poly-part (a ++ b) 
 -- and those behind them
 poly-behind : (a b : Bytes) (n m k : ℕ) → length a ≡ 8 * n → length b ≡ 8 * m → k < m → poly (a ++ b) (n + k) ≡ poly b k
 poly-behind a b n m k e f l =
-    sym (slot-poly (a ++ b) (n + k)) ∙ sym (slot-later (a ++ b) 0 n k) ∙ ap (λ (i : ℕ). slot (a ++ b) i k) (zero-add (8 * n)) ∙ sym (poly-part (a ++ b) (8 * n) m k l)
-    ∙ ap (λ (s : Bytes). poly s k) (part-rest a b (8 * n) (8 * m) e f)
+    sym (slot-at (a ++ b) (8 * n) n k refl) ∙ sym (poly-part (a ++ b) (8 * n) m k l) ∙ ap (λ (s : Bytes). poly s k) (part-rest a b (8 * n) (8 * m) e f)
 
 module _ {q : ℕ} where
   pub coefficients-written : (N : ℕ) (f : Poly) → 0 < q → q ≤ 2 ^ 64 → Coefficients q N (encode N (modulo q f))
@@ -142,9 +132,5 @@ module _ {q : ℕ} where
   pub coefficients-part : (s : Bytes) (at n : ℕ) → allBelow q (vector s) ≡ true → 8 * at + 8 * n ≤ length s → Coefficients q n (part s (8 * at) (8 * n))
   coefficients-part s at n h l = record {
     sized = length-part s (8 * at) (8 * n) l;
-    below = record {
-      at = λ k b.
-          let e : slot s (8 * at) k ≡ poly s (at + k) = ap (λ (i : ℕ). slot s i k) (sym (zero-add (8 * at))) ∙ slot-later s 0 at k ∙ slot-poly s (at + k) in
-          rw (poly-part s (8 * at) n k b ∙ e) (vector-below q s h .at (at + k) (omega arith));
-    };
+    below = record { at = λ k b. rw (poly-part s (8 * at) n k b ∙ slot-at s (8 * at) at k refl) (vector-below q s h .at (at + k) (omega arith)) };
   }
