@@ -28,7 +28,7 @@ use Rattle.transcript.proofs.Tests.{equal-same, within-sound, within-co
 use Rattle.transcript.proofs.Honest.{honest-round}
 
 module _ (P : Parameters) (m : ℕ) (positive : 0 < P .q) (fits : P .q ≤ 2 ^ 64) (r : Round) where
-  open Parameters P using (q, N, p, B, repeats, a, b, k)
+  open Parameters P using (q, N, p, B, repeats, a, k)
 
   abbrev head : Bytes
   head = r .head

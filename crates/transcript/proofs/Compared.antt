@@ -12,10 +12,9 @@ use lib.Seq.{ext-getD}
 use Rattle.codec.specs.Bytes.{Bytes, Octets, part, put, same}
 use Rattle.codec.proofs.Laws as Laws
 use Rattle.codec.proofs.Laws.{not-same, length-part}
-use Rattle.modular.specs.Modulo.{Same, centre, remainder}
+use Rattle.modular.specs.Modulo.{Same, remainder}
 use Rattle.modular.specs.Division.{inverse, divide}
 use Rattle.modular.proofs.Congruence.{same-eq, same-refl, same-mul}
-use Rattle.modular.proofs.Centring.{centre-mod}
 use Rattle.ring.specs.Poly.{Poly, plus, modulo, Alike, Below}
 use Rattle.ring.specs.Slots.{poly, slot, list, encode, store, allBelow}
 use Rattle.ring.proofs.Bridge.{length-list, list-cong, getD-list, encode-cong, encode-poly, poly-part, slot-later}
@@ -23,6 +22,7 @@ use Rattle.ring.proofs.Polynomials.{alike-refl, alike-minus, alike-mul}
 use Rattle.call.specs.Call.{Public}
 use Rattle.bgv.specs.Scheme.{worked, within, plain, rebuilt, reconstructed}
 use Rattle.call.proofs.Shelf.{Shelf, shelf-none, shelf-copy, shelf-add, shelf-below}
+use Rattle.transcript.proofs.ExtractionSizes.{same-centre}
 
 -- the bytes of a lent polynomial in range
 pub lent-encoded : (n q : ℕ) (s : Bytes) → Octets s → Public n q s → s ≡ encode n (modulo q (poly s))
@@ -60,9 +60,6 @@ module _ (n : ℕ) (claim : Bytes) (f : Poly) (sized : length claim ≡ n) where
   same-claim h = sym (ap (same claim) (sym (ext-getD 0 claim (list n f) (sized ∙ sym (length-list n f)) (λ i l. h i (omega arith) ∙ sym (getD-list n f i (omega arith))))) ∙ Laws.same-refl claim)
 
 -- ---- what a mask and a vote go by: coefficients modulo q
-
-same-centre : {q x y : ℕ} → Same q x y → centre q x ≡ centre q y
-same-centre {q} {x} {y} e = sym (centre-mod q x) ∙ ap (centre q) (e .is) ∙ centre-mod q y
 
 same-divide : {q x y : ℕ} (p : ℕ) → Same q x y → divide q p x ≡ divide q p y
 unfolding divide

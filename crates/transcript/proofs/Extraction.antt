@@ -7,8 +7,7 @@ use Prim.Native.Nat.{ℕ, _+_, _*_, _^_, _≤_, _<_}
 use native.Mathlib.Omega.{arith}
 use borrow.Author.Tests.{not-false}
 use lib.Dec.{ltb}
-use lib.ListN.{length}
-use Rattle.codec.specs.Bytes.{Bytes, Octets, same}
+use Rattle.codec.specs.Bytes.{Bytes, same}
 use Rattle.codec.specs.Reply.{Test, None}
 use Rattle.codec.proofs.Laws.{both, same-equal}
 use Rattle.ring.specs.Poly.{Poly, plus, Alike}
@@ -21,34 +20,20 @@ use Rattle.bgv.proofs.Round.{share-worked, reconstructs}
 use Rattle.commitment.specs.Commitment.{threeOf, pairOf, Opens}
 use Rattle.vector.specs.Vector.{vector}
 use Rattle.stern.specs.Argument.{Setting, Answer1, Answer2, Answer3, Passes1, Passes2, Passes3, Extracted, broken1, broken2, broken3, found, one-by2, one-by3, two-by1, two-by3, three-by1, three-by2}
-use Rattle.stern.specs.Shortness.{polynomial, setting, firstOf, answerLength, answer1Of, answer2Of, answer3Of, tests1, tests2, tests3, inRange}
+use Rattle.stern.specs.Shortness.{polynomial, setting, firstOf, answer1Of, answer2Of, answer3Of, tests1, tests2, tests3, inRange}
 use Rattle.stern.specs.Claims.{Meets}
 use Rattle.stern.proofs.FourEquations.{setting-valid}
 use Rattle.stern.proofs.Sound.{extract}
 use Rattle.stern.proofs.Extraction.{none-passes1, none-passes2, none-passes3, solves-meets}
-use Rattle.transcript.specs.Layout.{Opening, ballotLength, headLength, uAt, vAt, shareAt, claimAt, keyAt, pairAt}
+use Rattle.transcript.specs.Layout.{Opening, uAt, vAt, shareAt, claimAt, keyAt, pairAt}
 use Rattle.transcript.specs.Round.{Parameters, ballotsRanged, openingRanged, headRanged, splits, opensKey, opensPairs, maskTest, claimTest}
-use Rattle.transcript.specs.Extractor.{Openings, isZero, pairs, digests, open0, open1, lentRanged, sideTests, extractTests, unknowns, vector-s, vector-e, kind, Collision, Key, Found, collision1, collision2, collision3, short-s, short-e, secret}
+use Rattle.transcript.specs.Extractor.{Openings, Lent, isZero, pairs, digests, open0, open1, lentRanged, sideTests, extractTests, unknowns, vector-s, vector-e, kind, Collision, Key, Found, collision1, collision2, collision3, short-s, short-e, secret}
 use Rattle.transcript.proofs.Many.{append-none, none-each}
 use Rattle.transcript.proofs.Tests.{differ, within-sound, pair-half, splits-exactly, key-exactly, pairs-exactly}
 use Rattle.transcript.proofs.ExtractionVectors.{Decided, vector-decides}
 
--- what is lent has the right lengths, for m ballots, and the first message is in bytes
-pub record Lent (P : Parameters) (m : ℕ) (x : Openings) : Type 0 where
-  pub head : length (x .head) ≡ headLength (P .N) (P .repeats)
-  pub octets : Octets (x .head)
-  pub shares0 : length (x .shares0) ≡ 8 * P .N * m
-  pub shares1 : length (x .shares1) ≡ 8 * P .N * m
-  pub ballots : length (x .ballots) ≡ ballotLength (P .N) * m
-  pub claims : length (x .claims) ≡ P .N * m
-  pub opening0 : length (x .opening0) ≡ 22 * P .N
-  pub opening1 : length (x .opening1) ≡ 22 * P .N
-  pub answer1 : length (x .answer1) ≡ answerLength (P .N) 1
-  pub answer2 : length (x .answer2) ≡ answerLength (P .N) 2
-  pub answer3 : length (x .answer3) ≡ answerLength (P .N) 3
-
 module _ (P : Parameters) (m : ℕ) (x : Openings) where
-  open Parameters P using (q, N, p, D, B, a, b, k)
+  open Parameters P using (q, N, p, D, B, a, k)
 
   -- what the tests of a side say
   record Side (side : ℕ) (shares : Bytes) (o : Opening) : Type 0 where

@@ -19,9 +19,9 @@ use Rattle.stern.proofs.Honest.{slot-alike}
 use Rattle.stern.proofs.Layouts.{three-read}
 use Rattle.transcript.specs.Layout.{uAt, vAt}
 use Rattle.transcript.specs.Round.{Parameters}
-use Rattle.transcript.specs.Extractor.{Openings, threeBytes, extractTests, vector-s, vector-e, kind, extracted, Nonzero, ShortVector, Key, short-s, short-e}
-use Rattle.transcript.proofs.ExtractionSizes.{centre-alike, small-alike}
-use Rattle.transcript.proofs.Extraction.{Lent, extraction}
+use Rattle.transcript.specs.Extractor.{Openings, Lent, threeBytes, extractTests, vector-s, vector-e, kind, extracted, Nonzero, ShortVector, Key, short-s, short-e}
+use Rattle.transcript.proofs.ExtractionSizes.{same-centre, small-alike}
+use Rattle.transcript.proofs.Extraction.{extraction}
 use Rattle.transcript.proofs.ExtractionWritten.{vector-s-written, vector-e-written, found-vector-s, found-vector-e, found-secret, key-written}
 
 -- three polynomials in 24N bytes
@@ -73,7 +73,7 @@ module _ (P : Parameters) (m : ℕ) (x : Openings) where
     matches = noisy-alike q N p alike-refl (alike-sym ef) (alike-sym eg) so y .matches;
     opens = λ j l noise.
         let same = opened-secret (uAt N (x .ballots) j) (vAt N (x .ballots) j) ef in
-        list-cong N (λ i h. ap (remainder p) (sym (centre-alike same i h))) ∙ y .opens j l (small-alike D (alike-sym same) noise);
+        list-cong N (λ i h. ap (remainder p) (sym (same-centre (same .at i h)))) ∙ y .opens j l (small-alike D (alike-sym same) noise);
   }
 
   -- ---- what is written

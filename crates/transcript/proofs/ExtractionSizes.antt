@@ -10,7 +10,7 @@ use native.Mathlib.Omega.{arith}
 use lib.IntN.{natAbs}
 use lib.ListN.{length, replicate-append-replicate}
 use Rattle.codec.specs.Bytes.{Bytes, bytes, zeros}
-use Rattle.modular.specs.Modulo.{centre}
+use Rattle.modular.specs.Modulo.{Same, centre}
 use Rattle.modular.proofs.Centring.{Near, near-centre, near-size, centre-size, centre-mod}
 use Rattle.modular.proofs.Near.{near-le, near-add, near-negative}
 use Rattle.ring.specs.Poly.{Poly, plus, minus, scale, modulo, zero-poly, Alike}
@@ -66,11 +66,11 @@ module _ (q N : ℕ) where
 -- ---- sizes
 
 -- the centred form goes by what a number is modulo q
-pub centre-alike : {q N : ℕ} {f g : Poly} → Alike q N f g → (k : ℕ) → k < N → centre q (f k) ≡ centre q (g k)
-centre-alike {q} {f} {g} e k l = sym (centre-mod q (f k)) ∙ ap (centre q) (e .at k l .is) ∙ centre-mod q (g k)
+pub same-centre : {q x y : ℕ} → Same q x y → centre q x ≡ centre q y
+same-centre {q} {x} {y} e = sym (centre-mod q x) ∙ ap (centre q) (e .is) ∙ centre-mod q y
 
 pub small-alike : {q N : ℕ} (K : ℕ) {f g : Poly} → Alike q N f g → Small q N K f → Small q N K g
-small-alike K e h = record { at = λ k l. rw (← centre-alike e k l) (h .at k l) }
+small-alike K e h = record { at = λ k l. rw (← same-centre (e .at k l)) (h .at k l) }
 
 module _ (q : ℕ) (odd : q % 2 ≡ 1) where
   positive : 0 < q

@@ -2,7 +2,7 @@
 use mathlib.Core.Path.{_≡_, ap, _∙_}
 use mathlib.Core.Logic.{_⊎_, inl, inr}
 use mathlib.Core.Bool.{Bool, true, false, cond}
-use mathlib.Core.List.{[], _∷_, _++_}
+use mathlib.Core.List.{_++_}
 use Prim.Native.Nat.{ℕ, _-_, _*_, _/_, _%_, _^_, _≤_, _<_}
 use native.Mathlib.Nat.{mod-lt}
 use native.Mathlib.Decide.{decLe, ℕ-discrete}
@@ -11,7 +11,7 @@ use borrow.Author.Tests.{lt-ltb, ne-eqb}
 use lib.Dec.{ltb, eqb}
 use lib.IntN.{natAbs}
 use lib.ListN.{length, length-append, length-replicate}
-use Rattle.codec.specs.Bytes.{Bytes, part, same, zeros}
+use Rattle.codec.specs.Bytes.{Bytes, part, zeros}
 use Rattle.codec.specs.Reply.{None}
 use Rattle.modular.specs.Modulo.{centre}
 use Rattle.modular.proofs.Congruence.{same-eq, _then_, same-mod}
@@ -27,17 +27,17 @@ use Rattle.commitment.specs.Commitment.{Three}
 use Rattle.stern.specs.Shortness.{polynomial}
 use Rattle.stern.proofs.Layouts.{three-read}
 use Rattle.transcript.specs.Round.{Parameters}
-use Rattle.transcript.specs.Extractor.{Openings, threeBytes, ternaryBytes, extractTests, unknowns, vector-s, vector-e, kind, extracted, ShortVector, Key, Found, collision1, collision2, collision3, short-s, short-e, secret}
-use Rattle.transcript.proofs.Extraction.{Lent, extraction}
+use Rattle.transcript.specs.Extractor.{Openings, Lent, threeBytes, ternaryBytes, extractTests, unknowns, vector-s, vector-e, kind, extracted, ShortVector, Key, Found, collision1, collision2, collision3, short-s, short-e, secret}
+use Rattle.transcript.proofs.Extraction.{extraction}
 
 -- ---- ternary bytes of short numbers
 
 -- the byte of one number
 abbrev byte : ℕ → ℕ
-byte v = cond (same (v ∷ []) (1 ∷ [])) 1 (cond (same (v ∷ []) (0 ∷ [])) 0 2)
+byte v = cond (eqb v 1) 1 (cond (eqb v 0) 0 2)
 
 byte-below : (v : ℕ) → byte v < 3
-byte-below v = go (same (v ∷ []) (1 ∷ [])) (same (v ∷ []) (0 ∷ []))
+byte-below v = go (eqb v 1) (eqb v 0)
   where
     go : (b c : Bool) → cond b 1 (cond c 0 2) < 3
     go true c = omega arith
@@ -59,7 +59,6 @@ module _ (q : ℕ) (three : 2 < q) where
 
   -- its byte means it
   byte-means : (w : ℕ) → (w ≡ 0) ⊎ (w ≡ 1) ⊎ (w ≡ q - 1) → cond (eqb (byte w) 1) 1 (cond (eqb (byte w) 2) (q - 1) 0) ≡ w
-  unfolding same
   byte-means w (inl e) = rw e
   byte-means w (inr (inl e)) = rw e
   byte-means w (inr (inr e)) = rw (e, ne-eqb (q - 1) 1 (λ f. omega arith), ne-eqb (q - 1) 0 (λ f. omega arith))

@@ -33,11 +33,11 @@ use Rattle.transcript.proofs.Many.{all-complete, none-append, each-none
 use Rattle.transcript.proofs.Written.{Coefficients, below-append, below-joined, below-part, ranged-first, coefficients-written, coefficients-append, coefficients-joined, coefficients-vector, coefficients-part}
 use Rattle.transcript.proofs.Answers.{stretch}
 use Rattle.transcript.proofs.Produced.{pairs-written, pair-s-written, pair-e-written, digests-written, key-written, key-alike, share-alike, claim-written, opening-written, opening-s, opening-e, permutation-sized, vector-sized, salts-sized, answer-written}
-use Rattle.transcript.proofs.Tests.{equal-same, within-complete}
+use Rattle.transcript.proofs.Tests.{equal-same, within-complete, splits-exactly}
 use Rattle.transcript.proofs.Passed.{Fit, material-fit}
 
 module _ (P : Parameters) (m : ℕ) (x : Material) where
-  open Parameters P using (q, N, p, B, D, repeats, a, b, k)
+  open Parameters P using (q, N, p, B, D, repeats, a, k)
 
   abbrev written : Poly → Bytes
   written f = encode N (modulo q f)
@@ -173,12 +173,10 @@ module _ (P : Parameters) (m : ℕ) (x : Material) where
       -- ---- 6: the halves of the key add up to b
 
       key-splits : splits P m head ≡ true
-      unfolding splits
       key-splits =
-          equal-same
-          (encode-alike
+          splits-exactly P m positive fits head .1
           (alike-plus (key-alike P m x positive fits 0 (omega arith)) (key-alike P m x positive fits 1 (omega arith))
-          so split-key p a (secret-s P m x) (secret-e P m x) (poly (x .s0)) (poly (x .e0)) positive so fit .matches))
+          so split-key p a (secret-s P m x) (secret-e P m x) (poly (x .s0)) (poly (x .e0)) positive so fit .matches)
 
       -- ---- 13: the claims are the votes
 

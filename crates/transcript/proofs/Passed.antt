@@ -20,7 +20,7 @@ use Rattle.transcript.proofs.Many.{append-none, none-each}
 use Rattle.transcript.proofs.Tests.{within-sound}
 
 module _ (P : Parameters) (m : ℕ) (x : Material) where
-  open Parameters P using (q, N, p, B, D, repeats, a, b, k)
+  open Parameters P using (q, N, p, B, D, repeats, a, b)
 
   -- material that is in range, matches b, and keeps masks and noise within their bounds
   pub record Fit : Type 0 where

@@ -3,19 +3,20 @@ use mathlib.Core.Path.{_≡_}
 use mathlib.Core.Bool.{Bool, cond, not, _&&_}
 use mathlib.Core.Logic.{_⊎_, _≢_}
 use mathlib.Core.List.{List, [], _∷_, _++_}
-use Prim.Native.Nat.{ℕ, _+_, _-_, _*_, _≤_, _<_, _%_}
-use lib.Dec.{ltb}
-use Rattle.codec.specs.Bytes.{Bytes, part, same, zeros}
+use Prim.Native.Nat.{ℕ, _*_, _<_, _%_}
+use lib.Dec.{ltb, eqb}
+use lib.ListN.{length}
+use Rattle.codec.specs.Bytes.{Bytes, Octets, same, zeros}
 use Rattle.codec.specs.Reply.{Test, test}
 use Rattle.sha3.specs.Sponge.{sha3}
-use Rattle.ring.specs.Poly.{Poly, plus, modulo, zero-poly, Alike}
+use Rattle.ring.specs.Poly.{Poly, modulo, zero-poly, Alike}
 use Rattle.ring.specs.Slots.{list, encode, allBelow}
 use Rattle.bgv.specs.Scheme.{Small, key, decrypted, opened}
 use Rattle.commitment.specs.Commitment.{Three, threeOf, plus3, minus3, row}
 use Rattle.vector.specs.Vector.{vector}
 use Rattle.stern.specs.Argument.{Setting, Answer1, Answer2, Answer3, solution, one-by2, one-by3, two-by1, two-by3, three-by1, three-by2}
-use Rattle.stern.specs.Shortness.{polynomial, threeFrom, setting, answer1Of, answer2Of, answer3Of, tests1, tests2, tests3, inRange}
-use Rattle.transcript.specs.Layout.{Opening, each, uAt, vAt, claimAt, pairsOf, digestsAt, openingOf}
+use Rattle.stern.specs.Shortness.{polynomial, threeFrom, setting, answerLength, answer1Of, answer2Of, answer3Of, tests1, tests2, tests3, inRange}
+use Rattle.transcript.specs.Layout.{Opening, each, ballotLength, headLength, uAt, vAt, claimAt, pairsOf, digestsAt, openingOf}
 use Rattle.transcript.specs.Round.{Parameters, ballotsRanged, openingRanged, headRanged, splits, opensKey, opensPairs, maskTest, claimTest}
 
 -- what the extractor is lent: the first message, ballots, claims, both openings, a repetition and its three answers
@@ -32,6 +33,20 @@ pub record Openings : Type 0 where
   pub answer2 : Bytes
   pub answer3 : Bytes
 
+-- the lengths are right, for m ballots, and the first message is in bytes
+pub record Lent (P : Parameters) (m : ℕ) (x : Openings) : Type 0 where
+  pub head : length (x .head) ≡ headLength (P .N) (P .repeats)
+  pub octets : Octets (x .head)
+  pub shares0 : length (x .shares0) ≡ 8 * P .N * m
+  pub shares1 : length (x .shares1) ≡ 8 * P .N * m
+  pub ballots : length (x .ballots) ≡ ballotLength (P .N) * m
+  pub claims : length (x .claims) ≡ P .N * m
+  pub opening0 : length (x .opening0) ≡ 22 * P .N
+  pub opening1 : length (x .opening1) ≡ 22 * P .N
+  pub answer1 : length (x .answer1) ≡ answerLength (P .N) 1
+  pub answer2 : length (x .answer2) ≡ answerLength (P .N) 2
+  pub answer3 : length (x .answer3) ≡ answerLength (P .N) 3
+
 -- ---- what it writes
 
 -- three polynomials modulo q in 24N bytes
@@ -44,10 +59,10 @@ isZero q N r = same (threeBytes q N r) (zeros (24 * N))
 
 -- ternary bytes of numbers that are 0, 1 or -1 modulo q
 abbrev pub ternaryBytes : (q N : ℕ) → Poly → Bytes
-ternaryBytes q N f = list N (λ i. cond (same (f i % q ∷ []) (1 ∷ [])) 1 (cond (same (f i % q ∷ []) (0 ∷ [])) 0 2))
+ternaryBytes q N f = list N (λ i. cond (eqb (f i % q) 1) 1 (cond (eqb (f i % q) 0) 0 2))
 
 module _ (P : Parameters) (m : ℕ) (x : Openings) where
-  open Parameters P using (q, N, p, B, D, repeats, a, b, k)
+  open Parameters P using (q, N, p, D, repeats, a, b, k)
 
   abbrev pub pairs : Bytes
   pairs = pairsOf N (x .head)

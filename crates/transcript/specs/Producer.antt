@@ -16,7 +16,7 @@ use Rattle.vector.specs.Vector.{vector}
 use Rattle.vector.specs.Permutation.{entries, permutes}
 use Rattle.stern.specs.Argument.{Drawn}
 use Rattle.stern.specs.Shortness.{drawnOf, honestDigests, honestAnswer}
-use Rattle.transcript.specs.Layout.{all, each, joined, ballotLength, uAt, vAt}
+use Rattle.transcript.specs.Layout.{each, joined, ballotLength, uAt, vAt}
 use Rattle.transcript.specs.Round.{Parameters, Round, ballotsRanged}
 
 -- what both calls are lent: s, e and the three r of s0, of s1, of e0, of e1 in ternary bytes; s0, e0; E of both sides; every R, P and salt; the ballots

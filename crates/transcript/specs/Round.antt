@@ -3,13 +3,13 @@
 use mathlib.Core.Path.{_≡_}
 use mathlib.Core.Bool.{Bool, true, not, _&&_}
 use mathlib.Core.List.{List, [], _∷_, _++_}
-use Prim.Native.Nat.{ℕ, zero, suc, _+_, _*_, _≤_, _<_}
+use Prim.Native.Nat.{ℕ, zero, suc, _+_, _*_, _<_}
 use lib.Dec.{leb, ltb}
-use lib.ListN.{length, getD}
+use lib.ListN.{getD}
 use Rattle.codec.specs.Bytes.{Bytes, part, same}
 use Rattle.codec.specs.Reply.{Test, test, None}
-use Rattle.ring.specs.Poly.{Poly, plus, modulo, Alike, Below}
-use Rattle.ring.specs.Slots.{poly, slot, list, encode, allBelow}
+use Rattle.ring.specs.Poly.{Poly, plus, modulo, Alike}
+use Rattle.ring.specs.Slots.{poly, list, encode, allBelow}
 use Rattle.bgv.specs.Scheme.{Bounded, key, worked, within, reconstructed}
 use Rattle.commitment.specs.Commitment.{Keys, threeOf, pairOf, Opens, opens}
 use Rattle.vector.specs.Vector.{vector}
