@@ -23,13 +23,14 @@ encode-slot q N c at octets l b =
     ∙ encode-cong N (λ k m. poly-part c at N k m ∙ sym (mod-eq-of-lt (b .at k m)))
 
 module _ (q N : ℕ) (h : 0 < q) (small : q ≤ 2 ^ 64) where
+  -- what is written modulo q is read back
+  pub poly-modulo : (c : Poly) (k : ℕ) → k < N → poly (encode N (modulo q c)) k ≡ c k % q
+  unfolding modulo
+  poly-modulo c k l = poly-encode N (modulo q c) k l (omega (arith, mod-lt (c k) {m = q} h))
+
   -- bytes decide the polynomial modulo q
   pub encode-decides : {a b : Poly} → encode N (modulo q a) ≡ encode N (modulo q b) → Alike q N a b
-  unfolding modulo
-  encode-decides {a} {b} e = record { at = λ k l. record { is = sym (read a k l) ∙ ap (λ (s : Bytes). poly s k) e ∙ read b k l } }
-    where
-      read : (c : Poly) (k : ℕ) → k < N → poly (encode N (modulo q c)) k ≡ c k % q
-      read c k l = poly-encode N (modulo q c) k l (omega (arith, mod-lt (c k) {m = q} h))
+  encode-decides {a} {b} e = record { at = λ k l. record { is = sym (poly-modulo a k l) ∙ ap (λ (s : Bytes). poly s k) e ∙ poly-modulo b k l } }
 
   pairBytes-decides : (c d : Pair) → pairBytes q N c ≡ pairBytes q N d → (Alike q N (c .one) (d .one)) × (Alike q N (c .two) (d .two))
   unfolding pairBytes

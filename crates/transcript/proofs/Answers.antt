@@ -4,7 +4,7 @@ use mathlib.Core.Logic.{_⊎_, inl, inr}
 use mathlib.Core.Bool.{Bool, true, false, cond}
 use mathlib.Core.List.{[], _∷_, _++_, append-nil, append-assoc}
 use Prim.Native.Nat.{ℕ, zero, suc, _+_, _*_, _≤_, _<_}
-use native.Mathlib.Nat.{add-zero, add-assoc, mul-suc, mul-le-mul}
+use native.Mathlib.Nat.{add-zero, add-assoc}
 use native.Mathlib.Omega.{arith}
 use lib.Dec.{eqb}
 use lib.ListN.{length, take, getD, length-append}
@@ -22,10 +22,6 @@ use Rattle.stern.specs.Shortness.{drawnOf, answerLength, honestAnswer, answer1B
 use Rattle.stern.proofs.Layouts.{part-first, part-behind, length-answer1Bytes, length-answer2Bytes, length-answer3Bytes}
 use Rattle.transcript.specs.Layout.{joined, answersLength, answerAt}
 use Rattle.transcript.proofs.Many.{last}
-
--- n bytes each: number i of r ends within them
-pub stretch : (n i r : ℕ) → i < r → n * i + n ≤ n * r
-stretch n i r h = omega (arith, mul-suc n i, mul-le-mul {n₁ = n} {m₁ = suc i} {n₂ = n} {m₂ = r} (omega arith) h)
 
 -- ---- end to end
 

@@ -15,6 +15,7 @@ use Rattle.stern.specs.Shortness.{polynomial, threeFrom}
 use Rattle.stern.specs.Claims.{Meets}
 use Rattle.transcript.specs.Round.{Parameters}
 use Rattle.transcript.specs.Extractor.{Openings, threeBytes, isZero, pairs, unknowns, Nonzero, ShortVector}
+use Rattle.transcript.proofs.Many.{last}
 use Rattle.transcript.proofs.Tests.{differ}
 use Rattle.transcript.proofs.ExtractionSizes.{alike-zeros, zeros-alike}
 use Rattle.transcript.proofs.ExtractionHalves.{Small3, opened-short, difference, difference-small, row-vanishes, openings-add}
@@ -31,11 +32,11 @@ module _ (P : Parameters) (m : ℕ) (x : Openings) where
       go : Nonzero P m x f ⊎ ((i : ℕ) → i < n → f i % q ≡ 0) → Dec (f n % q ≡ 0) → Nonzero P m x f ⊎ ((i : ℕ) → i < suc n → f i % q ≡ 0)
       go (inl w) d = inl w
       go (inr w) (no e) = inl (record { place = n; below = h; differs = e })
-      go (inr w) (yes e) = inr (λ i l. last i l (ℕ-discrete i n))
+      go (inr w) (yes e) = inr (λ i l. at i (last n i l))
         where
-          last : (i : ℕ) → i < suc n → Dec (i ≡ n) → f i % q ≡ 0
-          last i l (yes s) = rw s e
-          last i l (no s) = w i (omega arith)
+          at : (i : ℕ) → (i < n) ⊎ (i ≡ n) → f i % q ≡ 0
+          at i (inl b) = w i b
+          at i (inr s) = rw s e
 
   nonzero-or-zero : (f : Poly) → Nonzero P m x f ⊎ Alike q N f zero-poly
   unfolding zero-poly

@@ -29,9 +29,8 @@ use Rattle.stern.proofs.Honest.{honest-range, honest-none}
 use Rattle.transcript.specs.Layout.{Opening, each, uAt, vAt, shareAt, claimAt, pairsOf, pairAt, digestsAt, openingOf, answerAt}
 use Rattle.transcript.specs.Round.{Parameters, Round, challengeAt, sharesOf, openingRanged, headRanged, answersRanged, ranged, splits, opensKey, opensPairs, maskTest, claimTest, roundTests}
 use Rattle.transcript.specs.Producer.{Material, Sized, secret-s, secret-e, half-s, half-e, hides-s, hides-e, maskAt, permutationAt, drawnAt, pairBytesOf, producerTests, producedPairs, producedHead, producedShares, producedClaims, producedOpening, producedAnswers, producedRound}
-use Rattle.transcript.proofs.Many.{all-complete, none-append, each-none}
+use Rattle.transcript.proofs.Many.{all-complete, none-append, each-none, stretch}
 use Rattle.transcript.proofs.Written.{Coefficients, below-append, below-joined, below-part, ranged-first, coefficients-written, coefficients-append, coefficients-joined, coefficients-vector, coefficients-part}
-use Rattle.transcript.proofs.Answers.{stretch}
 use Rattle.transcript.proofs.Produced.{pairs-written, pair-s-written, pair-e-written, digests-written, key-written, key-alike, share-alike, claim-written, opening-written, opening-s, opening-e, permutation-sized, vector-sized, salts-sized, answer-written}
 use Rattle.transcript.proofs.Tests.{equal-same, within-complete, splits-exactly}
 use Rattle.transcript.proofs.Passed.{Fit, material-fit}

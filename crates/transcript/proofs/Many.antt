@@ -65,6 +65,10 @@ none-each (suc n) f h j l = go (λ m. none-each n f (r .0) j m) (last n j l)
 
 -- ---- bytes of each, side by side
 
+-- n bytes each: number i of r ends within them
+pub stretch : (n i r : ℕ) → i < r → n * i + n ≤ n * r
+stretch n i r h = omega (arith, mul-suc n i, mul-le-mul {n₁ = n} {m₁ = suc i} {n₂ = n} {m₂ = r} (omega arith) h)
+
 -- m bytes each
 module _ (m : ℕ) (f : ℕ → Bytes) where
   pub length-joined : (n : ℕ) → ((j : ℕ) → j < n → length (f j) ≡ m) → length (joined n f) ≡ m * n
@@ -82,7 +86,7 @@ module _ (m : ℕ) (f : ℕ → Bytes) where
 
       go : (j < n → part (joined n f) (m * j) m ≡ f j) → (j < n) ⊎ (j ≡ n) → part (joined n f ++ f n) (m * j) m ≡ f j
       go before (inl k) =
-          let up : m * j + m ≤ m * n = omega (arith, mul-suc m j, mul-le-mul {n₁ = m} {m₁ = suc j} {n₂ = m} {m₂ = n} (omega arith) k) in
+          let up = stretch m j n k in
           rw (drop-append-le (m * j) (joined n f) (f n) (omega (arith, long))) (take-append-le m (drop (m * j) (joined n f)) (f n) (simp length-drop (omega (arith, long))))
           ∙ before k
       go before (inr i) =

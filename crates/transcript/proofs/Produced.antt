@@ -20,9 +20,9 @@ use Rattle.stern.proofs.Honest.{length-pairBytes, slot-alike}
 use Rattle.transcript.specs.Layout.{joined, headLength, uAt, vAt, shareAt, claimAt, keyAt, pairsOf, pairAt, digestsAt, openingOf, answersLength, answerAt}
 use Rattle.transcript.specs.Round.{Parameters}
 use Rattle.transcript.specs.Producer.{Material, Sized, secret-s, half-s, half-e, hides-s, hides-e, maskAt, permutationAt, drawnAt, pairBytesOf, producedPairs, producedHead, producedShares, producedClaims, producedOpening, producedAnswers}
-use Rattle.transcript.proofs.Many.{length-joined, joined-at}
+use Rattle.transcript.proofs.Many.{stretch, length-joined, joined-at}
 use Rattle.transcript.proofs.Written.{octets-encode, octets-joined}
-use Rattle.transcript.proofs.Answers.{stretch, length-answers, answers-at, length-honestAnswer}
+use Rattle.transcript.proofs.Answers.{length-answers, answers-at, length-honestAnswer}
 
 -- three digests are 96 bytes
 length-digests : (f : First) → length (f .d1) ≡ 32 → length (f .d2) ≡ 32 → length (f .d3) ≡ 32 → length (firstBytes f) ≡ 96

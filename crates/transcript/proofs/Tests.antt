@@ -21,7 +21,7 @@ use Rattle.stern.proofs.Honest.{slot-alike}
 use Rattle.transcript.specs.Layout.{Opening, headLength, keyAt, pairsOf, pairAt}
 use Rattle.transcript.specs.Round.{Parameters, headRanged, splits, opensKey, opensPairs}
 use Rattle.transcript.proofs.Written.{slot-part, slot-at, below-slot}
-use Rattle.transcript.proofs.Answers.{stretch}
+use Rattle.transcript.proofs.Many.{stretch}
 
 -- ---- equal bytes
 

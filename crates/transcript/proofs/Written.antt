@@ -12,11 +12,12 @@ use Rattle.codec.proofs.Laws.{length-part, part-part, octets-append}
 use Rattle.codec.proofs.Numbers.{bytes-octets}
 use Rattle.ring.specs.Poly.{Poly, modulo, Below}
 use Rattle.ring.specs.Slots.{poly, slot, list, encode, allBelow}
-use Rattle.ring.proofs.Bridge.{length-encode, poly-encode, poly-part, slot-poly}
+use Rattle.ring.proofs.Bridge.{length-encode, poly-part, slot-poly}
 use Rattle.ring.proofs.Ranges.{below-complete}
 use Rattle.ring.proofs.Sums.{side}
 use Rattle.vector.specs.Vector.{vector}
 use Rattle.vector.proofs.Vectors.{allBelow-each, each-allBelow, append-each, take-each, drop-each}
+use Rattle.commitment.proofs.Opening.{poly-modulo}
 use Rattle.stern.proofs.Layouts.{part-first, part-rest}
 use Rattle.stern.proofs.Written.{vector-below}
 use Rattle.transcript.specs.Layout.{joined}
@@ -87,10 +88,9 @@ poly-behind a b n m k e f l =
 
 module _ {q : ℕ} where
   pub coefficients-written : (N : ℕ) (f : Poly) → 0 < q → q ≤ 2 ^ 64 → Coefficients q N (encode N (modulo q f))
-  unfolding modulo
   coefficients-written N f h fits = record {
     sized = length-encode N (modulo q f);
-    below = record { at = λ k l. rw (poly-encode N (modulo q f) k l (omega (arith, mod-lt (f k) {m = q} h))) (mod-lt (f k) h) };
+    below = record { at = λ k l. rw (poly-modulo q N h fits f k l) (mod-lt (f k) h) };
   }
 
   below-first : {n : ℕ} (a b : Bytes) → Coefficients q n a → Below q n (poly (a ++ b))
