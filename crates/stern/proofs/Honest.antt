@@ -2,8 +2,8 @@
 use mathlib.Core.Path.{_≡_, refl, sym, ap, ap₂, _∙_}
 use mathlib.Core.Bool.{Bool, true, false, cond, not, _&&_}
 use mathlib.Core.List.{_++_}
-use Prim.Native.Nat.{ℕ, _+_, _*_, _%_, _^_, _≤_, _<_}
-use native.Mathlib.Nat.{mod-lt, mod-mod, add-zero, add-mul}
+use Prim.Native.Nat.{ℕ, _+_, _*_, _^_, _≤_, _<_}
+use native.Mathlib.Nat.{add-zero, add-mul}
 use native.Mathlib.Omega.{arith}
 use lib.Dec.{eqb}
 use lib.ListN.{length, length-append}
@@ -12,11 +12,11 @@ use Rattle.codec.specs.Reply.{None}
 use Rattle.codec.proofs.Laws.{length-part, part-part, same-refl}
 use Rattle.codec.proofs.Numbers.{length-words}
 use Rattle.sha3.proofs.Squeezing.{length-sha3}
-use Rattle.modular.proofs.Congruence.{same-eq}
+use Rattle.modular.proofs.Congruence.{same-eq, _then_, same-mod}
 use Rattle.ring.specs.Poly.{Poly, plus, modulo, Alike}
 use Rattle.ring.specs.Slots.{poly, slot, encode, allBelow}
 use Rattle.ring.specs.Ternary.{ternary}
-use Rattle.ring.proofs.Bridge.{length-encode, poly-encode, poly-part}
+use Rattle.ring.proofs.Bridge.{length-encode, poly-part}
 use Rattle.ring.proofs.Polynomials.{alike-eq, alike-sym, _so_, alike-plus}
 use Rattle.vector.specs.Vector.{vector, ternaries}
 use Rattle.vector.specs.Permutation.{entries, permutes}
@@ -24,6 +24,7 @@ use Rattle.vector.proofs.Vectors.{each-length, each-allBelow}
 use Rattle.vector.proofs.Balance.{balanced-sound, balanced-ternary}
 use Rattle.commitment.specs.Commitment.{Keys, Three, Pair, Alike3, threeOf, plus3, row, second, committed, pairBytes, Opens}
 use Rattle.commitment.proofs.Additive.{row-alike, second-alike, opens-add}
+use Rattle.commitment.proofs.Opening.{poly-modulo}
 use Rattle.stern.specs.Argument.{Setting, Valid, Drawn, Answer1, Answer2, Answer3, Fit, Passes1, Passes2, Passes3, masked, first, answer1, answer2, answer3}
 use Rattle.stern.specs.Shortness.{polynomial, threeFrom, equations, sides, setting, drawnOf, firstOf, firstBytes, answerLength, honestAnswer, inRange, answer1Of, answer2Of, answer3Of, answer1Bytes, answer2Bytes, answer3Bytes, tests1, tests2, tests3, answerTests}
 use Rattle.stern.specs.Claims.{Split}
@@ -56,15 +57,9 @@ length-pairBytes q N d = simp length-append (omega (arith, length-encode N (modu
 
 module _ (q N : ℕ) (positive : 0 < q) (fits : q ≤ 2 ^ 64) where
   -- the bytes of a polynomial at a place
-  slot-alike : (c : Bytes) (at : ℕ) (f : Poly) → part c at (8 * N) ≡ encode N (modulo q f) → Alike q N (slot c at) f
-  unfolding modulo
+  pub slot-alike : (c : Bytes) (at : ℕ) (f : Poly) → part c at (8 * N) ≡ encode N (modulo q f) → Alike q N (slot c at) f
   slot-alike c at f e = record {
-    at = λ k l.
-        record {
-          is = ap (λ (v : ℕ). v % q)
-              (sym (poly-part c at N k l) ∙ ap (λ (s : Bytes). poly s k) e ∙ poly-encode N (modulo q f) k l (omega (arith, mod-lt (f k) {m = q} positive)))
-              ∙ mod-mod (f k) q;
-        };
+    at = λ k l. same-eq (sym (poly-part c at N k l) ∙ ap (λ (s : Bytes). poly s k) e ∙ poly-modulo q N positive fits f k l) then same-mod;
   }
 
   -- the bytes of a pair at a place

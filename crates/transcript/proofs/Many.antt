@@ -1,0 +1,94 @@
+-- What holds for each of n: laws of `all`, `each` and `joined`. Assumes nothing.
+use mathlib.Core.Path.{_≡_, refl, sym, ap, ap₂, _∙_}
+use mathlib.Core.Logic.{_⊎_, inl, inr}
+use mathlib.Core.Bool.{Bool, true, _&&_}
+use mathlib.Core.List.{List, [], _∷_, _++_}
+use Prim.Native.Nat.{ℕ, zero, suc, _+_, _*_, _≤_, _<_}
+use native.Mathlib.Nat.{mul-zero, mul-suc, mul-le-mul}
+use native.Mathlib.Decide.{decLt}
+use native.Mathlib.Omega.{arith}
+use lib.ListN.{length, take, drop, length-append, length-drop}
+use lib.Seq.{take-all, drop-at, take-append-le, drop-append-le}
+use Rattle.codec.specs.Bytes.{Bytes, part}
+use Rattle.codec.specs.Reply.{Test, None}
+use Rattle.codec.proofs.Laws.{both}
+use Rattle.transcript.specs.Layout.{all, each, joined}
+
+-- below n + 1: below n, or n
+pub last : (n j : ℕ) → j < suc n → (j < n) ⊎ (j ≡ n)
+last n j h = go (decLt j n)
+  where
+    go : Dec (j < n) → (j < n) ⊎ (j ≡ n)
+    go (yes l) = inl l
+    go (no l) = inr (omega arith)
+
+-- ---- tests of each
+
+pub all-sound : (n : ℕ) (f : ℕ → Bool) → all n f ≡ true → (j : ℕ) → j < n → f j ≡ true
+unfolding all
+all-sound zero f e j h = absurd (omega arith)
+all-sound (suc n) f e j h = go (λ l. all-sound n f (both (all n f) (f n) e .0) j l) (last n j h)
+  where
+    go : (j < n → f j ≡ true) → (j < n) ⊎ (j ≡ n) → f j ≡ true
+    go before (inl l) = before l
+    go before (inr i) = ap f i ∙ both (all n f) (f n) e .1
+
+pub all-complete : (n : ℕ) (f : ℕ → Bool) → ((j : ℕ) → j < n → f j ≡ true) → all n f ≡ true
+unfolding all
+all-complete zero f h = refl
+all-complete (suc n) f h = ap₂ _&&_ (all-complete n f (λ j l. h j (omega arith))) (h n (omega arith))
+
+pub none-append : (rs ts : List Test) → None rs → None ts → None (rs ++ ts)
+none-append [] ts ha hb = hb
+none-append (t ∷ rs) ts ha hb = (ha .0, none-append rs ts (ha .1) hb)
+
+pub append-none : (rs ts : List Test) → None (rs ++ ts) → None rs × None ts
+append-none [] ts h = (tt, h)
+append-none (t ∷ rs) ts h = let r = append-none rs ts (h .1) in ((h .0, r .0), r .1)
+
+pub each-none : (n : ℕ) (f : ℕ → List Test) → ((j : ℕ) → j < n → None (f j)) → None (each n f)
+unfolding each
+each-none zero f h = tt
+each-none (suc n) f h = none-append (each n f) (f n) (each-none n f (λ j l. h j (omega arith))) (h n (omega arith))
+
+pub none-each : (n : ℕ) (f : ℕ → List Test) → None (each n f) → (j : ℕ) → j < n → None (f j)
+unfolding each
+none-each zero f h j l = absurd (omega arith)
+none-each (suc n) f h j l = go (λ m. none-each n f (r .0) j m) (last n j l)
+  where
+    r : None (each n f) × None (f n)
+    r = append-none (each n f) (f n) h
+
+    go : (j < n → None (f j)) → (j < n) ⊎ (j ≡ n) → None (f j)
+    go before (inl m) = before m
+    go before (inr i) = rw i (r .1)
+
+-- ---- bytes of each, side by side
+
+-- n bytes each: number i of r ends within them
+pub stretch : (n i r : ℕ) → i < r → n * i + n ≤ n * r
+stretch n i r h = omega (arith, mul-suc n i, mul-le-mul {n₁ = n} {m₁ = suc i} {n₂ = n} {m₂ = r} (omega arith) h)
+
+-- m bytes each
+module _ (m : ℕ) (f : ℕ → Bytes) where
+  pub length-joined : (n : ℕ) → ((j : ℕ) → j < n → length (f j) ≡ m) → length (joined n f) ≡ m * n
+  unfolding joined
+  length-joined zero h = sym (mul-zero m)
+  length-joined (suc n) h = length-append (joined n f) (f n) ∙ omega (arith, length-joined n (λ j l. h j (omega arith)), h n (omega arith), mul-suc m n)
+
+  pub joined-at : (n : ℕ) → ((j : ℕ) → j < n → length (f j) ≡ m) → (j : ℕ) → j < n → part (joined n f) (m * j) m ≡ f j
+  unfolding joined
+  joined-at zero h j l = absurd (omega arith)
+  joined-at (suc n) h j l = go (λ k. joined-at n (λ i z. h i (omega arith)) j k) (last n j l)
+    where
+      long : length (joined n f) ≡ m * n
+      long = length-joined n (λ i k. h i (omega arith))
+
+      go : (j < n → part (joined n f) (m * j) m ≡ f j) → (j < n) ⊎ (j ≡ n) → part (joined n f ++ f n) (m * j) m ≡ f j
+      go before (inl k) =
+          let up = stretch m j n k in
+          rw (drop-append-le (m * j) (joined n f) (f n) (omega (arith, long))) (take-append-le m (drop (m * j) (joined n f)) (f n) (simp length-drop (omega (arith, long))))
+          ∙ before k
+      go before (inr i) =
+          let e : length (joined n f) ≡ m * j = long ∙ ap (λ (x : ℕ). m * x) (sym i) in
+          ap (take m) (drop-at (joined n f) (f n) (m * j) e) ∙ take-all m (f n) (omega (arith, h n (omega arith))) ∙ ap f (sym i)

@@ -1,0 +1,4 @@
+pub mod Layout
+pub mod Round
+pub mod Producer
+pub mod Extractor

@@ -1,0 +1,134 @@
+-- The check of a round (document 01, "One round", and the order of check after 16): the ordered list of its tests, and in plain propositions what an accepted round
+-- is. Assumes nothing.
+use mathlib.Core.Path.{_≡_}
+use mathlib.Core.Bool.{Bool, true, not, _&&_}
+use mathlib.Core.List.{List, [], _∷_, _++_}
+use Prim.Native.Nat.{ℕ, zero, suc, _+_, _*_, _<_}
+use lib.Dec.{leb, ltb}
+use lib.ListN.{getD}
+use Rattle.codec.specs.Bytes.{Bytes, part, same}
+use Rattle.codec.specs.Reply.{Test, test, None}
+use Rattle.ring.specs.Poly.{Poly, plus, modulo, Alike}
+use Rattle.ring.specs.Slots.{poly, list, encode, allBelow}
+use Rattle.bgv.specs.Scheme.{Bounded, key, worked, within, reconstructed}
+use Rattle.commitment.specs.Commitment.{Keys, threeOf, pairOf, Opens, opens}
+use Rattle.vector.specs.Vector.{vector}
+use Rattle.stern.specs.Shortness.{inRange, answerTests}
+use Rattle.transcript.specs.Layout.{Opening, all, each, uAt, vAt, shareAt, claimAt, keyAt, pairsOf, pairAt, digestsAt, openingOf, answerAt}
+
+-- what a sheet gives: modulus, ring size, plaintext modulus, mask bound, noise bound, repetitions, and its polynomials
+pub record Parameters : Type 0 where
+  pub q : ℕ
+  pub N : ℕ
+  pub p : ℕ
+  pub B : ℕ
+  pub D : ℕ
+  pub repeats : ℕ
+  pub a : Poly
+  pub b : Poly
+  pub k : Keys
+
+-- what is lent to a check of one round
+pub record Round : Type 0 where
+  pub side : ℕ
+  pub challenges : Bytes
+  pub ballots : Bytes
+  pub claims : Bytes
+  pub head : Bytes
+  pub shares0 : Bytes
+  pub shares1 : Bytes
+  pub opening : Bytes
+  pub answers : Bytes
+
+abbrev pub challengeAt : Round → ℕ → ℕ
+challengeAt r i = getD (r .challenges) i 0
+
+-- the shares of a side
+abbrev pub sharesOf : Round → ℕ → Bytes
+sharesOf r zero = r .shares0
+sharesOf r (suc i) = r .shares1
+
+-- for the parameters of a sheet, and m ballots
+module _ (P : Parameters) (m : ℕ) where
+  open Parameters P using (q, N, p, B, repeats, a, b, k)
+
+  abbrev written : Poly → Bytes
+  written f = encode N (modulo q f)
+
+  -- ---- 5: every coefficient, claim, ternary byte, side and challenge is in its range
+
+  unfoldable pub ballotsRanged : Bytes → Bool
+  ballotsRanged ballots = all m (λ j. allBelow q (list (2 * N) (uAt N ballots j)))
+
+  unfoldable pub openingRanged : Bytes → Bool
+  openingRanged o = allBelow q (list (2 * N) (poly o)) && allBelow 3 (part o (16 * N) (6 * N))
+
+  -- b0, b1 and the committed pairs
+  unfoldable pub headRanged : Bytes → Bool
+  headRanged head = allBelow q (list (10 * N) (poly head))
+
+  unfoldable pub answersRanged : Round → Bool
+  answersRanged r =
+      all repeats (λ i. (leb 1 (challengeAt r i) && leb (challengeAt r i) 3) && inRange q N (challengeAt r i) (answerAt N (r .challenges) (r .answers) i))
+
+  unfoldable pub ranged : Round → Bool
+  ranged r =
+      ltb (r .side) 2
+      && (answersRanged r
+      && (ballotsRanged (r .ballots)
+      && (allBelow p (r .claims)
+      && (headRanged (r .head)
+      && (allBelow q (vector (r .shares0))
+      && (allBelow q (vector (r .shares1))
+      && openingRanged (r .opening)))))))
+
+  -- ---- 6, 7, 8: the halves of the key
+
+  -- b0 + b1 is b
+  unfoldable pub splits : Bytes → Bool
+  splits head = same (written (plus (keyAt N head 0) (keyAt N head 1))) (written b)
+
+  -- the opened b_i is a s_i + p e_i
+  unfoldable pub opensKey : (head : Bytes) (side : ℕ) → Opening → Bool
+  opensKey head side o = same (part head (8 * N * side) (8 * N)) (written (key q N p a (o .s) (o .e)))
+
+  -- the pairs of s_i and e_i are those of the opening
+  unfoldable pub opensPairs : (head : Bytes) (side : ℕ) → Opening → Bool
+  opensPairs head side o =
+      opens q N k (pairAt N head side) (threeOf q N (o .rs)) (o .s) && opens q N k (pairAt N head (2 + side)) (threeOf q N (o .re)) (o .e)
+
+  -- ---- 12, 13: ballot j
+
+  -- the mask worked out from the opened side's share is at most B
+  abbrev pub maskTest : (ballots shares : Bytes) → Opening → ℕ → Test
+  maskTest ballots shares o j = test 12 j (not (within B N (worked q N p (o .s) (uAt N ballots j) (shareAt N shares j))))
+
+  -- the claim is the vote
+  abbrev pub claimTest : (ballots claims shares0 shares1 : Bytes) → ℕ → Test
+  claimTest ballots claims shares0 shares1 j =
+      test 13 j (not (same (claimAt N claims j) (list N (reconstructed q p (vAt N ballots j) (shareAt N shares0 j) (shareAt N shares1 j)))))
+
+  -- ---- the order: 5, 6, 7, 8; by repetition 9, 10, 11; by ballot 12, 13
+
+  unfoldable pub roundTests : Round → List Test
+  roundTests r =
+      let o = openingOf N (r .opening) in
+      test 5 0 (not (ranged r))
+      ∷ test 6 0 (not (splits (r .head)))
+      ∷ test 7 0 (not (opensKey (r .head) (r .side) o))
+      ∷ test 8 0 (not (opensPairs (r .head) (r .side) o))
+      ∷ (each repeats (λ i. answerTests q N k (pairsOf N (r .head)) (digestsAt N (r .head) i) i (challengeAt r i) (answerAt N (r .challenges) (r .answers) i))
+      ++ each m (λ j. maskTest (r .ballots) (sharesOf r (r .side)) o j ∷ claimTest (r .ballots) (r .claims) (r .shares0) (r .shares1) j ∷ []))
+
+  -- ---- an accepted round, in plain propositions
+
+  pub record Accepted (r : Round) : Type 0 where
+    pub in-range : ranged r ≡ true
+    pub key-splits : Alike q N (plus (keyAt N (r .head) 0) (keyAt N (r .head) 1)) b
+    pub key-opened : Alike q N (keyAt N (r .head) (r .side)) (key q N p a (openingOf N (r .opening) .s) (openingOf N (r .opening) .e))
+    pub s-committed : Opens q N k (pairOf N (pairAt N (r .head) (r .side))) (threeOf q N (openingOf N (r .opening) .rs)) (openingOf N (r .opening) .s)
+    pub e-committed : Opens q N k (pairOf N (pairAt N (r .head) (2 + r .side))) (threeOf q N (openingOf N (r .opening) .re)) (openingOf N (r .opening) .e)
+    pub answered : (i : ℕ) → i < repeats
+        → None (answerTests q N k (pairsOf N (r .head)) (digestsAt N (r .head) i) i (challengeAt r i) (answerAt N (r .challenges) (r .answers) i))
+    pub masked : (j : ℕ) → j < m → Bounded N B (worked q N p (openingOf N (r .opening) .s) (uAt N (r .ballots) j) (shareAt N (sharesOf r (r .side)) j))
+    pub claimed : (j : ℕ) → j < m → claimAt N (r .claims) j ≡ list N (reconstructed q p (vAt N (r .ballots) j) (shareAt N (r .shares0) j) (shareAt N (r .shares1) j))
