@@ -15,9 +15,16 @@ use Rattle.ring.specs.Slots.{poly, slot, encode}
 use Rattle.ring.proofs.Bridge.{length-encode, poly-encode, encode-cong, encode-alike, encode-poly, poly-part}
 use Rattle.commitment.specs.Commitment.{Keys, Three, Pair, committed, pairBytes, pairOf, Opens, opens}
 
+-- bytes in range at a place are those of the polynomial that they hold
+pub encode-slot : (q N : ℕ) (c : Bytes) (at : ℕ) → Octets c → at + 8 * N ≤ length c → Below q N (slot c at) → part c at (8 * N) ≡ encode N (modulo q (slot c at))
+unfolding modulo
+encode-slot q N c at octets l b =
+    sym (encode-poly (part c at (8 * N)) N (octets-part c at (8 * N) octets) (length-part c at (8 * N) l))
+    ∙ encode-cong N (λ k m. poly-part c at N k m ∙ sym (mod-eq-of-lt (b .at k m)))
+
 module _ (q N : ℕ) (h : 0 < q) (small : q ≤ 2 ^ 64) where
   -- bytes decide the polynomial modulo q
-  encode-decides : {a b : Poly} → encode N (modulo q a) ≡ encode N (modulo q b) → Alike q N a b
+  pub encode-decides : {a b : Poly} → encode N (modulo q a) ≡ encode N (modulo q b) → Alike q N a b
   unfolding modulo
   encode-decides {a} {b} e = record { at = λ k l. record { is = sym (read a k l) ∙ ap (λ (s : Bytes). poly s k) e ∙ read b k l } }
     where
@@ -38,18 +45,12 @@ module _ (q N : ℕ) (h : 0 < q) (small : q ≤ 2 ^ 64) where
       tail x = drop-at (encode N (modulo q (x .one))) (encode N (modulo q (x .two))) (8 * N) (length-encode N (modulo q (x .one)))
 
   module _ (c : Bytes) (octets : Octets c) (sized : length c ≡ 16 * N) (one : Below q N (slot c 0)) (two : Below q N (slot c (8 * N))) where
-    half : (at : ℕ) → at + 8 * N ≤ length c → Below q N (slot c at) → part c at (8 * N) ≡ encode N (modulo q (slot c at))
-    unfolding modulo
-    half at l b =
-        sym (encode-poly (part c at (8 * N)) N (octets-part c at (8 * N) octets) (length-part c at (8 * N) l))
-        ∙ encode-cong N (λ k m. poly-part c at N k m ∙ sym (mod-eq-of-lt (b .at k m)))
-
     -- the bytes of a pair are the bytes of the pair that they hold
     pub pairBytes-pairOf : c ≡ pairBytes q N (pairOf N c)
     unfolding pairBytes
     pairBytes-pairOf =
         sym (take-all (8 * N + 8 * N) c (omega arith)) ∙ part-append c 0 (8 * N) (8 * N)
-        ∙ ap₂ (λ (s t : Bytes). s ++ t) (half 0 (omega arith) one) (ap (λ (at : ℕ). part c at (8 * N)) (zero-add (8 * N)) ∙ half (8 * N) (omega arith) two)
+        ∙ ap₂ (λ (s t : Bytes). s ++ t) (encode-slot q N c 0 octets (omega arith) one) (ap (λ (at : ℕ). part c at (8 * N)) (zero-add (8 * N)) ∙ encode-slot q N c (8 * N) octets (omega arith) two)
 
     pub opens-exactly : (k : Keys) (r : Three) (m : Poly) → (opens q N k c r m ≡ true) ↔ Opens q N k (pairOf N c) r m
     unfolding opens pairBytes

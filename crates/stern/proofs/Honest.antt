@@ -56,7 +56,7 @@ length-pairBytes q N d = simp length-append (omega (arith, length-encode N (modu
 
 module _ (q N : ℕ) (positive : 0 < q) (fits : q ≤ 2 ^ 64) where
   -- the bytes of a polynomial at a place
-  slot-alike : (c : Bytes) (at : ℕ) (f : Poly) → part c at (8 * N) ≡ encode N (modulo q f) → Alike q N (slot c at) f
+  pub slot-alike : (c : Bytes) (at : ℕ) (f : Poly) → part c at (8 * N) ≡ encode N (modulo q f) → Alike q N (slot c at) f
   unfolding modulo
   slot-alike c at f e = record {
     at = λ k l.

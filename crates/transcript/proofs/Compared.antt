@@ -1,9 +1,9 @@
 -- The halves of the key and the claims, in scratch: what is compared with what. Assumes nothing.
-use mathlib.Core.Path.{_≡_, refl, sym, ap, ap₂, _∙_}
+use mathlib.Core.Path.{_≡_, sym, ap, ap₂, _∙_}
 use mathlib.Core.Logic.{_≢_}
 use mathlib.Core.Bool.{true, false}
 use mathlib.Core.List.{[], _∷_}
-use Prim.Native.Nat.{ℕ, suc, _+_, _-_, _*_, _%_, _^_, _≤_, _<_}
+use Prim.Native.Nat.{ℕ, suc, _+_, _*_, _%_, _^_, _≤_, _<_}
 use native.Mathlib.Nat.{mod-eq-of-lt}
 use native.Mathlib.Omega.{arith}
 use lib.IntN.{natAbs}
@@ -16,7 +16,7 @@ use Rattle.modular.specs.Modulo.{Same, centre, remainder}
 use Rattle.modular.specs.Division.{inverse, divide}
 use Rattle.modular.proofs.Congruence.{same-eq, same-refl, same-mul}
 use Rattle.modular.proofs.Centring.{centre-mod}
-use Rattle.ring.specs.Poly.{Poly, plus, minus, mul, modulo, Alike, Below}
+use Rattle.ring.specs.Poly.{Poly, plus, modulo, Alike, Below}
 use Rattle.ring.specs.Slots.{poly, slot, list, encode, store, allBelow}
 use Rattle.ring.proofs.Bridge.{length-list, list-cong, getD-list, encode-cong, encode-poly, poly-part, slot-later}
 use Rattle.ring.proofs.Polynomials.{alike-refl, alike-minus, alike-mul}

@@ -1,3 +1,16 @@
+pub mod Accepted
+pub mod Answers
 pub mod BallotLoop
 pub mod Compared
+pub mod Extraction
+pub mod ExtractionHalves
+pub mod ExtractionOutput
+pub mod ExtractionSizes
+pub mod ExtractionVectors
+pub mod ExtractionWritten
+pub mod Honest
 pub mod Many
+pub mod Passed
+pub mod Produced
+pub mod Tests
+pub mod Written

@@ -1,11 +1,18 @@
 -- What holds for each of n: laws of `all`, `each` and `joined`. Assumes nothing.
 use mathlib.Core.Path.{_≡_, refl, sym, ap, ap₂, _∙_}
 use mathlib.Core.Logic.{_⊎_, inl, inr}
+<<<<<<< HEAD
 use mathlib.Core.Bool.{Bool, true, false, cond, _&&_}
 use mathlib.Core.List.{List, [], _∷_, _++_}
 use Prim.Native.Nat.{ℕ, zero, suc, _+_, _*_, _≤_, _<_}
 use native.Mathlib.Nat.{mul-zero, mul-suc, mul-comm, mul-le-mul}
 use native.Mathlib.Numerals.{add-one}
+=======
+use mathlib.Core.Bool.{Bool, true, _&&_}
+use mathlib.Core.List.{List, [], _∷_, _++_}
+use Prim.Native.Nat.{ℕ, zero, suc, _+_, _*_, _≤_, _<_}
+use native.Mathlib.Nat.{mul-zero, mul-suc, mul-le-mul}
+>>>>>>> 096069b180b996b3b37cf35490861d3ae12748a6
 use native.Mathlib.Decide.{decLt}
 use native.Mathlib.Omega.{arith}
 use lib.ListN.{length, take, drop, length-append, length-drop}
@@ -18,7 +25,7 @@ use Rattle.codec.proofs.Laws.{both}
 use Rattle.transcript.specs.Layout.{all, each, joined}
 
 -- below n + 1: below n, or n
-last : (n j : ℕ) → j < suc n → (j < n) ⊎ (j ≡ n)
+pub last : (n j : ℕ) → j < suc n → (j < n) ⊎ (j ≡ n)
 last n j h = go (decLt j n)
   where
     go : Dec (j < n) → (j < n) ⊎ (j ≡ n)

@@ -32,19 +32,33 @@ pub record Openings : Type 0 where
   pub answer2 : Bytes
   pub answer3 : Bytes
 
+-- ---- what it writes
+
+-- three polynomials modulo q in 24N bytes
+abbrev pub threeBytes : (q N : ℕ) → Three → Bytes
+threeBytes q N r = encode N (modulo q (r .r1)) ++ (encode N (modulo q (r .r2)) ++ encode N (modulo q (r .r3)))
+
+-- whether they are zero modulo q
+abbrev pub isZero : (q N : ℕ) → Three → Bool
+isZero q N r = same (threeBytes q N r) (zeros (24 * N))
+
+-- ternary bytes of numbers that are 0, 1 or -1 modulo q
+abbrev pub ternaryBytes : (q N : ℕ) → Poly → Bytes
+ternaryBytes q N f = list N (λ i. cond (same (f i % q ∷ []) (1 ∷ [])) 1 (cond (same (f i % q ∷ []) (0 ∷ [])) 0 2))
+
 module _ (P : Parameters) (m : ℕ) (x : Openings) where
   open Parameters P using (q, N, p, B, D, repeats, a, b, k)
 
   abbrev pub pairs : Bytes
   pairs = pairsOf N (x .head)
 
-  abbrev digests : Bytes
+  abbrev pub digests : Bytes
   digests = digestsAt N (x .head) (x .repetition)
 
-  abbrev open0 : Opening
+  abbrev pub open0 : Opening
   open0 = openingOf N (x .opening0)
 
-  abbrev open1 : Opening
+  abbrev pub open1 : Opening
   open1 = openingOf N (x .opening1)
 
   -- ---- the order after the lengths: 5, 6; for side 0 and then 1: 7, 8 and by ballot 12, 13; then by answer 9, 10, 11
@@ -63,7 +77,7 @@ module _ (P : Parameters) (m : ℕ) (x : Openings) where
       && (inRange q N 2 (x .answer2)
       && inRange q N 3 (x .answer3))))))))))
 
-  abbrev sideTests : (side : ℕ) (shares : Bytes) → Opening → List Test
+  abbrev pub sideTests : (side : ℕ) (shares : Bytes) → Opening → List Test
   sideTests side shares o =
       test 7 0 (not (opensKey P m (x .head) side o))
       ∷ test 8 0 (not (opensPairs P m (x .head) side o))
@@ -105,32 +119,21 @@ module _ (P : Parameters) (m : ℕ) (x : Openings) where
   abbrev pub vector-e : Three
   vector-e = minus3 q (plus3 (threeOf q N (open0 .re)) (threeOf q N (open1 .re))) (plus3 (threeFrom N unknowns 8) (threeFrom N unknowns 11))
 
-  abbrev threeBytes : Three → Bytes
-  threeBytes r = encode N (modulo q (r .r1)) ++ (encode N (modulo q (r .r2)) ++ encode N (modulo q (r .r3)))
-
-  -- whether a vector is zero modulo q
-  abbrev isZero : Three → Bool
-  isZero r = same (threeBytes r) (zeros (24 * N))
-
   -- 1, 2, 3: the lowest digest whose two strings differ; 4: the vector for s; 5: the vector for e; 6: the key
   unfoldable pub kind : ℕ
   kind =
       cond (not (same (one-by2 s two) (one-by3 s three))) 1
       (cond (not (same (two-by1 s one) (two-by3 s three))) 2
       (cond (not (same (three-by1 s one) (three-by2 s two))) 3
-      (cond (not (isZero vector-s)) 4
-      (cond (not (isZero vector-e)) 5 6))))
-
-  -- ternary bytes of numbers that are 0, 1 or -1 modulo q
-  abbrev ternaryBytes : Poly → Bytes
-  ternaryBytes f = list N (λ i. cond (same (f i % q ∷ []) (1 ∷ [])) 1 (cond (same (f i % q ∷ []) (0 ∷ [])) 0 2))
+      (cond (not (isZero q N vector-s)) 4
+      (cond (not (isZero q N vector-e)) 5 6))))
 
   -- its 24N output bytes: zeros for a collision, the vector, or s and e as ternary bytes and then zeros
   unfoldable pub extracted : Bytes
   extracted =
       cond (ltb kind 4) (zeros (24 * N))
-      (cond (ltb kind 5) (threeBytes vector-s)
-      (cond (ltb kind 6) (threeBytes vector-e) (ternaryBytes (polynomial N unknowns 0) ++ (ternaryBytes (polynomial N unknowns 1) ++ zeros (22 * N)))))
+      (cond (ltb kind 5) (threeBytes q N vector-s)
+      (cond (ltb kind 6) (threeBytes q N vector-e) (ternaryBytes q N (polynomial N unknowns 0) ++ (ternaryBytes q N (polynomial N unknowns 1) ++ zeros (22 * N)))))
 
   -- ---- what the answers say (the third demand)
 

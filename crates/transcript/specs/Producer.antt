@@ -1,9 +1,10 @@
 -- The producer of a round (document 01, "One round", third paragraph, and the producer's order): what it is lent, what it refuses, and what its two calls write.
 -- Assumes nothing.
+use mathlib.Core.Path.{_≡_}
 use mathlib.Core.Bool.{Bool, not, _&&_}
 use mathlib.Core.List.{List, [], _∷_, _++_}
 use Prim.Native.Nat.{ℕ, zero, suc, _+_, _*_}
-use lib.ListN.{getD}
+use lib.ListN.{length, getD}
 use Rattle.codec.specs.Bytes.{Bytes, part, same}
 use Rattle.codec.specs.Reply.{Test, test}
 use Rattle.ring.specs.Poly.{Poly, modulo}
@@ -15,7 +16,7 @@ use Rattle.vector.specs.Vector.{vector}
 use Rattle.vector.specs.Permutation.{entries, permutes}
 use Rattle.stern.specs.Argument.{Drawn}
 use Rattle.stern.specs.Shortness.{drawnOf, honestDigests, honestAnswer}
-use Rattle.transcript.specs.Layout.{all, each, joined, uAt, vAt}
+use Rattle.transcript.specs.Layout.{all, each, joined, ballotLength, uAt, vAt}
 use Rattle.transcript.specs.Round.{Parameters, Round, ballotsRanged}
 
 -- what both calls are lent: s, e and the three r of s0, of s1, of e0, of e1 in ternary bytes; s0, e0; E of both sides; every R, P and salt; the ballots
@@ -72,6 +73,18 @@ module _ (P : Parameters) (m : ℕ) (x : Material) where
 
   abbrev pub drawnAt : ℕ → Drawn
   drawnAt i = drawnOf (permutationAt i) (part (x .vectors) (336 * N * i) (336 * N)) (part (x .salts) (96 * i) 96)
+
+  -- the lengths, which refusal 1 asks for
+  pub record Sized : Type 0 where
+    pub secrets : length (x .secrets) ≡ 14 * N
+    pub s0 : length (x .s0) ≡ 8 * N
+    pub e0 : length (x .e0) ≡ 8 * N
+    pub masks0 : length (x .masks0) ≡ 8 * N * m
+    pub masks1 : length (x .masks1) ≡ 8 * N * m
+    pub vectors : length (x .vectors) ≡ 336 * N * repeats
+    pub permutations : length (x .permutations) ≡ 168 * N * repeats
+    pub salts : length (x .salts) ≡ 96 * repeats
+    pub ballots : length (x .ballots) ≡ ballotLength N * m
 
   -- ---- the order after the lengths: 5, 14, 12, 9, 15
 

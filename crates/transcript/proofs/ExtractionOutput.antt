@@ -1,0 +1,95 @@
+-- What stands in the extractor's output is itself what was found: polynomials read from it are a short vector, or a key. Assumes nothing.
+use mathlib.Core.Path.{_≡_, sym, ap, _∙_}
+use mathlib.Core.Logic.{_⊎_, inl, inr}
+use Prim.Native.Nat.{ℕ, _*_, _^_, _≤_, _<_}
+use native.Mathlib.Omega.{arith}
+use Rattle.codec.specs.Bytes.{Bytes, part}
+use Rattle.codec.specs.Reply.{None}
+use Rattle.modular.specs.Modulo.{remainder}
+use Rattle.ring.specs.Poly.{Poly, modulo, Alike}
+use Rattle.ring.specs.Slots.{slot, encode}
+use Rattle.ring.specs.Ternary.{ternary}
+use Rattle.ring.proofs.Bridge.{length-encode, list-cong}
+use Rattle.ring.proofs.Polynomials.{alike-refl, alike-sym, _so_, alike-minus, alike-mul}
+use Rattle.bgv.specs.Scheme.{opened, plain, Sound}
+use Rattle.bgv.proofs.Form.{noisy-alike}
+use Rattle.commitment.specs.Commitment.{Three, Alike3}
+use Rattle.commitment.proofs.Additive.{row-alike}
+use Rattle.stern.proofs.Honest.{slot-alike}
+use Rattle.stern.proofs.Layouts.{three-read}
+use Rattle.transcript.specs.Layout.{uAt, vAt}
+use Rattle.transcript.specs.Round.{Parameters}
+use Rattle.transcript.specs.Extractor.{Openings, threeBytes, extractTests, vector-s, vector-e, kind, extracted, Nonzero, ShortVector, Key, short-s, short-e}
+use Rattle.transcript.proofs.ExtractionSizes.{centre-alike, small-alike}
+use Rattle.transcript.proofs.Extraction.{Lent, extraction}
+use Rattle.transcript.proofs.ExtractionWritten.{vector-s-written, vector-e-written, found-vector-s, found-vector-e, found-secret, key-written}
+
+-- three polynomials in 24N bytes
+abbrev pub vectorOf : ℕ → Bytes → Three
+vectorOf N w = record { r1 = slot w 0; r2 = slot w (8 * N); r3 = slot w (16 * N) }
+
+pub vectorOf-threeBytes : {q : ℕ} (N : ℕ) (r : Three) (w : Bytes) → 0 < q → q ≤ 2 ^ 64 → w ≡ threeBytes q N r → Alike3 q N r (vectorOf N w)
+vectorOf-threeBytes {q} N r w positive fits e =
+    let t = three-read (8 * N) (8 * N) (8 * N) (16 * N) (omega arith) (encode N (modulo q (r .r1))) (encode N (modulo q (r .r2))) (encode N (modulo q (r .r3)))
+    (length-encode N _) (length-encode N _) (length-encode N _) in
+    record {
+      r1 = alike-sym (slot-alike q N positive fits w 0 (r .r1) (ap (λ (s : Bytes). part s 0 (8 * N)) e ∙ t .0));
+      r2 = alike-sym (slot-alike q N positive fits w (8 * N) (r .r2) (ap (λ (s : Bytes). part s (8 * N) (8 * N)) e ∙ t .1));
+      r3 = alike-sym (slot-alike q N positive fits w (16 * N) (r .r3) (ap (λ (s : Bytes). part s (16 * N) (8 * N)) e ∙ t .2));
+    }
+
+module _ (P : Parameters) (m : ℕ) (x : Openings) where
+  open Parameters P using (q, N, p, D, B, k)
+
+  -- ---- what is found goes by what the coefficients are modulo q
+
+  nonzero-alike : {f g : Poly} → Alike q N f g → Nonzero P m x f → Nonzero P m x g
+  nonzero-alike e n = record { place = n .place; below = n .below; differs = λ z. n .differs (e .at (n .place) (n .below) .is ∙ z) }
+
+  pub vector-alike : {z w : Three} → Alike3 q N z w → ShortVector P m x z → ShortVector P m x w
+  vector-alike {z} {w} e v = record {
+    nonzero = go (v .nonzero);
+    vanishes = alike-sym (row-alike q N k e) so v .vanishes;
+    small1 = small-alike 4 (e .r1) (v .small1);
+    small2 = small-alike 4 (e .r2) (v .small2);
+    small3 = small-alike 4 (e .r3) (v .small3);
+  }
+    where
+      go : Nonzero P m x (z .r1) ⊎ Nonzero P m x (z .r2) ⊎ Nonzero P m x (z .r3) → Nonzero P m x (w .r1) ⊎ Nonzero P m x (w .r2) ⊎ Nonzero P m x (w .r3)
+      go (inl n) = inl (nonzero-alike (e .r1) n)
+      go (inr (inl n)) = inr (inl (nonzero-alike (e .r2) n))
+      go (inr (inr n)) = inr (inr (nonzero-alike (e .r3) n))
+
+  -- v - s u goes by s
+  opened-secret : {f g : Poly} (u v : Poly) → Alike q N f g → Alike q N (opened q N f u v) (opened q N g u v)
+  unfolding opened
+  opened-secret u v e = alike-minus alike-refl (alike-mul e alike-refl)
+
+  pub secret-alike : {f f' g g' : Poly} → Alike q N f f' → Alike q N g g' → Key P m x f g → Key P m x f' g'
+  unfolding plain
+  secret-alike ef eg y = record {
+    short-s = small-alike 1 ef (y .short-s);
+    short-e = small-alike 1 eg (y .short-e);
+    matches = noisy-alike q N p alike-refl (alike-sym ef) (alike-sym eg) so y .matches;
+    opens = λ j l noise.
+        let same = opened-secret (uAt N (x .ballots) j) (vAt N (x .ballots) j) ef in
+        list-cong N (λ i h. ap (remainder p) (sym (centre-alike same i h))) ∙ y .opens j l (small-alike D (alike-sym same) noise);
+  }
+
+  -- ---- what is written
+
+  module _ (three : 2 < q) (fits : q ≤ 2 ^ 64) (lent : Lent P m x) (none : None (extractTests P m x)) (ok : Sound q p D B) where
+    pub output-vector-s : kind P m x ≡ 4 → ShortVector P m x (vectorOf N (extracted P m x))
+    output-vector-s e =
+        vector-alike (vectorOf-threeBytes N (vector-s P m x) (extracted P m x) (omega arith) fits (vector-s-written P m x e))
+        (found-vector-s P m x (extraction P m x three fits lent none ok) e)
+
+    pub output-vector-e : kind P m x ≡ 5 → ShortVector P m x (vectorOf N (extracted P m x))
+    output-vector-e e =
+        vector-alike (vectorOf-threeBytes N (vector-e P m x) (extracted P m x) (omega arith) fits (vector-e-written P m x e))
+        (found-vector-e P m x (extraction P m x three fits lent none ok) e)
+
+    pub output-key : kind P m x ≡ 6 → Key P m x (ternary q (part (extracted P m x) 0 N)) (ternary q (part (extracted P m x) N N))
+    output-key e =
+        let w = key-written P m x three fits lent none ok e in
+        secret-alike (alike-sym (w .means-s)) (alike-sym (w .means-e)) (found-secret P m x (extraction P m x three fits lent none ok) e)
