@@ -16,7 +16,8 @@ use Rattle.call.specs.Call.{Public}
 use Rattle.bgv.specs.Scheme.{worked, within, reconstructed}
 use Rattle.transcript.specs.Layout.{each, ballotLength, uAt, vAt, shareAt, claimAt}
 use Rattle.transcript.specs.Method.{Batch, Shares}
-use Rattle.transcript.proofs.Many.{each-none, each-more, each-refused, each-taken, within-all}
+use Rattle.transcript.proofs.Many.{each-more, each-refused, each-taken}
+use Rattle.transcript.proofs.Answers.{stretch}
 
 module _ (q n bound : ℕ) (s ballots claims shares0 shares1 opened : Bytes) where
   -- the tests of the ballot, claim and shares at places
@@ -64,19 +65,19 @@ module _ (q n bound : ℕ) (s ballots claims shares0 shares1 opened : Bytes) whe
     -- the places are far below 2^64
     pub places-fit : n ≤ 2048 → count ≤ 4096 → (at + (4 + 16 * n) ≤ 134234112) × (claim + n ≤ 8388608) × (share + 8 * n ≤ 67108864)
     places-fit high few = (
-      omega (arith, r .ballot, within-all (ballotLength n) count j h, mul-le-mul {n₁ = ballotLength n} {m₁ = count} {n₂ = 32772} {m₂ = 4096} (omega arith) few),
-      omega (arith, r .vote, within-all n count j h, mul-le-mul {n₁ = n} {m₁ = count} {n₂ = 2048} {m₂ = 4096} high few),
-      omega (arith, r .sent, within-all (8 * n) count j h, mul-le-mul {n₁ = 8 * n} {m₁ = count} {n₂ = 16384} {m₂ = 4096} (omega arith) few),
+      omega (arith, r .ballot, stretch (ballotLength n) j count h, mul-le-mul {n₁ = ballotLength n} {m₁ = count} {n₂ = 32772} {m₂ = 4096} (omega arith) few),
+      omega (arith, r .vote, stretch n j count h, mul-le-mul {n₁ = n} {m₁ = count} {n₂ = 2048} {m₂ = 4096} high few),
+      omega (arith, r .sent, stretch (8 * n) j count h, mul-le-mul {n₁ = 8 * n} {m₁ = count} {n₂ = 16384} {m₂ = 4096} (omega arith) few),
     )
 
     module _ (b : Batch q n count ballots claims) (s0 : Shares q n count shares0) (s1 : Shares q n count shares1) (so : Shares q n count opened) where
       pub at-asks : (at + 4 + 16 * n ≤ length ballots) × (claim + n ≤ length claims) × (share + 8 * n ≤ length shares0) × (share + 8 * n ≤ length shares1) × (share + 8 * n ≤ length opened)
       at-asks = (
-        omega (arith, r .ballot, b .ballots-sized, within-all (ballotLength n) count j h),
-        omega (arith, r .vote, b .claims-sized, within-all n count j h),
-        omega (arith, r .sent, s0 .sized, within-all (8 * n) count j h),
-        omega (arith, r .sent, s1 .sized, within-all (8 * n) count j h),
-        omega (arith, r .sent, so .sized, within-all (8 * n) count j h),
+        omega (arith, r .ballot, b .ballots-sized, stretch (ballotLength n) j count h),
+        omega (arith, r .vote, b .claims-sized, stretch n j count h),
+        omega (arith, r .sent, s0 .sized, stretch (8 * n) j count h),
+        omega (arith, r .sent, s1 .sized, stretch (8 * n) j count h),
+        omega (arith, r .sent, so .sized, stretch (8 * n) j count h),
       )
 
       pub below-asks : Below q (2 * n) (slot ballots (at + 4)) × Below q n (slot shares0 share) × Below q n (slot shares1 share) × Below q n (slot opened share)

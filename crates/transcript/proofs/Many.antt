@@ -1,18 +1,11 @@
 -- What holds for each of n: laws of `all`, `each` and `joined`. Assumes nothing.
 use mathlib.Core.Path.{_≡_, refl, sym, ap, ap₂, _∙_}
 use mathlib.Core.Logic.{_⊎_, inl, inr}
-<<<<<<< HEAD
 use mathlib.Core.Bool.{Bool, true, false, cond, _&&_}
 use mathlib.Core.List.{List, [], _∷_, _++_}
 use Prim.Native.Nat.{ℕ, zero, suc, _+_, _*_, _≤_, _<_}
-use native.Mathlib.Nat.{mul-zero, mul-suc, mul-comm, mul-le-mul}
-use native.Mathlib.Numerals.{add-one}
-=======
-use mathlib.Core.Bool.{Bool, true, _&&_}
-use mathlib.Core.List.{List, [], _∷_, _++_}
-use Prim.Native.Nat.{ℕ, zero, suc, _+_, _*_, _≤_, _<_}
 use native.Mathlib.Nat.{mul-zero, mul-suc, mul-le-mul}
->>>>>>> 096069b180b996b3b37cf35490861d3ae12748a6
+use native.Mathlib.Numerals.{add-one}
 use native.Mathlib.Decide.{decLt}
 use native.Mathlib.Omega.{arith}
 use lib.ListN.{length, take, drop, length-append, length-drop}
@@ -126,7 +119,3 @@ each-more f j none e = rw (add-one j) (none-append (each j f) (f j) none (taken-
 
 pub each-taken : (n : ℕ) (f : ℕ → List Test) → None (each n f) → first (each n f) ≡ Taken
 each-taken n f none = taken-exactly (each n f) .1 none
-
--- number j of n, m bytes each, ends within them
-pub within-all : (m n j : ℕ) → j < n → m * j + m ≤ m * n
-within-all m n j h = omega (arith, mul-suc m j, mul-le-mul {n₁ = m} {m₁ = suc j} {n₂ = m} {m₂ = n} (omega arith) h)
