@@ -12,5 +12,6 @@ pub mod Honest
 pub mod Many
 pub mod Passed
 pub mod Produced
+pub mod RepetitionLoop
 pub mod Tests
 pub mod Written

@@ -11,7 +11,7 @@ ghost use Rattle.call.specs.Call.{scratchLength};
 ghost use Rattle.commitment.specs.Commitment.{keysOf, PublicKeys};
 ghost use Rattle.vector.specs.Vector.{vector};
 ghost use Rattle.stern.specs.Shortness.{answerLength, inRange, answerTests};
-ghost use Rattle.transcript.specs.Layout.{each, pairsOf, digestsAt, answerAt};
+ghost use Rattle.transcript.specs.Layout.{each, headLength, pairsOf, digestsAt, answerAt};
 ghost use Rattle.transcript.specs.Method.{Answers};
 
 // How many bytes the answer to a challenge has; a challenge out of range counts as 3.
@@ -56,4 +56,49 @@ fn test_at(
         n,
         q,
     )
+}
+
+// Every repetition, in order.
+pub fn test_repetitions(
+    work: &mut [u8],
+    k: &[u8],
+    head: &[u8],
+    challenges: &[u8],
+    answers: &[u8],
+    repeats: usize,
+    n: usize,
+    q: u64,
+) -> Reply
+    requires { ⌜ PublicKeys n q (now k) × (length (now work) ≡ scratchLength) × (repeats ≤ 256) × (length (now head) ≡ headLength n repeats) × (allBelow q (vector (pairsOf n (now head))) ≡ true) × Answers q n repeats (now challenges) (now answers) ⌝ }
+    ensures { λ reply. ⌜ reply ≡ first (each repeats (λ i. answerTests q n (keysOf n (now (k .entry))) (pairsOf n (now (head .entry))) (digestsAt n (now (head .entry)) i) i (getD (now (challenges .entry)) i 0) (answerAt n (now (challenges .entry)) (now (answers .entry)) i))) ⌝ }
+    ensures { λ _. ⌜ length (now (work .exit)) ≡ length (now (work .entry)) ⌝ }
+{
+    let mut i = 0;
+    let mut at = 0;
+    while i < repeats {
+        let challenge = challenges[i];
+        let size = answer_length(n, challenge);
+        let reply = test_at(
+            work,
+            k,
+            head,
+            80 * n + 96 * i,
+            challenge,
+            answers,
+            at,
+            size,
+            i as u32,
+            n,
+            q,
+        );
+        match reply {
+            Reply::Taken => {}
+            Reply::Refused { number, place } => {
+                return Reply::Refused { number, place };
+            }
+        }
+        i += 1;
+        at += size;
+    }
+    Reply::Taken
 }
