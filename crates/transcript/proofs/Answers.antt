@@ -53,7 +53,7 @@ joined-place n f j h =
     ∙ part-behind (joined j f) (f j ++ a .rest) (length (joined j f)) 0 (length (joined j f)) (length (f j)) refl (sym (add-zero _))
     ∙ part-first (f j) (a .rest) (length (f j)) refl
 
-answersLength-append : (N : ℕ) (cs ds : Bytes) → answersLength N (cs ++ ds) ≡ answersLength N cs + answersLength N ds
+pub answersLength-append : (N : ℕ) (cs ds : Bytes) → answersLength N (cs ++ ds) ≡ answersLength N cs + answersLength N ds
 unfolding answersLength
 answersLength-append N [] ds = omega arith
 answersLength-append N (c ∷ cs) ds = ap (λ (n : ℕ). answerLength N c + n) (answersLength-append N cs ds) ∙ sym (add-assoc (answerLength N c) (answersLength N cs) (answersLength N ds))

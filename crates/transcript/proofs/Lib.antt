@@ -1,5 +1,6 @@
 pub mod Accepted
 pub mod Answers
+pub mod BallotLoop
 pub mod Compared
 pub mod Extraction
 pub mod ExtractionHalves
@@ -11,5 +12,6 @@ pub mod Honest
 pub mod Many
 pub mod Passed
 pub mod Produced
+pub mod RepetitionLoop
 pub mod Tests
 pub mod Written

@@ -1,16 +1,19 @@
 -- What holds for each of n: laws of `all`, `each` and `joined`. Assumes nothing.
 use mathlib.Core.Path.{_≡_, refl, sym, ap, ap₂, _∙_}
 use mathlib.Core.Logic.{_⊎_, inl, inr}
-use mathlib.Core.Bool.{Bool, true, _&&_}
+use mathlib.Core.Bool.{Bool, true, false, cond, _&&_}
 use mathlib.Core.List.{List, [], _∷_, _++_}
 use Prim.Native.Nat.{ℕ, zero, suc, _+_, _*_, _≤_, _<_}
 use native.Mathlib.Nat.{mul-zero, mul-suc, mul-le-mul}
+use native.Mathlib.Numerals.{add-one}
 use native.Mathlib.Decide.{decLt}
 use native.Mathlib.Omega.{arith}
 use lib.ListN.{length, take, drop, length-append, length-drop}
 use lib.Seq.{take-all, drop-at, take-append-le, drop-append-le}
 use Rattle.codec.specs.Bytes.{Bytes, part}
-use Rattle.codec.specs.Reply.{Test, None}
+use Rattle.codec.specs.Reply.{Test, first, None}
+use Rattle.codec.specs.declared.Reply.the-variants.{Taken, Refused}
+use Rattle.codec.proofs.Replies.{not-taken, taken-exactly, first-append}
 use Rattle.codec.proofs.Laws.{both}
 use Rattle.transcript.specs.Layout.{all, each, joined}
 
@@ -92,3 +95,31 @@ module _ (m : ℕ) (f : ℕ → Bytes) where
       go before (inr i) =
           let e : length (joined n f) ≡ m * j = long ∙ ap (λ (x : ℕ). m * x) (sym i) in
           ap (take m) (drop-at (joined n f) (f n) (m * j) e) ∙ take-all m (f n) (omega (arith, h n (omega arith))) ∙ ap f (sym i)
+
+-- a test that refuses, where none before it does
+first-refused : (rs ts : List Test) (number place : ℕ) → first rs ≡ Refused number place → first (rs ++ ts) ≡ Refused number place
+unfolding first
+first-refused [] ts number place e = not-taken number place (sym e)
+first-refused (t ∷ rs) ts number place e = go (t .holds) (λ f. first-refused rs ts number place f) e
+  where
+    go : (b : Bool) → (first rs ≡ Refused number place → first (rs ++ ts) ≡ Refused number place) → cond b (Refused (t .number) (t .place)) (first rs) ≡ Refused number place
+        → cond b (Refused (t .number) (t .place)) (first (rs ++ ts)) ≡ Refused number place
+    go true later f = f
+    go false later f = later f
+
+pub each-refused : (n : ℕ) (f : ℕ → List Test) (j number place : ℕ) → j < n → None (each j f) → first (f j) ≡ Refused number place → first (each n f) ≡ Refused number place
+unfolding each
+each-refused zero f j number place h none e = absurd (omega arith)
+each-refused (suc n) f j number place h none e = go (λ l. each-refused n f j number place l none e) (last n j h)
+  where
+    go : (j < n → first (each n f) ≡ Refused number place) → (j < n) ⊎ (j ≡ n) → first (each n f ++ f n) ≡ Refused number place
+    go before (inl l) = first-refused (each n f) (f n) number place (before l)
+    go before (inr i) = first-append (each n f) (f n) (rw (sym i) none) ∙ ap (λ (k : ℕ). first (f k)) (sym i) ∙ e
+
+-- one more that refuses nothing
+pub each-more : (f : ℕ → List Test) (j : ℕ) → None (each j f) → first (f j) ≡ Taken → None (each (j + 1) f)
+unfolding each
+each-more f j none e = rw (add-one j) (none-append (each j f) (f j) none (taken-exactly (f j) .0 e))
+
+pub each-taken : (n : ℕ) (f : ℕ → List Test) → None (each n f) → first (each n f) ≡ Taken
+each-taken n f none = taken-exactly (each n f) .1 none

@@ -1,4 +1,5 @@
 pub mod Layout
 pub mod Round
+pub mod Method
 pub mod Producer
 pub mod Extractor

@@ -12,6 +12,8 @@ ghost use Rattle.ring.specs.Poly.{Below};
 ghost use Rattle.ring.specs.Slots.{poly, slot, list};
 ghost use Rattle.call.specs.Call.{scratchLength, Public};
 ghost use Rattle.bgv.specs.Scheme.{worked, within, reconstructed};
+ghost use Rattle.transcript.specs.Layout.{each, uAt, vAt, shareAt, claimAt};
+ghost use Rattle.transcript.specs.Method.{Batch, Shares};
 
 // One ballot: the mask worked out from the opened side's share t is at most the bound, and the claim is the vote of both shares.
 fn test_ballot(
@@ -78,4 +80,57 @@ fn test_at(
         n,
         q,
     )
+}
+
+// Every ballot, in order: `opened` is the opened side's shares.
+pub fn test_ballots(
+    work: &mut [u8],
+    s: &[u8],
+    ballots: &[u8],
+    claims: &[u8],
+    shares0: &[u8],
+    shares1: &[u8],
+    opened: &[u8],
+    count: usize,
+    bound: u64,
+    n: usize,
+    q: u64,
+) -> Reply
+    requires { ⌜ Public n q (now s) × (q % 2 ≡ 1) × (length (now work) ≡ scratchLength) × (count ≤ 4096) × Batch q n count (now ballots) (now claims) × Shares q n count (now shares0) × Shares q n count (now shares1) × Shares q n count (now opened) ⌝ }
+    ensures { λ reply. ⌜ reply ≡ first (each count (λ j. test 12 j (not (within bound n (worked q n 2 (poly (now (s .entry))) (uAt n (now (ballots .entry)) j) (shareAt n (now (opened .entry)) j)))) ∷ test 13 j (not (same (claimAt n (now (claims .entry)) j) (list n (reconstructed q 2 (vAt n (now (ballots .entry)) j) (shareAt n (now (shares0 .entry)) j) (shareAt n (now (shares1 .entry)) j))))) ∷ [])) ⌝ }
+    ensures { λ _. ⌜ length (now (work .exit)) ≡ length (now (work .entry)) ⌝ }
+{
+    let mut j = 0;
+    let mut at = 0;
+    let mut claim = 0;
+    let mut share = 0;
+    while j < count {
+        let reply = test_at(
+            work,
+            s,
+            ballots,
+            at,
+            claims,
+            claim,
+            shares0,
+            shares1,
+            opened,
+            share,
+            j as u32,
+            bound,
+            n,
+            q,
+        );
+        match reply {
+            Reply::Taken => {}
+            Reply::Refused { number, place } => {
+                return Reply::Refused { number, place };
+            }
+        }
+        j += 1;
+        at += 4 + 16 * n;
+        claim += n;
+        share += 8 * n;
+    }
+    Reply::Taken
 }
