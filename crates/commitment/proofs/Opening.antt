@@ -15,12 +15,17 @@ use Rattle.ring.specs.Slots.{poly, slot, encode}
 use Rattle.ring.proofs.Bridge.{length-encode, poly-encode, encode-cong, encode-alike, encode-poly, poly-part}
 use Rattle.commitment.specs.Commitment.{Keys, Three, Pair, committed, pairBytes, pairOf, Opens, opens}
 
--- bytes in range at a place are those of the polynomial that they hold
+-- bytes in range are those of the polynomial that they hold
+pub encode-bytes : (q N : ℕ) (s : Bytes) → Octets s → length s ≡ 8 * N → Below q N (poly s) → s ≡ encode N (modulo q (poly s))
+unfolding modulo
+encode-bytes q N s octets sized b = sym (encode-poly s N octets sized) ∙ encode-cong N (λ k l. sym (mod-eq-of-lt (b .at k l)))
+
+-- and so are bytes at a place
 pub encode-slot : (q N : ℕ) (c : Bytes) (at : ℕ) → Octets c → at + 8 * N ≤ length c → Below q N (slot c at) → part c at (8 * N) ≡ encode N (modulo q (slot c at))
 unfolding modulo
 encode-slot q N c at octets l b =
-    sym (encode-poly (part c at (8 * N)) N (octets-part c at (8 * N) octets) (length-part c at (8 * N) l))
-    ∙ encode-cong N (λ k m. poly-part c at N k m ∙ sym (mod-eq-of-lt (b .at k m)))
+    encode-bytes q N (part c at (8 * N)) (octets-part c at (8 * N) octets) (length-part c at (8 * N) l) (record { at = λ k m. rw (poly-part c at N k m) (b .at k m) })
+    ∙ encode-cong N (λ k m. ap (λ (v : ℕ). v % q) (poly-part c at N k m))
 
 module _ (q N : ℕ) (h : 0 < q) (small : q ≤ 2 ^ 64) where
   -- what is written modulo q is read back

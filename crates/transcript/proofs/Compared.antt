@@ -4,7 +4,6 @@ use mathlib.Core.Logic.{_≢_}
 use mathlib.Core.Bool.{true, false}
 use mathlib.Core.List.{[], _∷_}
 use Prim.Native.Nat.{ℕ, suc, _+_, _*_, _%_, _^_, _≤_, _<_}
-use native.Mathlib.Nat.{mod-eq-of-lt}
 use native.Mathlib.Omega.{arith}
 use lib.IntN.{natAbs}
 use lib.ListN.{length, take, drop, getD}
@@ -17,16 +16,13 @@ use Rattle.modular.specs.Division.{inverse, divide}
 use Rattle.modular.proofs.Congruence.{same-eq, same-refl, same-mul}
 use Rattle.ring.specs.Poly.{Poly, plus, modulo, Alike, Below}
 use Rattle.ring.specs.Slots.{poly, slot, list, encode, store, allBelow}
-use Rattle.ring.proofs.Bridge.{length-list, list-cong, getD-list, encode-cong, encode-poly, poly-part, slot-later}
+use Rattle.ring.proofs.Bridge.{length-list, list-cong, getD-list, poly-part, slot-later}
 use Rattle.ring.proofs.Polynomials.{alike-refl, alike-minus, alike-mul}
 use Rattle.call.specs.Call.{Public}
 use Rattle.bgv.specs.Scheme.{worked, within, plain, rebuilt, reconstructed}
 use Rattle.call.proofs.Shelf.{Shelf, shelf-none, shelf-copy, shelf-add, shelf-below}
+use Rattle.commitment.proofs.Opening.{encode-bytes}
 use Rattle.transcript.proofs.ExtractionSizes.{same-centre}
-
--- the bytes of a lent polynomial in range
-pub lent-encoded : (n q : ℕ) (s : Bytes) → Octets s → Public n q s → s ≡ encode n (modulo q (poly s))
-lent-encoded n q s o p = sym (encode-poly s n o (p .sized)) ∙ encode-cong n (λ k l. unfold modulo in sym (mod-eq-of-lt (p .below .at k l)))
 
 -- ---- two lent halves added at the head of scratch
 
@@ -48,7 +44,7 @@ module _ (n q : ℕ) (w w1 b0 : Bytes) (long : length w ≡ 1048576) (octets : O
     added-length = added .long ∙ sym long
 
     pub sum-compared : (m : ℕ) → m ≡ 8 * n → Octets b → Public n q b → same (take m w2) b ≡ same (encode n (modulo q (plus (poly b0) (poly b1)))) (encode n (modulo q (poly b)))
-    sum-compared m e o p = ap (λ (k : ℕ). same (take k w2) b) e ∙ ap₂ same (added .stands 0 (omega arith)) (lent-encoded n q b o p)
+    sum-compared m e o p = ap (λ (k : ℕ). same (take k w2) b) e ∙ ap₂ same (added .stands 0 (omega arith)) (encode-bytes q n b o (p .sized) (p .below))
 
 -- ---- a claim compared byte by byte
 
