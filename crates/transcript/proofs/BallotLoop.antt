@@ -16,8 +16,7 @@ use Rattle.call.specs.Call.{Public}
 use Rattle.bgv.specs.Scheme.{worked, within, reconstructed}
 use Rattle.transcript.specs.Layout.{each, ballotLength, uAt, vAt, shareAt, claimAt}
 use Rattle.transcript.specs.Method.{Batch, Shares}
-use Rattle.transcript.proofs.Many.{each-more, each-refused, each-taken}
-use Rattle.transcript.proofs.Answers.{stretch}
+use Rattle.transcript.proofs.Many.{each-more, each-refused, each-taken, stretch}
 
 module _ (q n bound : ℕ) (s ballots claims shares0 shares1 opened : Bytes) where
   -- the tests of the ballot, claim and shares at places
