@@ -64,3 +64,27 @@ pub fn is_claim(
     bgv::rebuilt(work, v, t0, t1, n, q);
     is_vote(work, claim, n, q)
 }
+
+// Whether two lent pairs are those of s_i and e_i with the r of an opening.
+pub fn opens_pairs(
+    work: &mut [u8],
+    k: &[u8],
+    first: &[u8],
+    second: &[u8],
+    s: &[u8],
+    e: &[u8],
+    rs: &[u8],
+    re: &[u8],
+    n: usize,
+    q: u64,
+) -> bool
+    requires { ⌜ PublicKeys n q (now k) × Public n q (now s) × Public n q (now e) × (length (now rs) ≡ 3 * n) × (length (now re) ≡ 3 * n) × (length (now work) ≡ scratchLength) × (length (now first) ≡ 16 * n) × (length (now second) ≡ 16 * n) ⌝ }
+    ensures { λ r. ⌜ r ≡ (opens q n (keysOf n (now (k .entry))) (now (first .entry)) (threeOf q n (now (rs .entry))) (poly (now (s .entry))) && opens q n (keysOf n (now (k .entry))) (now (second .entry)) (threeOf q n (now (re .entry))) (poly (now (e .entry)))) ⌝ }
+    ensures { λ _. ⌜ length (now (work .exit)) ≡ length (now (work .entry)) ⌝ }
+{
+    if commitment::opens(work, k, first, s, rs, n, q) {
+        commitment::opens(work, k, second, e, re, n, q)
+    } else {
+        false
+    }
+}
