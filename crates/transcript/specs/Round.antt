@@ -1,4 +1,4 @@
--- The check of a round (document 01, "One round", and the order of check after 16): the ordered list of its tests, and in plain propositions what an accepted round
+-- The check of a round (document 01, "One round", and the order of check after 16): the ordered list of its tests, and what an accepted round
 -- is. Assumes nothing.
 use mathlib.Core.Path.{_≡_}
 use mathlib.Core.Bool.{Bool, true, not, _&&_}
@@ -120,7 +120,7 @@ module _ (P : Parameters) (m : ℕ) where
       ∷ (each repeats (λ i. answerTests q N k (pairsOf N (r .head)) (digestsAt N (r .head) i) i (challengeAt r i) (answerAt N (r .challenges) (r .answers) i))
       ++ each m (λ j. maskTest (r .ballots) (sharesOf r (r .side)) o j ∷ claimTest (r .ballots) (r .claims) (r .shares0) (r .shares1) j ∷ []))
 
-  -- ---- an accepted round, in plain propositions
+  -- ---- an accepted round: 6, 7, 8, 12 and 13 in plain propositions; 5 and 9 to 11 are still said by their tests
 
   pub record Accepted (r : Round) : Type 0 where
     pub in-range : ranged r ≡ true
