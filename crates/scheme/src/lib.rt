@@ -4,7 +4,7 @@ mod ballots;
 mod commitments;
 mod keys;
 mod shares;
-mod written;
+pub mod written;
 
 pub use ballots::decrypt;
 pub use ballots::encrypt;

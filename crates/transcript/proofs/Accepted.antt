@@ -113,7 +113,7 @@ module _ (P : Parameters) (m : ℕ) (positive : 0 < P .q) (fits : P .q ≤ 2 ^ 6
         (λ e. accepted (t .0 e), λ c. t .1 (tests-pass c))
 
 -- so the producer's round is accepted
-pub honest-accepted : (P : Parameters) (m : ℕ) (x : Material) → Sound (P .q) (P .p) (P .D) (P .B) → 2 < P .q → P .q ≤ 2 ^ 64 → Sized P m x → None (producerTests P m x)
+pub honest-accepted : (P : Parameters) (m : ℕ) (x : Material) → Sound (P .q) (P .p) (P .D) (P .B) → 2 < P .q → P .q ≤ 2 ^ 64 → Sized P m x → None (producerTests P m x true)
     → (side : ℕ) → side < 2 → (challenges : Bytes) → length challenges ≡ P .repeats → ((i : ℕ) → i < P .repeats → (1 ≤ getD challenges i 0) × (getD challenges i 0 ≤ 3))
     → Accepted P m (producedRound P m x side challenges)
 honest-accepted P m x ok three fits sized none side low challenges size valid =

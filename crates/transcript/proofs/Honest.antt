@@ -96,7 +96,7 @@ module _ (P : Parameters) (m : ℕ) (x : Material) where
     shares-below side =
         coefficients-vector (coefficients-joined N m (λ j. written (share q N p (half-s P m x side) (u j) (lentMask (maskAt P m x side j)))) (λ j l. written-below _))
 
-    module _ (sized : Sized P m x) (none : None (producerTests P m x)) where
+    module _ (sized : Sized P m x) (none : None (producerTests P m x true)) where
       fit : Fit P m x
       fit = material-fit P m x positive fits none
 

@@ -32,7 +32,7 @@ module _ (P : Parameters) (m : ℕ) (x : Material) where
     pub permuting : (i : ℕ) → i < repeats → permutes (42 * N) (entries (permutationAt P m x i)) ≡ true
     pub quiet : (j : ℕ) → j < m → Small q N D (opened q N (secret-s P m x) (uAt N (x .ballots) j) (vAt N (x .ballots) j))
 
-  module _ (positive : 0 < q) (fits : q ≤ 2 ^ 64) (none : None (producerTests P m x)) where
+  module _ (positive : 0 < q) (fits : q ≤ 2 ^ 64) (none : None (producerTests P m x true)) where
     -- the three lists of tests
     tests : (materialRanged P m x ≡ true) × (encode N (modulo q (key q N p a (secret-s P m x) (secret-e P m x))) ≡ encode N (modulo q b))
         × None (each m (λ j. test 12 j (not (within B N (lentMask (maskAt P m x 0 j)) && within B N (lentMask (maskAt P m x 1 j)))) ∷ []))

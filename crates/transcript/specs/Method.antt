@@ -5,8 +5,16 @@ use mathlib.Core.Bool.{true}
 use lib.ListN.{length, getD}
 use Rattle.codec.specs.Bytes.{Bytes}
 use Rattle.ring.specs.Poly.{Below}
+use Rattle.ring.specs.Slots.{poly}
+use Rattle.sheet.specs.Bounds.{noise}
+use Rattle.commitment.specs.Commitment.{keysOf}
 use Rattle.stern.specs.Shortness.{inRange}
 use Rattle.transcript.specs.Layout.{ballotLength, uAt, shareAt, answersLength, answerAt}
+use Rattle.transcript.specs.Round.{Parameters}
+
+-- the parameters that a sheet's numbers and polynomials give
+abbrev pub parameters : (p n q B repeats : ℕ) (a b k : Bytes) → Parameters
+parameters p n q B repeats a b k = record { q = q; N = n; p = p; B = B; D = noise p n; repeats = repeats; a = poly a; b = poly b; k = keysOf n k }
 
 -- the shares of one side for `count` ballots
 pub record Shares (q N count : ℕ) (shares : Bytes) : Type 0 where

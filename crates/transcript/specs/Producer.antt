@@ -4,6 +4,7 @@ use mathlib.Core.Path.{_≡_}
 use mathlib.Core.Bool.{Bool, not, _&&_}
 use mathlib.Core.List.{List, [], _∷_, _++_}
 use Prim.Native.Nat.{ℕ, zero, suc, _+_, _*_}
+use lib.Dec.{ltb}
 use lib.ListN.{length, getD}
 use Rattle.codec.specs.Bytes.{Bytes, part, same}
 use Rattle.codec.specs.Reply.{Test, test}
@@ -16,8 +17,8 @@ use Rattle.vector.specs.Vector.{vector}
 use Rattle.vector.specs.Permutation.{entries, permutes}
 use Rattle.stern.specs.Argument.{Drawn}
 use Rattle.stern.specs.Shortness.{drawnOf, honestDigests, honestAnswer}
-use Rattle.transcript.specs.Layout.{each, joined, ballotLength, uAt, vAt}
-use Rattle.transcript.specs.Round.{Parameters, Round, ballotsRanged}
+use Rattle.transcript.specs.Layout.{all, each, joined, ballotLength, uAt, vAt}
+use Rattle.transcript.specs.Round.{Parameters, Round, isChallenge, ballotsRanged}
 
 -- what both calls are lent: s, e and the three r of s0, of s1, of e0, of e1 in ternary bytes; s0, e0; E of both sides; every R, P and salt; the ballots
 pub record Material : Type 0 where
@@ -96,9 +97,14 @@ module _ (P : Parameters) (m : ℕ) (x : Material) where
       && (allBelow q (vector (x .vectors))
       && ballotsRanged P m (x .ballots))))
 
-  unfoldable pub producerTests : List Test
-  producerTests =
-      test 5 0 (not materialRanged)
+  -- the side and the challenges that the second call is given
+  unfoldable pub askedRanged : (side : ℕ) (challenges : Bytes) → Bool
+  askedRanged side challenges = ltb side 2 && all repeats (λ i. isChallenge (getD challenges i 0))
+
+  -- `asked` says whether what a call is given beside the material is in range; the first call is given nothing
+  unfoldable pub producerTests : (asked : Bool) → List Test
+  producerTests asked =
+      test 5 0 (not (asked && materialRanged))
       ∷ test 14 0 (not (same (written (key q N p a secret-s secret-e)) (written b)))
       ∷ (each m (λ j. test 12 j (not (within B N (lentMask (maskAt 0 j)) && within B N (lentMask (maskAt 1 j)))) ∷ [])
       ++ (each repeats (λ i. test 9 i (not (permutes (42 * N) (entries (permutationAt i)))) ∷ [])

@@ -5,7 +5,7 @@ use mathlib.Core.Bool.{Bool, true, not, _&&_}
 use mathlib.Core.List.{List, [], _∷_, _++_}
 use Prim.Native.Nat.{ℕ, zero, suc, _+_, _*_, _<_}
 use lib.Dec.{leb, ltb}
-use lib.ListN.{getD}
+use lib.ListN.{length, getD}
 use Rattle.codec.specs.Bytes.{Bytes, part, same}
 use Rattle.codec.specs.Reply.{Test, test, None}
 use Rattle.ring.specs.Poly.{Poly, plus, modulo, Alike}
@@ -14,7 +14,7 @@ use Rattle.bgv.specs.Scheme.{Bounded, key, worked, within, reconstructed}
 use Rattle.commitment.specs.Commitment.{Keys, threeOf, pairOf, Opens, opens}
 use Rattle.vector.specs.Vector.{vector}
 use Rattle.stern.specs.Shortness.{inRange, answerTests}
-use Rattle.transcript.specs.Layout.{Opening, all, each, uAt, vAt, shareAt, claimAt, keyAt, pairsOf, pairAt, digestsAt, openingOf, answerAt}
+use Rattle.transcript.specs.Layout.{Opening, all, each, ballotLength, uAt, vAt, shareAt, claimAt, headLength, keyAt, pairsOf, pairAt, digestsAt, openingOf, answersLength, answerAt}
 
 -- what a sheet gives: modulus, ring size, plaintext modulus, mask bound, noise bound, repetitions, and its polynomials
 pub record Parameters : Type 0 where
@@ -43,6 +43,10 @@ pub record Round : Type 0 where
 abbrev pub challengeAt : Round → ℕ → ℕ
 challengeAt r i = getD (r .challenges) i 0
 
+-- a challenge is 1, 2 or 3
+abbrev pub isChallenge : ℕ → Bool
+isChallenge c = leb 1 c && leb c 3
+
 -- the shares of a side
 abbrev pub sharesOf : Round → ℕ → Bytes
 sharesOf r zero = r .shares0
@@ -54,6 +58,17 @@ module _ (P : Parameters) (m : ℕ) where
 
   abbrev written : Poly → Bytes
   written f = encode N (modulo q f)
+
+  -- the lengths, which refusal 1 asks for
+  pub record Lengths (r : Round) : Type 0 where
+    pub challenges : length (r .challenges) ≡ repeats
+    pub ballots : length (r .ballots) ≡ ballotLength N * m
+    pub claims : length (r .claims) ≡ N * m
+    pub head : length (r .head) ≡ headLength N repeats
+    pub shares0 : length (r .shares0) ≡ 8 * N * m
+    pub shares1 : length (r .shares1) ≡ 8 * N * m
+    pub opening : length (r .opening) ≡ 22 * N
+    pub answers : length (r .answers) ≡ answersLength N (r .challenges)
 
   -- ---- 5: every coefficient, claim, ternary byte, side and challenge is in its range
 
@@ -69,7 +84,7 @@ module _ (P : Parameters) (m : ℕ) where
 
   unfoldable pub answersRanged : Round → Bool
   answersRanged r =
-      all repeats (λ i. (leb 1 (challengeAt r i) && leb (challengeAt r i) 3) && inRange q N (challengeAt r i) (answerAt N (r .challenges) (r .answers) i))
+      all repeats (λ i. isChallenge (challengeAt r i) && inRange q N (challengeAt r i) (answerAt N (r .challenges) (r .answers) i))
 
   unfoldable pub ranged : Round → Bool
   ranged r =
