@@ -1,0 +1,44 @@
+// 12: the masks of both sides, the lowest ballot first.
+use codec::Reply;
+ghost use mathlib.Core.Path.{_≡_};
+ghost use mathlib.Core.Bool.{not, _&&_};
+ghost use mathlib.Core.List.{[], _∷_};
+ghost use Prim.Native.Nat.{_*_, _≤_};
+ghost use lib.ListN.{length};
+ghost use Rattle.codec.specs.Bytes.{part};
+ghost use Rattle.codec.specs.Reply.{test, first};
+ghost use Rattle.bgv.specs.Scheme.{lentMask, within};
+ghost use Rattle.transcript.specs.Layout.{each};
+
+// Whether every number of two lent masks is at most a bound in size.
+fn both_bounded(mask0: &[u8], mask1: &[u8], bound: u64, n: usize) -> bool
+    requires { ⌜ (8 * n ≤ length (now mask0)) × (8 * n ≤ length (now mask1)) ⌝ }
+    ensures { λ r. ⌜ r ≡ (within bound n (lentMask (now (mask0 .entry))) && within bound n (lentMask (now (mask1 .entry)))) ⌝ }
+{
+    if bgv::bounded(mask0, bound, n) {
+        bgv::bounded(mask1, bound, n)
+    } else {
+        false
+    }
+}
+
+// The masks of every ballot, in order.
+pub fn test_masks(masks0: &[u8], masks1: &[u8], count: usize, bound: u64, n: usize) -> Reply
+    requires { ⌜ (n ≤ 2048) × (count ≤ 4096) × (length (now masks0) ≡ 8 * n * count) × (length (now masks1) ≡ 8 * n * count) ⌝ }
+    ensures { λ reply. ⌜ reply ≡ first (each count (λ j. test 12 j (not (within bound n (lentMask (part (now (masks0 .entry)) (8 * n * j) (8 * n))) && within bound n (lentMask (part (now (masks1 .entry)) (8 * n * j) (8 * n))))) ∷ [])) ⌝ }
+{
+    let mut j = 0;
+    let mut at = 0;
+    while j < count {
+        let end = at + 8 * n;
+        if !both_bounded(&masks0[at..end], &masks1[at..end], bound, n) {
+            return Reply::Refused {
+                number: 12,
+                place: j as u32,
+            };
+        }
+        j += 1;
+        at = end;
+    }
+    Reply::Taken
+}

@@ -1,0 +1,75 @@
+// 15: the noise of each ballot, the size of centred v - s u, is at most D, the lowest ballot first.
+use codec::Reply;
+ghost use mathlib.Core.Path.{_≡_};
+ghost use mathlib.Core.Bool.{true, not};
+ghost use mathlib.Core.List.{[], _∷_};
+ghost use Prim.Native.Nat.{_+_, _*_, _≤_, _<_, _^_};
+ghost use lib.ListN.{length};
+ghost use Rattle.codec.specs.Reply.{test, first};
+ghost use Rattle.ring.specs.Poly.{Below};
+ghost use Rattle.ring.specs.Slots.{poly, slot, list, allBelow};
+ghost use Rattle.ring.specs.Ternary.{ternary};
+ghost use Rattle.sheet.specs.Bounds.{noise};
+ghost use Rattle.call.specs.Call.{scratchLength, Public};
+ghost use Rattle.bgv.specs.Scheme.{centred, opened, within};
+ghost use Rattle.transcript.specs.Layout.{all, each, ballotLength, uAt, vAt};
+
+// Whether the centred coefficients at the head of scratch are at most a bound in size.
+fn head_within(work: &[u8], bound: u64, n: usize, q: u64) -> bool
+    requires { ⌜ (8 * n ≤ length (now work)) × Below q n (poly (now work)) ⌝ }
+    ensures { λ r. ⌜ r ≡ within bound n (centred q (poly (now (work .entry)))) ⌝ }
+{
+    let mut i = 0;
+    while i < n {
+        let x = codec::read64(work, 8 * i);
+        if bound < modular::size(x, q) {
+            return false;
+        }
+        i += 1;
+    }
+    true
+}
+
+// Whether the noise of a ciphertext u, v is at most D.
+fn is_quiet(work: &mut [u8], s: &[u8], u: &[u8], v: &[u8], n: usize, q: u64) -> bool
+    requires { ⌜ Public n q (now u) × Public n q (now v) × (length (now work) ≡ scratchLength) × (length (now s) ≡ n) ⌝ }
+    ensures { λ r. ⌜ r ≡ within (noise 2 n) n (centred q (opened q n (ternary q (now (s .entry))) (poly (now (u .entry))) (poly (now (v .entry))))) ⌝ }
+    ensures { λ _. ⌜ length (now (work .exit)) ≡ length (now (work .entry)) ⌝ }
+{
+    let bound = sheet::noise_bound(n as u64);
+    bgv::opened(work, s, u, v, n, q);
+    head_within(work, bound, n, q)
+}
+
+// The same of the ballot that stands at a place.
+fn is_quiet_at(work: &mut [u8], s: &[u8], ballots: &[u8], at: usize, n: usize, q: u64) -> bool
+    requires { ⌜ (4 ≤ n) × (n ≤ 2048) × (3 ≤ q) × (q < 2 ^ 56) × (length (now work) ≡ scratchLength) × (length (now s) ≡ n) × (at + 4 + 16 * n ≤ length (now ballots)) × Below q (2 * n) (slot (now ballots) (at + 4)) ⌝ }
+    ensures { λ r. ⌜ r ≡ within (noise 2 n) n (centred q (opened q n (ternary q (now (s .entry))) (slot (now (ballots .entry)) (at + 4)) (slot (now (ballots .entry)) (at + 4 + 8 * n)))) ⌝ }
+    ensures { λ _. ⌜ length (now (work .exit)) ≡ length (now (work .entry)) ⌝ }
+{
+    let from = at + 4;
+    let middle = at + 4 + 8 * n;
+    let end = at + 4 + 16 * n;
+    is_quiet(work, s, &ballots[from..middle], &ballots[middle..end], n, q)
+}
+
+// The noise of every ballot, in order.
+pub fn test_noise(work: &mut [u8], s: &[u8], ballots: &[u8], count: usize, n: usize, q: u64) -> Reply
+    requires { ⌜ (4 ≤ n) × (n ≤ 2048) × (3 ≤ q) × (q < 2 ^ 56) × (count ≤ 4096) × (length (now work) ≡ scratchLength) × (length (now s) ≡ n) × (length (now ballots) ≡ ballotLength n * count) × (all count (λ j. allBelow q (list (2 * n) (uAt n (now ballots) j))) ≡ true) ⌝ }
+    ensures { λ reply. ⌜ reply ≡ first (each count (λ j. test 15 j (not (within (noise 2 n) n (centred q (opened q n (ternary q (now (s .entry))) (uAt n (now (ballots .entry)) j) (vAt n (now (ballots .entry)) j))))) ∷ [])) ⌝ }
+    ensures { λ _. ⌜ length (now (work .exit)) ≡ length (now (work .entry)) ⌝ }
+{
+    let mut j = 0;
+    let mut at = 0;
+    while j < count {
+        if !is_quiet_at(work, s, ballots, at, n, q) {
+            return Reply::Refused {
+                number: 15,
+                place: j as u32,
+            };
+        }
+        j += 1;
+        at += 4 + 16 * n;
+    }
+    Reply::Taken
+}
