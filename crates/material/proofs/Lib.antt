@@ -1,1 +1,3 @@
+pub mod Quiet
+pub mod Sequence
 pub mod Walk

@@ -4,3 +4,145 @@ mod masks;
 mod noise;
 mod permutations;
 pub mod ranges;
+
+use codec::Reply;
+ghost use mathlib.Core.Path.{_≡_};
+ghost use mathlib.Core.Bool.{true};
+ghost use mathlib.Core.List.{[], _++_};
+ghost use Prim.Native.Nat.{_*_, _≤_, _<_, _^_};
+ghost use lib.ListN.{length};
+ghost use Rattle.codec.specs.Reply.{first};
+ghost use Rattle.call.specs.Call.{scratchLength, Public};
+ghost use Rattle.transcript.specs.Layout.{ballotLength};
+ghost use Rattle.transcript.specs.Method.{parameters};
+ghost use Rattle.transcript.specs.Producer.{producerTests};
+ghost use Rattle.material.specs.Lent.{lent, Lengths};
+ghost use Rattle.material.specs.Parts.{ballotsBelow, secretTests, maskTests, permutationTests, noiseTests};
+
+// 5, then 14.
+fn test_secret(
+    work: &mut [u8],
+    asked: bool,
+    a: &[u8],
+    b: &[u8],
+    secrets: &[u8],
+    s0: &[u8],
+    e0: &[u8],
+    vectors: &[u8],
+    ballots: &[u8],
+    count: usize,
+    n: usize,
+    q: u64,
+) -> Reply
+    requires { ⌜ Public n q (now a) × Public n q (now b) × (length (now work) ≡ scratchLength) × (count ≤ 4096) × (length (now secrets) ≡ 14 * n) × (length (now s0) ≡ 8 * n) × (length (now e0) ≡ 8 * n) × (length (now ballots) ≡ ballotLength n * count) ⌝ }
+    ensures { λ reply. ⌜ reply ≡ first (secretTests q n 2 count asked (now (a .entry)) (now (b .entry)) (now (secrets .entry)) (now (s0 .entry)) (now (e0 .entry)) (now (vectors .entry)) (now (ballots .entry))) ⌝ }
+    ensures { λ _. ⌜ length (now (work .exit)) ≡ length (now (work .entry)) ⌝ }
+{
+    if !asked {
+        return Reply::Refused { number: 5, place: 0 };
+    }
+    if !ranges::in_range(secrets, s0, e0, vectors, ballots, count, n, q) {
+        return Reply::Refused { number: 5, place: 0 };
+    }
+    if !keys::matches(work, a, b, secrets, n, q) {
+        return Reply::Refused {
+            number: 14,
+            place: 0,
+        };
+    }
+    Reply::Taken
+}
+
+// 12 by ballot, then 9 by repetition, then 15 by ballot.
+fn test_each(
+    work: &mut [u8],
+    secrets: &[u8],
+    masks0: &[u8],
+    masks1: &[u8],
+    permutations: &[u8],
+    ballots: &[u8],
+    count: usize,
+    repeats: usize,
+    bound: u64,
+    n: usize,
+    q: u64,
+) -> Reply
+    requires { ⌜ (4 ≤ n) × (n ≤ 2048) × (3 ≤ q) × (q < 2 ^ 56) × (count ≤ 4096) × (repeats ≤ 256) × (length (now work) ≡ scratchLength) × (length (now secrets) ≡ 14 * n) × (length (now masks0) ≡ 8 * n * count) × (length (now masks1) ≡ 8 * n * count) × (length (now permutations) ≡ 168 * n * repeats) × (length (now ballots) ≡ ballotLength n * count) × (ballotsBelow q n count (now ballots) ≡ true) ⌝ }
+    ensures { λ reply. ⌜ reply ≡ first (maskTests n bound count (now (masks0 .entry)) (now (masks1 .entry)) ++ (permutationTests n repeats (now (permutations .entry)) ++ noiseTests q n 2 count (now (secrets .entry)) (now (ballots .entry)))) ⌝ }
+    ensures { λ _. ⌜ length (now (work .exit)) ≡ length (now (work .entry)) ⌝ }
+{
+    let bounded = masks::test_masks(masks0, masks1, count, bound, n);
+    match bounded {
+        Reply::Taken => {}
+        Reply::Refused { number, place } => {
+            return Reply::Refused { number, place };
+        }
+    }
+    let permuting = permutations::test_permutations(work, permutations, repeats, n);
+    match permuting {
+        Reply::Taken => {}
+        Reply::Refused { number, place } => {
+            return Reply::Refused { number, place };
+        }
+    }
+    noise::test_noise(work, secrets, ballots, count, n, q)
+}
+
+// The whole order. `asked` says whether what a call is given beside the material is in range.
+pub fn test_material(
+    work: &mut [u8],
+    asked: bool,
+    a: &[u8],
+    b: &[u8],
+    secrets: &[u8],
+    s0: &[u8],
+    e0: &[u8],
+    masks0: &[u8],
+    masks1: &[u8],
+    vectors: &[u8],
+    permutations: &[u8],
+    ballots: &[u8],
+    count: usize,
+    repeats: usize,
+    bound: u64,
+    n: usize,
+    q: u64,
+) -> Reply
+    requires { ⌜ Public n q (now a) × Public n q (now b) × (length (now work) ≡ scratchLength) × (count ≤ 4096) × (repeats ≤ 256) × Lengths n count repeats (lent (now secrets) (now s0) (now e0) (now masks0) (now masks1) (now vectors) (now permutations) (now ballots)) ⌝ }
+    ensures { λ reply. ⌜ reply ≡ first (producerTests (parameters 2 n q bound repeats (now (a .entry)) (now (b .entry)) []) count (lent (now (secrets .entry)) (now (s0 .entry)) (now (e0 .entry)) (now (masks0 .entry)) (now (masks1 .entry)) (now (vectors .entry)) (now (permutations .entry)) (now (ballots .entry))) asked) ⌝ }
+    ensures { λ _. ⌜ length (now (work .exit)) ≡ length (now (work .entry)) ⌝ }
+{
+    let reply = test_secret(
+        work,
+        asked,
+        a,
+        b,
+        secrets,
+        s0,
+        e0,
+        vectors,
+        ballots,
+        count,
+        n,
+        q,
+    );
+    match reply {
+        Reply::Taken => {}
+        Reply::Refused { number, place } => {
+            return Reply::Refused { number, place };
+        }
+    }
+    test_each(
+        work,
+        secrets,
+        masks0,
+        masks1,
+        permutations,
+        ballots,
+        count,
+        repeats,
+        bound,
+        n,
+        q,
+    )
+}

@@ -1,14 +1,12 @@
 // 12: the masks of both sides, the lowest ballot first.
 use codec::Reply;
 ghost use mathlib.Core.Path.{_≡_};
-ghost use mathlib.Core.Bool.{not, _&&_};
-ghost use mathlib.Core.List.{[], _∷_};
+ghost use mathlib.Core.Bool.{_&&_};
 ghost use Prim.Native.Nat.{_*_, _≤_};
 ghost use lib.ListN.{length};
-ghost use Rattle.codec.specs.Bytes.{part};
-ghost use Rattle.codec.specs.Reply.{test, first};
+ghost use Rattle.codec.specs.Reply.{first};
 ghost use Rattle.bgv.specs.Scheme.{lentMask, within};
-ghost use Rattle.transcript.specs.Layout.{each};
+ghost use Rattle.material.specs.Parts.{maskTests};
 
 // Whether every number of two lent masks is at most a bound in size.
 fn both_bounded(mask0: &[u8], mask1: &[u8], bound: u64, n: usize) -> bool
@@ -25,7 +23,7 @@ fn both_bounded(mask0: &[u8], mask1: &[u8], bound: u64, n: usize) -> bool
 // The masks of every ballot, in order.
 pub fn test_masks(masks0: &[u8], masks1: &[u8], count: usize, bound: u64, n: usize) -> Reply
     requires { ⌜ (n ≤ 2048) × (count ≤ 4096) × (length (now masks0) ≡ 8 * n * count) × (length (now masks1) ≡ 8 * n * count) ⌝ }
-    ensures { λ reply. ⌜ reply ≡ first (each count (λ j. test 12 j (not (within bound n (lentMask (part (now (masks0 .entry)) (8 * n * j) (8 * n))) && within bound n (lentMask (part (now (masks1 .entry)) (8 * n * j) (8 * n))))) ∷ [])) ⌝ }
+    ensures { λ reply. ⌜ reply ≡ first (maskTests n bound count (now (masks0 .entry)) (now (masks1 .entry))) ⌝ }
 {
     let mut j = 0;
     let mut at = 0;

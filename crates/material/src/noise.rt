@@ -1,18 +1,19 @@
 // 15: the noise of each ballot, the size of centred v - s u, is at most D, the lowest ballot first.
 use codec::Reply;
 ghost use mathlib.Core.Path.{_≡_};
-ghost use mathlib.Core.Bool.{true, not};
-ghost use mathlib.Core.List.{[], _∷_};
+ghost use mathlib.Core.Bool.{true};
 ghost use Prim.Native.Nat.{_+_, _*_, _≤_, _<_, _^_};
 ghost use lib.ListN.{length};
-ghost use Rattle.codec.specs.Reply.{test, first};
+ghost use Rattle.codec.specs.Bytes.{part};
+ghost use Rattle.codec.specs.Reply.{first};
 ghost use Rattle.ring.specs.Poly.{Below};
-ghost use Rattle.ring.specs.Slots.{poly, slot, list, allBelow};
+ghost use Rattle.ring.specs.Slots.{poly, slot};
 ghost use Rattle.ring.specs.Ternary.{ternary};
 ghost use Rattle.sheet.specs.Bounds.{noise};
 ghost use Rattle.call.specs.Call.{scratchLength, Public};
 ghost use Rattle.bgv.specs.Scheme.{centred, opened, within};
-ghost use Rattle.transcript.specs.Layout.{all, each, ballotLength, uAt, vAt};
+ghost use Rattle.transcript.specs.Layout.{ballotLength};
+ghost use Rattle.material.specs.Parts.{ballotsBelow, noiseTests};
 
 // Whether the centred coefficients at the head of scratch are at most a bound in size.
 fn head_within(work: &[u8], bound: u64, n: usize, q: u64) -> bool
@@ -41,28 +42,42 @@ fn is_quiet(work: &mut [u8], s: &[u8], u: &[u8], v: &[u8], n: usize, q: u64) -> 
     head_within(work, bound, n, q)
 }
 
-// The same of the ballot that stands at a place.
-fn is_quiet_at(work: &mut [u8], s: &[u8], ballots: &[u8], at: usize, n: usize, q: u64) -> bool
-    requires { ⌜ (4 ≤ n) × (n ≤ 2048) × (3 ≤ q) × (q < 2 ^ 56) × (length (now work) ≡ scratchLength) × (length (now s) ≡ n) × (at + 4 + 16 * n ≤ length (now ballots)) × Below q (2 * n) (slot (now ballots) (at + 4)) ⌝ }
-    ensures { λ r. ⌜ r ≡ within (noise 2 n) n (centred q (opened q n (ternary q (now (s .entry))) (slot (now (ballots .entry)) (at + 4)) (slot (now (ballots .entry)) (at + 4 + 8 * n)))) ⌝ }
+// The same of the ballot that stands at a place, with the secrets, which begin with s.
+fn is_quiet_at(
+    work: &mut [u8],
+    secrets: &[u8],
+    ballots: &[u8],
+    at: usize,
+    n: usize,
+    q: u64,
+) -> bool
+    requires { ⌜ (4 ≤ n) × (n ≤ 2048) × (3 ≤ q) × (q < 2 ^ 56) × (length (now work) ≡ scratchLength) × (length (now secrets) ≡ 14 * n) × (at + 4 + 16 * n ≤ length (now ballots)) × Below q (2 * n) (slot (now ballots) (at + 4)) ⌝ }
+    ensures { λ r. ⌜ r ≡ within (noise 2 n) n (centred q (opened q n (ternary q (part (now (secrets .entry)) 0 n)) (slot (now (ballots .entry)) (at + 4)) (slot (now (ballots .entry)) (at + 4 + 8 * n)))) ⌝ }
     ensures { λ _. ⌜ length (now (work .exit)) ≡ length (now (work .entry)) ⌝ }
 {
     let from = at + 4;
-    let middle = at + 4 + 8 * n;
-    let end = at + 4 + 16 * n;
-    is_quiet(work, s, &ballots[from..middle], &ballots[middle..end], n, q)
+    let middle = from + 8 * n;
+    let end = middle + 8 * n;
+    is_quiet(work, &secrets[0..n], &ballots[from..middle], &ballots[middle..end], n, q)
 }
 
 // The noise of every ballot, in order.
-pub fn test_noise(work: &mut [u8], s: &[u8], ballots: &[u8], count: usize, n: usize, q: u64) -> Reply
-    requires { ⌜ (4 ≤ n) × (n ≤ 2048) × (3 ≤ q) × (q < 2 ^ 56) × (count ≤ 4096) × (length (now work) ≡ scratchLength) × (length (now s) ≡ n) × (length (now ballots) ≡ ballotLength n * count) × (all count (λ j. allBelow q (list (2 * n) (uAt n (now ballots) j))) ≡ true) ⌝ }
-    ensures { λ reply. ⌜ reply ≡ first (each count (λ j. test 15 j (not (within (noise 2 n) n (centred q (opened q n (ternary q (now (s .entry))) (uAt n (now (ballots .entry)) j) (vAt n (now (ballots .entry)) j))))) ∷ [])) ⌝ }
+pub fn test_noise(
+    work: &mut [u8],
+    secrets: &[u8],
+    ballots: &[u8],
+    count: usize,
+    n: usize,
+    q: u64,
+) -> Reply
+    requires { ⌜ (4 ≤ n) × (n ≤ 2048) × (3 ≤ q) × (q < 2 ^ 56) × (count ≤ 4096) × (length (now work) ≡ scratchLength) × (length (now secrets) ≡ 14 * n) × (length (now ballots) ≡ ballotLength n * count) × (ballotsBelow q n count (now ballots) ≡ true) ⌝ }
+    ensures { λ reply. ⌜ reply ≡ first (noiseTests q n 2 count (now (secrets .entry)) (now (ballots .entry))) ⌝ }
     ensures { λ _. ⌜ length (now (work .exit)) ≡ length (now (work .entry)) ⌝ }
 {
     let mut j = 0;
     let mut at = 0;
     while j < count {
-        if !is_quiet_at(work, s, ballots, at, n, q) {
+        if !is_quiet_at(work, secrets, ballots, at, n, q) {
             return Reply::Refused {
                 number: 15,
                 place: j as u32,

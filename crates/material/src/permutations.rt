@@ -1,20 +1,16 @@
 // 9: each P is a permutation, the lowest repetition first.
 use codec::Reply;
 ghost use mathlib.Core.Path.{_≡_};
-ghost use mathlib.Core.Bool.{not};
-ghost use mathlib.Core.List.{[], _∷_};
 ghost use Prim.Native.Nat.{_*_, _≤_};
 ghost use lib.ListN.{length};
-ghost use Rattle.codec.specs.Bytes.{part};
-ghost use Rattle.codec.specs.Reply.{test, first};
+ghost use Rattle.codec.specs.Reply.{first};
 ghost use Rattle.call.specs.Call.{scratchLength};
-ghost use Rattle.vector.specs.Permutation.{entries, permutes};
-ghost use Rattle.transcript.specs.Layout.{each};
+ghost use Rattle.material.specs.Parts.{permutationTests};
 
 // The permutation of every repetition, in order.
 pub fn test_permutations(work: &mut [u8], permutations: &[u8], repeats: usize, n: usize) -> Reply
     requires { ⌜ (n ≤ 2048) × (repeats ≤ 256) × (length (now work) ≡ scratchLength) × (length (now permutations) ≡ 168 * n * repeats) ⌝ }
-    ensures { λ reply. ⌜ reply ≡ first (each repeats (λ i. test 9 i (not (permutes (42 * n) (entries (part (now (permutations .entry)) (168 * n * i) (168 * n))))) ∷ [])) ⌝ }
+    ensures { λ reply. ⌜ reply ≡ first (permutationTests n repeats (now (permutations .entry))) ⌝ }
     ensures { λ _. ⌜ length (now (work .exit)) ≡ length (now (work .entry)) ⌝ }
 {
     let mut i = 0;

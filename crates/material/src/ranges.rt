@@ -1,16 +1,14 @@
 // 5: the secrets are ternary bytes, and every coefficient is below q.
 ghost use mathlib.Core.Path.{_≡_};
-ghost use mathlib.Core.Bool.{_&&_};
 ghost use Prim.Native.Nat.{_*_, _≤_};
 ghost use lib.ListN.{length};
-ghost use Rattle.ring.specs.Slots.{poly, list, allBelow};
-ghost use Rattle.vector.specs.Vector.{vector};
-ghost use Rattle.transcript.specs.Layout.{all, ballotLength, uAt};
+ghost use Rattle.transcript.specs.Layout.{ballotLength};
+ghost use Rattle.material.specs.Parts.{ballotsBelow, materialBelow};
 
 // Whether u and v of every ballot are in range.
 pub fn ballots_in_range(ballots: &[u8], count: usize, n: usize, q: u64) -> bool
     requires { ⌜ (n ≤ 2048) × (count ≤ 4096) × (length (now ballots) ≡ ballotLength n * count) ⌝ }
-    ensures { λ r. ⌜ r ≡ all count (λ j. allBelow q (list (2 * n) (uAt n (now (ballots .entry)) j))) ⌝ }
+    ensures { λ r. ⌜ r ≡ ballotsBelow q n count (now (ballots .entry)) ⌝ }
 {
     let mut j = 0;
     let mut at = 0;
@@ -37,7 +35,7 @@ pub fn in_range(
     q: u64,
 ) -> bool
     requires { ⌜ (n ≤ 2048) × (count ≤ 4096) × (length (now s0) ≡ 8 * n) × (length (now e0) ≡ 8 * n) × (length (now ballots) ≡ ballotLength n * count) ⌝ }
-    ensures { λ r. ⌜ r ≡ (allBelow 3 (now (secrets .entry)) && (allBelow q (list n (poly (now (s0 .entry)))) && (allBelow q (list n (poly (now (e0 .entry)))) && (allBelow q (vector (now (vectors .entry))) && all count (λ j. allBelow q (list (2 * n) (uAt n (now (ballots .entry)) j))))))) ⌝ }
+    ensures { λ r. ⌜ r ≡ materialBelow q n count (now (secrets .entry)) (now (s0 .entry)) (now (e0 .entry)) (now (vectors .entry)) (now (ballots .entry)) ⌝ }
 {
     if !ring::is_ternary(secrets) {
         return false;

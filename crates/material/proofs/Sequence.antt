@@ -1,0 +1,55 @@
+-- The producer's order as one list of tests after another, and what decides. Assumes nothing.
+use mathlib.Core.Path.{_≡_, refl, sym, _∙_}
+use mathlib.Core.Bool.{Bool, true, _&&_}
+use mathlib.Core.List.{List, [], _++_}
+use Prim.Native.Nat.{ℕ, zero, suc, _*_, _<_}
+use native.Mathlib.Omega.{arith}
+use borrow.Author.Tests.{not-false}
+use Rattle.codec.specs.Bytes.{Bytes}
+use Rattle.codec.specs.Reply.{Test, first, None}
+use Rattle.codec.specs.declared.Reply.{Reply}
+use Rattle.codec.specs.declared.Reply.the-variants.{Taken, Refused}
+use Rattle.codec.proofs.Laws.{both}
+use Rattle.codec.proofs.Replies.{taken-exactly, first-append}
+use Rattle.ring.specs.Slots.{poly, list, allBelow}
+use Rattle.vector.specs.Vector.{vector}
+use Rattle.transcript.specs.Layout.{each}
+use Rattle.transcript.specs.Round.{ballotsRanged}
+use Rattle.transcript.specs.Method.{parameters}
+use Rattle.transcript.specs.Producer.{Material, materialRanged, producerTests}
+use Rattle.transcript.proofs.Many.{each-refused}
+use Rattle.material.specs.Parts.{ballotsBelow, materialBelow, secretTests, maskTests, permutationTests, noiseTests}
+
+-- ---- two lists, one after the other
+
+module _ (rs ts : List Test) {r : Reply} (e : r ≡ first rs) where
+  -- the two lists are the tests of each of two
+  two : ℕ → List Test
+  two zero = rs
+  two (suc i) = ts
+
+  pub then-refused : (number place : ℕ) → r ≡ Refused number place → Refused number place ≡ first (rs ++ ts)
+  unfolding each two
+  then-refused number place t = sym (each-refused 2 two 0 number place (omega arith) tt (sym e ∙ t))
+
+  pub then-goes-on : {z : Reply} → r ≡ Taken → z ≡ first ts → z ≡ first (rs ++ ts)
+  then-goes-on t d = d ∙ sym (first-append rs ts (taken-exactly rs .0 (sym e ∙ t)))
+
+-- ---- the whole order
+
+module _ (p n q B repeats : ℕ) (a b k : Bytes) (count : ℕ) (x : Material) (asked : Bool) where
+  pub in-parts : secretTests q n p count asked a b (x .secrets) (x .s0) (x .e0) (x .vectors) (x .ballots)
+      ++ (maskTests n B count (x .masks0) (x .masks1) ++ (permutationTests n repeats (x .permutations) ++ noiseTests q n p count (x .secrets) (x .ballots)))
+      ≡ producerTests (parameters p n q B repeats a b k) count x asked
+  unfolding producerTests materialRanged ballotsRanged
+  in-parts = refl
+
+-- the ballots are in range where the first two tests are passed
+pub ballots-passed : (q n p count : ℕ) (asked : Bool) (a b secrets s0 e0 vectors ballots : Bytes) → first (secretTests q n p count asked a b secrets s0 e0 vectors ballots) ≡ Taken
+    → ballotsBelow q n count ballots ≡ true
+ballots-passed q n p count asked a b secrets s0 e0 vectors ballots t =
+    let d = both asked (materialBelow q n count secrets s0 e0 vectors ballots) (not-false _ (taken-exactly (secretTests q n p count asked a b secrets s0 e0 vectors ballots) .0 t .0)) in
+    let s = both (allBelow 3 secrets) _ (d .1) in
+    let u = both (allBelow q (list n (poly s0))) _ (s .1) in
+    let v = both (allBelow q (list n (poly e0))) _ (u .1) in
+    both (allBelow q (vector vectors)) (ballotsBelow q n count ballots) (v .1) .1
