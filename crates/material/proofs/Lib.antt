@@ -1,3 +1,5 @@
 pub mod Quiet
 pub mod Sequence
+pub mod Unread
+pub mod Usable
 pub mod Walk

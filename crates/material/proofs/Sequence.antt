@@ -2,11 +2,11 @@
 use mathlib.Core.Path.{_≡_, refl, sym, _∙_}
 use mathlib.Core.Bool.{Bool, true, _&&_}
 use mathlib.Core.List.{List, [], _++_}
-use Prim.Native.Nat.{ℕ, zero, suc, _*_, _<_}
+use Prim.Native.Nat.{ℕ, zero, suc}
 use native.Mathlib.Omega.{arith}
 use borrow.Author.Tests.{not-false}
 use Rattle.codec.specs.Bytes.{Bytes}
-use Rattle.codec.specs.Reply.{Test, first, None}
+use Rattle.codec.specs.Reply.{Test, first}
 use Rattle.codec.specs.declared.Reply.{Reply}
 use Rattle.codec.specs.declared.Reply.the-variants.{Taken, Refused}
 use Rattle.codec.proofs.Laws.{both}
@@ -44,12 +44,20 @@ module _ (p n q B repeats : ℕ) (a b k : Bytes) (count : ℕ) (x : Material) (a
   unfolding producerTests materialRanged ballotsRanged
   in-parts = refl
 
+-- ---- what the range test says of each slice
+
+pub all-below : (q n count : ℕ) (secrets s0 e0 vectors ballots : Bytes) → materialBelow q n count secrets s0 e0 vectors ballots ≡ true
+    → (allBelow 3 secrets ≡ true) × (allBelow q (list n (poly s0)) ≡ true) × (allBelow q (list n (poly e0)) ≡ true) × (allBelow q (vector vectors) ≡ true) × (ballotsBelow q n count ballots ≡ true)
+all-below q n count secrets s0 e0 vectors ballots t =
+    let s = both (allBelow 3 secrets) _ t in
+    let u = both (allBelow q (list n (poly s0))) _ (s .1) in
+    let v = both (allBelow q (list n (poly e0))) _ (u .1) in
+    let w = both (allBelow q (vector vectors)) (ballotsBelow q n count ballots) (v .1) in
+    (s .0, u .0, v .0, w .0, w .1)
+
 -- the ballots are in range where the first two tests are passed
 pub ballots-passed : (q n p count : ℕ) (asked : Bool) (a b secrets s0 e0 vectors ballots : Bytes) → first (secretTests q n p count asked a b secrets s0 e0 vectors ballots) ≡ Taken
     → ballotsBelow q n count ballots ≡ true
 ballots-passed q n p count asked a b secrets s0 e0 vectors ballots t =
     let d = both asked (materialBelow q n count secrets s0 e0 vectors ballots) (not-false _ (taken-exactly (secretTests q n p count asked a b secrets s0 e0 vectors ballots) .0 t .0)) in
-    let s = both (allBelow 3 secrets) _ (d .1) in
-    let u = both (allBelow q (list n (poly s0))) _ (s .1) in
-    let v = both (allBelow q (list n (poly e0))) _ (u .1) in
-    both (allBelow q (vector vectors)) (ballotsBelow q n count ballots) (v .1) .1
+    all-below q n count secrets s0 e0 vectors ballots (d .1) .4
