@@ -10,6 +10,7 @@ pub mod ExtractionVectors
 pub mod ExtractionWritten
 pub mod Honest
 pub mod Many
+pub mod Opened
 pub mod Passed
 pub mod Produced
 pub mod RepetitionLoop

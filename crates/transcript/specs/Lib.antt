@@ -3,3 +3,4 @@ pub mod Round
 pub mod Method
 pub mod Producer
 pub mod Extractor
+pub mod Opened

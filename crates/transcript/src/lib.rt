@@ -2,3 +2,4 @@
 mod ballots;
 mod halves;
 mod repetitions;
+pub mod shares;
