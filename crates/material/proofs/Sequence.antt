@@ -1,12 +1,12 @@
 -- The producer's order as one list of tests after another, and what decides. Assumes nothing.
 use mathlib.Core.Path.{_≡_, refl, sym, _∙_}
-use mathlib.Core.Bool.{Bool, true, _&&_}
-use mathlib.Core.List.{List, [], _++_}
+use mathlib.Core.Bool.{Bool, true}
+use mathlib.Core.List.{List, _++_}
 use Prim.Native.Nat.{ℕ, zero, suc}
 use native.Mathlib.Omega.{arith}
 use borrow.Author.Tests.{not-false}
 use Rattle.codec.specs.Bytes.{Bytes}
-use Rattle.codec.specs.Reply.{Test, first}
+use Rattle.codec.specs.Reply.{Test, first, leaves}
 use Rattle.codec.specs.declared.Reply.{Reply}
 use Rattle.codec.specs.declared.Reply.the-variants.{Taken, Refused}
 use Rattle.codec.proofs.Laws.{both}
@@ -34,6 +34,12 @@ module _ (rs ts : List Test) {r : Reply} (e : r ≡ first rs) where
 
   pub then-goes-on : {z : Reply} → r ≡ Taken → z ≡ first ts → z ≡ first (rs ++ ts)
   then-goes-on t d = d ∙ sym (first-append rs ts (taken-exactly rs .0 (sym e ∙ t)))
+
+-- the reply of both, where both are worked out
+pub both-decided : (rs ts : List Test) (r t : Reply) → r ≡ first rs → t ≡ first ts → leaves r t r ≡ first (rs ++ ts)
+unfolding leaves
+both-decided rs ts Taken t e f = then-goes-on rs ts e refl f
+both-decided rs ts (Refused number place) t e f = then-refused rs ts e number place refl
 
 -- ---- the whole order
 

@@ -1,7 +1,7 @@
 -- What the tests of the producer's material are given: lent slices of right lengths. The tests read no salts. Assumes nothing.
 use mathlib.Core.Path.{_≡_}
 use mathlib.Core.List.{[]}
-use Prim.Native.Nat.{ℕ, _+_, _*_}
+use Prim.Native.Nat.{ℕ, _*_}
 use lib.ListN.{length}
 use Rattle.codec.specs.Bytes.{Bytes}
 use Rattle.transcript.specs.Layout.{ballotLength}

@@ -3,7 +3,7 @@ mod keys;
 mod masks;
 mod noise;
 mod permutations;
-pub mod ranges;
+mod ranges;
 
 use codec::Reply;
 ghost use mathlib.Core.Path.{_≡_};
@@ -11,7 +11,7 @@ ghost use mathlib.Core.Bool.{true};
 ghost use mathlib.Core.List.{[], _++_};
 ghost use Prim.Native.Nat.{_*_, _≤_, _<_, _^_};
 ghost use lib.ListN.{length};
-ghost use Rattle.codec.specs.Reply.{first};
+ghost use Rattle.codec.specs.Reply.{first, leaves};
 ghost use Rattle.call.specs.Call.{scratchLength, Public};
 ghost use Rattle.transcript.specs.Layout.{ballotLength};
 ghost use Rattle.transcript.specs.Method.{parameters};
@@ -39,10 +39,16 @@ fn test_secret(
     ensures { λ _. ⌜ length (now (work .exit)) ≡ length (now (work .entry)) ⌝ }
 {
     if !asked {
-        return Reply::Refused { number: 5, place: 0 };
+        return Reply::Refused {
+            number: 5,
+            place: 0,
+        };
     }
     if !ranges::in_range(secrets, s0, e0, vectors, ballots, count, n, q) {
-        return Reply::Refused { number: 5, place: 0 };
+        return Reply::Refused {
+            number: 5,
+            place: 0,
+        };
     }
     if !keys::matches(work, a, b, secrets, n, q) {
         return Reply::Refused {
@@ -51,6 +57,16 @@ fn test_secret(
         };
     }
     Reply::Taken
+}
+
+// The reply of two tests in order: the first that refuses decides.
+fn decided(one: Reply, other: Reply) -> Reply
+    ensures { λ r. ⌜ r ≡ leaves one other one ⌝ }
+{
+    match one {
+        Reply::Taken => other,
+        Reply::Refused { number, place } => Reply::Refused { number, place },
+    }
 }
 
 // 12 by ballot, then 9 by repetition, then 15 by ballot.
@@ -71,21 +87,10 @@ fn test_each(
     ensures { λ reply. ⌜ reply ≡ first (maskTests n bound count (now (masks0 .entry)) (now (masks1 .entry)) ++ (permutationTests n repeats (now (permutations .entry)) ++ noiseTests q n 2 count (now (secrets .entry)) (now (ballots .entry)))) ⌝ }
     ensures { λ _. ⌜ length (now (work .exit)) ≡ length (now (work .entry)) ⌝ }
 {
-    let bounded = masks::test_masks(masks0, masks1, count, bound, n);
-    match bounded {
-        Reply::Taken => {}
-        Reply::Refused { number, place } => {
-            return Reply::Refused { number, place };
-        }
-    }
+    let masked = masks::test_masks(masks0, masks1, count, bound, n);
     let permuting = permutations::test_permutations(work, permutations, repeats, n);
-    match permuting {
-        Reply::Taken => {}
-        Reply::Refused { number, place } => {
-            return Reply::Refused { number, place };
-        }
-    }
-    noise::test_noise(work, secrets, ballots, count, n, q)
+    let quiet = noise::test_noise(work, secrets, ballots, count, n, q);
+    decided(masked, decided(permuting, quiet))
 }
 
 // The whole order. `asked` says whether what a call is given beside the material is in range.

@@ -43,14 +43,7 @@ fn is_quiet(work: &mut [u8], s: &[u8], u: &[u8], v: &[u8], n: usize, q: u64) -> 
 }
 
 // The same of the ballot that stands at a place, with the secrets, which begin with s.
-fn is_quiet_at(
-    work: &mut [u8],
-    secrets: &[u8],
-    ballots: &[u8],
-    at: usize,
-    n: usize,
-    q: u64,
-) -> bool
+fn is_quiet_at(work: &mut [u8], secrets: &[u8], ballots: &[u8], at: usize, n: usize, q: u64) -> bool
     requires { ⌜ (4 ≤ n) × (n ≤ 2048) × (3 ≤ q) × (q < 2 ^ 56) × (length (now work) ≡ scratchLength) × (length (now secrets) ≡ 14 * n) × (at + 4 + 16 * n ≤ length (now ballots)) × Below q (2 * n) (slot (now ballots) (at + 4)) ⌝ }
     ensures { λ r. ⌜ r ≡ within (noise 2 n) n (centred q (opened q n (ternary q (part (now (secrets .entry)) 0 n)) (slot (now (ballots .entry)) (at + 4)) (slot (now (ballots .entry)) (at + 4 + 8 * n)))) ⌝ }
     ensures { λ _. ⌜ length (now (work .exit)) ≡ length (now (work .entry)) ⌝ }
@@ -58,7 +51,14 @@ fn is_quiet_at(
     let from = at + 4;
     let middle = from + 8 * n;
     let end = middle + 8 * n;
-    is_quiet(work, &secrets[0..n], &ballots[from..middle], &ballots[middle..end], n, q)
+    is_quiet(
+        work,
+        &secrets[0..n],
+        &ballots[from..middle],
+        &ballots[middle..end],
+        n,
+        q,
+    )
 }
 
 // The noise of every ballot, in order.
