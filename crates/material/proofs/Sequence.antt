@@ -12,6 +12,7 @@ use Rattle.codec.specs.declared.Reply.the-variants.{Taken, Refused}
 use Rattle.codec.proofs.Laws.{both}
 use Rattle.codec.proofs.Replies.{taken-exactly, first-append}
 use Rattle.ring.specs.Slots.{poly, list, allBelow}
+use Rattle.sheet.specs.Bounds.{noise}
 use Rattle.vector.specs.Vector.{vector}
 use Rattle.transcript.specs.Layout.{each}
 use Rattle.transcript.specs.Round.{ballotsRanged}
@@ -45,7 +46,7 @@ both-decided rs ts (Refused number place) t e f = then-refused rs ts e number pl
 
 module _ (p n q B repeats : ℕ) (a b k : Bytes) (count : ℕ) (x : Material) (asked : Bool) where
   pub in-parts : secretTests q n p count asked a b (x .secrets) (x .s0) (x .e0) (x .vectors) (x .ballots)
-      ++ (maskTests n B count (x .masks0) (x .masks1) ++ (permutationTests n repeats (x .permutations) ++ noiseTests q n p count (x .secrets) (x .ballots)))
+      ++ (maskTests n B count (x .masks0) (x .masks1) ++ (permutationTests n repeats (x .permutations) ++ noiseTests q n (noise p n) count (x .secrets) (x .ballots)))
       ≡ producerTests (parameters p n q B repeats a b k) count x asked
   unfolding producerTests materialRanged ballotsRanged
   in-parts = refl

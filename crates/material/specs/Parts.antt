@@ -8,7 +8,6 @@ use Rattle.codec.specs.Reply.{Test, test}
 use Rattle.ring.specs.Poly.{modulo}
 use Rattle.ring.specs.Slots.{poly, list, encode, allBelow}
 use Rattle.ring.specs.Ternary.{ternary}
-use Rattle.sheet.specs.Bounds.{noise}
 use Rattle.bgv.specs.Scheme.{centred, key, opened, lentMask, within}
 use Rattle.vector.specs.Vector.{vector}
 use Rattle.vector.specs.Permutation.{entries, permutes}
@@ -48,6 +47,6 @@ permutationTests N repeats permutations =
     each repeats (λ i. test 9 i (not (permutes (42 * N) (entries (part permutations (168 * N * i) (168 * N))))) ∷ [])
 
 -- 15: the noise is at most D, by ballot
-abbrev pub noiseTests : (q N p count : ℕ) (secrets ballots : Bytes) → List Test
-noiseTests q N p count secrets ballots =
-    each count (λ j. test 15 j (not (within (noise p N) N (centred q (opened q N (ternary q (part secrets 0 N)) (uAt N ballots j) (vAt N ballots j))))) ∷ [])
+abbrev pub noiseTests : (q N D count : ℕ) (secrets ballots : Bytes) → List Test
+noiseTests q N D count secrets ballots =
+    each count (λ j. test 15 j (not (within D N (centred q (opened q N (ternary q (part secrets 0 N)) (uAt N ballots j) (vAt N ballots j))))) ∷ [])

@@ -12,6 +12,7 @@ ghost use mathlib.Core.List.{[], _++_};
 ghost use Prim.Native.Nat.{_*_, _≤_, _<_, _^_};
 ghost use lib.ListN.{length};
 ghost use Rattle.codec.specs.Reply.{first, leaves};
+ghost use Rattle.sheet.specs.Bounds.{noise};
 ghost use Rattle.call.specs.Call.{scratchLength, Public};
 ghost use Rattle.transcript.specs.Layout.{ballotLength};
 ghost use Rattle.transcript.specs.Method.{parameters};
@@ -84,12 +85,13 @@ fn test_each(
     q: u64,
 ) -> Reply
     requires { ⌜ (4 ≤ n) × (n ≤ 2048) × (3 ≤ q) × (q < 2 ^ 56) × (count ≤ 4096) × (repeats ≤ 256) × (length (now work) ≡ scratchLength) × (length (now secrets) ≡ 14 * n) × (length (now masks0) ≡ 8 * n * count) × (length (now masks1) ≡ 8 * n * count) × (length (now permutations) ≡ 168 * n * repeats) × (length (now ballots) ≡ ballotLength n * count) × (ballotsBelow q n count (now ballots) ≡ true) ⌝ }
-    ensures { λ reply. ⌜ reply ≡ first (maskTests n bound count (now (masks0 .entry)) (now (masks1 .entry)) ++ (permutationTests n repeats (now (permutations .entry)) ++ noiseTests q n 2 count (now (secrets .entry)) (now (ballots .entry)))) ⌝ }
+    ensures { λ reply. ⌜ reply ≡ first (maskTests n bound count (now (masks0 .entry)) (now (masks1 .entry)) ++ (permutationTests n repeats (now (permutations .entry)) ++ noiseTests q n (noise 2 n) count (now (secrets .entry)) (now (ballots .entry)))) ⌝ }
     ensures { λ _. ⌜ length (now (work .exit)) ≡ length (now (work .entry)) ⌝ }
 {
+    let limit = sheet::noise_bound(n as u64);
     let masked = masks::test_masks(masks0, masks1, count, bound, n);
     let permuting = permutations::test_permutations(work, permutations, repeats, n);
-    let quiet = noise::test_noise(work, secrets, ballots, count, n, q);
+    let quiet = noise::test_noise(work, secrets, ballots, count, limit, n, q);
     decided(masked, decided(permuting, quiet))
 }
 

@@ -1,4 +1,4 @@
-// 15: the noise of each ballot, the size of centred v - s u, is at most D, the lowest ballot first.
+// 15: the noise of each ballot, the size of centred v - s u, is at most a bound, the lowest ballot first.
 use codec::Reply;
 ghost use mathlib.Core.Path.{_≡_};
 ghost use mathlib.Core.Bool.{true};
@@ -9,7 +9,6 @@ ghost use Rattle.codec.specs.Reply.{first};
 ghost use Rattle.ring.specs.Poly.{Below};
 ghost use Rattle.ring.specs.Slots.{poly, slot};
 ghost use Rattle.ring.specs.Ternary.{ternary};
-ghost use Rattle.sheet.specs.Bounds.{noise};
 ghost use Rattle.call.specs.Call.{scratchLength, Public};
 ghost use Rattle.bgv.specs.Scheme.{centred, opened, within};
 ghost use Rattle.transcript.specs.Layout.{ballotLength};
@@ -31,21 +30,28 @@ fn head_within(work: &[u8], bound: u64, n: usize, q: u64) -> bool
     true
 }
 
-// Whether the noise of a ciphertext u, v is at most D.
-fn is_quiet(work: &mut [u8], s: &[u8], u: &[u8], v: &[u8], n: usize, q: u64) -> bool
+// Whether the noise of a ciphertext u, v is at most a bound.
+fn is_quiet(work: &mut [u8], s: &[u8], u: &[u8], v: &[u8], bound: u64, n: usize, q: u64) -> bool
     requires { ⌜ Public n q (now u) × Public n q (now v) × (length (now work) ≡ scratchLength) × (length (now s) ≡ n) ⌝ }
-    ensures { λ r. ⌜ r ≡ within (noise 2 n) n (centred q (opened q n (ternary q (now (s .entry))) (poly (now (u .entry))) (poly (now (v .entry))))) ⌝ }
+    ensures { λ r. ⌜ r ≡ within bound n (centred q (opened q n (ternary q (now (s .entry))) (poly (now (u .entry))) (poly (now (v .entry))))) ⌝ }
     ensures { λ _. ⌜ length (now (work .exit)) ≡ length (now (work .entry)) ⌝ }
 {
-    let bound = sheet::noise_bound(n as u64);
     bgv::opened(work, s, u, v, n, q);
     head_within(work, bound, n, q)
 }
 
 // The same of the ballot that stands at a place, with the secrets, which begin with s.
-fn is_quiet_at(work: &mut [u8], secrets: &[u8], ballots: &[u8], at: usize, n: usize, q: u64) -> bool
+fn is_quiet_at(
+    work: &mut [u8],
+    secrets: &[u8],
+    ballots: &[u8],
+    at: usize,
+    bound: u64,
+    n: usize,
+    q: u64,
+) -> bool
     requires { ⌜ (4 ≤ n) × (n ≤ 2048) × (3 ≤ q) × (q < 2 ^ 56) × (length (now work) ≡ scratchLength) × (length (now secrets) ≡ 14 * n) × (at + 4 + 16 * n ≤ length (now ballots)) × Below q (2 * n) (slot (now ballots) (at + 4)) ⌝ }
-    ensures { λ r. ⌜ r ≡ within (noise 2 n) n (centred q (opened q n (ternary q (part (now (secrets .entry)) 0 n)) (slot (now (ballots .entry)) (at + 4)) (slot (now (ballots .entry)) (at + 4 + 8 * n)))) ⌝ }
+    ensures { λ r. ⌜ r ≡ within bound n (centred q (opened q n (ternary q (part (now (secrets .entry)) 0 n)) (slot (now (ballots .entry)) (at + 4)) (slot (now (ballots .entry)) (at + 4 + 8 * n)))) ⌝ }
     ensures { λ _. ⌜ length (now (work .exit)) ≡ length (now (work .entry)) ⌝ }
 {
     let from = at + 4;
@@ -56,6 +62,7 @@ fn is_quiet_at(work: &mut [u8], secrets: &[u8], ballots: &[u8], at: usize, n: us
         &secrets[0..n],
         &ballots[from..middle],
         &ballots[middle..end],
+        bound,
         n,
         q,
     )
@@ -67,17 +74,18 @@ pub fn test_noise(
     secrets: &[u8],
     ballots: &[u8],
     count: usize,
+    bound: u64,
     n: usize,
     q: u64,
 ) -> Reply
     requires { ⌜ (4 ≤ n) × (n ≤ 2048) × (3 ≤ q) × (q < 2 ^ 56) × (count ≤ 4096) × (length (now work) ≡ scratchLength) × (length (now secrets) ≡ 14 * n) × (length (now ballots) ≡ ballotLength n * count) × (ballotsBelow q n count (now ballots) ≡ true) ⌝ }
-    ensures { λ reply. ⌜ reply ≡ first (noiseTests q n 2 count (now (secrets .entry)) (now (ballots .entry))) ⌝ }
+    ensures { λ reply. ⌜ reply ≡ first (noiseTests q n bound count (now (secrets .entry)) (now (ballots .entry))) ⌝ }
     ensures { λ _. ⌜ length (now (work .exit)) ≡ length (now (work .entry)) ⌝ }
 {
     let mut j = 0;
     let mut at = 0;
     while j < count {
-        if !is_quiet_at(work, secrets, ballots, at, n, q) {
+        if !is_quiet_at(work, secrets, ballots, at, bound, n, q) {
             return Reply::Refused {
                 number: 15,
                 place: j as u32,

@@ -3,6 +3,7 @@ use mathlib.Core.Path.{sym, ap, _∙_}
 use mathlib.Core.List.{[], _++_}
 use borrow.Author.Needs.{needs}
 use Rattle.codec.specs.Reply.{first}
+use Rattle.sheet.specs.Bounds.{noise}
 use Rattle.material.specs.Lent.{lent}
 use Rattle.material.specs.Parts.{secretTests, maskTests, permutationTests, noiseTests}
 use Rattle.material.proofs.Sequence.{then-refused, then-goes-on, in-parts, ballots-passed}
@@ -18,7 +19,7 @@ returns c =
     let ss = secretTests (a .q) (a .n) 2 (a .count) (a .asked) (a .a .now) (a .b .now) (a .secrets .now) (a .s0 .now) (a .e0 .now) (a .vectors .now) (a .ballots .now) in
     let ms = maskTests (a .n) (a .bound) (a .count) (a .masks0 .now) (a .masks1 .now) in
     let ps = permutationTests (a .n) (a .repeats) (a .permutations .now) in
-    let ns = noiseTests (a .q) (a .n) 2 (a .count) (a .secrets .now) (a .ballots .now) in
+    let ns = noiseTests (a .q) (a .n) (noise 2 (a .n)) (a .count) (a .secrets .now) (a .ballots .now) in
     let x = lent (a .secrets .now) (a .s0 .now) (a .e0 .now) (a .masks0 .now) (a .masks1 .now) (a .vectors .now) (a .permutations .now) (a .ballots .now) in
     let s = c .before .before .before .before .before .test-secret in
     (then-refused ss (ms ++ (ps ++ ns)) (s .ensures .0) _ _ (c .before .reply .given .1) ∙ ap first (in-parts 2 (a .n) (a .q) (a .bound) (a .repeats) (a .a .now) (a .b .now) [] (a .count) x (a .asked)), s .ensures .1)
@@ -49,7 +50,7 @@ returns-2 c =
     let ss = secretTests (a .q) (a .n) 2 (a .count) (a .asked) (a .a .now) (a .b .now) (a .secrets .now) (a .s0 .now) (a .e0 .now) (a .vectors .now) (a .ballots .now) in
     let ms = maskTests (a .n) (a .bound) (a .count) (a .masks0 .now) (a .masks1 .now) in
     let ps = permutationTests (a .n) (a .repeats) (a .permutations .now) in
-    let ns = noiseTests (a .q) (a .n) 2 (a .count) (a .secrets .now) (a .ballots .now) in
+    let ns = noiseTests (a .q) (a .n) (noise 2 (a .n)) (a .count) (a .secrets .now) (a .ballots .now) in
     let x = lent (a .secrets .now) (a .s0 .now) (a .e0 .now) (a .masks0 .now) (a .masks1 .now) (a .vectors .now) (a .permutations .now) (a .ballots .now) in
     let s = c .before .before .before .before .before .before .before .before .test-secret in
     let e = c .before .before .test-each in

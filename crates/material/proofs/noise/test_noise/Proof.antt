@@ -10,7 +10,6 @@ use Rattle.codec.specs.Bytes.{Bytes, part}
 use Rattle.ring.specs.Slots.{slot, list, allBelow}
 use Rattle.ring.specs.Ternary.{ternary}
 use Rattle.ring.proofs.Ranges.{below-sound}
-use Rattle.sheet.specs.Bounds.{noise}
 use Rattle.bgv.specs.Scheme.{centred, opened, within}
 use Rattle.transcript.specs.Layout.{ballotLength, uAt}
 use Rattle.transcript.proofs.Many.{all-sound}
@@ -19,15 +18,15 @@ use Rattle.material.proofs.noise.test_noise.Statement.{statement}
 use Rattle.material.proofs.noise.test_noise.Tie as tie
 
 -- the noise of the ballot at a place
-abbrev quiet : (q n : ℕ) (secrets ballots : Bytes) (at : ℕ) → Bool
-quiet q n secrets ballots at = within (noise 2 n) n (centred q (opened q n (ternary q (part secrets 0 n)) (slot ballots (at + 4)) (slot ballots (at + 4 + 8 * n))))
+abbrev quiet : (q n bound : ℕ) (secrets ballots : Bytes) (at : ℕ) → Bool
+quiet q n bound secrets ballots at = within bound n (centred q (opened q n (ternary q (part secrets 0 n)) (slot ballots (at + 4)) (slot ballots (at + 4 + 8 * n))))
 
 abbrev Inv-loop : tie.InvT-loop
-Inv-loop work₀ secrets ballots count n q j₀ at₀ work j at =
-    (length work ≡ length work₀) × Walked (λ i. quiet q n secrets ballots (ballotLength n * i)) (ballotLength n) count j at
+Inv-loop work₀ secrets ballots count bound n q j₀ at₀ work j at =
+    (length work ≡ length work₀) × Walked (λ i. quiet q n bound secrets ballots (ballotLength n * i)) (ballotLength n) count j at
 
 abbrev μ-loop : tie.MeasureT-loop
-μ-loop work₀ secrets ballots count n q j₀ at₀ work j at = count - j
+μ-loop work₀ secrets ballots count bound n q j₀ at₀ work j at = count - j
 
 loop-holds : tie.Need-loop-holds Inv-loop μ-loop
 loop-holds c = (refl, walked-first)
@@ -52,7 +51,7 @@ returns c =
     let a = c .before .before .before .before .before .before .before .before .before .before .args in
     let l = c .before .before .before .before .before .before .loop in
     let b = c .before .before .before .is-quiet-at in (
-      walked-refused (l .inv .1) 15 (omega arith) (sym (b .ensures .0 ∙ ap (quiet (a .q) (a .n) (a .secrets .now) (a .ballots .now)) (l .inv .1 .place)) ∙ not-true (b .result) (c .if1 .taken)),
+      walked-refused (l .inv .1) 15 (omega arith) (sym (b .ensures .0 ∙ ap (quiet (a .q) (a .n) (a .bound) (a .secrets .now) (a .ballots .now)) (l .inv .1 .place)) ∙ not-true (b .result) (c .if1 .taken)),
       b .ensures .1 ∙ l .inv .0,
     )
 
@@ -65,7 +64,7 @@ loop-again c =
     let l = c .before .before .before .before .before .before .loop in
     let b = c .before .before .before .is-quiet-at in (
       b .ensures .1 ∙ l .inv .0,
-      walked-more (l .inv .1) _ (omega arith) (omega arith) (sym (b .ensures .0 ∙ ap (quiet (a .q) (a .n) (a .secrets .now) (a .ballots .now)) (l .inv .1 .place)) ∙ not-false (b .result) (c .if1 .left)),
+      walked-more (l .inv .1) _ (omega arith) (omega arith) (sym (b .ensures .0 ∙ ap (quiet (a .q) (a .n) (a .bound) (a .secrets .now) (a .ballots .now)) (l .inv .1 .place)) ∙ not-false (b .result) (c .if1 .left)),
     )
 
 returns-2 : tie.Need-returns-2 Inv-loop μ-loop
