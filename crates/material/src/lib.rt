@@ -60,7 +60,7 @@ fn test_secret(
     Reply::Taken
 }
 
-// The reply of two tests in order: the first that refuses decides.
+// The reply of two tests in order: that of the first, unless it takes.
 fn decided(one: Reply, other: Reply) -> Reply
     ensures { λ r. ⌜ r ≡ leaves one other one ⌝ }
 {
@@ -70,7 +70,7 @@ fn decided(one: Reply, other: Reply) -> Reply
     }
 }
 
-// 12 by ballot, then 9 by repetition, then 15 by ballot.
+// 12 by ballot, then 9 by repetition, then 15 by ballot. All three are worked out, and the first that refuses decides.
 fn test_each(
     work: &mut [u8],
     secrets: &[u8],
