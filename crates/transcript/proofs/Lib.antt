@@ -1,4 +1,5 @@
 pub mod Accepted
+pub mod Answered
 pub mod Answers
 pub mod BallotLoop
 pub mod Compared
@@ -10,8 +11,11 @@ pub mod ExtractionVectors
 pub mod ExtractionWritten
 pub mod Honest
 pub mod Many
+pub mod Orders
 pub mod Passed
 pub mod Produced
+pub mod Ranged
+pub mod Refuses
 pub mod RepetitionLoop
 pub mod Tests
 pub mod Written

@@ -1,5 +1,7 @@
 pub mod Layout
 pub mod Round
+pub mod Accepted
 pub mod Method
 pub mod Producer
 pub mod Extractor
+pub mod Refuses
