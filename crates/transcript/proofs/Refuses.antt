@@ -3,7 +3,7 @@
 use mathlib.Core.Path.{_≡_, refl, sym, ap, ap₂, _∙_}
 use mathlib.Core.Logic.{_↔_}
 use mathlib.Core.Bool.{Bool, true, not, _&&_}
-use mathlib.Core.List.{List, [], _∷_, _++_}
+use mathlib.Core.List.{List, _∷_, _++_}
 use Prim.Native.Nat.{ℕ, zero, suc, _+_, _≤_, _<_}
 use native.Mathlib.Omega.{arith}
 use borrow.Author.Tests.{ltb-true, ltb-false, lt-ltb, le-leb, not-false}
@@ -15,12 +15,13 @@ use Rattle.codec.proofs.Laws.{both}
 use Rattle.ring.specs.Slots.{allBelow}
 use Rattle.vector.specs.Vector.{vector}
 use Rattle.stern.specs.Shortness.{answerLength, inRange, answerTests}
-use Rattle.transcript.specs.Layout.{each, openingOf, answerAt, pairsOf, digestsAt}
-use Rattle.transcript.specs.Round.{Parameters, Round, challengeAt, isChallenge, sharesOf, ballotsRanged, openingRanged, headRanged, answersRanged, ranged, splits, maskTest, claimTest, roundTests}
+use Rattle.transcript.specs.Layout.{each, answerAt}
+use Rattle.transcript.specs.Round.{Parameters, Round, challengeAt, isChallenge, ballotsRanged, openingRanged, headRanged, answersRanged, ranged, splits, roundTests}
 use Rattle.transcript.specs.Extractor.{Openings, Lent, pairs, digests, open0, open1, lentRanged, sideTests, extractTests}
 use Rattle.transcript.specs.Refuses.{openedRanged, openingTests, repetitionTests, openingBy, answerBy, OfLent, OpensLent, AnswersLent, lentRound, Lending, ChecksTake, ChecksRefuse, no-repetition, opening, answer}
 use Rattle.transcript.proofs.Answers.{answers-at}
 use Rattle.transcript.proofs.Orders.{swap, front, opening-order, answer-order, one-order, order-parts, parts-order, order-first}
+use Rattle.transcript.proofs.Tests.{answer-tests, ballot-tests}
 use Rattle.transcript.proofs.Many.{for-challenges, all-sound, all-complete, none-append, append-none, each-none, none-each}
 
 -- ---- a check is its two parts
@@ -32,12 +33,6 @@ module _ (P : Parameters) (m : ℕ) (r : Round) where
   unfolding ranged openedRanged
   ranged-parts = swap (ltb (r .side) 2) (answersRanged P m r) _
 
-  abbrev answer-tests : ℕ → List Test
-  answer-tests i = answerTests q N k (pairsOf N (r .head)) (digestsAt N (r .head) i) i (challengeAt r i) (answerAt N (r .challenges) (r .answers) i)
-
-  abbrev ballot-tests : ℕ → List Test
-  ballot-tests j = maskTest P m (r .ballots) (sharesOf r (r .side)) (openingOf N (r .opening)) j ∷ claimTest P m (r .ballots) (r .claims) (r .shares0) (r .shares1) j ∷ []
-
   abbrev in-range : ℕ → Bool
   in-range i = isChallenge (challengeAt r i) && inRange q N (challengeAt r i) (answerAt N (r .challenges) (r .answers) i)
 
@@ -45,9 +40,9 @@ module _ (P : Parameters) (m : ℕ) (r : Round) where
   unfolding roundTests openingTests repetitionTests answersRanged
   parted none =
       let range = both (answersRanged P m r) (openedRanged P m r) (sym ranged-parts ∙ not-false (ranged P m r) (none .0)) in
-      let rest = append-none (each repeats (λ i. answer-tests i)) (each m (λ j. ballot-tests j)) (none .1 .1 .1 .1) in (
+      let rest = append-none (each repeats (answer-tests P m r)) (each m (ballot-tests P m r)) (none .1 .1 .1 .1) in (
         (ap not (range .1), (none .1 .0, (none .1 .1 .0, (none .1 .1 .1 .0, rest .1)))),
-        λ i l. (ap not (all-sound repeats (λ j. in-range j) (range .0) i l), none-each repeats (λ j. answer-tests j) (rest .0) i l),
+        λ i l. (ap not (all-sound repeats (λ j. in-range j) (range .0) i l), none-each repeats (answer-tests P m r) (rest .0) i l),
       )
 
   whole : None (openingTests P m r) × ((i : ℕ) → i < repeats → None (repetitionTests P m r i)) → None (roundTests P m r)
@@ -60,7 +55,7 @@ module _ (P : Parameters) (m : ℕ) (r : Round) where
           o .1 .0,
           (
             o .1 .1 .0,
-            (o .1 .1 .1 .0, none-append (each repeats (λ i. answer-tests i)) (each m (λ j. ballot-tests j)) (each-none repeats (λ i. answer-tests i) (λ i l. parts .1 i l .1)) (o .1 .1 .1 .1)),
+            (o .1 .1 .1 .0, none-append (each repeats (answer-tests P m r)) (each m (ballot-tests P m r)) (each-none repeats (answer-tests P m r) (λ i l. parts .1 i l .1)) (o .1 .1 .1 .1)),
           ),
         ),
       )

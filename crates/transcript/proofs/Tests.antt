@@ -2,11 +2,13 @@
 use mathlib.Core.Path.{_≡_, sym, ap, ap₂, _∙_}
 use mathlib.Core.Logic.{_↔_}
 use mathlib.Core.Bool.{true, false, _&&_}
+use mathlib.Core.List.{List, [], _∷_}
 use Prim.Native.Nat.{ℕ, suc, _+_, _*_, _^_, _≤_, _<_}
 use native.Mathlib.Omega.{arith}
 use lib.IntN.{natAbs}
 use lib.ListN.{length}
 use Rattle.codec.specs.Bytes.{Bytes, Octets, same}
+use Rattle.codec.specs.Reply.{Test}
 use Rattle.codec.proofs.Laws.{length-part, octets-part, both, same-refl, same-equal}
 use Rattle.modular.proofs.Congruence.{same-eq}
 use Rattle.ring.specs.Poly.{Poly, plus, Alike}
@@ -16,13 +18,25 @@ use Rattle.ring.proofs.Ranges.{below-sound, below-complete}
 use Rattle.bgv.specs.Scheme.{Wholes, Bounded, within, key}
 use Rattle.commitment.specs.Commitment.{Three, threeOf, pairOf, Opens, opens}
 use Rattle.commitment.proofs.Opening.{encode-slot, encode-decides, opens-exactly}
+use Rattle.stern.specs.Shortness.{answerTests}
 use Rattle.stern.proofs.Honest.{slot-alike}
-use Rattle.transcript.specs.Layout.{Opening, headLength, keyAt, pairsOf, pairAt}
-use Rattle.transcript.specs.Round.{Parameters, headRanged, splits, opensKey, opensPairs}
+use Rattle.transcript.specs.Layout.{Opening, headLength, keyAt, pairsOf, pairAt, digestsAt, openingOf, answerAt}
+use Rattle.transcript.specs.Round.{Parameters, Round, challengeAt, sharesOf, headRanged, splits, opensKey, opensPairs, maskTest, claimTest}
 use Rattle.transcript.specs.Accepted.{HeadRanged}
 use Rattle.transcript.proofs.Written.{slot-part}
 use Rattle.transcript.proofs.Many.{stretch}
 use Rattle.transcript.proofs.Ranged.{head-exactly}
+
+-- ---- the tests of a repetition and of a ballot
+
+module _ (P : Parameters) (m : ℕ) (r : Round) where
+  open Parameters P using (q, N, k)
+
+  abbrev pub answer-tests : ℕ → List Test
+  answer-tests i = answerTests q N k (pairsOf N (r .head)) (digestsAt N (r .head) i) i (challengeAt r i) (answerAt N (r .challenges) (r .answers) i)
+
+  abbrev pub ballot-tests : ℕ → List Test
+  ballot-tests j = maskTest P m (r .ballots) (sharesOf r (r .side)) (openingOf N (r .opening)) j ∷ claimTest P m (r .ballots) (r .claims) (r .shares0) (r .shares1) j ∷ []
 
 -- ---- equal bytes
 
