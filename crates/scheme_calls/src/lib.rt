@@ -17,7 +17,7 @@ pub fn keygen(sheet: &[u8], s: &[u8], e: &[u8], b: &mut [u8], scratch: &mut [u8]
         sheet::Reading::Taken(k) => {
             let n = k.ring as usize;
             let q = k.modulus;
-            let reply = scheme::keygen(&public[0..8 * n], s, e, b, scratch, n, q);
+            let reply = encryption::keygen(&public[0..8 * n], s, e, b, scratch, n, q);
             call::sweep(reply, scratch);
             reply
         }
@@ -49,7 +49,7 @@ pub fn encrypt(
         sheet::Reading::Taken(k) => {
             let n = k.ring as usize;
             let q = k.modulus;
-            let reply = scheme::encrypt(&public, r, e1, e2, m, ciphertext, scratch, n, q);
+            let reply = encryption::encrypt(&public, r, e1, e2, m, ciphertext, scratch, n, q);
             call::sweep(reply, scratch);
             reply
         }
@@ -79,7 +79,7 @@ pub fn decrypt(
         sheet::Reading::Taken(k) => {
             let n = k.ring as usize;
             let q = k.modulus;
-            let reply = scheme::decrypt(s, ciphertext, vote, scratch, n, q);
+            let reply = encryption::decrypt(s, ciphertext, vote, scratch, n, q);
             call::sweep(reply, scratch);
             reply
         }
@@ -111,7 +111,7 @@ pub fn split(
         sheet::Reading::Taken(k) => {
             let n = k.ring as usize;
             let q = k.modulus;
-            let reply = scheme::split(&public[0..8 * n], s, e, s0, e0, out, scratch, n, q);
+            let reply = encryption::split(&public[0..8 * n], s, e, s0, e0, out, scratch, n, q);
             call::sweep(reply, scratch);
             reply
         }

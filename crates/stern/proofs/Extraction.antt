@@ -33,7 +33,7 @@ use Rattle.stern.proofs.Sound.{parts, extract}
 -- ---- an answer of which no test holds passes
 
 -- the test of two digests says that they are equal
-digests-equal : (a b c d : Bytes) → not (same a b && same c d) ≡ false → (a ≡ b) × (c ≡ d)
+pub digests-equal : (a b c d : Bytes) → not (same a b && same c d) ≡ false → (a ≡ b) × (c ≡ d)
 digests-equal a b c d e =
     let r = both (same a b) (same c d) (not-false (same a b && same c d) e) in
     (same-equal a b (r .0), same-equal c d (r .1))

@@ -82,7 +82,7 @@ module _ (q N : ℕ) (positive : 0 < q) (fits : q ≤ 2 ^ 64) where
 -- ---- the tests of an answer that passes
 
 -- digests that are as they should be meet no refusal
-digests-match : (a b c d : Bytes) → a ≡ b → c ≡ d → not (same a b && same c d) ≡ false
+pub digests-match : (a b c d : Bytes) → a ≡ b → c ≡ d → not (same a b && same c d) ≡ false
 digests-match a b c d e f = rw (e, f, same-refl b, same-refl d)
 
 module _ (q N : ℕ) (k : Keys) (c d : Bytes) (place : ℕ) where

@@ -92,7 +92,7 @@ pub fn tested(
     if !test_ranged(keys, pairs, challenge, answer, n, q) {
         return refused(5);
     }
-    stern::testing::test_answer(
+    answers::testing::test_answer(
         scratch,
         keys,
         pairs,

@@ -3,28 +3,27 @@
 use mathlib.Core.Path.{_≡_, ap}
 use mathlib.Core.Logic.{_↔_}
 use mathlib.Core.Bool.{true, not}
-use mathlib.Core.List.{List, [], _∷_}
 use Prim.Native.Nat.{ℕ, _+_, _^_, _≤_, _<_}
 use native.Mathlib.Omega.{arith}
-use borrow.Author.Tests.{ltb-true, not-false}
-use lib.Dec.{ltb}
+use borrow.Author.Tests.{not-false}
 use lib.ListN.{length, getD}
 use Rattle.codec.specs.Bytes.{Bytes, Octets}
-use Rattle.codec.specs.Reply.{Test, None, first}
+use Rattle.codec.specs.Reply.{None, first}
 use Rattle.codec.specs.declared.Reply.the-variants.{Taken}
-use Rattle.codec.proofs.Laws.{both, same-equal}
+use Rattle.codec.proofs.Laws.{same-equal}
 use Rattle.codec.proofs.Replies.{taken-exactly}
 use Rattle.ring.specs.Poly.{Alike}
-use Rattle.ring.specs.Slots.{allBelow}
 use Rattle.bgv.specs.Scheme.{key, Sound}
 use Rattle.commitment.specs.Commitment.{threeOf, pairOf, Opens}
-use Rattle.stern.specs.Shortness.{answerTests}
 use Rattle.transcript.specs.Layout.{Opening, each, headLength, keyAt, pairsOf, pairAt, digestsAt, openingOf, answerAt}
-use Rattle.transcript.specs.Round.{Parameters, Round, Accepted, challengeAt, sharesOf, ballotsRanged, headRanged, answersRanged, ranged, opensKey, opensPairs, maskTest, claimTest, roundTests}
+use Rattle.transcript.specs.Round.{Parameters, Round, challengeAt, headRanged, ranged, opensKey, opensPairs, roundTests}
+use Rattle.transcript.specs.Accepted.{Answered, InRange, Accepted}
 use Rattle.transcript.specs.Producer.{Material, Sized, producerTests, producedRound}
 use Rattle.transcript.proofs.Many.{none-append, append-none, each-none, none-each}
 use Rattle.transcript.proofs.Produced.{length-producedHead, octets-producedHead}
-use Rattle.transcript.proofs.Tests.{equal-same, within-sound, within-complete, splits-exactly, key-exactly, pairs-exactly}
+use Rattle.transcript.proofs.Ranged.{head-exactly, ranged-exactly}
+use Rattle.transcript.proofs.Answered.{answered-exactly}
+use Rattle.transcript.proofs.Tests.{answer-tests, ballot-tests, equal-same, within-sound, within-complete, splits-exactly, key-exactly, pairs-exactly}
 use Rattle.transcript.proofs.Honest.{honest-round}
 
 module _ (P : Parameters) (m : ℕ) (positive : 0 < P .q) (fits : P .q ≤ 2 ^ 64) (r : Round) where
@@ -39,40 +38,30 @@ module _ (P : Parameters) (m : ℕ) (positive : 0 < P .q) (fits : P .q ≤ 2 ^ 6
   module _ (sized : length (r .head) ≡ headLength N repeats) (octets : Octets (r .head)) where
     -- ---- a round in range
 
-    module _ (in-range : ranged P m r ≡ true) where
-      low : r .side < 2
-      unfolding ranged
-      low = ltb-true (r .side) 2 (both (ltb (r .side) 2) _ in-range .0)
-
+    module _ (in-range : InRange P m r) where
       head-ranged : headRanged P m head ≡ true
-      unfolding ranged
-      head-ranged =
-          let after-side = both (ltb (r .side) 2) _ in-range .1 in
-          let after-answers = both (answersRanged P m r) _ after-side .1 in
-          let after-ballots = both (ballotsRanged P m (r .ballots)) _ after-answers .1 in
-          let after-claims = both (allBelow p (r .claims)) _ after-ballots .1 in
-          both (headRanged P m head) _ after-claims .0
+      head-ranged = head-exactly P m head .1 (in-range .head)
 
       key-means : (opensKey P m head (r .side) opening ≡ true) ↔ Alike q N (keyAt N head (r .side)) (key q N p a (opening .s) (opening .e))
-      key-means = key-exactly P m positive fits head sized octets head-ranged (r .side) low opening
+      key-means = key-exactly P m positive fits head sized octets head-ranged (r .side) (in-range .side) opening
 
       pairs-mean : (opensPairs P m head (r .side) opening ≡ true)
           ↔ (Opens q N k (pairOf N (pairAt N head (r .side))) (threeOf q N (opening .rs)) (opening .s) × Opens q N k (pairOf N (pairAt N head (2 + r .side))) (threeOf q N (opening .re)) (opening .e))
-      pairs-mean = pairs-exactly P m positive fits head sized octets head-ranged (r .side) low opening
+      pairs-mean = pairs-exactly P m positive fits head sized octets head-ranged (r .side) (in-range .side) opening
+
+      answer-means : (i : ℕ) → i < repeats
+          → None (answer-tests P m r i) ↔ Answered q N k (pairsOf N head) (digestsAt N head i) (challengeAt r i) (answerAt N (r .challenges) (r .answers) i)
+      answer-means i l =
+          let c = in-range .challenges i l in
+          answered-exactly q N k (pairsOf N head) (digestsAt N head i) i (answerAt N (r .challenges) (r .answers) i) (challengeAt r i) (c .0) (c .1)
 
     -- ---- both ways
-
-    abbrev answer-tests : ℕ → List Test
-    answer-tests i = answerTests q N k (pairsOf N head) (digestsAt N head i) i (challengeAt r i) (answerAt N (r .challenges) (r .answers) i)
-
-    abbrev ballot-tests : ℕ → List Test
-    ballot-tests j = maskTest P m (r .ballots) (sharesOf r (r .side)) opening j ∷ claimTest P m (r .ballots) (r .claims) (r .shares0) (r .shares1) j ∷ []
 
     accepted : None (roundTests P m r) → Accepted P m r
     unfolding roundTests
     accepted none =
-        let in-range = not-false (ranged P m r) (none .0) in
-        let rest = append-none (each repeats (λ i. answer-tests i)) (each m (λ j. ballot-tests j)) (none .1 .1 .1 .1) in
+        let in-range = ranged-exactly P m r .0 (not-false (ranged P m r) (none .0)) in
+        let rest = append-none (each repeats (answer-tests P m r)) (each m (ballot-tests P m r)) (none .1 .1 .1 .1) in
         let pairs = pairs-mean in-range .0 (not-false _ (none .1 .1 .1 .0)) in
         record {
           in-range = in-range;
@@ -80,23 +69,23 @@ module _ (P : Parameters) (m : ℕ) (positive : 0 < P .q) (fits : P .q ≤ 2 ^ 6
           key-opened = key-means in-range .0 (not-false _ (none .1 .1 .0));
           s-committed = pairs .0;
           e-committed = pairs .1;
-          answered = none-each repeats (λ i. answer-tests i) (rest .0);
-          masked = λ j l. within-sound B N _ (not-false _ (none-each m (λ i. ballot-tests i) (rest .1) j l .0));
-          claimed = λ j l. same-equal _ _ (not-false _ (none-each m (λ i. ballot-tests i) (rest .1) j l .1 .0));
+          answered = λ i l. answer-means in-range i l .0 (none-each repeats (answer-tests P m r) (rest .0) i l);
+          masked = λ j l. within-sound B N _ (not-false _ (none-each m (ballot-tests P m r) (rest .1) j l .0));
+          claimed = λ j l. same-equal _ _ (not-false _ (none-each m (ballot-tests P m r) (rest .1) j l .1 .0));
         }
 
     tests-pass : Accepted P m r → None (roundTests P m r)
     unfolding roundTests
     tests-pass c = (
-      ap not (c .in-range),
+      ap not (ranged-exactly P m r .1 (c .in-range)),
       (
         ap not (splits-exactly P m positive fits head .1 (c .key-splits)),
         (
           ap not (key-means (c .in-range) .1 (c .key-opened)),
           (
             ap not (pairs-mean (c .in-range) .1 (c .s-committed, c .e-committed)),
-            none-append (each repeats (λ i. answer-tests i)) (each m (λ j. ballot-tests j)) (each-none repeats (λ i. answer-tests i) (c .answered))
-                (each-none m (λ j. ballot-tests j) (λ j l. (ap not (within-complete B N _ (c .masked j l)), (ap not (equal-same (c .claimed j l)), tt)))),
+            none-append (each repeats (answer-tests P m r)) (each m (ballot-tests P m r)) (each-none repeats (answer-tests P m r) (λ i l. answer-means (c .in-range) i l .1 (c .answered i l)))
+                (each-none m (ballot-tests P m r) (λ j l. (ap not (within-complete B N _ (c .masked j l)), (ap not (equal-same (c .claimed j l)), tt)))),
           ),
         ),
       ),

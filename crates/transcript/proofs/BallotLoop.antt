@@ -1,8 +1,8 @@
 -- The loop over ballots: where ballot j, its claim and its shares stand, and what its reply adds. Assumes nothing.
-use mathlib.Core.Path.{_≡_, refl, sym, ap, _∙_}
+use mathlib.Core.Path.{_≡_, sym, ap, _∙_}
 use mathlib.Core.Bool.{not}
 use mathlib.Core.List.{List, [], _∷_}
-use Prim.Native.Nat.{ℕ, _+_, _*_, _%_, _^_, _≤_, _<_}
+use Prim.Native.Nat.{ℕ, _+_, _*_, _^_, _≤_, _<_}
 use native.Mathlib.Nat.{mul-zero, mul-add, mul-one, mul-le-mul}
 use native.Mathlib.Omega.{arith}
 use lib.ListN.{length}
@@ -12,9 +12,8 @@ use Rattle.codec.specs.declared.Reply.{Reply}
 use Rattle.codec.specs.declared.Reply.the-variants.{Taken, Refused}
 use Rattle.ring.specs.Poly.{Below}
 use Rattle.ring.specs.Slots.{poly, slot, list}
-use Rattle.call.specs.Call.{Public}
 use Rattle.bgv.specs.Scheme.{worked, within, reconstructed}
-use Rattle.transcript.specs.Layout.{each, ballotLength, uAt, vAt, shareAt, claimAt}
+use Rattle.transcript.specs.Layout.{each, ballotLength}
 use Rattle.transcript.specs.Method.{Batch, Shares}
 use Rattle.transcript.proofs.Many.{each-more, each-refused, each-taken, stretch}
 

@@ -1,4 +1,5 @@
 pub mod Accepted
+pub mod Answered
 pub mod Answers
 pub mod BallotLoop
 pub mod Compared
@@ -11,8 +12,11 @@ pub mod ExtractionWritten
 pub mod Honest
 pub mod Many
 pub mod Opened
+pub mod Orders
 pub mod Passed
 pub mod Produced
+pub mod Ranged
+pub mod Refuses
 pub mod RepetitionLoop
 pub mod Tests
 pub mod Written

@@ -25,6 +25,19 @@ last n j h = go (decLt j n)
     go (yes l) = inl l
     go (no l) = inr (omega arith)
 
+-- what holds of 0 and 1 holds of each side, and what holds of 1, 2 and 3 of each challenge
+pub for-sides : (A : ℕ → Type 0) → A 0 → A 1 → (i : ℕ) → i < 2 → A i
+for-sides A a b zero l = a
+for-sides A a b (suc zero) l = b
+for-sides A a b (suc (suc i)) l = absurd (omega arith)
+
+pub for-challenges : (A : ℕ → Type 0) → A 1 → A 2 → A 3 → (c : ℕ) → 1 ≤ c → c ≤ 3 → A c
+for-challenges A a b d zero low high = absurd (omega arith)
+for-challenges A a b d (suc zero) low high = a
+for-challenges A a b d (suc (suc zero)) low high = b
+for-challenges A a b d (suc (suc (suc zero))) low high = d
+for-challenges A a b d (suc (suc (suc (suc c)))) low high = absurd (omega arith)
+
 -- ---- tests of each
 
 pub all-sound : (n : ℕ) (f : ℕ → Bool) → all n f ≡ true → (j : ℕ) → j < n → f j ≡ true

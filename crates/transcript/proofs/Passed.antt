@@ -2,8 +2,7 @@
 use mathlib.Core.Path.{_≡_}
 use mathlib.Core.Bool.{true, not, _&&_}
 use mathlib.Core.List.{[], _∷_}
-use Prim.Native.Nat.{ℕ, zero, suc, _*_, _^_, _≤_, _<_}
-use native.Mathlib.Omega.{arith}
+use Prim.Native.Nat.{ℕ, _*_, _^_, _≤_, _<_}
 use borrow.Author.Tests.{not-false}
 use Rattle.codec.specs.Reply.{test, None}
 use Rattle.codec.proofs.Laws.{both, same-equal}
@@ -16,7 +15,7 @@ use Rattle.vector.specs.Permutation.{entries, permutes}
 use Rattle.transcript.specs.Layout.{each, uAt, vAt}
 use Rattle.transcript.specs.Round.{Parameters, ballotsRanged}
 use Rattle.transcript.specs.Producer.{Material, secret-s, secret-e, maskAt, permutationAt, materialRanged, producerTests}
-use Rattle.transcript.proofs.Many.{append-none, none-each}
+use Rattle.transcript.proofs.Many.{for-sides, append-none, none-each}
 use Rattle.transcript.proofs.Tests.{within-sound}
 
 module _ (P : Parameters) (m : ℕ) (x : Material) where
@@ -57,9 +56,7 @@ module _ (P : Parameters) (m : ℕ) (x : Material) where
     masks j l = both _ _ (not-false _ (none-each m (λ i. test 12 i (not (within B N (lentMask (maskAt P m x 0 i)) && within B N (lentMask (maskAt P m x 1 i)))) ∷ []) (tests .2) j l .0))
 
     bounded : (side j : ℕ) → side < 2 → j < m → Bounded N B (lentMask (maskAt P m x side j))
-    bounded zero j h l = within-sound B N _ (masks j l .0)
-    bounded (suc zero) j h l = within-sound B N _ (masks j l .1)
-    bounded (suc (suc i)) j h l = absurd (omega arith)
+    bounded side j h l = for-sides (λ i. Bounded N B (lentMask (maskAt P m x i j))) (within-sound B N _ (masks j l .0)) (within-sound B N _ (masks j l .1)) side h
 
     pub material-fit : Fit
     material-fit = record {

@@ -1,7 +1,7 @@
 -- The loop over repetitions: where the digests and the answer of repetition i stand, and what its reply adds. Assumes nothing.
 use mathlib.Core.Path.{_≡_, refl, sym, ap, _∙_}
 use mathlib.Core.Bool.{Bool, true, false, cond}
-use mathlib.Core.List.{List, [], _∷_, _++_}
+use mathlib.Core.List.{List, [], _∷_}
 use Prim.Native.Nat.{ℕ, suc, _+_, _*_, _≤_, _<_}
 use native.Mathlib.Nat.{mul-zero, mul-suc, mul-le-mul}
 use native.Mathlib.Numerals.{add-one}
@@ -14,7 +14,7 @@ use Rattle.codec.specs.declared.Reply.{Reply}
 use Rattle.codec.specs.declared.Reply.the-variants.{Taken, Refused}
 use Rattle.commitment.specs.Commitment.{Keys}
 use Rattle.stern.specs.Shortness.{answerLength, inRange, answerTests}
-use Rattle.transcript.specs.Layout.{each, headLength, pairsOf, digestsAt, answersLength, answerAt}
+use Rattle.transcript.specs.Layout.{each, pairsOf, digestsAt, answersLength, answerAt}
 use Rattle.transcript.specs.Method.{Answers}
 use Rattle.transcript.proofs.Many.{each-more, each-refused, each-taken}
 use Rattle.transcript.proofs.Answers.{answersLength-append, answersLength-more}

@@ -2,26 +2,41 @@
 use mathlib.Core.Path.{_≡_, sym, ap, ap₂, _∙_}
 use mathlib.Core.Logic.{_↔_}
 use mathlib.Core.Bool.{true, false, _&&_}
+use mathlib.Core.List.{List, [], _∷_}
 use Prim.Native.Nat.{ℕ, suc, _+_, _*_, _^_, _≤_, _<_}
-use native.Mathlib.Nat.{mul-assoc}
 use native.Mathlib.Omega.{arith}
 use lib.IntN.{natAbs}
 use lib.ListN.{length}
 use Rattle.codec.specs.Bytes.{Bytes, Octets, same}
+use Rattle.codec.specs.Reply.{Test}
 use Rattle.codec.proofs.Laws.{length-part, octets-part, both, same-refl, same-equal}
 use Rattle.modular.proofs.Congruence.{same-eq}
-use Rattle.ring.specs.Poly.{Poly, plus, Alike, Below}
-use Rattle.ring.specs.Slots.{poly, slot}
+use Rattle.ring.specs.Poly.{Poly, plus, Alike}
+use Rattle.ring.specs.Slots.{slot}
 use Rattle.ring.proofs.Bridge.{encode-alike}
 use Rattle.ring.proofs.Ranges.{below-sound, below-complete}
 use Rattle.bgv.specs.Scheme.{Wholes, Bounded, within, key}
 use Rattle.commitment.specs.Commitment.{Three, threeOf, pairOf, Opens, opens}
 use Rattle.commitment.proofs.Opening.{encode-slot, encode-decides, opens-exactly}
+use Rattle.stern.specs.Shortness.{answerTests}
 use Rattle.stern.proofs.Honest.{slot-alike}
-use Rattle.transcript.specs.Layout.{Opening, headLength, keyAt, pairsOf, pairAt}
-use Rattle.transcript.specs.Round.{Parameters, headRanged, splits, opensKey, opensPairs}
-use Rattle.transcript.proofs.Written.{slot-part, slot-at, below-slot}
+use Rattle.transcript.specs.Layout.{Opening, headLength, keyAt, pairsOf, pairAt, digestsAt, openingOf, answerAt}
+use Rattle.transcript.specs.Round.{Parameters, Round, challengeAt, sharesOf, headRanged, splits, opensKey, opensPairs, maskTest, claimTest}
+use Rattle.transcript.specs.Accepted.{HeadRanged}
+use Rattle.transcript.proofs.Written.{slot-part}
 use Rattle.transcript.proofs.Many.{stretch}
+use Rattle.transcript.proofs.Ranged.{head-exactly}
+
+-- ---- the tests of a repetition and of a ballot
+
+module _ (P : Parameters) (m : ℕ) (r : Round) where
+  open Parameters P using (q, N, k)
+
+  abbrev pub answer-tests : ℕ → List Test
+  answer-tests i = answerTests q N k (pairsOf N (r .head)) (digestsAt N (r .head) i) i (challengeAt r i) (answerAt N (r .challenges) (r .answers) i)
+
+  abbrev pub ballot-tests : ℕ → List Test
+  ballot-tests j = maskTest P m (r .ballots) (sharesOf r (r .side)) (openingOf N (r .opening)) j ∷ claimTest P m (r .ballots) (r .claims) (r .shares0) (r .shares1) j ∷ []
 
 -- ---- equal bytes
 
@@ -63,35 +78,22 @@ module _ (P : Parameters) (m : ℕ) (positive : 0 < P .q) (fits : P .q ≤ 2 ^ 6
   splits-exactly = (λ e. encode-decides q N positive fits (same-equal _ _ e), λ l. equal-same (encode-alike l))
 
   module _ (sized : length head ≡ headLength N repeats) (octets : Octets head) (ranged : headRanged P m head ≡ true) where
-    head-below : Below q (10 * N) (poly head)
-    unfolding headRanged
-    head-below = below-sound q (10 * N) (poly head) ranged
+    in-range : HeadRanged P m head
+    in-range = head-exactly P m head .0 ranged
 
     pub key-exactly : (side : ℕ) → side < 2 → (o : Opening) → (opensKey P m head side o ≡ true) ↔ Alike q N (keyAt N head side) (key q N p a (o .s) (o .e))
     unfolding opensKey
     key-exactly side low o = (
       λ e. slot-alike q N positive fits head (8 * N * side) (key q N p a (o .s) (o .e)) (same-equal _ _ e),
-      λ l. equal-same (encode-slot q N head (8 * N * side) octets (omega (arith, stretch (8 * N) side 2 low)) below ∙ encode-alike l),
+      λ l. equal-same (encode-slot q N head (8 * N * side) octets (omega (arith, stretch (8 * N) side 2 low)) (in-range .keys side low) ∙ encode-alike l),
     )
-      where
-        below : Below q N (slot head (8 * N * side))
-        below = below-slot q (10 * N) head (N * side) N (8 * N * side) (mul-assoc 8 N side) (omega (arith, stretch N side 2 low)) head-below
 
     -- ---- 8: the pairs
 
-    module _ (i : ℕ) (four : i < 4) where
-      -- a half of the pair, from n coefficients on
-      half-below : (at n : ℕ) → at ≡ 8 * n → n + N ≤ 2 * N → Below q N (slot (pairAt N head i) at)
-      half-below at n place short = record {
-        at = λ j l.
-            rw (slot-part head (16 * N + 16 * N * i) (16 * N) at j (omega arith) ∙ slot-at head (16 * N + 16 * N * i + at) (2 * N + 2 * N * i + n) j (omega arith))
-            (head-below .at (2 * N + 2 * N * i + n + j) (omega (arith, stretch (16 * N) i 4 four)));
-      }
-
-      pub pair-exactly : (r : Three) (f : Poly) → (opens q N k (pairAt N head i) r f ≡ true) ↔ Opens q N k (pairOf N (pairAt N head i)) r f
-      pair-exactly =
-          opens-exactly q N positive fits (pairAt N head i) (octets-part head (16 * N + 16 * N * i) (16 * N) octets)
-          (length-part head (16 * N + 16 * N * i) (16 * N) (omega (arith, stretch (16 * N) i 4 four))) (half-below 0 0 (omega arith) (omega arith)) (half-below (8 * N) N (omega arith) (omega arith)) k
+    pub pair-exactly : (i : ℕ) → i < 4 → (r : Three) (f : Poly) → (opens q N k (pairAt N head i) r f ≡ true) ↔ Opens q N k (pairOf N (pairAt N head i)) r f
+    pair-exactly i four =
+        opens-exactly q N positive fits (pairAt N head i) (octets-part head (16 * N + 16 * N * i) (16 * N) octets)
+        (length-part head (16 * N + 16 * N * i) (16 * N) (omega (arith, stretch (16 * N) i 4 four))) (in-range .first-halves i four) (in-range .second-halves i four) k
 
     -- the pairs of s_i and e_i
     pub pairs-exactly : (side : ℕ) → side < 2 → (o : Opening) → (opensPairs P m head side o ≡ true)

@@ -1,6 +1,8 @@
 pub mod Layout
 pub mod Round
+pub mod Accepted
 pub mod Method
 pub mod Producer
 pub mod Extractor
 pub mod Opened
+pub mod Refuses

@@ -1,17 +1,17 @@
--- The check of a round (document 01, "One round", and the order of check after 16): the ordered list of its tests, and what an accepted round
--- is. Assumes nothing.
+-- The check of a round (document 01, "One round", and the order of check after 16): the ordered list of its tests. What an accepted round is
+-- in propositions: specs/Accepted.antt. Assumes nothing.
 use mathlib.Core.Path.{_≡_}
-use mathlib.Core.Bool.{Bool, true, not, _&&_}
+use mathlib.Core.Bool.{Bool, not, _&&_}
 use mathlib.Core.List.{List, [], _∷_, _++_}
-use Prim.Native.Nat.{ℕ, zero, suc, _+_, _*_, _<_}
+use Prim.Native.Nat.{ℕ, zero, suc, _+_, _*_}
 use lib.Dec.{leb, ltb}
 use lib.ListN.{length, getD}
 use Rattle.codec.specs.Bytes.{Bytes, part, same}
-use Rattle.codec.specs.Reply.{Test, test, None}
-use Rattle.ring.specs.Poly.{Poly, plus, modulo, Alike}
+use Rattle.codec.specs.Reply.{Test, test}
+use Rattle.ring.specs.Poly.{Poly, plus, modulo}
 use Rattle.ring.specs.Slots.{poly, list, encode, allBelow}
-use Rattle.bgv.specs.Scheme.{Bounded, key, worked, within, reconstructed}
-use Rattle.commitment.specs.Commitment.{Keys, threeOf, pairOf, Opens, opens}
+use Rattle.bgv.specs.Scheme.{key, worked, within, reconstructed}
+use Rattle.commitment.specs.Commitment.{Keys, threeOf, opens}
 use Rattle.vector.specs.Vector.{vector}
 use Rattle.stern.specs.Shortness.{inRange, answerTests}
 use Rattle.transcript.specs.Layout.{Opening, all, each, ballotLength, uAt, vAt, shareAt, claimAt, headLength, keyAt, pairsOf, pairAt, digestsAt, openingOf, answersLength, answerAt}
@@ -134,16 +134,3 @@ module _ (P : Parameters) (m : ℕ) where
       ∷ test 8 0 (not (opensPairs (r .head) (r .side) o))
       ∷ (each repeats (λ i. answerTests q N k (pairsOf N (r .head)) (digestsAt N (r .head) i) i (challengeAt r i) (answerAt N (r .challenges) (r .answers) i))
       ++ each m (λ j. maskTest (r .ballots) (sharesOf r (r .side)) o j ∷ claimTest (r .ballots) (r .claims) (r .shares0) (r .shares1) j ∷ []))
-
-  -- ---- an accepted round: 6, 7, 8, 12 and 13 in plain propositions; 5 and 9 to 11 are still said by their tests
-
-  pub record Accepted (r : Round) : Type 0 where
-    pub in-range : ranged r ≡ true
-    pub key-splits : Alike q N (plus (keyAt N (r .head) 0) (keyAt N (r .head) 1)) b
-    pub key-opened : Alike q N (keyAt N (r .head) (r .side)) (key q N p a (openingOf N (r .opening) .s) (openingOf N (r .opening) .e))
-    pub s-committed : Opens q N k (pairOf N (pairAt N (r .head) (r .side))) (threeOf q N (openingOf N (r .opening) .rs)) (openingOf N (r .opening) .s)
-    pub e-committed : Opens q N k (pairOf N (pairAt N (r .head) (2 + r .side))) (threeOf q N (openingOf N (r .opening) .re)) (openingOf N (r .opening) .e)
-    pub answered : (i : ℕ) → i < repeats
-        → None (answerTests q N k (pairsOf N (r .head)) (digestsAt N (r .head) i) i (challengeAt r i) (answerAt N (r .challenges) (r .answers) i))
-    pub masked : (j : ℕ) → j < m → Bounded N B (worked q N p (openingOf N (r .opening) .s) (uAt N (r .ballots) j) (shareAt N (sharesOf r (r .side)) j))
-    pub claimed : (j : ℕ) → j < m → claimAt N (r .claims) j ≡ list N (reconstructed q p (vAt N (r .ballots) j) (shareAt N (r .shares0) j) (shareAt N (r .shares1) j))

@@ -45,7 +45,7 @@ fn test_at(
     ensures { λ reply. ⌜ reply ≡ first (answerTests q n (keysOf n (now (k .entry))) (pairsOf n (now (head .entry))) (part (now (head .entry)) digests 96) place challenge (part (now (answers .entry)) at size)) ⌝ }
     ensures { λ _. ⌜ length (now (work .exit)) ≡ length (now (work .entry)) ⌝ }
 {
-    stern::testing::test_answer(
+    answers::testing::test_answer(
         work,
         k,
         &head[16 * n..80 * n],

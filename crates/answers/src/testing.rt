@@ -1,0 +1,205 @@
+// The tests of an answer in a check: 9, then 10, then 11 (document 01, "One round" and "Refused because of the input").
+use codec::Reply;
+use stern::digests::equations_digest;
+use stern::digests::gathered_digest;
+use stern::digests::tagged;
+ghost use mathlib.Core.Path.{_≡_};
+ghost use mathlib.Core.Bool.{true, cond, not, _&&_};
+ghost use mathlib.Core.List.{[], _∷_, _++_};
+ghost use Prim.Native.Nat.{_+_, _*_, _≤_, _<_, _^_};
+ghost use lib.ListN.{length, take};
+ghost use Rattle.codec.specs.Bytes.{words, same};
+ghost use Rattle.codec.specs.Reply.{test, first};
+ghost use Rattle.sha3.specs.Sponge.{sha3};
+ghost use Rattle.ring.specs.Slots.{allBelow};
+ghost use Rattle.call.specs.Call.{scratchLength};
+ghost use Rattle.commitment.specs.Commitment.{keysOf, PublicKeys};
+ghost use Rattle.vector.specs.Vector.{vector, ternaries, add, subtract};
+ghost use Rattle.vector.specs.Permutation.{entries, apply, permutes, balanced};
+ghost use Rattle.stern.specs.Argument.{string1, string2, string3};
+ghost use Rattle.stern.specs.Shortness.{equations, sides, answer1Of, answer2Of, answer3Of, tests1, tests2, tests3, answerLength, answerTests, inRange};
+
+// Answer 1: there are L of each, and digests 2 and 3 are those of P(R) and of P(extended) + P(R).
+fn test_balanced(
+    work: &mut [u8],
+    two: &[u8],
+    three: &[u8],
+    w: &[u8],
+    t: &[u8],
+    salt2: &[u8],
+    salt3: &[u8],
+    place: u32,
+    n: usize,
+    q: u64,
+) -> Reply
+    requires { ⌜ (n ≤ 2048) × (3 ≤ q) × (q < 2 ^ 56) × (length (now work) ≡ scratchLength) × (length (now w) ≡ 42 * n) × (length (now t) ≡ 336 * n) × (length (now salt2) ≡ 32) × (length (now salt3) ≡ 32) × (allBelow q (vector (now t)) ≡ true) ⌝ }
+    ensures { λ reply. ⌜ reply ≡ first (test 10 place (not (balanced (14 * n) (now (w .entry)))) ∷ test 11 place (not (same (now (two .entry)) (sha3 (string2 (now (salt2 .entry)) (now (t .entry)))) && same (now (three .entry)) (sha3 (string3 (now (salt3 .entry)) (add q (ternaries q (now (w .entry))) (vector (now (t .entry)))))))) ∷ []) ⌝ }
+    ensures { λ _. ⌜ length (now (work .exit)) ≡ length (now (work .entry)) ⌝ }
+{
+    if !vector::is_balanced(w, 14 * n) {
+        return Reply::Refused { number: 10, place };
+    }
+    let second = tagged(2, salt2, t);
+    vector::sum(work, 0, w, t, 42 * n, q);
+    let third = tagged(3, salt3, &work[0..336 * n]);
+    if both_equal(two, &second, three, &third) {
+        Reply::Taken
+    } else {
+        Reply::Refused { number: 11, place }
+    }
+}
+
+// Whether two digests are two others.
+fn both_equal(a: &[u8], b: &[u8], c: &[u8], d: &[u8]) -> bool
+    ensures { λ r. ⌜ r ≡ (same (now (a .entry)) (now (b .entry)) && same (now (c .entry)) (now (d .entry))) ⌝ }
+{
+    if codec::equal(a, b) {
+        codec::equal(c, d)
+    } else {
+        false
+    }
+}
+
+// Answers 2 and 3: P is a permutation, and two digests are those of the equations and of P applied to the vector x, which is extended + R or R.
+fn test_permuted(
+    work: &mut [u8],
+    k: &[u8],
+    c: &[u8],
+    less: bool,
+    one: &[u8],
+    lead: u8,
+    other: &[u8],
+    p: &[u8],
+    x: &[u8],
+    salt1: &[u8],
+    salt: &[u8],
+    place: u32,
+    n: usize,
+    q: u64,
+) -> Reply
+    requires { ⌜ PublicKeys n q (now k) × (length (now work) ≡ scratchLength) × (length (now p) ≡ 168 * n) × (length (now x) ≡ 336 * n) × (length (now salt1) ≡ 32) × (length (now salt) ≡ 32) × (allBelow q (vector (now x)) ≡ true) × (length (now c) ≡ 64 * n) × (allBelow q (vector (now c)) ≡ true) ⌝ }
+    ensures { λ reply. ⌜ reply ≡ first (test 9 place (not (permutes (42 * n) (entries (now (p .entry))))) ∷ test 11 place (not (same (now (one .entry)) (sha3 (string1 (now (salt1 .entry)) (now (p .entry)) (cond less (subtract q (equations q n (keysOf n (now (k .entry))) (take (14 * n) (vector (now (x .entry))))) (sides q n (now (c .entry)))) (equations q n (keysOf n (now (k .entry))) (take (14 * n) (vector (now (x .entry)))))))) && same (now (other .entry)) (sha3 (lead ∷ (now (salt .entry) ++ words (apply (entries (now (p .entry))) (vector (now (x .entry))))))))) ∷ []) ⌝ }
+    ensures { λ _. ⌜ length (now (work .exit)) ≡ length (now (work .entry)) ⌝ }
+{
+    if !vector::is_permutation(p, work, 0, 42 * n) {
+        return Reply::Refused { number: 9, place };
+    }
+    let first = equations_digest(work, k, c, less, x, p, salt1, n, q);
+    let second = gathered_digest(lead, work, p, x, salt, n);
+    if both_equal(one, &first, other, &second) {
+        Reply::Taken
+    } else {
+        Reply::Refused { number: 11, place }
+    }
+}
+
+// Answer 1 from its bytes; the keys and the committed pairs do not enter.
+fn test_first(work: &mut [u8], d: &[u8], answer: &[u8], place: u32, n: usize, q: u64) -> Reply
+    requires { ⌜ (n ≤ 2048) × (3 ≤ q) × (q < 2 ^ 56) × (length (now work) ≡ scratchLength) × (length (now d) ≡ 96) × (length (now answer) ≡ 378 * n + 64) × (allBelow q (vector (answer1Of n (now answer) .t)) ≡ true) ⌝ }
+    ensures { λ reply. ⌜ reply ≡ first (tests1 q n (keysOf n []) [] (now (d .entry)) place (answer1Of n (now (answer .entry)))) ⌝ }
+    ensures { λ _. ⌜ length (now (work .exit)) ≡ length (now (work .entry)) ⌝ }
+{
+    test_balanced(
+        work,
+        &d[32..64],
+        &d[64..96],
+        &answer[0..42 * n],
+        &answer[42 * n..378 * n],
+        &answer[378 * n..378 * n + 32],
+        &answer[378 * n + 32..378 * n + 64],
+        place,
+        n,
+        q,
+    )
+}
+
+// Answer 2 from its bytes.
+fn test_second(
+    work: &mut [u8],
+    k: &[u8],
+    c: &[u8],
+    d: &[u8],
+    answer: &[u8],
+    place: u32,
+    n: usize,
+    q: u64,
+) -> Reply
+    requires { ⌜ PublicKeys n q (now k) × (length (now work) ≡ scratchLength) × (length (now d) ≡ 96) × (length (now answer) ≡ 504 * n + 64) × (length (now c) ≡ 64 * n) × (allBelow q (vector (now c)) ≡ true) × (allBelow q (vector (answer2Of n (now answer) .u)) ≡ true) ⌝ }
+    ensures { λ reply. ⌜ reply ≡ first (tests2 q n (keysOf n (now (k .entry))) (now (c .entry)) (now (d .entry)) place (answer2Of n (now (answer .entry)))) ⌝ }
+    ensures { λ _. ⌜ length (now (work .exit)) ≡ length (now (work .entry)) ⌝ }
+{
+    test_permuted(
+        work,
+        k,
+        c,
+        true,
+        &d[0..32],
+        3,
+        &d[64..96],
+        &answer[0..168 * n],
+        &answer[168 * n..504 * n],
+        &answer[504 * n..504 * n + 32],
+        &answer[504 * n + 32..504 * n + 64],
+        place,
+        n,
+        q,
+    )
+}
+
+// Answer 3 from its bytes.
+fn test_third(
+    work: &mut [u8],
+    k: &[u8],
+    c: &[u8],
+    d: &[u8],
+    answer: &[u8],
+    place: u32,
+    n: usize,
+    q: u64,
+) -> Reply
+    requires { ⌜ PublicKeys n q (now k) × (length (now work) ≡ scratchLength) × (length (now d) ≡ 96) × (length (now answer) ≡ 504 * n + 64) × (length (now c) ≡ 64 * n) × (allBelow q (vector (now c)) ≡ true) × (allBelow q (vector (answer3Of n (now answer) .r)) ≡ true) ⌝ }
+    ensures { λ reply. ⌜ reply ≡ first (tests3 q n (keysOf n (now (k .entry))) (now (c .entry)) (now (d .entry)) place (answer3Of n (now (answer .entry)))) ⌝ }
+    ensures { λ _. ⌜ length (now (work .exit)) ≡ length (now (work .entry)) ⌝ }
+{
+    test_permuted(
+        work,
+        k,
+        c,
+        false,
+        &d[0..32],
+        2,
+        &d[32..64],
+        &answer[0..168 * n],
+        &answer[168 * n..504 * n],
+        &answer[504 * n..504 * n + 32],
+        &answer[504 * n + 32..504 * n + 64],
+        place,
+        n,
+        q,
+    )
+}
+
+// An answer to a challenge of 1, 2, 3 from its bytes.
+pub fn test_answer(
+    work: &mut [u8],
+    k: &[u8],
+    c: &[u8],
+    d: &[u8],
+    challenge: u8,
+    answer: &[u8],
+    place: u32,
+    n: usize,
+    q: u64,
+) -> Reply
+    requires { ⌜ PublicKeys n q (now k) × (length (now work) ≡ scratchLength) × (length (now d) ≡ 96) × (length (now c) ≡ 64 * n) × (allBelow q (vector (now c)) ≡ true) × (length (now answer) ≡ answerLength n challenge) × (inRange q n challenge (now answer) ≡ true) ⌝ }
+    ensures { λ reply. ⌜ reply ≡ first (answerTests q n (keysOf n (now (k .entry))) (now (c .entry)) (now (d .entry)) place challenge (now (answer .entry))) ⌝ }
+    ensures { λ _. ⌜ length (now (work .exit)) ≡ length (now (work .entry)) ⌝ }
+{
+    if challenge == 1 {
+        return test_first(work, d, answer, place, n, q);
+    }
+    if challenge == 2 {
+        return test_second(work, k, c, d, answer, place, n, q);
+    }
+    test_third(work, k, c, d, answer, place, n, q)
+}
