@@ -1,0 +1,2 @@
+// What the producer of a round writes once its material passed all tests (document 01, "One round", third paragraph): crates/transcript/specs/Producer.antt.
+mod pairs;
