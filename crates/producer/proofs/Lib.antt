@@ -1,1 +1,3 @@
 pub mod CommittedPairs
+pub mod Drawing
+pub mod Joining

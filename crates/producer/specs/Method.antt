@@ -8,6 +8,8 @@ use Rattle.ring.specs.Poly.{Poly, modulo, Below}
 use Rattle.ring.specs.Slots.{encode, allBelow}
 use Rattle.vector.specs.Vector.{vector}
 use Rattle.vector.specs.Permutation.{entries, permutes}
+use Rattle.stern.specs.Argument.{Drawn}
+use Rattle.stern.specs.Shortness.{drawnOf}
 use Rattle.transcript.specs.Layout.{ballotLength, uAt}
 use Rattle.transcript.specs.Producer.{Material}
 
@@ -24,6 +26,10 @@ materialOf secrets s0 e0 masks0 masks1 vectors permutations salts ballots = reco
   salts = salts;
   ballots = ballots;
 }
+
+-- what is drawn for repetition i
+abbrev pub drawnFor : (N : ℕ) (vectors permutations salts : Bytes) → ℕ → Drawn
+drawnFor N vectors permutations salts i = drawnOf (part permutations (168 * N * i) (168 * N)) (part vectors (336 * N * i) (336 * N)) (part salts (96 * i) 96)
 
 -- the unknowns, and what is drawn for each repetition
 pub record Drawings (q N repeats : ℕ) (secrets vectors permutations salts : Bytes) : Type 0 where
