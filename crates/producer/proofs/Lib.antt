@@ -1,3 +1,5 @@
 pub mod CommittedPairs
 pub mod Drawing
 pub mod Joining
+pub mod ShareAlgebra
+pub mod ShareSteps

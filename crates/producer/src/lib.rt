@@ -2,3 +2,4 @@
 mod digests;
 mod keys;
 mod pairs;
+mod shares;
