@@ -1,5 +1,5 @@
 -- What is drawn for the repetitions: where it stands for repetition i, and that it is what the shortness argument asks for. Assumes nothing.
-use mathlib.Core.Path.{_≡_, refl, sym, ap, ap₂, _∙_}
+use mathlib.Core.Path.{_≡_, sym, ap, ap₂, _∙_}
 use mathlib.Core.Bool.{true}
 use mathlib.Core.List.{[]}
 use Prim.Native.Nat.{ℕ, _+_, _*_, _≤_, _<_}
@@ -18,7 +18,7 @@ use Rattle.transcript.specs.Layout.{joined, headLength}
 use Rattle.transcript.proofs.Many.{stretch, length-joined}
 use Rattle.transcript.proofs.Written.{coefficients-vector, coefficients-part}
 use Rattle.producer.specs.Method.{drawnFor, Drawings}
-use Rattle.producer.proofs.Joining.{joined-none, joined-more}
+use Rattle.producer.proofs.Joining.{Filled, filled-first, filled-more}
 
 -- ---- lent with lengths that are differences of places
 
@@ -100,31 +100,30 @@ module _ (q n repeats : ℕ) (k : Keys) (secrets vectors permutations salts : By
   digests-sized : (i : ℕ) → length (digestsOf i) ≡ 96
   digests-sized i = three-digests (first (setting q n k []) secrets (drawnFor n vectors permutations salts i)) (length-sha3 _) (length-sha3 _) (length-sha3 _)
 
-  pub length-digestsOf : (i : ℕ) → length (joined i digestsOf) ≡ 96 * i
+  length-digestsOf : (i : ℕ) → length (joined i digestsOf) ≡ 96 * i
   length-digestsOf i = length-joined 96 digestsOf i (λ j l. digests-sized j)
 
   -- what is written before repetition i
   pub record Digested (head₀ : Bytes) (i at r-at p-at s-at : ℕ) (head w : Bytes) : Type 0 where
     pub placed : Placed n repeats i r-at p-at s-at
     pub long : length w ≡ 1048576
-    pub place : at ≡ 80 * n + 96 * i
-    pub sized : length head ≡ length head₀
-    pub written : head ≡ put head₀ (80 * n) (joined i digestsOf)
+    pub written : Filled digestsOf head₀ (80 * n) i at head
 
-  module _ (head₀ : Bytes) (fits : length head₀ ≡ headLength n repeats) where
+  module _ (head₀ : Bytes) where
     pub digested-first : (w : Bytes) → length w ≡ 1048576 → Digested head₀ 0 (80 * n) 0 0 0 head₀ w
-    digested-first w l = record { placed = placed-first n repeats; long = l; place = omega arith; sized = refl; written = joined-none digestsOf head₀ (80 * n) }
+    digested-first w l = record { placed = placed-first n repeats; long = l; written = filled-first digestsOf head₀ (80 * n) }
 
-    module _ (i at r-at p-at s-at : ℕ) (head w : Bytes) (d : Digested head₀ i at r-at p-at s-at head w) (h : i < repeats) where
+    module _ (fits : length head₀ ≡ headLength n repeats) (i at r-at p-at s-at : ℕ) (head w : Bytes) (d : Digested head₀ i at r-at p-at s-at head w) (h : i < repeats) where
+      pub digests-end : (at + 96 ≤ length head) × (at + 96 ≤ 80 * n + 96 * repeats)
+      digests-end = let p = d .written .place in let l = length-digestsOf i in (omega (arith, d .written .long), omega arith)
+
       pub digested-more : Drawings q n repeats secrets vectors permutations salts → (head' w' : Bytes) → length head' ≡ length head → length w' ≡ length w
           → head' ≡ put head at (honestDigests q n k secrets (drawnOf (part permutations p-at (168 * n)) (part vectors r-at (336 * n)) (part salts s-at 96)))
           → Digested head₀ (i + 1) (at + 96) (r-at + 336 * n) (p-at + 168 * n) (s-at + 96) head' w'
       digested-more drawings head' w' lh lw e = record {
         placed = placed-more n repeats i r-at p-at s-at (d .placed) h;
         long = lw ∙ d .long;
-        place = omega (arith, d .place);
-        sized = lh ∙ d .sized;
         written =
-            joined-more digestsOf head₀ (80 * n) i at head head' (omega (arith, d .place, length-digestsOf i)) (omega (arith, d .place, digests-sized i)) (d .written)
+            filled-more digestsOf head₀ (80 * n) i at 96 head head' (d .written) (digests-sized i) (omega (arith, digests-end .1)) lh
             (e ∙ ap (λ (x : Drawn). put head at (honestDigests q n k secrets x)) (drawn-is n repeats i r-at p-at s-at (d .placed) h q secrets vectors permutations salts drawings));
       }

@@ -1,3 +1,4 @@
+pub mod BallotWriting
 pub mod CommittedPairs
 pub mod Drawing
 pub mod Joining

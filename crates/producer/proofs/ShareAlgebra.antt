@@ -1,5 +1,5 @@
 -- The shares and the claim of a ballot from two products: the product is bilinear, so s1 u is s u - s0 u. Assumes nothing.
-use mathlib.Core.Path.{_≡_, sym, ap}
+use mathlib.Core.Path.{_≡_, sym, ap, ap₂, _∙_}
 use Prim.Native.Nat.{ℕ}
 use Rattle.codec.specs.Bytes.{Bytes}
 use Rattle.modular.specs.Modulo.{remainder}
@@ -7,7 +7,8 @@ use Rattle.ring.specs.Poly.{Poly, plus, minus, scale, mul, modulo, Alike}
 use Rattle.ring.specs.Slots.{list, encode}
 use Rattle.ring.proofs.Bridge.{list-cong, encode-alike}
 use Rattle.ring.proofs.Polynomials.{minus-mul, alike-eq, alike-refl, _so_, alike-plus, alike-minus}
-use Rattle.bgv.specs.Scheme.{Wholes, noisy, residues, opened, plain, decrypted, other, share}
+use Rattle.bgv.specs.Scheme.{Wholes, noisy, residues, opened, plain, decrypted, other, lentMask, share}
+use Rattle.bgv.proofs.Form.{noisy-alike, opened-alike}
 use Rattle.transcript.proofs.ExtractionSizes.{same-centre}
 
 -- what a vote goes by: coefficients modulo q
@@ -32,3 +33,13 @@ module _ (q n p : ℕ) (s s0 u : Poly) where
     pub claim-plain : (v : Poly) → list n (plain q p (minus q v x)) ≡ list n (decrypted q n p s u v)
     unfolding opened
     claim-plain v = plain-alike p (alike-minus alike-refl g)
+
+-- ---- from lent parts: an equal half and mask, and alike u and v
+
+pub share-lent : (q n p : ℕ) {half half' u u' : Poly} {mask mask' : Bytes} → half ≡ half' → Alike q n u u' → mask ≡ mask'
+    → encode n (modulo q (share q n p half u (lentMask mask))) ≡ encode n (modulo q (share q n p half' u' (lentMask mask')))
+share-lent q n p {half} {half'} {u} {u'} {mask} {mask'} e h m =
+    ap₂ (λ (f : Poly) (s : Bytes). encode n (modulo q (share q n p f u (lentMask s)))) e m ∙ encode-alike (noisy-alike q n p alike-refl h alike-refl)
+
+pub claim-lent : (q n p : ℕ) {s s' u u' v v' : Poly} → s ≡ s' → Alike q n u u' → Alike q n v v' → list n (decrypted q n p s u v) ≡ list n (decrypted q n p s' u' v')
+claim-lent q n p {s} {s'} {u} {u'} {v} {v'} e h g = ap (λ (f : Poly). list n (decrypted q n p f u v)) e ∙ plain-alike p (opened-alike q n s' h g)

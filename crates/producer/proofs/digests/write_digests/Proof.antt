@@ -6,7 +6,7 @@ use borrow.Author.Needs.{needs}
 use Rattle.codec.specs.Bytes.{put}
 use Rattle.commitment.specs.Commitment.{keysOf}
 use Rattle.transcript.specs.Layout.{joined}
-use Rattle.producer.proofs.Drawing.{placed-fit, drawn-ends, material, Digested, digestsOf, digested-first, digested-more}
+use Rattle.producer.proofs.Drawing.{placed-fit, drawn-ends, material, Digested, digests-end, digestsOf, digested-first, digested-more}
 use Rattle.producer.proofs.digests.write_digests.Statement.{statement}
 use Rattle.producer.proofs.digests.write_digests.Tie as tie
 
@@ -24,7 +24,7 @@ loop-holds : tie.Need-loop-holds Inv-loop μ-loop
 loop-holds c =
     let a = c .before .before .before .before .before .before .before .args in
     let p = c .before .before .before .before .before .before .before .pre in
-    digested-first (a .q) (a .n) (a .repeats) (keysOf (a .n) (a .k .now)) (a .secrets .now) (a .vectors .now) (a .permutations .now) (a .salts .now) (a .head .now) (p .3) (a .work .now) (p .1)
+    digested-first (a .q) (a .n) (a .repeats) (keysOf (a .n) (a .k .now)) (a .secrets .now) (a .vectors .now) (a .permutations .now) (a .salts .now) (a .head .now) (a .work .now) (p .1)
 
 digests-at-requires : tie.Need-digests-at-requires Inv-loop μ-loop
 digests-at-requires c κs =
@@ -32,12 +32,16 @@ digests-at-requires c κs =
     let p = c .before .before .before .before .before .before .before .before .before .before .before .pre in
     let l = c .before .before .before .loop in
     let e = drawn-ends (a .n) (a .repeats) (l .i) (l .vector) (l .permutation) (l .salt) (l .inv .placed) (omega arith) (a .q) (a .secrets .now) (a .vectors .now) (a .permutations .now) (a .salts .now) (p .4) in (
-      (p .0, l .inv .long, omega (arith, l .inv .place, l .inv .sized, p .3), e .0, e .1, e .2),
+      (p .0, l .inv .long, digests-end (a .q) (a .n) (a .repeats) (keysOf (a .n) (a .k .now)) (a .secrets .now) (a .vectors .now) (a .permutations .now) (a .salts .now) (a .head .now) (p .3) (l .i) (l .at) (l .vector) (l .permutation) (l .salt) (l .head) (l .work) (l .inv) (omega arith) .0, e .0, e .1, e .2),
       material (a .n) (a .repeats) (l .i) (l .vector) (l .permutation) (l .salt) (l .inv .placed) (omega arith) (a .q) (a .secrets .now) (a .vectors .now) (a .permutations .now) (a .salts .now) (p .4),
     )
 
 add-at : tie.Need-add-at Inv-loop μ-loop
-add-at c = let l = c .before .before .before .before .before .before .before .before .loop in omega (arith, l .inv .place, c .before .before .before .before .before .before .before .before .before .before .before .before .before .before .before .before .pre .0 .one .high, c .before .before .before .before .before .before .before .before .before .before .before .before .before .before .before .before .pre .2)
+add-at c =
+    let a = c .before .before .before .before .before .before .before .before .before .before .before .before .before .before .before .before .args in
+    let p = c .before .before .before .before .before .before .before .before .before .before .before .before .before .before .before .before .pre in
+    let l = c .before .before .before .before .before .before .before .before .loop in
+    omega (arith, digests-end (a .q) (a .n) (a .repeats) (keysOf (a .n) (a .k .now)) (a .secrets .now) (a .vectors .now) (a .permutations .now) (a .salts .now) (a .head .now) (p .3) (l .i) (l .at) (l .vector) (l .permutation) (l .salt) (l .head) (l .work) (l .inv) (omega arith) .1, p .0 .one .high, p .2)
 
 mul-vector : tie.Need-mul-vector Inv-loop μ-loop
 mul-vector c = omega (arith, c .before .before .before .before .before .before .before .before .before .before .before .before .before .before .before .before .pre .0 .one .high)
@@ -63,7 +67,7 @@ loop-again c =
     digested-more (a .q) (a .n) (a .repeats) (keysOf (a .n) (a .k .now)) (a .secrets .now) (a .vectors .now) (a .permutations .now) (a .salts .now) (a .head .now) (p .3) (l .i) (l .at) (l .vector) (l .permutation) (l .salt) (l .head) (l .work) (l .inv) (omega arith) (p .4) (d .last .0) (d .last .1 .1 .0) (d .kept .0) (d .ensures .1) (d .ensures .0)
 
 same-length : tie.Need-same-length Inv-loop μ-loop
-same-length c = c .before .loop .inv .sized
+same-length c = c .before .loop .inv .written .long
 
 same-length-2 : tie.Need-same-length-2 Inv-loop μ-loop
 same-length-2 c = c .before .loop .inv .long ∙ sym (c .before .before .before .before .before .before .before .before .before .pre .1)
@@ -73,7 +77,7 @@ returns c =
     let a = c .before .before .before .before .before .before .before .before .before .args in
     let l = c .before .loop in
     let e : l .i ≡ a .repeats = omega (arith, l .inv .placed .within) in
-    (l .inv .written ∙ ap (λ (i : ℕ). put (a .head .now) (80 * a .n) (joined i (digestsOf (a .q) (a .n) (a .repeats) (keysOf (a .n) (a .k .now)) (a .secrets .now) (a .vectors .now) (a .permutations .now) (a .salts .now)))) e, l .inv .long ∙ sym (c .before .before .before .before .before .before .before .before .before .pre .1))
+    (l .inv .written .is ∙ ap (λ (i : ℕ). put (a .head .now) (80 * a .n) (joined i (digestsOf (a .q) (a .n) (a .repeats) (keysOf (a .n) (a .k .now)) (a .secrets .now) (a .vectors .now) (a .permutations .now) (a .salts .now)))) e, l .inv .long ∙ sym (c .before .before .before .before .before .before .before .before .before .pre .1))
 
 pub write-digests-spec : {M : Type 1} → statement M
 write-digests-spec = tie.close (tie.spec Inv-loop μ-loop mul-at loop-holds digests-at-requires (λ c. search needs) add-at mul-vector add-vector mul-permutation add-permutation add-salt (λ c. search needs) loop-again same-length same-length-2 returns)
