@@ -137,3 +137,7 @@ four-pairs q n k secrets s0 e0 d d1 d2 s t fits e1 e2 es et =
     (append-assoc (pairBytes q n (committed q n (keysOf n k) (threeOf q n (part secrets (2 * n + 3 * n * 0) (3 * n))) (poly s0)))
     (pairBytes q n (committed q n (keysOf n k) (threeOf q n (part secrets (2 * n + 3 * n * 1) (3 * n))) (other q (ternary q (part secrets 0 n)) (poly s0))))
     (bothPairs q n (keysOf n k) (part secrets (8 * n + 3 * n * 0) (3 * n)) (part secrets (8 * n + 3 * n * 1) (3 * n)) (part secrets n n) e0))
+
+pub length-pairs : (q n : ℕ) (k secrets s0 e0 : Bytes) → length (producedPairs (parameters 2 n q 0 0 [] [] k) 0 (materialOf secrets s0 e0 [] [] [] [] [] [])) ≡ 64 * n
+unfolding producedPairs
+length-pairs q n k secrets s0 e0 = simp (length-append, length-pairBytes) (omega arith)

@@ -100,7 +100,7 @@ module _ (q n repeats : ℕ) (k : Keys) (secrets vectors permutations salts : By
   digests-sized : (i : ℕ) → length (digestsOf i) ≡ 96
   digests-sized i = three-digests (first (setting q n k []) secrets (drawnFor n vectors permutations salts i)) (length-sha3 _) (length-sha3 _) (length-sha3 _)
 
-  length-digestsOf : (i : ℕ) → length (joined i digestsOf) ≡ 96 * i
+  pub length-digestsOf : (i : ℕ) → length (joined i digestsOf) ≡ 96 * i
   length-digestsOf i = length-joined 96 digestsOf i (λ j l. digests-sized j)
 
   -- what is written before repetition i

@@ -1,7 +1,7 @@
 -- Byte strings that are written end to end, and parts that are lent with a length that is a difference of places. Assumes nothing.
 use mathlib.Core.Path.{_≡_, refl, sym, ap, _∙_}
+use mathlib.Core.List.{_++_}
 use Prim.Native.Nat.{ℕ, _+_, _≤_}
-use native.Mathlib.Nat.{add-assoc}
 use native.Mathlib.Numerals.{add-one}
 use native.Mathlib.Omega.{arith}
 use lib.ListN.{length, take, drop, length-append}
@@ -12,6 +12,10 @@ use Rattle.transcript.specs.Layout.{joined}
 
 pub cut : (s : Bytes) (at m n : ℕ) → m ≡ n → take m (drop at s) ≡ part s at n
 cut s at m n e = ap (λ (k : ℕ). take k (drop at s)) e
+
+-- two strings over the whole of an output
+pub two-whole : (d d1 d2 s t : Bytes) (at : ℕ) → at ≡ length s → length d ≡ length s + length t → d1 ≡ put d 0 s → d2 ≡ put d1 at t → d2 ≡ s ++ t
+two-whole d d1 d2 s t at l whole e1 e2 = written-behind d d1 d2 s t 0 at (omega arith) (omega arith) e1 e2 ∙ put-whole d (s ++ t) (length-append s t ∙ sym whole)
 
 -- the strings f 0, f 1, .. are written over d from a place on: the first i of them stand there, and the next one's place is `at`
 module _ (f : ℕ → Bytes) (d : Bytes) (from : ℕ) where

@@ -1,4 +1,4 @@
--- `keys::write_keys` meets its contract. Assumes nothing.
+-- `head::write_keys` meets its contract. Assumes nothing.
 use mathlib.Core.Path.{_≡_, ap₂, _∙_}
 use Prim.Native.Nat.{_-_, _*_}
 use native.Mathlib.Omega.{arith}
@@ -14,8 +14,8 @@ use Rattle.bgv.specs.Scheme.{key, other}
 use Rattle.scheme.specs.Calls.{written}
 use Rattle.stern.proofs.Answered.{lent-length}
 use Rattle.producer.proofs.Joining.{cut}
-use Rattle.producer.proofs.keys.write_keys.Statement.{statement}
-use Rattle.producer.proofs.keys.write_keys.Tie as tie
+use Rattle.producer.proofs.head.write_keys.Statement.{statement}
+use Rattle.producer.proofs.head.write_keys.Tie as tie
 
 other-key-requires : tie.Need-other-key-requires
 other-key-requires c κs =
