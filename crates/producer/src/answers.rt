@@ -1,0 +1,101 @@
+// The answers to challenges, each repetition's in its own stretch of the lent buffer, end to end.
+ghost use mathlib.Core.Path.{_≡_};
+ghost use mathlib.Core.List.{[]};
+ghost use Prim.Native.Nat.{_+_, _*_, _≤_, _<_, _^_};
+ghost use lib.ListN.{length};
+ghost use Rattle.codec.specs.Bytes.{part, put};
+ghost use Rattle.stern.specs.Shortness.{Material, drawnOf, answerLength, honestAnswer};
+ghost use Rattle.transcript.specs.Layout.{answersLength};
+ghost use Rattle.transcript.specs.Method.{parameters};
+ghost use Rattle.transcript.specs.Producer.{producedAnswers};
+ghost use Rattle.producer.specs.Method.{materialOf, Drawings};
+
+// How many bytes the answer to a challenge has; a challenge out of range counts as 3.
+fn answer_length(n: usize, challenge: u8) -> usize
+    requires { ⌜ n ≤ 2048 ⌝ }
+    ensures { λ r. ⌜ r ≡ answerLength n challenge ⌝ }
+{
+    if challenge == 1 {
+        378 * n + 64
+    } else {
+        504 * n + 64
+    }
+}
+
+// One repetition, at places of what was drawn: its stretch of the buffer is lent on.
+fn answer_at(
+    answers: &mut [u8],
+    at: usize,
+    size: usize,
+    challenge: u8,
+    secrets: &[u8],
+    vectors: &[u8],
+    vector: usize,
+    permutations: &[u8],
+    permutation: usize,
+    salts: &[u8],
+    salt: usize,
+    n: usize,
+    q: u64,
+)
+    requires { ⌜ (n ≤ 2048) × (3 ≤ q) × (q < 2 ^ 56) × (size ≡ answerLength n challenge) × (at + size ≤ length (now answers)) × (vector + 336 * n ≤ length (now vectors)) × (permutation + 168 * n ≤ length (now permutations)) × (salt + 96 ≤ length (now salts)) ⌝ }
+    requires { ⌜ Material q n (now secrets) (part (now vectors) vector (336 * n)) (part (now permutations) permutation (168 * n)) (part (now salts) salt 96) ⌝ }
+    ensures { λ _. ⌜ now (answers .exit) ≡ put (now (answers .entry)) at (honestAnswer q n (now (secrets .entry)) (drawnOf (part (now (permutations .entry)) permutation (168 * n)) (part (now (vectors .entry)) vector (336 * n)) (part (now (salts .entry)) salt 96)) challenge) ⌝ }
+{
+    stern::writing::write_answer(
+        &mut answers[at..at + size],
+        challenge,
+        secrets,
+        &vectors[vector..vector + 336 * n],
+        &permutations[permutation..permutation + 168 * n],
+        &salts[salt..salt + 96],
+        n,
+        q,
+    );
+}
+
+// Every repetition, in order.
+pub fn write_answers(
+    answers: &mut [u8],
+    challenges: &[u8],
+    secrets: &[u8],
+    vectors: &[u8],
+    permutations: &[u8],
+    salts: &[u8],
+    repeats: usize,
+    n: usize,
+    q: u64,
+)
+    requires { ⌜ (n ≤ 2048) × (3 ≤ q) × (q < 2 ^ 56) × (repeats ≤ 256) × Drawings q n repeats (now secrets) (now vectors) (now permutations) (now salts) × (length (now challenges) ≡ repeats) × (length (now answers) ≡ answersLength n (now challenges)) ⌝ }
+    ensures { λ _. ⌜ now (answers .exit) ≡ producedAnswers (parameters 2 n q 0 repeats [] [] []) 0 (materialOf (now (secrets .entry)) [] [] [] [] (now (vectors .entry)) (now (permutations .entry)) (now (salts .entry)) []) (now (challenges .entry)) ⌝ }
+{
+    let mut i = 0;
+    let mut at = 0;
+    let mut vector = 0;
+    let mut permutation = 0;
+    let mut salt = 0;
+    while i < repeats {
+        let challenge = challenges[i];
+        let size = answer_length(n, challenge);
+        answer_at(
+            answers,
+            at,
+            size,
+            challenge,
+            secrets,
+            vectors,
+            vector,
+            permutations,
+            permutation,
+            salts,
+            salt,
+            n,
+            q,
+        );
+        i += 1;
+        at += size;
+        vector += 336 * n;
+        permutation += 168 * n;
+        salt += 96;
+    }
+}

@@ -1,0 +1,121 @@
+// The committed pairs of s0, s1, e0, e1. What is made from secrets is left in scratch.
+ghost use mathlib.Core.Path.{_≡_};
+ghost use mathlib.Core.List.{[], _++_};
+ghost use Prim.Native.Nat.{_+_, _*_, _≤_};
+ghost use lib.ListN.{length};
+ghost use Rattle.codec.specs.Bytes.{part, put};
+ghost use Rattle.ring.specs.Slots.{poly};
+ghost use Rattle.ring.specs.Ternary.{ternary};
+ghost use Rattle.call.specs.Call.{scratchLength, Public};
+ghost use Rattle.bgv.specs.Scheme.{other};
+ghost use Rattle.commitment.specs.Commitment.{keysOf, threeOf, committed, pairBytes, PublicKeys, PairStands};
+ghost use Rattle.transcript.specs.Method.{parameters};
+ghost use Rattle.transcript.specs.Producer.{producedPairs};
+ghost use Rattle.producer.specs.Method.{materialOf};
+
+// Writes the pair that stands in scratch out: its first half at the head, its second where the message stood.
+fn write_halves(out: &mut [u8], at: usize, work: &[u8], n: usize)
+    requires { ⌜ (n ≤ 2048) × (at + 16 * n ≤ length (now out)) × (length (now work) ≡ scratchLength) ⌝ }
+    ensures { λ _. ⌜ now (out .exit) ≡ put (now (out .entry)) at (part (now (work .entry)) 0 (8 * n) ++ part (now (work .entry)) 49152 (8 * n)) ⌝ }
+{
+    call::write_out(out, at, work, 0, n);
+    call::write_out(out, at + 8 * n, work, commitment::MESSAGE, n);
+}
+
+// The pair of a lent polynomial x0, the half of s or of e that is lent, with the three r in ternary bytes.
+fn lent_pair(
+    out: &mut [u8],
+    at: usize,
+    work: &mut [u8],
+    k: &[u8],
+    x0: &[u8],
+    r: &[u8],
+    n: usize,
+    q: u64,
+)
+    requires { ⌜ PublicKeys n q (now k) × Public n q (now x0) × (length (now r) ≡ 3 * n) × (length (now work) ≡ scratchLength) × (at + 16 * n ≤ length (now out)) ⌝ }
+    ensures { λ _. ⌜ now (out .exit) ≡ put (now (out .entry)) at (pairBytes q n (committed q n (keysOf n (now (k .entry))) (threeOf q n (now (r .entry))) (poly (now (x0 .entry))))) ⌝ }
+    ensures { λ _. ⌜ length (now (work .exit)) ≡ length (now (work .entry)) ⌝ }
+{
+    commitment::pair(work, k, x0, r, n, q);
+    write_halves(out, at, work, n);
+}
+
+// The pair of x - x0, the other half, stands in scratch, for ternary bytes x.
+fn pair_difference(
+    work: &mut [u8],
+    k: &[u8],
+    x: &[u8],
+    x0: &[u8],
+    r: &[u8],
+    n: usize,
+    q: u64,
+)
+    requires { ⌜ PublicKeys n q (now k) × Public n q (now x0) × (length (now x) ≡ n) × (length (now r) ≡ 3 * n) × (length (now work) ≡ scratchLength) ⌝ }
+    ensures { λ _. ⌜ PairStands q n (committed q n (keysOf n (now (k .entry))) (threeOf q n (now (r .entry))) (other q (ternary q (now (x .entry))) (poly (now (x0 .entry))))) (now (work .entry)) (now (work .exit)) ⌝ }
+{
+    commitment::load_three(work, r, n, q);
+    ring::load_ternary(work, commitment::MESSAGE, x, q);
+    ring::subtract(work, commitment::MESSAGE, x0, n, q);
+    commitment::commit(work, k, n, q);
+}
+
+// The pair of x - x0, the other half, with its three r.
+fn other_pair(
+    out: &mut [u8],
+    at: usize,
+    work: &mut [u8],
+    k: &[u8],
+    x: &[u8],
+    x0: &[u8],
+    r: &[u8],
+    n: usize,
+    q: u64,
+)
+    requires { ⌜ PublicKeys n q (now k) × Public n q (now x0) × (length (now x) ≡ n) × (length (now r) ≡ 3 * n) × (length (now work) ≡ scratchLength) × (at + 16 * n ≤ length (now out)) ⌝ }
+    ensures { λ _. ⌜ now (out .exit) ≡ put (now (out .entry)) at (pairBytes q n (committed q n (keysOf n (now (k .entry))) (threeOf q n (now (r .entry))) (other q (ternary q (now (x .entry))) (poly (now (x0 .entry)))))) ⌝ }
+    ensures { λ _. ⌜ length (now (work .exit)) ≡ length (now (work .entry)) ⌝ }
+{
+    pair_difference(work, k, x, x0, r, n, q);
+    write_halves(out, at, work, n);
+}
+
+// The pairs of both halves, x0 and then x - x0, for the three r of each, 6n ternary bytes.
+fn both_pairs(
+    out: &mut [u8],
+    at: usize,
+    work: &mut [u8],
+    k: &[u8],
+    x: &[u8],
+    x0: &[u8],
+    r: &[u8],
+    n: usize,
+    q: u64,
+)
+    requires { ⌜ PublicKeys n q (now k) × Public n q (now x0) × (length (now x) ≡ n) × (length (now r) ≡ 6 * n) × (length (now work) ≡ scratchLength) × (at + 32 * n ≤ length (now out)) ⌝ }
+    ensures { λ _. ⌜ now (out .exit) ≡ put (now (out .entry)) at (pairBytes q n (committed q n (keysOf n (now (k .entry))) (threeOf q n (part (now (r .entry)) 0 (3 * n))) (poly (now (x0 .entry)))) ++ pairBytes q n (committed q n (keysOf n (now (k .entry))) (threeOf q n (part (now (r .entry)) (3 * n) (3 * n))) (other q (ternary q (now (x .entry))) (poly (now (x0 .entry)))))) ⌝ }
+    ensures { λ _. ⌜ length (now (work .exit)) ≡ length (now (work .entry)) ⌝ }
+{
+    let second = at + 16 * n;
+    lent_pair(out, at, work, k, x0, &r[0..3 * n], n, q);
+    other_pair(out, second, work, k, x, x0, &r[3 * n..6 * n], n, q);
+}
+
+// The committed pairs of s0, s1, e0, e1 where they stand in the head of the first message.
+pub fn write_pairs(
+    head: &mut [u8],
+    work: &mut [u8],
+    k: &[u8],
+    secrets: &[u8],
+    s0: &[u8],
+    e0: &[u8],
+    n: usize,
+    q: u64,
+)
+    requires { ⌜ PublicKeys n q (now k) × Public n q (now s0) × Public n q (now e0) × (length (now secrets) ≡ 14 * n) × (length (now work) ≡ scratchLength) × (80 * n ≤ length (now head)) ⌝ }
+    ensures { λ _. ⌜ now (head .exit) ≡ put (now (head .entry)) (16 * n) (producedPairs (parameters 2 n q 0 0 [] [] (now (k .entry))) 0 (materialOf (now (secrets .entry)) (now (s0 .entry)) (now (e0 .entry)) [] [] [] [] [] [])) ⌝ }
+    ensures { λ _. ⌜ length (now (work .exit)) ≡ length (now (work .entry)) ⌝ }
+{
+    both_pairs(head, 16 * n, work, k, &secrets[0..n], s0, &secrets[2 * n..8 * n], n, q);
+    both_pairs(head, 48 * n, work, k, &secrets[n..2 * n], e0, &secrets[8 * n..14 * n], n, q);
+}
