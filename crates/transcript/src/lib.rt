@@ -1,4 +1,4 @@
 // One round: what its producer writes, what a check tests and what an extractor finds (document 01, "One round"; document 000, section 6.1): specs/.
-mod ballots;
-mod halves;
-mod repetitions;
+pub mod ballots;
+pub mod halves;
+pub mod repetitions;
