@@ -56,4 +56,4 @@ returns-2 c =
     heard-all (a .q) (a .n) (a .challenges .now) (a .answers .now) (a .repeats) (l .i) (l .at) (l .inv) (omega arith)
 
 pub answers-ranged-spec : {M : Type 1} → statement M
-answers-ranged-spec = tie.close (tie.spec)
+answers-ranged-spec = tie.close (tie.spec Inv-loop μ-loop loop-holds (λ c. search needs) (λ c κs. search needs) add-end (λ c. search needs) (λ c. search needs) part-challenge-ranged-end challenge-ranged-requires returns (λ c. search needs) (λ c. search needs) loop-again returns-2)

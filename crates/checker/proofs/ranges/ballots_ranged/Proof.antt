@@ -41,4 +41,4 @@ returns-2 c =
     read-all (a .q) (a .n) (a .ballots .now) (a .count) (l .j) (l .at) (l .inv) (omega arith)
 
 pub ballots-ranged-spec : {M : Type 1} → statement M
-ballots-ranged-spec = tie.close (tie.spec)
+ballots-ranged-spec = tie.close (tie.spec Inv-loop μ-loop loop-holds (λ c. search needs) (λ c. search needs) (λ c. search needs) (λ c. search needs) (λ c. search needs) (λ c. search needs) part-in-range-end (λ c κs. search needs) returns (λ c. search needs) (λ c. search needs) (λ c. search needs) (λ c. search needs) (λ c. search needs) loop-again returns-2)

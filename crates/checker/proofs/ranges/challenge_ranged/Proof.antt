@@ -14,4 +14,4 @@ returns-3 : tie.Need-returns-3
 returns-3 c = let a = c .before .before .before .before .args in rw (le-leb 1 (a .challenge) (c .before .before .if1 .left), le-leb (a .challenge) 3 (c .before .if2 .left)) (c .answer-ranged .ensures)
 
 pub challenge-ranged-spec : {M : Type 1} → statement M
-challenge-ranged-spec = tie.close (tie.spec)
+challenge-ranged-spec = tie.close (tie.spec returns returns-2 (λ c κs. search needs) returns-3)

@@ -39,4 +39,4 @@ returns-5 c =
     (goes-on _ _ (c .before .before .in-range .ensures) (not-false (c .before .before .in-range .result) (c .before .if4 .left)) (c .in-range2 .ensures))))
 
 pub message-ranged-spec : {M : Type 1} → statement M
-message-ranged-spec = tie.close (tie.spec)
+message-ranged-spec = tie.close (tie.spec (λ c κs. search needs) returns (λ c κs. search needs) returns-2 (λ c κs. search needs) returns-3 (λ c κs. search needs) returns-4 (λ c κs. search needs) returns-5)

@@ -27,4 +27,4 @@ returns-2 c =
     (c .is-ternary .ensures ∙ ap (λ (k : ℕ). allBelow 3 (take k (drop (16 * a .n) s))) e)
 
 pub opening-ranged-spec : {M : Type 1} → statement M
-opening-ranged-spec = tie.close (tie.spec)
+opening-ranged-spec = tie.close (tie.spec (λ c. search needs) (λ c. search needs) (λ c. search needs) (λ c. search needs) (λ c κs. search needs) returns (λ c. search needs) (λ c. search needs) (λ c. search needs) (λ c. search needs) (λ c. search needs) (λ c κs. search needs) returns-2)
