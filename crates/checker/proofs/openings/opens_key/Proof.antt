@@ -6,7 +6,7 @@ use borrow.Author.Needs.{needs}
 use lib.ListN.{take, drop}
 use Rattle.codec.specs.Bytes.{same}
 use Rattle.ring.specs.Slots.{poly}
-use Rattle.checker.proofs.Parts.{public-s, public-e, alike-s, alike-e, key-alike}
+use Rattle.checker.proofs.Parts.{lent-on, alike-s, alike-e, key-alike}
 use Rattle.checker.proofs.openings.opens_key.Statement.{statement}
 use Rattle.checker.proofs.openings.opens_key.Tie as tie
 
@@ -15,8 +15,8 @@ is-key-requires c κs =
     let a = c .before .before .before .before .before .before .before .before .args in
     let p = c .before .before .before .before .before .before .before .before .pre in (
       p .0,
-      public-s (a .n) (a .q) (p .0) (a .opening .now) (p .1) (8 * a .n - 0) (omega arith),
-      public-e (a .n) (a .q) (p .0) (a .opening .now) (p .1) (16 * a .n - 8 * a .n) (omega arith),
+      lent-on (a .opening .now) 0 (8 * a .n - 0) (omega arith) (p .1 .s),
+      lent-on (a .opening .now) (8 * a .n) (16 * a .n - 8 * a .n) (omega arith) (p .1 .e),
       p .2,
     )
 

@@ -8,7 +8,7 @@ use lib.ListN.{take, drop}
 use Rattle.codec.specs.Bytes.{Bytes}
 use Rattle.commitment.specs.Commitment.{keysOf}
 use Rattle.stern.proofs.Answered.{lent-length}
-use Rattle.checker.proofs.Parts.{public-s, public-e, alike-s, alike-e, opens-alike}
+use Rattle.checker.proofs.Parts.{lent-on, alike-s, alike-e, opens-alike}
 use Rattle.checker.proofs.openings.opens_pairs.Statement.{statement}
 use Rattle.checker.proofs.openings.opens_pairs.Tie as tie
 
@@ -20,8 +20,8 @@ opens-pairs-requires c κs =
     let o = a .opening .now in
     let l = p .1 .sized in (
       p .0,
-      public-s n (a .q) (p .0 .one) o (p .1) (8 * n - 0) (omega arith),
-      public-e n (a .q) (p .0 .one) o (p .1) (16 * n - 8 * n) (omega arith),
+      lent-on o 0 (8 * n - 0) (omega arith) (p .1 .s),
+      lent-on o (8 * n) (16 * n - 8 * n) (omega arith) (p .1 .e),
       lent-length o (16 * n) (19 * n - 16 * n) (3 * n) (omega arith) (omega arith),
       lent-length o (19 * n) (22 * n - 19 * n) (3 * n) (omega arith) (omega arith),
       p .2,

@@ -6,7 +6,7 @@ use borrow.Author.Needs.{needs}
 use Rattle.codec.specs.Bytes.{Bytes, same}
 use Rattle.ring.specs.Poly.{modulo}
 use Rattle.ring.specs.Slots.{poly, encode}
-use Rattle.checker.proofs.Parts.{public-b0, public-b1, sum-alike}
+use Rattle.checker.proofs.Parts.{lent-on, sum-alike}
 use Rattle.checker.proofs.openings.splits.Statement.{statement}
 use Rattle.checker.proofs.openings.splits.Tie as tie
 
@@ -14,8 +14,8 @@ adds-requires : tie.Need-adds-requires
 adds-requires c κs =
     let a = c .before .before .before .before .before .before .args in
     let p = c .before .before .before .before .before .before .pre in (
-      public-b0 (a .n) (a .q) (p .0) (a .repeats) (a .head .now) (p .1) (8 * a .n - 0) (omega arith),
-      public-b1 (a .n) (a .q) (p .0) (a .repeats) (a .head .now) (p .1) (16 * a .n - 8 * a .n) (omega arith),
+      lent-on (a .head .now) 0 (8 * a .n - 0) (omega arith) (p .1 .b0),
+      lent-on (a .head .now) (8 * a .n) (16 * a .n - 8 * a .n) (omega arith) (p .1 .b1),
       p .0,
       p .2,
     )

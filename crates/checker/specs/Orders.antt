@@ -1,0 +1,66 @@
+-- The parts of the two orders that inner functions go through, each a stretch of the list that the order spells (transcript: specs/Round.antt, specs/Extractor.antt),
+-- and what is lent to a check and to the extractor, in one record each. Assumes nothing.
+use mathlib.Core.Bool.{not, _&&_}
+use mathlib.Core.List.{List, [], _∷_, _++_}
+use Prim.Native.Nat.{ℕ, _+_, _*_}
+use lib.ListN.{getD}
+use Rattle.codec.specs.Bytes.{Bytes, part, same}
+use Rattle.codec.specs.Reply.{Test, test}
+use Rattle.ring.specs.Poly.{Poly, modulo}
+use Rattle.ring.specs.Slots.{list, encode}
+use Rattle.bgv.specs.Scheme.{key, worked, within, reconstructed}
+use Rattle.commitment.specs.Commitment.{Keys, threeOf, opens}
+use Rattle.stern.specs.Shortness.{answerTests}
+use Rattle.transcript.specs.Layout.{Opening, each, uAt, vAt, shareAt, claimAt, pairsOf, pairAt, digestsAt, answerAt, openingOf}
+use Rattle.transcript.specs.Round.{Parameters, Round, challengeAt, sharesOf, splits, opensKey, opensPairs, maskTest, claimTest}
+use Rattle.transcript.specs.Extractor.{Openings, digests, pairs, open0, open1, sideTests}
+
+-- what is lent to a check
+abbrev pub roundOf : (side : ℕ) (challenges ballots claims head shares0 shares1 opening answers : Bytes) → Round
+roundOf side challenges ballots claims head shares0 shares1 opening answers = record {
+  side = side;
+  challenges = challenges;
+  ballots = ballots;
+  claims = claims;
+  head = head;
+  shares0 = shares0;
+  shares1 = shares1;
+  opening = opening;
+  answers = answers;
+}
+
+-- what is lent to the extractor
+abbrev pub openingsOf : (head shares0 shares1 ballots claims opening0 opening1 : Bytes) (repetition : ℕ) (answer1 answer2 answer3 : Bytes) → Openings
+openingsOf head shares0 shares1 ballots claims opening0 opening1 repetition answer1 answer2 answer3 = record {
+  head = head;
+  shares0 = shares0;
+  shares1 = shares1;
+  ballots = ballots;
+  claims = claims;
+  opening0 = opening0;
+  opening1 = opening1;
+  repetition = repetition;
+  answer1 = answer1;
+  answer2 = answer2;
+  answer3 = answer3;
+}
+
+-- 7, 8: the half of the key and the pairs that a side's opening makes
+abbrev pub openingTests : (q n : ℕ) (a : Poly) → Keys → (head : Bytes) (side : ℕ) → Opening → List Test
+openingTests q n a k head side o =
+    test 7 0 (not (same (part head (8 * n * side) (8 * n)) (encode n (modulo q (key q n 2 a (o .s) (o .e))))))
+    ∷ test 8 0 (not (opens q n k (pairAt n head side) (threeOf q n (o .rs)) (o .s) && opens q n k (pairAt n head (2 + side)) (threeOf q n (o .re)) (o .e)))
+    ∷ []
+
+-- by ballot 12, 13
+abbrev pub voteTests : (q n bound count : ℕ) (s : Poly) (ballots claims shares0 shares1 opened : Bytes) → List Test
+voteTests q n bound count s ballots claims shares0 shares1 opened =
+    each count (λ j.
+        test 12 j (not (within bound n (worked q n 2 s (uAt n ballots j) (shareAt n opened j))))
+        ∷ test 13 j (not (same (claimAt n claims j) (list n (reconstructed q 2 (vAt n ballots j) (shareAt n shares0 j) (shareAt n shares1 j)))))
+        ∷ [])
+
+-- by repetition 9, 10, 11
+abbrev pub answersTests : (q n : ℕ) → Keys → (repeats : ℕ) (head challenges answers : Bytes) → List Test
+answersTests q n k repeats head challenges answers =
+    each repeats (λ i. answerTests q n k (pairsOf n head) (digestsAt n head i) i (getD challenges i 0) (answerAt n challenges answers i))
