@@ -1,14 +1,22 @@
--- One order after another: the first that refuses decides. Assumes nothing.
-use mathlib.Core.Path.{_≡_, refl, sym, ap₂, _∙_}
+-- One order after another: the first that refuses decides; and the order of a check in the stretches that the code goes through. Assumes nothing.
+use mathlib.Core.Path.{_≡_, refl, sym, ap, ap₂, _∙_}
+use mathlib.Core.Logic.{_≢_}
+use mathlib.Core.Bool.{not}
 use mathlib.Core.List.{List, [], _∷_, _++_}
 use Prim.Native.Nat.{ℕ, zero, suc, _<_}
 use native.Mathlib.Omega.{arith}
-use Rattle.codec.specs.Reply.{Test, first}
+use Rattle.codec.specs.Bytes.{Bytes}
+use Rattle.codec.specs.Reply.{Test, test, first}
 use Rattle.codec.specs.declared.Reply.{Reply}
 use Rattle.codec.specs.declared.Reply.the-variants.{Taken, Refused}
 use Rattle.codec.proofs.Replies.{taken-exactly, first-append}
-use Rattle.transcript.specs.Layout.{each}
+use Rattle.ring.specs.Slots.{poly, slot}
+use Rattle.commitment.specs.Commitment.{keysOf}
+use Rattle.transcript.specs.Layout.{each, openingOf}
+use Rattle.transcript.specs.Round.{Round, sharesOf, ranged, answersRanged, ballotsRanged, headRanged, openingRanged, splits, opensKey, opensPairs, roundTests}
+use Rattle.transcript.specs.Method.{parameters}
 use Rattle.transcript.proofs.Many.{first-refused}
+use Rattle.checker.specs.Orders.{ofSide, splitTest, openingTests, voteTests, answersTests}
 
 module _ (rs ts : List Test) {z : Reply} (e : z ≡ first rs) where
   pub stopped : (number place : ℕ) → z ≡ Refused number place → Refused number place ≡ first (rs ++ ts)
@@ -22,3 +30,37 @@ pub each-cong : (n : ℕ) {f g : ℕ → List Test} → ((j : ℕ) → j < n →
 unfolding each
 each-cong zero h = refl
 each-cong (suc n) h = ap₂ (λ (x y : List Test). x ++ y) (each-cong n (λ j l. h j (omega arith))) (h n (omega arith))
+
+-- ---- the shares of a side
+
+module _ (x y : Bytes) where
+  pub first-side : (side : ℕ) → side ≡ 0 → ofSide side x y ≡ x
+  first-side side e = ap (λ (i : ℕ). ofSide i x y) e
+
+  pub second-side : (side : ℕ) → side ≢ 0 → ofSide side x y ≡ y
+  second-side zero d = absurd (d refl)
+  second-side (suc i) d = refl
+
+shares-of : (r : Round) (side : ℕ) → ofSide side (r .shares0) (r .shares1) ≡ sharesOf r side
+shares-of r zero = refl
+shares-of r (suc i) = refl
+
+-- ---- the order of a check
+
+module _ (n q bound repeats : ℕ) (a b k : Bytes) (m : ℕ) (r : Round) where
+  -- the range tests read neither the bound nor the sheet's polynomials
+  pub same-range : ranged (parameters 2 n q 0 repeats [] [] []) m r ≡ ranged (parameters 2 n q bound repeats a b k) m r
+  unfolding ranged answersRanged ballotsRanged headRanged openingRanged
+  same-range = refl
+
+  abbrev later : (opened : Bytes) → List Test
+  later opened =
+      splitTest q n (poly b) (r .head)
+      ∷ (openingTests q n (poly a) (keysOf n k) (r .head) (r .side) (openingOf n (r .opening))
+      ++ (answersTests q n (keysOf n k) repeats (r .head) (r .challenges) (r .answers)
+      ++ voteTests q n bound m (slot (r .opening) 0) (r .ballots) (r .claims) (r .shares0) (r .shares1) opened))
+
+  pub round-order : test 5 0 (not (ranged (parameters 2 n q bound repeats a b k) m r)) ∷ later (ofSide (r .side) (r .shares0) (r .shares1))
+      ≡ roundTests (parameters 2 n q bound repeats a b k) m r
+  unfolding roundTests splits opensKey opensPairs
+  round-order = ap (λ (s : Bytes). test 5 0 (not (ranged (parameters 2 n q bound repeats a b k) m r)) ∷ later s) (shares-of r (r .side))

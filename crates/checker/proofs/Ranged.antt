@@ -11,6 +11,8 @@ use Rattle.codec.specs.Bytes.{Bytes, part}
 use Rattle.codec.proofs.Laws.{length-part}
 use Rattle.ring.specs.Slots.{poly, slot, list, allBelow}
 use Rattle.ring.proofs.Bridge.{list-cong, poly-part, slot-poly}
+use Rattle.call.proofs.Order.{fails, goes-on}
+use Rattle.vector.specs.Vector.{vector}
 use Rattle.stern.specs.Shortness.{answerLength, inRange}
 use Rattle.transcript.specs.Layout.{all, ballotLength, uAt, answersLength, answerAt}
 use Rattle.transcript.specs.Round.{isChallenge}
@@ -32,6 +34,37 @@ part-range q s at m l e h =
 -- the first coefficients
 pub front-range : (q : ℕ) (s : Bytes) (m l : ℕ) → m ≡ 8 * l → 8 * l ≤ length s → allBelow q (list (length (take m s) / 8) (poly (take m s))) ≡ allBelow q (list l (poly s))
 front-range q s m l e h = part-range q s 0 m l e (omega arith) ∙ ap (allBelow q) (list-cong l (λ k b. slot-poly s k))
+
+-- ballots, claims and first message in one test, and then the rest
+grouped : (a b c d e o : Bool) → ((a && (b && (c && (d && e)))) && o) ≡ (a && (b && (c && (d && (e && o)))))
+grouped false b c d e o = refl
+grouped true false c d e o = refl
+grouped true true false d e o = refl
+grouped true true true false e o = refl
+grouped true true true true e o = refl
+
+module _ (q n count : ℕ) (ballots claims head shares0 shares1 : Bytes) (rest : Bool) where
+  abbrev a : Bool
+  a = all count (λ j. allBelow q (list (2 * n) (uAt n ballots j)))
+
+  abbrev b : Bool
+  b = allBelow 2 claims
+
+  abbrev c : Bool
+  c = allBelow q (list (10 * n) (poly head))
+
+  abbrev d : Bool
+  d = allBelow q (vector shares0)
+
+  abbrev e : Bool
+  e = allBelow q (vector shares1)
+
+  module _ {x : Bool} (is : x ≡ (a && (b && (c && (d && e))))) where
+    pub message-fails : x ≡ false → false ≡ (a && (b && (c && (d && (e && rest)))))
+    message-fails f = fails (a && (b && (c && (d && e)))) rest is f ∙ grouped a b c d e rest
+
+    pub message-passes : {y : Bool} → x ≡ true → y ≡ rest → y ≡ (a && (b && (c && (d && (e && rest)))))
+    message-passes t f = goes-on (a && (b && (c && (d && e)))) rest is t f ∙ grouped a b c d e rest
 
 -- one of many fails
 pub all-fails : (n : ℕ) (f : ℕ → Bool) (j : ℕ) → j < n → f j ≡ false → false ≡ all n f

@@ -1,19 +1,19 @@
 -- The parts of the two orders that inner functions go through, each a stretch of the list that the order spells (transcript: specs/Round.antt, specs/Extractor.antt),
 -- and what is lent to a check and to the extractor, in one record each. Assumes nothing.
 use mathlib.Core.Bool.{not, _&&_}
-use mathlib.Core.List.{List, [], _∷_, _++_}
-use Prim.Native.Nat.{ℕ, _+_, _*_}
+use mathlib.Core.List.{List, [], _∷_}
+use Prim.Native.Nat.{ℕ, zero, suc, _+_, _*_}
 use lib.ListN.{getD}
 use Rattle.codec.specs.Bytes.{Bytes, part, same}
 use Rattle.codec.specs.Reply.{Test, test}
-use Rattle.ring.specs.Poly.{Poly, modulo}
+use Rattle.ring.specs.Poly.{Poly, plus, modulo}
 use Rattle.ring.specs.Slots.{list, encode}
 use Rattle.bgv.specs.Scheme.{key, worked, within, reconstructed}
 use Rattle.commitment.specs.Commitment.{Keys, threeOf, opens}
 use Rattle.stern.specs.Shortness.{answerTests}
-use Rattle.transcript.specs.Layout.{Opening, each, uAt, vAt, shareAt, claimAt, pairsOf, pairAt, digestsAt, answerAt, openingOf}
-use Rattle.transcript.specs.Round.{Parameters, Round, challengeAt, sharesOf, splits, opensKey, opensPairs, maskTest, claimTest}
-use Rattle.transcript.specs.Extractor.{Openings, digests, pairs, open0, open1, sideTests}
+use Rattle.transcript.specs.Layout.{Opening, each, uAt, vAt, shareAt, claimAt, keyAt, pairsOf, pairAt, digestsAt, answerAt}
+use Rattle.transcript.specs.Round.{Round}
+use Rattle.transcript.specs.Extractor.{Openings}
 
 -- what is lent to a check
 abbrev pub roundOf : (side : ℕ) (challenges ballots claims head shares0 shares1 opening answers : Bytes) → Round
@@ -44,6 +44,15 @@ openingsOf head shares0 shares1 ballots claims opening0 opening1 repetition answ
   answer2 = answer2;
   answer3 = answer3;
 }
+
+-- the first of two for side 0, the second for side 1
+abbrev pub ofSide : ℕ → Bytes → Bytes → Bytes
+ofSide zero x y = x
+ofSide (suc i) x y = y
+
+-- 6: the halves of the key
+abbrev pub splitTest : (q n : ℕ) (b : Poly) (head : Bytes) → Test
+splitTest q n b head = test 6 0 (not (same (encode n (modulo q (plus (keyAt n head 0) (keyAt n head 1)))) (encode n (modulo q b))))
 
 -- 7, 8: the half of the key and the pairs that a side's opening makes
 abbrev pub openingTests : (q n : ℕ) (a : Poly) → Keys → (head : Bytes) (side : ℕ) → Opening → List Test
