@@ -2,7 +2,6 @@
 use codec::Reply;
 ghost use mathlib.Core.Path.{_≡_};
 ghost use mathlib.Core.Bool.{_&&_};
-ghost use mathlib.Core.List.{_++_};
 ghost use Prim.Native.Nat.{_+_, _*_, _%_, _≤_, _<_};
 ghost use lib.ListN.{length};
 ghost use Rattle.codec.specs.Bytes.{part, same};
@@ -15,7 +14,7 @@ ghost use Rattle.commitment.specs.Commitment.{keysOf, threeOf, opens, PublicKey
 ghost use Rattle.transcript.specs.Layout.{keyAt, openingOf};
 ghost use Rattle.transcript.specs.Method.{Batch, Shares};
 ghost use Rattle.checker.specs.Lent.{Opened, Head};
-ghost use Rattle.checker.specs.Orders.{openingTests, voteTests};
+ghost use Rattle.checker.specs.Orders.{openingTests, voteTests, sideTests};
 
 // Whether b0 and b1 of a first message add to b.
 pub fn splits(work: &mut [u8], head: &[u8], b: &[u8], repeats: usize, n: usize, q: u64) -> bool
@@ -157,7 +156,7 @@ pub fn test_side(
     q: u64,
 ) -> Reply
     requires { ⌜ Public n q (now a) × PublicKeys n q (now k) × Opened q n (now opening) × (q % 2 ≡ 1) × (length (now work) ≡ scratchLength) × (80 * n ≤ length (now head)) × (side < 2) × (count ≤ 4096) × Batch q n count (now ballots) (now claims) × Shares q n count (now shares0) × Shares q n count (now shares1) × Shares q n count (now opened) ⌝ }
-    ensures { λ reply. ⌜ reply ≡ first (openingTests q n (poly (now (a .entry))) (keysOf n (now (k .entry))) (now (head .entry)) side (openingOf n (now (opening .entry))) ++ voteTests q n bound count (slot (now (opening .entry)) 0) (now (ballots .entry)) (now (claims .entry)) (now (shares0 .entry)) (now (shares1 .entry)) (now (opened .entry))) ⌝ }
+    ensures { λ reply. ⌜ reply ≡ first (sideTests q n bound count (poly (now (a .entry))) (keysOf n (now (k .entry))) (now (head .entry)) side (now (opening .entry)) (now (ballots .entry)) (now (claims .entry)) (now (shares0 .entry)) (now (shares1 .entry)) (now (opened .entry))) ⌝ }
     ensures { λ _. ⌜ length (now (work .exit)) ≡ length (now (work .entry)) ⌝ }
 {
     let reply = test_opening(work, a, k, head, side, opening, n, q);

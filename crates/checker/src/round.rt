@@ -7,18 +7,18 @@ use crate::ranges::message_ranged;
 use crate::ranges::opening_ranged;
 use codec::Reply;
 ghost use mathlib.Core.Path.{_≡_};
-ghost use mathlib.Core.List.{[], _∷_, _++_};
-ghost use Prim.Native.Nat.{_*_, _%_, _≤_, _<_};
+ghost use mathlib.Core.List.{_++_};
+ghost use Prim.Native.Nat.{_*_, _%_, _≤_};
 ghost use lib.ListN.{length};
 ghost use Rattle.codec.specs.Reply.{first};
 ghost use Rattle.ring.specs.Slots.{poly, slot};
 ghost use Rattle.call.specs.Call.{scratchLength, Public};
 ghost use Rattle.commitment.specs.Commitment.{keysOf, PublicKeys};
-ghost use Rattle.transcript.specs.Layout.{ballotLength, openingOf, answersLength};
+ghost use Rattle.transcript.specs.Layout.{ballotLength, answersLength};
 ghost use Rattle.transcript.specs.Round.{Lengths, ranged, roundTests};
 ghost use Rattle.transcript.specs.Method.{parameters, Batch, Shares};
 ghost use Rattle.checker.specs.Lent.{Opened, RoundInRange};
-ghost use Rattle.checker.specs.Orders.{roundOf, ofSide, splitTest, openingTests, voteTests, answersTests};
+ghost use Rattle.checker.specs.Orders.{roundOf, rangeParameters, ofSide, voteTests, answersTests, laterTests};
 
 // 5: whether all that is lent is in range. The bound and the polynomials of the sheet do not enter.
 fn round_ranged(
@@ -37,7 +37,7 @@ fn round_ranged(
     q: u64,
 ) -> bool
     requires { ⌜ (n ≤ 2048) × (count ≤ 4096) × (repeats ≤ 256) × (length (now challenges) ≡ repeats) × (length (now answers) ≡ answersLength n (now challenges)) × (length (now ballots) ≡ ballotLength n * count) × (80 * n ≤ length (now head)) × (length (now opening) ≡ 22 * n) ⌝ }
-    ensures { λ r. ⌜ r ≡ ranged (parameters 2 n q 0 repeats [] [] []) count (roundOf side (now (challenges .entry)) (now (ballots .entry)) (now (claims .entry)) (now (head .entry)) (now (shares0 .entry)) (now (shares1 .entry)) (now (opening .entry)) (now (answers .entry))) ⌝ }
+    ensures { λ r. ⌜ r ≡ ranged (rangeParameters n q repeats) count (roundOf side (now (challenges .entry)) (now (ballots .entry)) (now (claims .entry)) (now (head .entry)) (now (shares0 .entry)) (now (shares1 .entry)) (now (opening .entry)) (now (answers .entry))) ⌝ }
 {
     if 2 <= side {
         return false;
@@ -163,7 +163,7 @@ fn check_ranged(
     q: u64,
 ) -> Reply
     requires { ⌜ Public n q (now a) × Public n q (now b) × PublicKeys n q (now k) × (q % 2 ≡ 1) × (length (now work) ≡ scratchLength) × (count ≤ 4096) × (repeats ≤ 256) × RoundInRange q n count repeats (roundOf side (now challenges) (now ballots) (now claims) (now head) (now shares0) (now shares1) (now opening) (now answers)) ⌝ }
-    ensures { λ reply. ⌜ reply ≡ first (splitTest q n (poly (now (b .entry))) (now (head .entry)) ∷ (openingTests q n (poly (now (a .entry))) (keysOf n (now (k .entry))) (now (head .entry)) side (openingOf n (now (opening .entry))) ++ (answersTests q n (keysOf n (now (k .entry))) repeats (now (head .entry)) (now (challenges .entry)) (now (answers .entry)) ++ voteTests q n bound count (slot (now (opening .entry)) 0) (now (ballots .entry)) (now (claims .entry)) (now (shares0 .entry)) (now (shares1 .entry)) (ofSide side (now (shares0 .entry)) (now (shares1 .entry)))))) ⌝ }
+    ensures { λ reply. ⌜ reply ≡ first (laterTests q n bound count repeats (poly (now (a .entry))) (poly (now (b .entry))) (keysOf n (now (k .entry))) (roundOf side (now (challenges .entry)) (now (ballots .entry)) (now (claims .entry)) (now (head .entry)) (now (shares0 .entry)) (now (shares1 .entry)) (now (opening .entry)) (now (answers .entry)))) ⌝ }
     ensures { λ _. ⌜ length (now (work .exit)) ≡ length (now (work .entry)) ⌝ }
 {
     if !splits(work, head, b, repeats, n, q) {
