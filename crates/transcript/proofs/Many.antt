@@ -110,7 +110,7 @@ module _ (m : ℕ) (f : ℕ → Bytes) where
           ap (take m) (drop-at (joined n f) (f n) (m * j) e) ∙ take-all m (f n) (omega (arith, h n (omega arith))) ∙ ap f (sym i)
 
 -- a test that refuses, where none before it does
-first-refused : (rs ts : List Test) (number place : ℕ) → first rs ≡ Refused number place → first (rs ++ ts) ≡ Refused number place
+pub first-refused : (rs ts : List Test) (number place : ℕ) → first rs ≡ Refused number place → first (rs ++ ts) ≡ Refused number place
 unfolding first
 first-refused [] ts number place e = not-taken number place (sym e)
 first-refused (t ∷ rs) ts number place e = go (t .holds) (λ f. first-refused rs ts number place f) e

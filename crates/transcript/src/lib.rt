@@ -2,4 +2,7 @@
 pub mod ballots;
 pub mod halves;
 pub mod repetitions;
+<<<<<<< HEAD
 pub mod shares;
+=======
+>>>>>>> 60cc760941708781d9c779bd639804312c61722d

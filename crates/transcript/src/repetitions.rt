@@ -27,7 +27,7 @@ pub fn answer_length(n: usize, challenge: u8) -> usize
 }
 
 // One repetition where its digests and its answer stand.
-fn test_at(
+pub fn test_at(
     work: &mut [u8],
     k: &[u8],
     head: &[u8],

@@ -1,0 +1,4 @@
+pub mod Ranged
+pub mod InOrder
+pub mod Parts
+pub mod Passed

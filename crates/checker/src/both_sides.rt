@@ -1,0 +1,261 @@
+// The tests of the extractor: 5, 6; for side 0 and then side 1 7, 8 and by ballot 12, 13; then for the three answers of a repetition 9, 10, 11.
+use crate::openings::splits;
+use crate::openings::test_side;
+use crate::ranges::answer_ranged;
+use crate::ranges::message_ranged;
+use crate::ranges::opening_ranged;
+use codec::Reply;
+ghost use mathlib.Core.Path.{_≡_};
+ghost use mathlib.Core.Bool.{_&&_};
+ghost use mathlib.Core.List.{_++_};
+ghost use Prim.Native.Nat.{_+_, _*_, _%_, _≤_, _<_};
+ghost use lib.ListN.{length};
+ghost use Rattle.codec.specs.Bytes.{part};
+ghost use Rattle.codec.specs.Reply.{first};
+ghost use Rattle.ring.specs.Slots.{poly};
+ghost use Rattle.call.specs.Call.{scratchLength, Public};
+ghost use Rattle.commitment.specs.Commitment.{keysOf, PublicKeys};
+ghost use Rattle.stern.specs.Shortness.{answerLength, inRange, answerTests};
+ghost use Rattle.transcript.specs.Layout.{ballotLength, pairsOf};
+ghost use Rattle.transcript.specs.Extractor.{Lent, lentRanged, extractTests};
+ghost use Rattle.transcript.specs.Method.{parameters, Batch, Shares};
+ghost use Rattle.checker.specs.Lent.{Opened, Head, Answered, OpeningsInRange};
+ghost use Rattle.checker.specs.Orders.{openingsOf, rangeParameters, bothTests, threeTests};
+
+// Whether the numbers of the three answers are in range.
+fn answers_ranged(answer1: &[u8], answer2: &[u8], answer3: &[u8], n: usize, q: u64) -> bool
+    requires { ⌜ (n ≤ 2048) × (length (now answer1) ≡ answerLength n 1) × (length (now answer2) ≡ answerLength n 2) × (length (now answer3) ≡ answerLength n 3) ⌝ }
+    ensures { λ r. ⌜ r ≡ (inRange q n 1 (now (answer1 .entry)) && (inRange q n 2 (now (answer2 .entry)) && inRange q n 3 (now (answer3 .entry)))) ⌝ }
+{
+    if !answer_ranged(1, answer1, n, q) {
+        return false;
+    }
+    if !answer_ranged(2, answer2, n, q) {
+        return false;
+    }
+    answer_ranged(3, answer3, n, q)
+}
+
+// 5: whether all that is lent is in range. The bound and the polynomials of the sheet do not enter.
+fn openings_ranged(
+    head: &[u8],
+    shares0: &[u8],
+    shares1: &[u8],
+    ballots: &[u8],
+    claims: &[u8],
+    opening0: &[u8],
+    opening1: &[u8],
+    repetition: u64,
+    answer1: &[u8],
+    answer2: &[u8],
+    answer3: &[u8],
+    count: usize,
+    repeats: usize,
+    n: usize,
+    q: u64,
+) -> bool
+    requires { ⌜ (n ≤ 2048) × (count ≤ 4096) × (length (now ballots) ≡ ballotLength n * count) × (80 * n ≤ length (now head)) × (length (now opening0) ≡ 22 * n) × (length (now opening1) ≡ 22 * n) × (length (now answer1) ≡ answerLength n 1) × (length (now answer2) ≡ answerLength n 2) × (length (now answer3) ≡ answerLength n 3) ⌝ }
+    ensures { λ r. ⌜ r ≡ lentRanged (rangeParameters n q repeats) count (openingsOf (now (head .entry)) (now (shares0 .entry)) (now (shares1 .entry)) (now (ballots .entry)) (now (claims .entry)) (now (opening0 .entry)) (now (opening1 .entry)) repetition (now (answer1 .entry)) (now (answer2 .entry)) (now (answer3 .entry))) ⌝ }
+{
+    if repeats as u64 <= repetition {
+        return false;
+    }
+    if !message_ranged(ballots, claims, head, shares0, shares1, count, n, q) {
+        return false;
+    }
+    if !opening_ranged(opening0, n, q) {
+        return false;
+    }
+    if !opening_ranged(opening1, n, q) {
+        return false;
+    }
+    answers_ranged(answer1, answer2, answer3, n, q)
+}
+
+// One answer, against digests where they stand.
+fn test_answer(
+    work: &mut [u8],
+    k: &[u8],
+    head: &[u8],
+    digests: usize,
+    challenge: u8,
+    answer: &[u8],
+    place: u32,
+    repeats: usize,
+    n: usize,
+    q: u64,
+) -> Reply
+    requires { ⌜ PublicKeys n q (now k) × (length (now work) ≡ scratchLength) × Head q n repeats (now head) × (digests + 96 ≤ length (now head)) × Answered q n challenge (now answer) ⌝ }
+    ensures { λ reply. ⌜ reply ≡ first (answerTests q n (keysOf n (now (k .entry))) (pairsOf n (now (head .entry))) (part (now (head .entry)) digests 96) place challenge (now (answer .entry))) ⌝ }
+    ensures { λ _. ⌜ length (now (work .exit)) ≡ length (now (work .entry)) ⌝ }
+{
+    transcript::repetitions::test_at(
+        work,
+        k,
+        head,
+        digests,
+        challenge,
+        answer,
+        0,
+        answer.len(),
+        place,
+        n,
+        q,
+    )
+}
+
+// The three answers of a repetition, in order.
+fn test_answers(
+    work: &mut [u8],
+    k: &[u8],
+    head: &[u8],
+    repetition: u64,
+    answer1: &[u8],
+    answer2: &[u8],
+    answer3: &[u8],
+    repeats: usize,
+    n: usize,
+    q: u64,
+) -> Reply
+    requires { ⌜ PublicKeys n q (now k) × (length (now work) ≡ scratchLength) × (repeats ≤ 256) × (repetition < repeats) × Head q n repeats (now head) × Answered q n 1 (now answer1) × Answered q n 2 (now answer2) × Answered q n 3 (now answer3) ⌝ }
+    ensures { λ reply. ⌜ reply ≡ first (threeTests q n (keysOf n (now (k .entry))) (now (head .entry)) repetition (now (answer1 .entry)) (now (answer2 .entry)) (now (answer3 .entry))) ⌝ }
+    ensures { λ _. ⌜ length (now (work .exit)) ≡ length (now (work .entry)) ⌝ }
+{
+    let digests = 80 * n + 96 * (repetition as usize);
+    let place = repetition as u32;
+    let one = test_answer(work, k, head, digests, 1, answer1, place, repeats, n, q);
+    match one {
+        Reply::Taken => {}
+        Reply::Refused { number, place } => {
+            return Reply::Refused { number, place };
+        }
+    }
+    let two = test_answer(work, k, head, digests, 2, answer2, place, repeats, n, q);
+    match two {
+        Reply::Taken => {}
+        Reply::Refused { number, place } => {
+            return Reply::Refused { number, place };
+        }
+    }
+    test_answer(work, k, head, digests, 3, answer3, place, repeats, n, q)
+}
+
+// The halves of the key, then each side's opening.
+fn test_sides(
+    work: &mut [u8],
+    a: &[u8],
+    b: &[u8],
+    k: &[u8],
+    head: &[u8],
+    shares0: &[u8],
+    shares1: &[u8],
+    ballots: &[u8],
+    claims: &[u8],
+    opening0: &[u8],
+    opening1: &[u8],
+    count: usize,
+    repeats: usize,
+    bound: u64,
+    n: usize,
+    q: u64,
+) -> Reply
+    requires { ⌜ Public n q (now a) × Public n q (now b) × PublicKeys n q (now k) × (q % 2 ≡ 1) × (length (now work) ≡ scratchLength) × (count ≤ 4096) × Head q n repeats (now head) × Batch q n count (now ballots) (now claims) × Shares q n count (now shares0) × Shares q n count (now shares1) × Opened q n (now opening0) × Opened q n (now opening1) ⌝ }
+    ensures { λ reply. ⌜ reply ≡ first (bothTests q n bound count (poly (now (a .entry))) (poly (now (b .entry))) (keysOf n (now (k .entry))) (now (head .entry)) (now (shares0 .entry)) (now (shares1 .entry)) (now (ballots .entry)) (now (claims .entry)) (now (opening0 .entry)) (now (opening1 .entry))) ⌝ }
+    ensures { λ _. ⌜ length (now (work .exit)) ≡ length (now (work .entry)) ⌝ }
+{
+    if !splits(work, head, b, repeats, n, q) {
+        return Reply::Refused { number: 6, place: 0 };
+    }
+    let reply = test_side(
+        work, a, k, head, 0, opening0, ballots, claims, shares0, shares1, shares0, count, bound, n, q,
+    );
+    match reply {
+        Reply::Taken => {}
+        Reply::Refused { number, place } => {
+            return Reply::Refused { number, place };
+        }
+    }
+    test_side(
+        work, a, k, head, 1, opening1, ballots, claims, shares0, shares1, shares1, count, bound, n, q,
+    )
+}
+
+// Both sides, then the answers, of what is in range.
+fn test_ranged(
+    work: &mut [u8],
+    a: &[u8],
+    b: &[u8],
+    k: &[u8],
+    head: &[u8],
+    shares0: &[u8],
+    shares1: &[u8],
+    ballots: &[u8],
+    claims: &[u8],
+    opening0: &[u8],
+    opening1: &[u8],
+    repetition: u64,
+    answer1: &[u8],
+    answer2: &[u8],
+    answer3: &[u8],
+    count: usize,
+    repeats: usize,
+    bound: u64,
+    n: usize,
+    q: u64,
+) -> Reply
+    requires { ⌜ Public n q (now a) × Public n q (now b) × PublicKeys n q (now k) × (q % 2 ≡ 1) × (length (now work) ≡ scratchLength) × (count ≤ 4096) × (repeats ≤ 256) × OpeningsInRange q n count repeats (openingsOf (now head) (now shares0) (now shares1) (now ballots) (now claims) (now opening0) (now opening1) repetition (now answer1) (now answer2) (now answer3)) ⌝ }
+    ensures { λ reply. ⌜ reply ≡ first (bothTests q n bound count (poly (now (a .entry))) (poly (now (b .entry))) (keysOf n (now (k .entry))) (now (head .entry)) (now (shares0 .entry)) (now (shares1 .entry)) (now (ballots .entry)) (now (claims .entry)) (now (opening0 .entry)) (now (opening1 .entry)) ++ threeTests q n (keysOf n (now (k .entry))) (now (head .entry)) repetition (now (answer1 .entry)) (now (answer2 .entry)) (now (answer3 .entry))) ⌝ }
+    ensures { λ _. ⌜ length (now (work .exit)) ≡ length (now (work .entry)) ⌝ }
+{
+    let reply = test_sides(
+        work, a, b, k, head, shares0, shares1, ballots, claims, opening0, opening1, count, repeats,
+        bound, n, q,
+    );
+    match reply {
+        Reply::Taken => {}
+        Reply::Refused { number, place } => {
+            return Reply::Refused { number, place };
+        }
+    }
+    test_answers(work, k, head, repetition, answer1, answer2, answer3, repeats, n, q)
+}
+
+// All tests of the extractor, for lengths that are right.
+pub fn check_openings(
+    work: &mut [u8],
+    a: &[u8],
+    b: &[u8],
+    k: &[u8],
+    head: &[u8],
+    shares0: &[u8],
+    shares1: &[u8],
+    ballots: &[u8],
+    claims: &[u8],
+    opening0: &[u8],
+    opening1: &[u8],
+    repetition: u64,
+    answer1: &[u8],
+    answer2: &[u8],
+    answer3: &[u8],
+    count: usize,
+    repeats: usize,
+    bound: u64,
+    n: usize,
+    q: u64,
+) -> Reply
+    requires { ⌜ Public n q (now a) × Public n q (now b) × PublicKeys n q (now k) × (q % 2 ≡ 1) × (length (now work) ≡ scratchLength) × (count ≤ 4096) × (repeats ≤ 256) ⌝ }
+    requires { ⌜ Lent (parameters 2 n q bound repeats (now a) (now b) (now k)) count (openingsOf (now head) (now shares0) (now shares1) (now ballots) (now claims) (now opening0) (now opening1) repetition (now answer1) (now answer2) (now answer3)) ⌝ }
+    ensures { λ reply. ⌜ reply ≡ first (extractTests (parameters 2 n q bound repeats (now (a .entry)) (now (b .entry)) (now (k .entry))) count (openingsOf (now (head .entry)) (now (shares0 .entry)) (now (shares1 .entry)) (now (ballots .entry)) (now (claims .entry)) (now (opening0 .entry)) (now (opening1 .entry)) repetition (now (answer1 .entry)) (now (answer2 .entry)) (now (answer3 .entry)))) ⌝ }
+    ensures { λ _. ⌜ length (now (work .exit)) ≡ length (now (work .entry)) ⌝ }
+{
+    if !openings_ranged(
+        head, shares0, shares1, ballots, claims, opening0, opening1, repetition, answer1, answer2,
+        answer3, count, repeats, n, q,
+    ) {
+        return Reply::Refused { number: 5, place: 0 };
+    }
+    test_ranged(
+        work, a, b, k, head, shares0, shares1, ballots, claims, opening0, opening1, repetition,
+        answer1, answer2, answer3, count, repeats, bound, n, q,
+    )
+}
