@@ -3,7 +3,7 @@ use mathlib.Core.Path.{_≡_, refl, sym, ap, ap₂, _∙_}
 use mathlib.Core.Logic.{_≢_}
 use mathlib.Core.Bool.{Bool, true, false, not}
 use mathlib.Core.List.{List, [], _∷_, _++_, append-assoc}
-use Prim.Native.Nat.{ℕ, _+_, _-_, _*_, _/_, _^_, _≤_, _<_}
+use Prim.Native.Nat.{ℕ, _+_, _*_, _/_, _^_, _≤_, _<_}
 use native.Mathlib.Nat.{zero-add}
 use native.Mathlib.Omega.{arith}
 use borrow.Author.Tests.{eq-eqb, not-true, not-false}
@@ -14,7 +14,7 @@ use Rattle.codec.proofs.Laws.{length-part, part-append, part-put, same-refl, sa
 use Rattle.ring.specs.Slots.{allBelow}
 use Rattle.call.proofs.Writing.{written-length}
 use Rattle.commitment.specs.Commitment.{Keys, Pair, pairBytes, PairStands}
-use Rattle.vector.specs.Vector.{Each, Vector, vector, ternaries, add, subtract}
+use Rattle.vector.specs.Vector.{Vector, vector, ternaries, add, subtract}
 use Rattle.vector.specs.Permutation.{entries, apply}
 use Rattle.vector.proofs.Vectors.{each-length, add-vector, apply-each, allBelow-each, vector-sound, words-injective, length-entries, ternaries-vector}
 use Rattle.stern.specs.Shortness.{equations, sides}

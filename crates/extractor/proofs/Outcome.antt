@@ -1,5 +1,5 @@
 -- What is answered and written by what differs, what is zero and what is not; and that shares, ballots, claims and the repetition do not enter. Assumes nothing.
-use mathlib.Core.Path.{_≡_, refl, sym, ap, _∙_}
+use mathlib.Core.Path.{_≡_, refl, sym, ap}
 use mathlib.Core.Logic.{_≢_}
 use mathlib.Core.Bool.{Bool, true, false, cond, not}
 use mathlib.Core.List.{List, _++_}
@@ -16,7 +16,8 @@ use Rattle.transcript.specs.Round.{Parameters}
 use Rattle.transcript.specs.Method.{parameters}
 use Rattle.transcript.specs.Extractor.{Openings, threeBytes, isZero, ternaryBytes, pairs, open0, open1, unknowns, vector-s, vector-e, kind, extracted}
 use Rattle.transcript.proofs.ExtractionWritten.{collision-written}
-use Rattle.extractor.specs.Lent.{openingsOf, unknownsOf, lessUnknowns, differing, solved, written}
+use Rattle.extractor.specs.Lent.{openingsOf}
+use Rattle.extractor.specs.Method.{unknownsOf, lessUnknowns, differing, solved, written}
 
 -- ---- the three comparisons, in order
 

@@ -1,18 +1,18 @@
 -- The unknowns number by number, and the vector and the key as they are written: numbers side by side. Assumes nothing.
 use mathlib.Core.Path.{_≡_, refl, sym, ap, ap₂, _∙_}
-use mathlib.Core.Bool.{cond}
+use mathlib.Core.Bool.{Bool, cond}
 use mathlib.Core.List.{List, [], _∷_, _++_, append-nil, append-assoc}
-use Prim.Native.Nat.{ℕ, zero, suc, _+_, _-_, _*_, _/_, _%_, _^_, _≤_, _<_}
+use Prim.Native.Nat.{ℕ, zero, suc, _+_, _-_, _*_, _%_, _<_}
 use native.Mathlib.Nat.{mod-eq-of-lt, mod-lt, zero-add, add-zero, add-suc, add-mul}
 use native.Mathlib.Omega.{arith}
 use lib.Dec.{eqb}
 use lib.ListN.{length, take, drop, getD, length-append, length-replicate}
 use lib.Seq.{getD-take, getD-drop}
-use Rattle.codec.specs.Bytes.{Bytes, part, put, zeros}
+use Rattle.codec.specs.Bytes.{Bytes, part, put, words, zeros, same}
 use Rattle.codec.proofs.Laws.{put-whole}
 use Rattle.codec.proofs.Numbers.{words-append}
 use Rattle.modular.specs.Modulo.{remainder}
-use Rattle.modular.proofs.Congruence.{same-refl, same-eq, same-sym, _then_, same-mod, same-add, same-mul, same-negative}
+use Rattle.modular.proofs.Congruence.{same-refl, same-sym, same-mod, same-add, same-mul, same-negative}
 use Rattle.ring.specs.Poly.{Poly, plus, minus, scale, modulo}
 use Rattle.ring.specs.Slots.{list, encode}
 use Rattle.ring.specs.Ternary.{meaning, ternary}
@@ -22,8 +22,8 @@ use Rattle.vector.specs.Vector.{vector, subtract}
 use Rattle.vector.proofs.Vectors.{length-vector}
 use Rattle.vector.proofs.Gathers.{component-lt}
 use Rattle.stern.specs.Shortness.{polynomial}
-use Rattle.transcript.specs.Extractor.{threeBytes, ternaryBytes}
-use Rattle.extractor.specs.Lent.{Masked, unknownsOf, lessUnknowns, from, excess}
+use Rattle.transcript.specs.Extractor.{threeBytes, isZero, ternaryBytes}
+use Rattle.extractor.specs.Method.{Masked, unknownsOf, lessUnknowns, from, excess}
 
 -- ---- one number of the unknowns
 
@@ -74,7 +74,7 @@ list-append a (suc b) f =
 
 encode-append : (a b : ℕ) (f : Poly) → encode (a + b) f ≡ encode a f ++ encode b (λ k. f (a + k))
 unfolding encode
-encode-append a b f = ap Rattle.codec.specs.Bytes.words (list-append a b f) ∙ words-append (list a f) (list b (λ k. f (a + k)))
+encode-append a b f = ap words (list-append a b f) ∙ words-append (list a f) (list b (λ k. f (a + k)))
 
 -- ---- the vector: three polynomials of N numbers
 
@@ -102,11 +102,13 @@ module _ (q N : ℕ) (r0 r1 : Bytes) (z : List ℕ) where
       ∙ ap₂ _++_ (encode-cong N (λ k l. excess-part first N (j + 1) (j + 3 + 1) (omega (arith, add-mul j 1 N)) (omega (arith, add-mul j 3 N, add-mul (j + 3) 1 N)) k l))
       (encode-cong N (λ k l. (let i : N + (N + k) ≡ 2 * N + k = omega arith in ap f i) ∙ excess-part first (2 * N) (j + 2) (j + 3 + 2) (omega (arith, add-mul j 2 N)) (omega (arith, add-mul j 3 N, add-mul (j + 3) 2 N)) k l)))
 
--- the same of the r of two openings, lent with a length that is a difference of places
-pub lent-excess : (q N : ℕ) (o0 o1 : Bytes) (z : List ℕ) (at m j first : ℕ) → m ≡ 3 * N → first ≡ j * N → (d : Bytes) → d ≡ encode (3 * N) (modulo q (excess q N (take m (drop at o0)) (take m (drop at o1)) z first))
-    → d ≡ threeBytes q N (lessUnknowns q N (part o0 at (3 * N)) (part o1 at (3 * N)) z j)
-lent-excess q N o0 o1 z at m j first em ef d e =
-    e ∙ ap (λ (k : ℕ). encode (3 * N) (modulo q (excess q N (take k (drop at o0)) (take k (drop at o1)) z first))) em ∙ excess-bytes q N (part o0 at (3 * N)) (part o1 at (3 * N)) z j first ef
+-- the same of the r of two openings, lent with a length that is a difference of places; and whether it is zero
+pub lent-excess : (q N : ℕ) (o0 o1 : Bytes) (z : List ℕ) (at m j first : ℕ) → m ≡ 3 * N → first ≡ j * N → (r : Bool) (d : Bytes) → r ≡ same d (zeros (24 * N))
+    → d ≡ encode (3 * N) (modulo q (excess q N (take m (drop at o0)) (take m (drop at o1)) z first))
+    → (r ≡ isZero q N (lessUnknowns q N (part o0 at (3 * N)) (part o1 at (3 * N)) z j)) × (d ≡ threeBytes q N (lessUnknowns q N (part o0 at (3 * N)) (part o1 at (3 * N)) z j))
+lent-excess q N o0 o1 z at m j first em ef r d y e =
+    let w = e ∙ ap (λ (k : ℕ). encode (3 * N) (modulo q (excess q N (take k (drop at o0)) (take k (drop at o1)) z first))) em ∙ excess-bytes q N (part o0 at (3 * N)) (part o1 at (3 * N)) z j first ef in
+    (y ∙ ap (λ (s : Bytes). same s (zeros (24 * N))) w, w)
 
 -- ---- the key: two polynomials as ternary bytes, and zeros
 

@@ -2,6 +2,7 @@
 // commitment row is zero, or the key. specs/Extractor.antt of `transcript` says what is found.
 mod strings;
 mod vectors;
+
 use crate::strings::collision;
 use crate::vectors::solve;
 ghost use mathlib.Core.Path.{_≡_};

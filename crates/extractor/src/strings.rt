@@ -1,13 +1,12 @@
 // Whether the two strings that answers open for one digest differ, part by part: salts, permutations, equations and vectors. Nothing is hashed.
 use stern::equations::equation_pair;
 ghost use mathlib.Core.Path.{_≡_};
-ghost use mathlib.Core.Bool.{true, false, cond, not, _&&_};
+ghost use mathlib.Core.Bool.{true, false};
 ghost use mathlib.Core.List.{_++_};
-ghost use Prim.Native.Nat.{_+_, _*_, _/_, _≤_, _<_, _^_};
+ghost use Prim.Native.Nat.{_+_, _*_, _≤_, _<_, _^_};
 ghost use lib.ListN.{length, take};
 ghost use Rattle.codec.specs.Bytes.{part, put, words, same};
-ghost use Rattle.ring.specs.Poly.{Below};
-ghost use Rattle.ring.specs.Slots.{poly, allBelow};
+ghost use Rattle.ring.specs.Slots.{allBelow};
 ghost use Rattle.call.specs.Call.{scratchLength};
 ghost use Rattle.commitment.specs.Commitment.{keysOf, pairBytes, PublicKeys};
 ghost use Rattle.vector.specs.Vector.{vector, ternaries, add, subtract};
@@ -15,7 +14,8 @@ ghost use Rattle.vector.specs.Permutation.{entries, apply};
 ghost use Rattle.stern.specs.Argument.{string2, string3, one-by2, one-by3};
 ghost use Rattle.stern.specs.Shortness.{equations, sides, setting, answer1Of, answer2Of, answer3Of};
 ghost use Rattle.stern.specs.Method.{equationPair};
-ghost use Rattle.extractor.specs.Lent.{Answers, differing};
+ghost use Rattle.extractor.specs.Lent.{Answers};
+ghost use Rattle.extractor.specs.Method.{differing};
 
 // ---- string 1: P and the equations
 

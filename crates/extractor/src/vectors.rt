@@ -1,6 +1,6 @@
 // The unknowns that answers 2 and 3 give, and what they say of two openings: the vector for s, else the vector for e, else the key.
 ghost use mathlib.Core.Path.{_≡_};
-ghost use mathlib.Core.Bool.{true, cond, not};
+ghost use mathlib.Core.Bool.{cond};
 ghost use mathlib.Core.List.{_++_};
 ghost use Prim.Native.Nat.{_+_, _*_, _%_, _≤_, _<_, _^_};
 ghost use lib.Dec.{eqb};
@@ -11,7 +11,7 @@ ghost use Rattle.ring.specs.Slots.{encode};
 ghost use Rattle.call.specs.Call.{scratchLength};
 ghost use Rattle.stern.specs.Shortness.{polynomial};
 ghost use Rattle.transcript.specs.Extractor.{ternaryBytes};
-ghost use Rattle.extractor.specs.Lent.{Masked, unknownsOf, lessUnknowns, from, excess, solved, written};
+ghost use Rattle.extractor.specs.Method.{Masked, unknownsOf, lessUnknowns, from, excess, solved, written};
 
 // Number i of the unknowns: that of extended + R less that of R.
 fn unknown(u: &[u8], r: &[u8], i: usize, n: usize, q: u64) -> u64
@@ -24,16 +24,7 @@ fn unknown(u: &[u8], r: &[u8], i: usize, n: usize, q: u64) -> u64
 // ---- the vector for s or for e
 
 // Number i of the openings' summed r less the summed r of the unknowns.
-fn excess(
-    r0: &[u8],
-    r1: &[u8],
-    u: &[u8],
-    r: &[u8],
-    first: usize,
-    i: usize,
-    n: usize,
-    q: u64,
-) -> u64
+fn excess(r0: &[u8], r1: &[u8], u: &[u8], r: &[u8], first: usize, i: usize, n: usize, q: u64) -> u64
     requires { ⌜ (n ≤ 2048) × (3 ≤ q) × (q < 2 ^ 56) × (length (now r0) ≡ 3 * n) × (length (now r1) ≡ 3 * n) × Masked q n (now u) (now r) × (first + 6 * n ≤ 14 * n) × (i < 3 * n) ⌝ }
     ensures { λ v. ⌜ v ≡ excess q n (now (r0 .entry)) (now (r1 .entry)) (unknownsOf q n (now (u .entry)) (now (r .entry))) first i % q ⌝ }
 {
@@ -145,10 +136,30 @@ pub fn solve(
     let s = 16 * n;
     let e = 19 * n;
     let end = 22 * n;
-    if !vanishes(work, out, &opening0[s..e], &opening1[s..e], u, r, 2 * n, n, q) {
+    if !vanishes(
+        work,
+        out,
+        &opening0[s..e],
+        &opening1[s..e],
+        u,
+        r,
+        2 * n,
+        n,
+        q,
+    ) {
         return 4;
     }
-    if !vanishes(work, out, &opening0[e..end], &opening1[e..end], u, r, 8 * n, n, q) {
+    if !vanishes(
+        work,
+        out,
+        &opening0[e..end],
+        &opening1[e..end],
+        u,
+        r,
+        8 * n,
+        n,
+        q,
+    ) {
         return 5;
     }
     write_key(out, u, r, n, q);

@@ -1,16 +1,13 @@
 -- `find` meets its contract. Assumes nothing.
 use mathlib.Core.Path.{_≡_, sym, ap, _∙_}
 use mathlib.Core.List.{[]}
-use Prim.Native.Nat.{ℕ, _-_, _*_}
+use Prim.Native.Nat.{_-_, _*_}
 use native.Mathlib.Omega.{arith}
 use borrow.Author.Needs.{needs}
-use lib.ListN.{length, take, drop}
-use Rattle.codec.specs.Bytes.{Bytes, part, zeros}
-use Rattle.commitment.specs.Commitment.{keysOf}
-use Rattle.stern.specs.Shortness.{setting, answer1Of, answer2Of, answer3Of}
+use Rattle.codec.specs.Bytes.{zeros}
 use Rattle.stern.proofs.Answered.{lent-range, lent-length}
 use Rattle.transcript.specs.Method.{parameters}
-use Rattle.extractor.specs.Lent.{openingsOf, differing, solved, written, unknownsOf}
+use Rattle.extractor.specs.Lent.{openingsOf}
 use Rattle.extractor.proofs.Outcome.{digest-found, none-found, none-written, lent-digest, lent-solved, lent-written}
 use Rattle.extractor.proofs.find.Statement.{statement}
 use Rattle.extractor.proofs.find.Tie as tie

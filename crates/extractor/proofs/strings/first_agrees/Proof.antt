@@ -1,11 +1,11 @@
 -- `strings::first_agrees` meets its contract. Assumes nothing.
 use mathlib.Core.Path.{_≡_, refl, sym, _∙_}
 use mathlib.Core.List.{_++_}
-use Prim.Native.Nat.{ℕ, _+_, _-_, _*_}
+use Prim.Native.Nat.{_+_, _-_, _*_}
 use native.Mathlib.Omega.{arith}
 use borrow.Author.Needs.{needs}
-use lib.ListN.{length, take}
-use Rattle.codec.specs.Bytes.{Bytes, part, words}
+use lib.ListN.{take}
+use Rattle.codec.specs.Bytes.{words}
 use Rattle.commitment.specs.Commitment.{keysOf}
 use Rattle.vector.specs.Vector.{vector, subtract}
 use Rattle.stern.specs.Shortness.{equations, sides, answer2Of, answer3Of}

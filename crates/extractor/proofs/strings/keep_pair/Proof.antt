@@ -4,8 +4,8 @@ use mathlib.Core.List.{_++_}
 use Prim.Native.Nat.{ℕ, _+_, _-_, _*_}
 use native.Mathlib.Omega.{arith}
 use borrow.Author.Needs.{needs}
-use lib.ListN.{length, take, drop}
-use Rattle.codec.specs.Bytes.{part, put}
+use lib.ListN.{take, drop}
+use Rattle.codec.specs.Bytes.{put}
 use Rattle.call.proofs.Writing.{written-behind}
 use Rattle.stern.proofs.Answered.{lent-length}
 use Rattle.extractor.proofs.strings.keep_pair.Statement.{statement}

@@ -1,14 +1,11 @@
 -- `strings::pairs_agree` meets its contract. Assumes nothing.
-use mathlib.Core.Path.{_≡_, ap, ap₂, _∙_}
+use mathlib.Core.Path.{ap₂, _∙_}
 use mathlib.Core.Bool.{true, false}
-use Prim.Native.Nat.{ℕ, _+_, _*_, _≤_}
 use native.Mathlib.Omega.{arith}
 use borrow.Author.Needs.{needs}
-use lib.ListN.{length}
-use Rattle.codec.specs.Bytes.{Bytes, part, same}
-use Rattle.commitment.specs.Commitment.{keysOf, pairBytes}
+use Rattle.codec.specs.Bytes.{same}
+use Rattle.commitment.specs.Commitment.{keysOf}
 use Rattle.stern.specs.Method.{equationPair}
-use Rattle.stern.proofs.Honest.{length-pairBytes}
 use Rattle.stern.proofs.Written.{vector-below}
 use Rattle.stern.proofs.Strings.{stands-bytes}
 use Rattle.extractor.proofs.Agreement.{kept-pair, kept-length}

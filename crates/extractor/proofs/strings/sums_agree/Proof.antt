@@ -1,10 +1,10 @@
 -- `strings::sums_agree` meets its contract. Assumes nothing.
 use mathlib.Core.Path.{_≡_, sym, _∙_}
-use Prim.Native.Nat.{ℕ, _-_, _*_, _<_, _≤_}
+use Prim.Native.Nat.{ℕ, _-_, _<_, _≤_}
 use native.Mathlib.Omega.{arith}
 use borrow.Author.Needs.{needs}
 use borrow.Author.Count.{below-none, below-more}
-use lib.ListN.{length, getD}
+use lib.ListN.{getD}
 use Rattle.modular.proofs.Centring.{remainder-lt}
 use Rattle.ring.specs.Ternary.{meaning}
 use Rattle.vector.specs.Vector.{vector, ternaries, add}

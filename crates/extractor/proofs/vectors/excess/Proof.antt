@@ -1,12 +1,12 @@
 -- `vectors::excess` meets its contract. Assumes nothing.
-use Prim.Native.Nat.{_+_, _*_, _<_}
+use Prim.Native.Nat.{_+_, _<_}
 use native.Mathlib.Nat.{mod-lt}
 use native.Mathlib.Omega.{arith}
 use borrow.Author.Needs.{needs}
 use lib.ListN.{getD}
 use Rattle.modular.proofs.Centring.{remainder-lt}
 use Rattle.ring.specs.Ternary.{meaning}
-use Rattle.extractor.specs.Lent.{unknownsOf}
+use Rattle.extractor.specs.Method.{unknownsOf}
 use Rattle.extractor.proofs.Unknowns.{excess-at}
 use Rattle.extractor.proofs.vectors.excess.Statement.{statement}
 use Rattle.extractor.proofs.vectors.excess.Tie as tie

@@ -1,6 +1,5 @@
 -- `vectors::to_ternary` meets its contract. Assumes nothing.
 use mathlib.Core.Path.{refl}
-use borrow.Author.Needs.{needs}
 use borrow.Author.Tests.{eq-eqb, ne-eqb}
 use Rattle.extractor.proofs.vectors.to_ternary.Statement.{statement}
 use Rattle.extractor.proofs.vectors.to_ternary.Tie as tie

@@ -1,6 +1,5 @@
 -- `vectors::unknown` meets its contract. Assumes nothing.
 use Prim.Native.Nat.{_<_}
-use native.Mathlib.Omega.{arith}
 use borrow.Author.Needs.{needs}
 use Rattle.extractor.proofs.Unknowns.{lt-u, lt-r, unknown-at}
 use Rattle.extractor.proofs.vectors.unknown.Statement.{statement}

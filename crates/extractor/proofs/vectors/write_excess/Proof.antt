@@ -1,6 +1,6 @@
 -- `vectors::write_excess` meets its contract. Assumes nothing.
 use mathlib.Core.Path.{_≡_, refl, sym, ap, _∙_}
-use Prim.Native.Nat.{ℕ, _+_, _-_, _*_, _≤_}
+use Prim.Native.Nat.{ℕ, _-_, _*_, _≤_}
 use native.Mathlib.Nat.{zero-add}
 use native.Mathlib.Omega.{arith}
 use borrow.Author.Needs.{needs}
@@ -11,7 +11,7 @@ use Rattle.ring.specs.Poly.{modulo}
 use Rattle.ring.specs.Slots.{encode}
 use Rattle.ring.proofs.Bridge.{length-encode}
 use Rattle.ring.proofs.Filling.{filled, filled-none, filled-more, filled-all}
-use Rattle.extractor.specs.Lent.{unknownsOf, excess}
+use Rattle.extractor.specs.Method.{unknownsOf, excess}
 use Rattle.extractor.proofs.vectors.write_excess.Statement.{statement}
 use Rattle.extractor.proofs.vectors.write_excess.Tie as tie
 

@@ -1,8 +1,6 @@
 -- `vectors::write_key` meets its contract. Assumes nothing.
-use Prim.Native.Nat.{_*_}
-use native.Mathlib.Omega.{arith}
 use borrow.Author.Needs.{needs}
-use Rattle.extractor.specs.Lent.{unknownsOf}
+use Rattle.extractor.specs.Method.{unknownsOf}
 use Rattle.extractor.proofs.Unknowns.{key-bytes}
 use Rattle.extractor.proofs.vectors.write_key.Statement.{statement}
 use Rattle.extractor.proofs.vectors.write_key.Tie as tie

@@ -1,6 +1,6 @@
 -- `vectors::write_secrets` meets its contract. Assumes nothing.
 use mathlib.Core.Path.{_≡_, refl, sym, ap, _∙_}
-use Prim.Native.Nat.{ℕ, _+_, _-_, _*_, _≤_}
+use Prim.Native.Nat.{ℕ, _-_, _*_, _≤_}
 use native.Mathlib.Nat.{zero-add}
 use native.Mathlib.Omega.{arith}
 use borrow.Author.Needs.{needs}
@@ -10,7 +10,7 @@ use Rattle.codec.proofs.Laws.{paste-all}
 use Rattle.ring.proofs.Bridge.{length-list}
 use Rattle.vector.proofs.Gathers.{paste-more}
 use Rattle.transcript.specs.Extractor.{ternaryBytes}
-use Rattle.extractor.specs.Lent.{unknownsOf, from}
+use Rattle.extractor.specs.Method.{unknownsOf, from}
 use Rattle.extractor.proofs.Unknowns.{secret-at}
 use Rattle.extractor.proofs.vectors.write_secrets.Statement.{statement}
 use Rattle.extractor.proofs.vectors.write_secrets.Tie as tie
