@@ -1,0 +1,158 @@
+-- What is answered and written by what differs, what is zero and what is not; and that shares, ballots, claims and the repetition do not enter. Assumes nothing.
+use mathlib.Core.Path.{_≡_, refl, sym, ap}
+use mathlib.Core.Logic.{_≢_}
+use mathlib.Core.Bool.{Bool, true, false, cond, not}
+use mathlib.Core.List.{List, _++_}
+use Prim.Native.Nat.{ℕ, _+_, _*_, _<_}
+use native.Mathlib.Omega.{arith}
+use borrow.Author.Tests.{not-true, not-false}
+use lib.Dec.{ltb}
+use lib.ListN.{take, drop}
+use Rattle.codec.specs.Bytes.{Bytes, zeros, same}
+use Rattle.commitment.specs.Commitment.{Keys, Three}
+use Rattle.stern.specs.Argument.{Setting, Answer1, Answer2, Answer3, one-by2, one-by3, two-by1, two-by3, three-by1, three-by2}
+use Rattle.stern.specs.Shortness.{polynomial, setting, answer1Of, answer2Of, answer3Of}
+use Rattle.transcript.specs.Round.{Parameters}
+use Rattle.transcript.specs.Method.{parameters}
+use Rattle.transcript.specs.Extractor.{Openings, threeBytes, isZero, ternaryBytes, pairs, open0, open1, unknowns, vector-s, vector-e, kind, extracted}
+use Rattle.transcript.proofs.ExtractionWritten.{collision-written}
+use Rattle.extractor.specs.Lent.{openingsOf}
+use Rattle.extractor.specs.Method.{unknownsOf, lessUnknowns, differing, solved, written}
+
+-- ---- the three comparisons, in order
+
+module _ (s : Setting) (a : Answer1) (b : Answer2) (c : Answer3) (r1 r2 r3 : Bool) where
+  pub first-differs : r1 ≡ same (one-by2 s b) (one-by3 s c) → not r1 ≡ true → 1 ≡ differing s a b c
+  unfolding differing
+  first-differs e1 n1 = rw (← e1, not-true r1 n1)
+
+  pub second-differs : r1 ≡ same (one-by2 s b) (one-by3 s c) → not r1 ≡ false → r2 ≡ same (two-by1 s a) (two-by3 s c) → not r2 ≡ true → 2 ≡ differing s a b c
+  unfolding differing
+  second-differs e1 n1 e2 n2 = rw (← e1, not-false r1 n1, ← e2, not-true r2 n2)
+
+  module _ (e1 : r1 ≡ same (one-by2 s b) (one-by3 s c)) (n1 : not r1 ≡ false) (e2 : r2 ≡ same (two-by1 s a) (two-by3 s c)) (n2 : not r2 ≡ false) (e3 : r3 ≡ same (three-by1 s a) (three-by2 s b)) where
+    pub third-differs : not r3 ≡ true → 3 ≡ differing s a b c
+    unfolding differing
+    third-differs n3 = rw (← e1, not-false r1 n1, ← e2, not-false r2 n2, ← e3, not-true r3 n3)
+
+    pub none-differs : not r3 ≡ false → 0 ≡ differing s a b c
+    unfolding differing
+    none-differs n3 = rw (← e1, not-false r1 n1, ← e2, not-false r2 n2, ← e3, not-false r3 n3)
+
+-- ---- the two vectors, in order
+
+module _ (q N : ℕ) (s e : Three) (key : Bytes) (r1 r2 : Bool) where
+  pub s-nonzero : r1 ≡ isZero q N s → not r1 ≡ true → (4 ≡ solved q N s e) × (threeBytes q N s ≡ written q N s e key)
+  unfolding solved written
+  s-nonzero e1 n1 = rw (← e1, not-true r1 n1) (refl, refl)
+
+  module _ (e1 : r1 ≡ isZero q N s) (n1 : not r1 ≡ false) (e2 : r2 ≡ isZero q N e) where
+    pub e-nonzero : not r2 ≡ true → (5 ≡ solved q N s e) × (threeBytes q N e ≡ written q N s e key)
+    unfolding solved written
+    e-nonzero n2 = rw (← e1, not-false r1 n1, ← e2, not-true r2 n2) (refl, refl)
+
+    pub both-zero : not r2 ≡ false → (6 ≡ solved q N s e) × (key ≡ written q N s e key)
+    unfolding solved written
+    both-zero n2 = rw (← e1, not-false r1 n1, ← e2, not-false r2 n2) (refl, refl)
+
+-- ---- the kind and the output
+
+module _ (P : Parameters) (m : ℕ) (x : Openings) where
+  open Parameters P using (q, N, k)
+
+  abbrev s : Setting
+  s = setting q N k (pairs P m x)
+
+  abbrev one : Answer1
+  one = answer1Of N (x .answer1)
+
+  abbrev two : Answer2
+  two = answer2Of N (x .answer2)
+
+  abbrev three : Answer3
+  three = answer3Of N (x .answer3)
+
+  abbrev agree1 : Bool
+  agree1 = same (one-by2 s two) (one-by3 s three)
+
+  abbrev agree2 : Bool
+  agree2 = same (two-by1 s one) (two-by3 s three)
+
+  abbrev agree3 : Bool
+  agree3 = same (three-by1 s one) (three-by2 s two)
+
+  abbrev pub lowest : ℕ
+  lowest = differing s one two three
+
+  abbrev pub keyBytes : Bytes
+  keyBytes = ternaryBytes q N (polynomial N (unknowns P m x) 0) ++ (ternaryBytes q N (polynomial N (unknowns P m x) 1) ++ zeros (22 * N))
+
+  -- a digest's strings differ
+  by-digest : (b1 b2 b3 : Bool) (rest d : ℕ) → d ≡ cond (not b1) 1 (cond (not b2) 2 (cond (not b3) 3 0)) → d ≢ 0 → (d ≡ cond (not b1) 1 (cond (not b2) 2 (cond (not b3) 3 rest))) × (d < 4)
+  by-digest false b2 b3 rest d e h = (e, omega arith)
+  by-digest true false b3 rest d e h = (e, omega arith)
+  by-digest true true false rest d e h = (e, omega arith)
+  by-digest true true true rest d e h = absurd (h e)
+
+  pub digest-found : (d : ℕ) → d ≡ lowest → d ≢ 0 → (d ≡ kind P m x) × (zeros (24 * N) ≡ extracted P m x)
+  unfolding differing kind solved
+  digest-found d e h =
+      let r = by-digest agree1 agree2 agree3 (solved q N (vector-s P m x) (vector-e P m x)) d e h in
+      (r .0, sym (collision-written P m x (rw (← (r .0)) (r .1))))
+
+  -- no digest's strings differ
+  by-vectors : (b1 b2 b3 : Bool) (rest : ℕ) → _≡_ {A = ℕ} 0 (cond (not b1) 1 (cond (not b2) 2 (cond (not b3) 3 0))) → rest ≡ cond (not b1) 1 (cond (not b2) 2 (cond (not b3) 3 rest))
+  by-vectors false b2 b3 rest e = absurd (omega arith)
+  by-vectors true false b3 rest e = absurd (omega arith)
+  by-vectors true true false rest e = absurd (omega arith)
+  by-vectors true true true rest e = refl
+
+  by-kind : (z s e y : Bytes) (b4 b5 : Bool) (n : ℕ) → cond (not b4) 4 (cond (not b5) 5 6) ≡ n → cond (not b4) s (cond (not b5) e y) ≡ cond (ltb n 4) z (cond (ltb n 5) s (cond (ltb n 6) e y))
+  by-kind z s e y false b5 n h = rw (← h)
+  by-kind z s e y true false n h = rw (← h)
+  by-kind z s e y true true n h = rw (← h)
+
+  pub none-found : 0 ≡ lowest → solved q N (vector-s P m x) (vector-e P m x) ≡ kind P m x
+  unfolding differing kind solved
+  none-found e = by-vectors agree1 agree2 agree3 (solved q N (vector-s P m x) (vector-e P m x)) e
+
+  pub none-written : 0 ≡ lowest → written q N (vector-s P m x) (vector-e P m x) keyBytes ≡ extracted P m x
+  unfolding extracted solved written
+  none-written e = by-kind (zeros (24 * N)) (threeBytes q N (vector-s P m x)) (threeBytes q N (vector-e P m x)) keyBytes (isZero q N (vector-s P m x)) (isZero q N (vector-e P m x)) (kind P m x) (none-found e)
+
+  -- the pairs of the head, and extended + R and R, lent with lengths that are differences of places
+  pub lent-digest : (i : ℕ) → i ≡ 64 * N → differing (setting q N k (take i (drop (16 * N) (x .head)))) one two three ≡ lowest
+  lent-digest i e = ap (λ (j : ℕ). differing (setting q N k (take j (drop (16 * N) (x .head)))) one two three) e
+
+  module _ (i : ℕ) (e : i ≡ 336 * N) where
+    abbrev z : ℕ → List ℕ
+    z j = unknownsOf q N (take j (drop (168 * N) (x .answer2))) (take j (drop (168 * N) (x .answer3)))
+
+    abbrev for-s : ℕ → Three
+    for-s j = lessUnknowns q N (open0 P m x .rs) (open1 P m x .rs) (z j) 2
+
+    abbrev for-e : ℕ → Three
+    for-e j = lessUnknowns q N (open0 P m x .re) (open1 P m x .re) (z j) 8
+
+    pub lent-solved : solved q N (for-s i) (for-e i) ≡ solved q N (vector-s P m x) (vector-e P m x)
+    lent-solved = ap (λ (j : ℕ). solved q N (for-s j) (for-e j)) e
+
+    pub lent-written : written q N (for-s i) (for-e i) (ternaryBytes q N (polynomial N (z i) 0) ++ (ternaryBytes q N (polynomial N (z i) 1) ++ zeros (22 * N)))
+        ≡ written q N (vector-s P m x) (vector-e P m x) keyBytes
+    lent-written = ap (λ (j : ℕ). written q N (for-s j) (for-e j) (ternaryBytes q N (polynomial N (z j) 0) ++ (ternaryBytes q N (polynomial N (z j) 1) ++ zeros (22 * N)))) e
+
+-- ---- only q, N, the public polynomials, the head, the openings and the answers enter
+
+-- parameters with only these
+abbrev bare : (q N : ℕ) → Keys → Parameters
+bare q N k = record { q = q; N = N; p = 0; B = 0; D = 0; repeats = 0; a = λ i. 0; b = λ i. 0; k = k }
+
+module _ (P P' : Parameters) (m m' : ℕ) (x x' : Openings) (eq : P .q ≡ P' .q) (en : P .N ≡ P' .N) (ek : P .k ≡ P' .k) (head : x .head ≡ x' .head) (opening0 : x .opening0 ≡ x' .opening0)
+    (opening1 : x .opening1 ≡ x' .opening1) (answer1 : x .answer1 ≡ x' .answer1) (answer2 : x .answer2 ≡ x' .answer2) (answer3 : x .answer3 ≡ x' .answer3) where
+  pub kind-alike : kind P m x ≡ kind P' m' x'
+  unfolding kind
+  kind-alike = λ i. kind (bare (eq i) (en i) (ek i)) 0 (openingsOf (head i) (opening0 i) (opening1 i) (answer1 i) (answer2 i) (answer3 i))
+
+  pub extracted-alike : extracted P m x ≡ extracted P' m' x'
+  unfolding kind extracted
+  extracted-alike = λ i. extracted (bare (eq i) (en i) (ek i)) 0 (openingsOf (head i) (opening0 i) (opening1 i) (answer1 i) (answer2 i) (answer3 i))

@@ -1,0 +1,56 @@
+-- What inner functions work out: the lowest digest whose strings differ, the unknowns, and what they leave of two openings. No public contract cites this file. Assumes
+-- nothing.
+use mathlib.Core.Path.{_≡_}
+use mathlib.Core.Bool.{true, cond, not}
+use mathlib.Core.List.{List}
+use Prim.Native.Nat.{ℕ, _+_, _*_}
+use lib.ListN.{length, getD, take}
+use Rattle.codec.specs.Bytes.{Bytes, same}
+use Rattle.ring.specs.Poly.{Poly, plus, minus}
+use Rattle.ring.specs.Slots.{allBelow}
+use Rattle.ring.specs.Ternary.{ternary}
+use Rattle.commitment.specs.Commitment.{Three, threeOf, plus3, minus3}
+use Rattle.vector.specs.Vector.{vector, subtract}
+use Rattle.stern.specs.Argument.{Setting, Answer1, Answer2, Answer3, one-by2, one-by3, two-by1, two-by3, three-by1, three-by2}
+use Rattle.stern.specs.Shortness.{threeFrom}
+use Rattle.transcript.specs.Extractor.{threeBytes, isZero}
+
+-- ---- collisions
+
+-- the lowest digest whose two strings differ, 0 if there is none
+unfoldable pub differing : Setting → Answer1 → Answer2 → Answer3 → ℕ
+differing s a b c =
+    cond (not (same (one-by2 s b) (one-by3 s c))) 1
+    (cond (not (same (two-by1 s a) (two-by3 s c))) 2
+    (cond (not (same (three-by1 s a) (three-by2 s b))) 3 0))
+
+-- ---- the unknowns
+
+-- extended + R and R, in range
+pub record Masked (q N : ℕ) (u r : Bytes) : Type 0 where
+  pub sized-u : length u ≡ 336 * N
+  pub sized-r : length r ≡ 336 * N
+  pub below-u : allBelow q (vector u) ≡ true
+  pub below-r : allBelow q (vector r) ≡ true
+
+-- what they give
+abbrev pub unknownsOf : (q N : ℕ) (u r : Bytes) → List ℕ
+unknownsOf q N u r = take (14 * N) (subtract q (vector u) (vector r))
+
+-- two openings' summed r, in ternary bytes, less the summed r of unknowns: the three from polynomial j on and the three behind them
+abbrev pub lessUnknowns : (q N : ℕ) (r0 r1 : Bytes) → List ℕ → ℕ → Three
+lessUnknowns q N r0 r1 z j = minus3 q (plus3 (threeOf q N r0) (threeOf q N r1)) (plus3 (threeFrom N z j) (threeFrom N z (j + 3)))
+
+-- the same as 3N numbers side by side, from a number of the unknowns on
+unfoldable pub from : List ℕ → ℕ → Poly
+from z first = λ i. getD z (first + i) 0
+
+unfoldable pub excess : (q N : ℕ) (r0 r1 : Bytes) → List ℕ → ℕ → Poly
+excess q N r0 r1 z first = minus q (plus (ternary q r0) (ternary q r1)) (plus (from z first) (from z (first + 3 * N)))
+
+-- 4, 5, 6: the vector for s, else the vector for e, else the key; and what is written
+unfoldable pub solved : (q N : ℕ) (s e : Three) → ℕ
+solved q N s e = cond (not (isZero q N s)) 4 (cond (not (isZero q N e)) 5 6)
+
+unfoldable pub written : (q N : ℕ) (s e : Three) → Bytes → Bytes
+written q N s e key = cond (not (isZero q N s)) (threeBytes q N s) (cond (not (isZero q N e)) (threeBytes q N e) key)
