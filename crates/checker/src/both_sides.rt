@@ -1,7 +1,7 @@
 // The tests of the extractor: 5, 6; for side 0 and then side 1 7, 8 and by ballot 12, 13; then for the three answers of a repetition 9, 10, 11.
 use crate::openings::splits;
 use crate::openings::test_side;
-use crate::ranges::answer_ranged;
+use answers::layout::answer_ranged;
 use crate::ranges::message_ranged;
 use crate::ranges::opening_ranged;
 use codec::Reply;

@@ -10,23 +10,6 @@ ghost use Rattle.stern.specs.Shortness.{answerLength, inRange};
 ghost use Rattle.transcript.specs.Layout.{all, ballotLength, uAt, answersLength, answerAt};
 ghost use Rattle.transcript.specs.Round.{isChallenge};
 
-// Whether u and v of each ballot are below q.
-pub fn ballots_ranged(ballots: &[u8], count: usize, n: usize, q: u64) -> bool
-    requires { ⌜ (n ≤ 2048) × (count ≤ 4096) × (length (now ballots) ≡ ballotLength n * count) ⌝ }
-    ensures { λ r. ⌜ r ≡ all count (λ j. allBelow q (list (2 * n) (uAt n (now (ballots .entry)) j))) ⌝ }
-{
-    let mut j = 0;
-    let mut at = 0;
-    while j < count {
-        if !ring::in_range(&ballots[at + 4..at + 4 + 16 * n], q) {
-            return false;
-        }
-        j += 1;
-        at += 4 + 16 * n;
-    }
-    true
-}
-
 // Whether b0, b1 and the committed pairs, with which the head of a first message begins, are below q.
 pub fn head_ranged(head: &[u8], n: usize, q: u64) -> bool
     requires { ⌜ (n ≤ 2048) × (80 * n ≤ length (now head)) ⌝ }
@@ -46,20 +29,6 @@ pub fn opening_ranged(opening: &[u8], n: usize, q: u64) -> bool
     ring::is_ternary(&opening[16 * n..22 * n])
 }
 
-// Whether the numbers of an answer to a challenge are in range.
-pub fn answer_ranged(challenge: u8, answer: &[u8], n: usize, q: u64) -> bool
-    requires { ⌜ (n ≤ 2048) × (length (now answer) ≡ answerLength n challenge) ⌝ }
-    ensures { λ r. ⌜ r ≡ inRange q n challenge (now (answer .entry)) ⌝ }
-{
-    if challenge == 1 {
-        if !ring::is_ternary(&answer[0..42 * n]) {
-            return false;
-        }
-        return ring::in_range(&answer[42 * n..378 * n], q);
-    }
-    ring::in_range(&answer[168 * n..504 * n], q)
-}
-
 // Whether a challenge is 1, 2 or 3, and the numbers of its answer are in range.
 pub fn challenge_ranged(challenge: u8, answer: &[u8], n: usize, q: u64) -> bool
     requires { ⌜ (n ≤ 2048) × (length (now answer) ≡ answerLength n challenge) ⌝ }
@@ -71,7 +40,7 @@ pub fn challenge_ranged(challenge: u8, answer: &[u8], n: usize, q: u64) -> bool
     if 3 < challenge {
         return false;
     }
-    answer_ranged(challenge, answer, n, q)
+    answers::layout::answer_ranged(challenge, answer, n, q)
 }
 
 // Whether every challenge and every answer, end to end, is in range.
@@ -83,7 +52,7 @@ pub fn answers_ranged(challenges: &[u8], answers: &[u8], repeats: usize, n: usiz
     let mut at = 0;
     while i < repeats {
         let challenge = challenges[i];
-        let end = at + transcript::repetitions::answer_length(n, challenge);
+        let end = at + answers::layout::answer_length(n, challenge);
         if !challenge_ranged(challenge, &answers[at..end], n, q) {
             return false;
         }
@@ -107,7 +76,7 @@ pub fn message_ranged(
     requires { ⌜ (n ≤ 2048) × (count ≤ 4096) × (length (now ballots) ≡ ballotLength n * count) × (80 * n ≤ length (now head)) ⌝ }
     ensures { λ r. ⌜ r ≡ (all count (λ j. allBelow q (list (2 * n) (uAt n (now (ballots .entry)) j))) && (allBelow 2 (now (claims .entry)) && (allBelow q (list (10 * n) (poly (now (head .entry)))) && (allBelow q (vector (now (shares0 .entry))) && allBelow q (vector (now (shares1 .entry))))))) ⌝ }
 {
-    if !ballots_ranged(ballots, count, n, q) {
+    if !transcript::ranges::ballots_in_range(ballots, count, n, q) {
         return false;
     }
     if !bgv::is_message(claims, 2) {

@@ -2,4 +2,3 @@ pub mod Quiet
 pub mod Sequence
 pub mod Unread
 pub mod Usable
-pub mod Walk

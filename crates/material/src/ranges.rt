@@ -3,25 +3,7 @@ ghost use mathlib.Core.Path.{_≡_};
 ghost use Prim.Native.Nat.{_*_, _≤_};
 ghost use lib.ListN.{length};
 ghost use Rattle.transcript.specs.Layout.{ballotLength};
-ghost use Rattle.material.specs.Parts.{ballotsBelow, materialBelow};
-
-// Whether u and v of every ballot are in range.
-pub fn ballots_in_range(ballots: &[u8], count: usize, n: usize, q: u64) -> bool
-    requires { ⌜ (n ≤ 2048) × (count ≤ 4096) × (length (now ballots) ≡ ballotLength n * count) ⌝ }
-    ensures { λ r. ⌜ r ≡ ballotsBelow q n count (now (ballots .entry)) ⌝ }
-{
-    let mut j = 0;
-    let mut at = 0;
-    while j < count {
-        let end = at + 4 + 16 * n;
-        if !ring::in_range(&ballots[at + 4..end], q) {
-            return false;
-        }
-        j += 1;
-        at = end;
-    }
-    true
-}
+ghost use Rattle.material.specs.Parts.{materialBelow};
 
 // Whether all that the producer is lent is in range; masks and permutations have tests of their own.
 pub fn in_range(
@@ -49,5 +31,5 @@ pub fn in_range(
     if !ring::in_range(vectors, q) {
         return false;
     }
-    ballots_in_range(ballots, count, n, q)
+    transcript::ranges::ballots_in_range(ballots, count, n, q)
 }

@@ -10,9 +10,9 @@ use Rattle.stern.specs.Argument.{Drawn}
 use Rattle.stern.specs.Shortness.{drawnOf, answerLength, honestAnswer}
 use Rattle.transcript.specs.Layout.{joined, answersLength}
 use Rattle.transcript.specs.Method.{parameters}
-use Rattle.transcript.specs.Producer.{producedAnswers}
+use Rattle.transcript.specs.Producer.{producedAnswers, materialOf}
 use Rattle.transcript.proofs.Answers.{answersLength-append, answersLength-more, length-answers, length-honestAnswer}
-use Rattle.producer.specs.Method.{materialOf, drawnFor, Drawings}
+use Rattle.producer.specs.Method.{drawnFor, Drawings}
 use Rattle.producer.proofs.Drawing.{Placed, placed-first, placed-more, material, drawn-is}
 use Rattle.producer.proofs.Joining.{Filled, filled-first, filled-more, filled-all}
 

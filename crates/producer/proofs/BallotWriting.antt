@@ -14,9 +14,9 @@ use Rattle.bgv.specs.Scheme.{decrypted, other, lentMask, share}
 use Rattle.scheme.specs.Calls.{written}
 use Rattle.transcript.specs.Layout.{joined, ballotLength, uAt, vAt}
 use Rattle.transcript.specs.Method.{parameters}
-use Rattle.transcript.specs.Producer.{producedShares, producedClaims}
+use Rattle.transcript.specs.Producer.{producedShares, producedClaims, materialOf}
 use Rattle.transcript.proofs.Many.{stretch, length-joined}
-use Rattle.producer.specs.Method.{materialOf, Masked}
+use Rattle.producer.specs.Method.{Masked}
 use Rattle.producer.proofs.Joining.{Filled, filled-first, filled-more, filled-all}
 
 module _ (q n count : ℕ) (secrets s0 masks0 masks1 ballots : Bytes) where

@@ -22,9 +22,8 @@ use Rattle.commitment.proofs.Loading.{pair-asks, pair-made}
 use Rattle.commitment.proofs.Opening.{poly-modulo}
 use Rattle.stern.proofs.Honest.{length-pairBytes}
 use Rattle.transcript.specs.Method.{parameters}
-use Rattle.transcript.specs.Producer.{producedPairs}
+use Rattle.transcript.specs.Producer.{producedPairs, materialOf}
 use Rattle.transcript.proofs.Written.{octets-encode, coefficients-written}
-use Rattle.producer.specs.Method.{materialOf}
 use Rattle.producer.proofs.Joining.{cut}
 
 -- a pair that stands in scratch, written at a place

@@ -17,9 +17,9 @@ use Rattle.scheme.specs.Calls.{written}
 use Rattle.stern.specs.Shortness.{honestDigests}
 use Rattle.transcript.specs.Layout.{joined, headLength}
 use Rattle.transcript.specs.Method.{parameters}
-use Rattle.transcript.specs.Producer.{producedPairs, producedHead, producedOpening}
+use Rattle.transcript.specs.Producer.{producedPairs, producedHead, producedOpening, materialOf}
 use Rattle.transcript.proofs.Many.{stretch}
-use Rattle.producer.specs.Method.{materialOf, drawnFor}
+use Rattle.producer.specs.Method.{drawnFor}
 use Rattle.producer.proofs.Joining.{two-whole}
 
 -- two polynomials side by side

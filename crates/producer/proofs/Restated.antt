@@ -6,8 +6,7 @@ use Rattle.codec.specs.Bytes.{Bytes}
 use Rattle.ring.specs.Poly.{Poly}
 use Rattle.commitment.specs.Commitment.{Keys}
 use Rattle.transcript.specs.Round.{Parameters}
-use Rattle.transcript.specs.Producer.{Material, producedPairs, producedHead, producedShares, producedClaims, producedOpening, producedAnswers}
-use Rattle.producer.specs.Method.{materialOf}
+use Rattle.transcript.specs.Producer.{Material, producedPairs, producedHead, producedShares, producedClaims, producedOpening, producedAnswers, materialOf}
 
 -- the same ring and plaintext modulus, and all else new
 abbrev pub with-other : Parameters → (B D repeats : ℕ) (a b : Poly) (k : Keys) → Parameters

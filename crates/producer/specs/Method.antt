@@ -11,21 +11,6 @@ use Rattle.vector.specs.Permutation.{entries, permutes}
 use Rattle.stern.specs.Argument.{Drawn}
 use Rattle.stern.specs.Shortness.{drawnOf}
 use Rattle.transcript.specs.Layout.{ballotLength, uAt}
-use Rattle.transcript.specs.Producer.{Material}
-
--- the material of a round, from the slices that are lent
-abbrev pub materialOf : (secrets s0 e0 masks0 masks1 vectors permutations salts ballots : Bytes) → Material
-materialOf secrets s0 e0 masks0 masks1 vectors permutations salts ballots = record {
-  secrets = secrets;
-  s0 = s0;
-  e0 = e0;
-  masks0 = masks0;
-  masks1 = masks1;
-  vectors = vectors;
-  permutations = permutations;
-  salts = salts;
-  ballots = ballots;
-}
 
 -- what is drawn for repetition i
 abbrev pub drawnFor : (N : ℕ) (vectors permutations salts : Bytes) → ℕ → Drawn

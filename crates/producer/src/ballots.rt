@@ -12,8 +12,8 @@ ghost use Rattle.call.specs.Call.{scratchLength, Public};
 ghost use Rattle.bgv.specs.Scheme.{decrypted, other, lentMask, share};
 ghost use Rattle.scheme.specs.Calls.{written};
 ghost use Rattle.transcript.specs.Method.{parameters};
-ghost use Rattle.transcript.specs.Producer.{producedShares, producedClaims};
-ghost use Rattle.producer.specs.Method.{materialOf, Masked};
+ghost use Rattle.transcript.specs.Producer.{producedShares, producedClaims, materialOf};
+ghost use Rattle.producer.specs.Method.{Masked};
 
 // One ballot where it stands, with its masks at the place of its shares.
 fn ballot_at(

@@ -14,8 +14,8 @@ ghost use Rattle.commitment.specs.Commitment.{PublicKeys};
 ghost use Rattle.scheme.specs.Calls.{written};
 ghost use Rattle.transcript.specs.Layout.{headLength};
 ghost use Rattle.transcript.specs.Method.{parameters};
-ghost use Rattle.transcript.specs.Producer.{producedHead};
-ghost use Rattle.producer.specs.Method.{materialOf, Drawings};
+ghost use Rattle.transcript.specs.Producer.{producedHead, materialOf};
+ghost use Rattle.producer.specs.Method.{Drawings};
 
 // The keys b0 and b1 of the halves.
 fn write_keys(

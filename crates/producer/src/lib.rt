@@ -1,10 +1,10 @@
 // What the producer of a round writes once its material passed all tests (document 01, "One round", third paragraph): crates/transcript/specs/Producer.antt.
-mod answers;
 mod ballots;
 mod digests;
 mod head;
 mod opening;
 mod pairs;
+mod repetitions;
 mod shares;
 
 ghost use mathlib.Core.Path.{_≡_};
@@ -15,8 +15,8 @@ ghost use Rattle.call.specs.Call.{scratchLength, Public};
 ghost use Rattle.commitment.specs.Commitment.{PublicKeys};
 ghost use Rattle.transcript.specs.Layout.{headLength, answersLength};
 ghost use Rattle.transcript.specs.Method.{parameters};
-ghost use Rattle.transcript.specs.Producer.{producedHead, producedShares, producedClaims, producedOpening, producedAnswers};
-ghost use Rattle.producer.specs.Method.{materialOf, Drawings, Masked};
+ghost use Rattle.transcript.specs.Producer.{producedHead, producedShares, producedClaims, producedOpening, producedAnswers, materialOf};
+ghost use Rattle.producer.specs.Method.{Drawings, Masked};
 
 // The first message and the claims.
 pub fn write_first(
@@ -92,7 +92,7 @@ pub fn write_second(
     ensures { λ _. ⌜ length (now (work .exit)) ≡ length (now (work .entry)) ⌝ }
 {
     opening::write_opening(opening, work, secrets, s0, e0, side, n, q);
-    answers::write_answers(
+    repetitions::write_answers(
         answers,
         challenges,
         secrets,

@@ -10,8 +10,7 @@ ghost use Rattle.call.specs.Call.{scratchLength, Public};
 ghost use Rattle.bgv.specs.Scheme.{other};
 ghost use Rattle.scheme.specs.Calls.{written};
 ghost use Rattle.transcript.specs.Method.{parameters};
-ghost use Rattle.transcript.specs.Producer.{producedOpening};
-ghost use Rattle.producer.specs.Method.{materialOf};
+ghost use Rattle.transcript.specs.Producer.{producedOpening, materialOf};
 
 // The halves that were lent.
 fn lent_halves(opening: &mut [u8], s0: &[u8], e0: &[u8], n: usize, q: u64)

@@ -10,8 +10,7 @@ ghost use Rattle.call.specs.Call.{scratchLength, Public};
 ghost use Rattle.bgv.specs.Scheme.{other};
 ghost use Rattle.commitment.specs.Commitment.{keysOf, threeOf, committed, pairBytes, PublicKeys, PairStands};
 ghost use Rattle.transcript.specs.Method.{parameters};
-ghost use Rattle.transcript.specs.Producer.{producedPairs};
-ghost use Rattle.producer.specs.Method.{materialOf};
+ghost use Rattle.transcript.specs.Producer.{producedPairs, materialOf};
 
 // Writes the pair that stands in scratch out: its first half at the head, its second where the message stood.
 fn write_halves(out: &mut [u8], at: usize, work: &[u8], n: usize)

@@ -22,20 +22,6 @@ countOf N ballots = length ballots / ballotLength N
 abbrev pub lengthsTest : (m : ℕ) → Bool → Test
 lengthsTest m sized = test 1 0 (not (leb m 4096 && sized))
 
--- what the producer is lent, by its slices
-abbrev pub materialOf : (secrets s0 e0 masks0 masks1 vectors permutations salts ballots : Bytes) → Material
-materialOf secrets s0 e0 masks0 masks1 vectors permutations salts ballots = record {
-  secrets = secrets;
-  s0 = s0;
-  e0 = e0;
-  masks0 = masks0;
-  masks1 = masks1;
-  vectors = vectors;
-  permutations = permutations;
-  salts = salts;
-  ballots = ballots;
-}
-
 -- ---- lengths
 
 module _ (N repeats : ℕ) where

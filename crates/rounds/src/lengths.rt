@@ -5,7 +5,8 @@ ghost use mathlib.Core.Bool.{_&&_};
 ghost use lib.Dec.{leb};
 ghost use lib.ListN.{length};
 ghost use Rattle.transcript.specs.Layout.{ballotLength, answersLength};
-ghost use Rattle.rounds.specs.Calls.{countOf, materialOf, materialSized, firstSized, secondSized, messageSized, openingsSized};
+ghost use Rattle.transcript.specs.Producer.{materialOf};
+ghost use Rattle.rounds.specs.Calls.{countOf, materialSized, firstSized, secondSized, messageSized, openingsSized};
 
 // The product of two small numbers.
 fn times(a: usize, b: usize) -> usize
@@ -104,7 +105,7 @@ fn answers_length(challenges: &[u8], n: usize) -> usize
     let mut i = 0;
     let mut sum = 0;
     while i < challenges.len() {
-        sum += transcript::repetitions::answer_length(n, challenges[i]);
+        sum += answers::layout::answer_length(n, challenges[i]);
         i += 1;
     }
     sum

@@ -12,7 +12,8 @@ ghost use lib.ListN.{length};
 ghost use Rattle.codec.specs.Reply.{first, leaves};
 ghost use Rattle.call.specs.Call.{Public, swept};
 ghost use Rattle.transcript.specs.Method.{parameters};
-ghost use Rattle.rounds.specs.Calls.{materialOf, firstTests, secondTests};
+ghost use Rattle.transcript.specs.Producer.{materialOf};
+ghost use Rattle.rounds.specs.Calls.{firstTests, secondTests};
 
 // What the first call refuses: 1, and then what the material is refused for.
 fn first_tests(

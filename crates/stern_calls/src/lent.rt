@@ -37,18 +37,6 @@ pub fn ring_fits(n: usize, q: u64) -> bool
     q < 72057594037927936
 }
 
-// The length of the answer to a challenge.
-pub fn answer_length(n: usize, challenge: u8) -> usize
-    requires { ⌜ n ≤ 2048 ⌝ }
-    ensures { λ r. ⌜ r ≡ answerLength n challenge ⌝ }
-{
-    if challenge == 1 {
-        378 * n + 64
-    } else {
-        504 * n + 64
-    }
-}
-
 // Whether what is lent for a repetition has its lengths, with an output of so many bytes.
 pub fn material_sized(
     x: &[u8],
@@ -92,20 +80,6 @@ pub fn material_ranged(x: &[u8], r: &[u8], p: &[u8], scratch: &mut [u8], n: usiz
         return refused(9);
     }
     Reply::Taken
-}
-
-// Whether the numbers of an answer are in range.
-pub fn answer_ranged(challenge: u8, answer: &[u8], n: usize, q: u64) -> bool
-    requires { ⌜ (n ≤ 2048) × (length (now answer) ≡ answerLength n challenge) ⌝ }
-    ensures { λ b. ⌜ b ≡ inRange q n challenge (now (answer .entry)) ⌝ }
-{
-    if challenge == 1 {
-        if !ring::is_ternary(&answer[0..42 * n]) {
-            return false;
-        }
-        return ring::in_range(&answer[42 * n..378 * n], q);
-    }
-    ring::in_range(&answer[168 * n..504 * n], q)
 }
 
 // Whether the slices of a test have their lengths.
@@ -152,5 +126,5 @@ pub fn test_ranged(
     if !ring::in_range(pairs, q) {
         return false;
     }
-    answer_ranged(challenge, answer, n, q)
+    answers::layout::answer_ranged(challenge, answer, n, q)
 }

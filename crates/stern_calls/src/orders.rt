@@ -1,5 +1,5 @@
 // The tests of a call in their order: specs/Calls.antt.
-use crate::lent::answer_length;
+use answers::layout::answer_length;
 use crate::lent::material_ranged;
 use crate::lent::material_sized;
 use crate::lent::refused;

@@ -19,4 +19,5 @@ pub mod Ranged
 pub mod Refuses
 pub mod RepetitionLoop
 pub mod Tests
+pub mod Walk
 pub mod Written

@@ -32,6 +32,20 @@ pub record Material : Type 0 where
   pub salts : Bytes
   pub ballots : Bytes
 
+-- the same from the slices one by one
+abbrev pub materialOf : (secrets s0 e0 masks0 masks1 vectors permutations salts ballots : Bytes) → Material
+materialOf secrets s0 e0 masks0 masks1 vectors permutations salts ballots = record {
+  secrets = secrets;
+  s0 = s0;
+  e0 = e0;
+  masks0 = masks0;
+  masks1 = masks1;
+  vectors = vectors;
+  permutations = permutations;
+  salts = salts;
+  ballots = ballots;
+}
+
 module _ (P : Parameters) (m : ℕ) (x : Material) where
   open Parameters P using (q, N, p, B, D, repeats, a, b, k)
 

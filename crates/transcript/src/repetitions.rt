@@ -14,18 +14,6 @@ ghost use Rattle.stern.specs.Shortness.{answerLength, inRange, answerTests};
 ghost use Rattle.transcript.specs.Layout.{each, headLength, pairsOf, digestsAt, answerAt};
 ghost use Rattle.transcript.specs.Method.{Answers};
 
-// How many bytes the answer to a challenge has; a challenge out of range counts as 3.
-pub fn answer_length(n: usize, challenge: u8) -> usize
-    requires { ⌜ n ≤ 2048 ⌝ }
-    ensures { λ r. ⌜ r ≡ answerLength n challenge ⌝ }
-{
-    if challenge == 1 {
-        378 * n + 64
-    } else {
-        504 * n + 64
-    }
-}
-
 // One repetition where its digests and its answer stand.
 pub fn test_at(
     work: &mut [u8],
@@ -77,7 +65,7 @@ pub fn test_repetitions(
     let mut at = 0;
     while i < repeats {
         let challenge = challenges[i];
-        let size = answer_length(n, challenge);
+        let size = answers::layout::answer_length(n, challenge);
         let reply = test_at(
             work,
             k,

@@ -8,7 +8,7 @@ use borrow.Author.Tests.{not-true, not-false}
 use Rattle.codec.specs.Bytes.{Bytes, part}
 use Rattle.bgv.specs.Scheme.{lentMask, within}
 use Rattle.stern.proofs.Answered.{lent-length}
-use Rattle.material.proofs.Walk.{Walked, walked-first, walked-more, walked-ends, walked-refused, walked-taken}
+use Rattle.transcript.proofs.Walk.{Walked, walked-first, walked-more, walked-ends, walked-refused, walked-taken}
 use Rattle.material.proofs.masks.test_masks.Statement.{statement}
 use Rattle.material.proofs.masks.test_masks.Tie as tie
 

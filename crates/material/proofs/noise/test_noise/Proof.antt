@@ -13,7 +13,7 @@ use Rattle.ring.proofs.Ranges.{below-sound}
 use Rattle.bgv.specs.Scheme.{centred, opened, within}
 use Rattle.transcript.specs.Layout.{ballotLength, uAt}
 use Rattle.transcript.proofs.Many.{all-sound}
-use Rattle.material.proofs.Walk.{Walked, walked-first, walked-more, walked-ends, walked-refused, walked-taken}
+use Rattle.transcript.proofs.Walk.{Walked, walked-first, walked-more, walked-ends, walked-refused, walked-taken}
 use Rattle.material.proofs.noise.test_noise.Statement.{statement}
 use Rattle.material.proofs.noise.test_noise.Tie as tie
 

@@ -9,7 +9,7 @@ use Rattle.codec.specs.Bytes.{Bytes, part, put, zeros}
 use Rattle.codec.proofs.Laws.{length-put}
 use Rattle.vector.specs.Permutation.{entries, permutes}
 use Rattle.stern.proofs.Answered.{lent-length}
-use Rattle.material.proofs.Walk.{Walked, walked-first, walked-more, walked-ends, walked-refused, walked-taken}
+use Rattle.transcript.proofs.Walk.{Walked, walked-first, walked-more, walked-ends, walked-refused, walked-taken}
 use Rattle.material.proofs.permutations.test_permutations.Statement.{statement}
 use Rattle.material.proofs.permutations.test_permutations.Tie as tie
 

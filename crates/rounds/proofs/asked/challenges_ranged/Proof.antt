@@ -6,7 +6,7 @@ use borrow.Author.Needs.{needs}
 use borrow.Author.Tests.{not-true, not-false}
 use lib.ListN.{length, getD}
 use Rattle.transcript.specs.Round.{isChallenge}
-use Rattle.material.proofs.Walk.{Walked, walked-first, walked-more, walked-fails, walked-holds}
+use Rattle.transcript.proofs.Walk.{Walked, walked-first, walked-more, walked-fails, walked-holds}
 use Rattle.rounds.proofs.asked.challenges_ranged.Statement.{statement}
 use Rattle.rounds.proofs.asked.challenges_ranged.Tie as tie
 

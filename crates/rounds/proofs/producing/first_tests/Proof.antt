@@ -8,10 +8,10 @@ use borrow.Author.Needs.{needs}
 use borrow.Author.Tests.{not-true, not-false}
 use Rattle.codec.specs.Reply.{Test, first}
 use Rattle.transcript.specs.Round.{Parameters}
-use Rattle.transcript.specs.Producer.{Material, producerTests}
+use Rattle.transcript.specs.Producer.{Material, producerTests, materialOf}
 use Rattle.transcript.specs.Method.{parameters}
 use Rattle.material.proofs.Unread.{tests-lent, lengths-lent}
-use Rattle.rounds.specs.Calls.{materialOf, materialSized, firstSized, firstTests}
+use Rattle.rounds.specs.Calls.{materialSized, firstSized, firstTests}
 use Rattle.rounds.proofs.Sizes.{too-many, wrong-first, wrong-second, right, material-sizes, first-sizes}
 use Rattle.rounds.proofs.Swept.{later-material, swept-alike}
 use Rattle.rounds.proofs.producing.first_tests.Statement.{statement}

@@ -11,10 +11,10 @@ use lib.Dec.{ltb}
 use lib.ListN.{getD}
 use Rattle.transcript.specs.Layout.{all}
 use Rattle.transcript.specs.Round.{Parameters, isChallenge}
-use Rattle.transcript.specs.Producer.{Material, askedRanged, producerTests}
+use Rattle.transcript.specs.Producer.{Material, askedRanged, producerTests, materialOf}
 use Rattle.transcript.specs.Method.{parameters}
 use Rattle.material.proofs.Unread.{tests-lent, lengths-lent}
-use Rattle.rounds.specs.Calls.{materialOf, materialSized, secondSized, secondTests}
+use Rattle.rounds.specs.Calls.{materialSized, secondSized, secondTests}
 use Rattle.rounds.proofs.Sizes.{too-many, wrong-first, wrong-second, right, material-sizes, second-sizes}
 use Rattle.rounds.proofs.Swept.{later-material, swept-alike}
 use Rattle.rounds.proofs.producing.second_tests.Statement.{statement}

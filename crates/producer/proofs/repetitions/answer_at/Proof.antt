@@ -1,4 +1,4 @@
--- `answers::answer_at` meets its contract. Assumes nothing.
+-- `repetitions::answer_at` meets its contract. Assumes nothing.
 use mathlib.Core.Path.{_≡_, ap, _∙_}
 use Prim.Native.Nat.{_+_, _-_, _*_}
 use native.Mathlib.Omega.{arith}
@@ -10,8 +10,8 @@ use Rattle.stern.specs.Argument.{Drawn}
 use Rattle.stern.specs.Shortness.{honestAnswer}
 use Rattle.stern.proofs.Answered.{lent-length}
 use Rattle.producer.proofs.Drawing.{material-lent, drawn-lent}
-use Rattle.producer.proofs.answers.answer_at.Statement.{statement}
-use Rattle.producer.proofs.answers.answer_at.Tie as tie
+use Rattle.producer.proofs.repetitions.answer_at.Statement.{statement}
+use Rattle.producer.proofs.repetitions.answer_at.Tie as tie
 
 write-answer-requires : tie.Need-write-answer-requires
 write-answer-requires c κs =

@@ -11,10 +11,10 @@ use Rattle.ring.specs.Slots.{poly, slot, list, allBelow}
 use Rattle.ring.proofs.Bridge.{list-cong, poly-part}
 use Rattle.call.proofs.Ranges.{whole-range}
 use Rattle.stern.proofs.Answered.{lent-length}
 use Rattle.transcript.specs.Layout.{ballotLength, uAt}
-use Rattle.material.proofs.Walk.{Walked, walked-first, walked-more, walked-ends, walked-fails, walked-holds}
-use Rattle.material.proofs.ranges.ballots_in_range.Statement.{statement}
-use Rattle.material.proofs.ranges.ballots_in_range.Tie as tie
+use Rattle.transcript.proofs.Walk.{Walked, walked-first, walked-more, walked-ends, walked-fails, walked-holds}
+use Rattle.transcript.proofs.ranges.ballots_in_range.Statement.{statement}
+use Rattle.transcript.proofs.ranges.ballots_in_range.Tie as tie
 
 abbrev Inv-loop : tie.InvT-loop
 Inv-loop ballots count n q j₀ at₀ j at = Walked (λ i. allBelow q (list (2 * n) (uAt n ballots i))) (ballotLength n) count j at

@@ -1,4 +1,4 @@
--- `ranges::answer_ranged` meets its contract. Assumes nothing.
+-- `layout::answer_ranged` meets its contract. Assumes nothing.
 use mathlib.Core.Path.{_≡_, refl, sym, ap, _∙_}
 use mathlib.Core.Bool.{Bool, true, false, cond, _&&_}
 use Prim.Native.Nat.{ℕ, _-_, _*_}
@@ -12,8 +12,8 @@ use Rattle.ring.specs.Slots.{allBelow}
 use Rattle.vector.specs.Vector.{vector}
 use Rattle.stern.specs.Shortness.{answer1Of, answer2Of}
 use Rattle.stern.proofs.Answered.{chosen1, answer-long, answer-longer}
-use Rattle.checker.proofs.ranges.answer_ranged.Statement.{statement}
-use Rattle.checker.proofs.ranges.answer_ranged.Tie as tie
+use Rattle.answers.proofs.layout.answer_ranged.Statement.{statement}
+use Rattle.answers.proofs.layout.answer_ranged.Tie as tie
 
 part-is-ternary-end : tie.Need-part-is-ternary-end
 part-is-ternary-end c = let a = c .before .before .args in let l = c .before .before .pre .1 ∙ answer-long (a .n) (a .challenge) (c .if1 .taken) in search needs

@@ -7,20 +7,8 @@ ghost use Rattle.codec.specs.Bytes.{part, put};
 ghost use Rattle.stern.specs.Shortness.{Material, drawnOf, answerLength, honestAnswer};
 ghost use Rattle.transcript.specs.Layout.{answersLength};
 ghost use Rattle.transcript.specs.Method.{parameters};
-ghost use Rattle.transcript.specs.Producer.{producedAnswers};
-ghost use Rattle.producer.specs.Method.{materialOf, Drawings};
-
-// How many bytes the answer to a challenge has; a challenge out of range counts as 3.
-fn answer_length(n: usize, challenge: u8) -> usize
-    requires { ⌜ n ≤ 2048 ⌝ }
-    ensures { λ r. ⌜ r ≡ answerLength n challenge ⌝ }
-{
-    if challenge == 1 {
-        378 * n + 64
-    } else {
-        504 * n + 64
-    }
-}
+ghost use Rattle.transcript.specs.Producer.{producedAnswers, materialOf};
+ghost use Rattle.producer.specs.Method.{Drawings};
 
 // One repetition, at places of what was drawn: its stretch of the buffer is lent on.
 fn answer_at(
@@ -42,7 +30,7 @@ fn answer_at(
     requires { ⌜ Material q n (now secrets) (part (now vectors) vector (336 * n)) (part (now permutations) permutation (168 * n)) (part (now salts) salt 96) ⌝ }
     ensures { λ _. ⌜ now (answers .exit) ≡ put (now (answers .entry)) at (honestAnswer q n (now (secrets .entry)) (drawnOf (part (now (permutations .entry)) permutation (168 * n)) (part (now (vectors .entry)) vector (336 * n)) (part (now (salts .entry)) salt 96)) challenge) ⌝ }
 {
-    stern::writing::write_answer(
+    answers::writing::write_answer(
         &mut answers[at..at + size],
         challenge,
         secrets,
@@ -76,7 +64,7 @@ pub fn write_answers(
     let mut salt = 0;
     while i < repeats {
         let challenge = challenges[i];
-        let size = answer_length(n, challenge);
+        let size = answers::layout::answer_length(n, challenge);
         answer_at(
             answers,
             at,

@@ -1,9 +1,9 @@
--- `repetitions::answer_length` meets its contract. Assumes nothing.
+-- `layout::answer_length` meets its contract. Assumes nothing.
 use mathlib.Core.Path.{sym}
 use borrow.Author.Needs.{needs}
 use Rattle.stern.proofs.Answered.{answer-long, answer-longer}
-use Rattle.transcript.proofs.repetitions.answer_length.Statement.{statement}
-use Rattle.transcript.proofs.repetitions.answer_length.Tie as tie
+use Rattle.answers.proofs.layout.answer_length.Statement.{statement}
+use Rattle.answers.proofs.layout.answer_length.Tie as tie
 
 returns : tie.Need-returns
 returns c = let a = c .before .args in sym (answer-long (a .n) (a .challenge) (c .if1 .taken))

@@ -1,12 +1,12 @@
--- `answers::write_answers` meets its contract. Assumes nothing.
+-- `repetitions::write_answers` meets its contract. Assumes nothing.
 use mathlib.Core.Path.{_≡_, _∙_}
 use Prim.Native.Nat.{_-_}
 use native.Mathlib.Omega.{arith}
 use borrow.Author.Needs.{needs}
 use Rattle.producer.proofs.Answering.{Answering, answering-first, answer-ends, answering-more, answering-all}
 use Rattle.producer.proofs.Drawing.{placed-fit, drawn-ends, material}
-use Rattle.producer.proofs.answers.write_answers.Statement.{statement}
-use Rattle.producer.proofs.answers.write_answers.Tie as tie
+use Rattle.producer.proofs.repetitions.write_answers.Statement.{statement}
+use Rattle.producer.proofs.repetitions.write_answers.Tie as tie
 
 abbrev Inv-loop : tie.InvT-loop
 Inv-loop answers₀ challenges secrets vectors permutations salts repeats n q i₀ at₀ vector₀ permutation₀ salt₀ answers i at vector permutation salt =
