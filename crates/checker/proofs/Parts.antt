@@ -67,7 +67,7 @@ module _ (n side : ℕ) (low : side < 2) where
 
 pub pairs-at : (n q side : ℕ) (k : Keys) (head : Bytes) (o : Opening)
     → (opens q n k (part head (16 * n + 2 * (8 * n * side)) (16 * n)) (threeOf q n (o .rs)) (o .s) && opens q n k (part head (16 * n + 2 * (8 * n * side) + 32 * n) (16 * n)) (threeOf q n (o .re)) (o .e))
-        ≡ (opens q n k (pairAt n head side) (threeOf q n (o .rs)) (o .s) && opens q n k (pairAt n head (2 + side)) (threeOf q n (o .re)) (o .e))
+    ≡ (opens q n k (pairAt n head side) (threeOf q n (o .rs)) (o .s) && opens q n k (pairAt n head (2 + side)) (threeOf q n (o .re)) (o .e))
 pairs-at n q side k head o =
     let e : 16 * n + 2 * (8 * n * side) ≡ 16 * n + 16 * n * side = omega arith in
     let f : 16 * n + 2 * (8 * n * side) + 32 * n ≡ 16 * n + 16 * n * (2 + side) = omega (arith, mul-add (16 * n) 2 side) in
