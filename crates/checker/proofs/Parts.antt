@@ -5,19 +5,19 @@ use mathlib.Core.List.{[], _∷_, _++_}
 use Prim.Native.Nat.{ℕ, _+_, _*_, _≤_, _<_}
 use native.Mathlib.Nat.{mul-zero, mul-one, mul-add}
 use native.Mathlib.Omega.{arith}
-use lib.ListN.{length, take, drop}
+use lib.ListN.{take, drop}
 use Rattle.codec.specs.Bytes.{Bytes, part, same}
 use Rattle.codec.specs.Reply.{test}
 use Rattle.modular.specs.Modulo.{centre}
 use Rattle.modular.specs.Division.{divide}
-use Rattle.ring.specs.Poly.{Poly, plus, minus, mul, modulo, Alike}
+use Rattle.ring.specs.Poly.{Poly, plus, minus, modulo, Alike}
 use Rattle.ring.specs.Slots.{poly, slot, list, encode}
 use Rattle.ring.proofs.Bridge.{encode-alike}
 use Rattle.ring.proofs.Polynomials.{mul-poly-comm, alike-refl, alike-plus}
 use Rattle.call.specs.Call.{Public}
 use Rattle.bgv.specs.Scheme.{key, worked, within, reconstructed}
 use Rattle.bgv.proofs.Form.{noisy-alike}
-use Rattle.commitment.specs.Commitment.{Keys, Three, threeOf, row, opens, pairBytes}
+use Rattle.commitment.specs.Commitment.{Keys, threeOf, row, opens, pairBytes}
 use Rattle.commitment.proofs.Additive.{second-alike}
 use Rattle.transcript.specs.Layout.{Opening, uAt, vAt, shareAt, claimAt, keyAt, pairAt}
 use Rattle.transcript.proofs.Many.{stretch}
