@@ -2,7 +2,7 @@
 use mathlib.Core.Path.{_≡_, refl, sym, ap, ap₂, _∙_}
 use mathlib.Core.Logic.{_≢_}
 use mathlib.Core.Bool.{not}
-use mathlib.Core.List.{List, [], _∷_, _++_, append-assoc}
+use mathlib.Core.List.{List, _∷_, _++_, append-assoc}
 use Prim.Native.Nat.{ℕ, zero, suc, _<_}
 use native.Mathlib.Omega.{arith}
 use Rattle.codec.specs.Bytes.{Bytes}
@@ -20,8 +20,8 @@ use Rattle.transcript.proofs.Many.{first-refused}
 use Rattle.checker.specs.Orders.{rangeParameters, ofSide, splitTest, openingTests, voteTests, sideTests, answersTests, laterTests, bothTests, threeTests}
 
 module _ (rs ts : List Test) {z : Reply} (e : z ≡ first rs) where
-  pub stopped : (number place : ℕ) → z ≡ Refused number place → Refused number place ≡ first (rs ++ ts)
-  stopped number place t = sym (first-refused rs ts number place (sym e ∙ t))
+  pub stopped : (number place : ℕ) → z ≡ Refused number place → z ≡ first (rs ++ ts)
+  stopped number place t = t ∙ sym (first-refused rs ts number place (sym e ∙ t))
 
   pub continued : {y : Reply} → z ≡ Taken → y ≡ first ts → y ≡ first (rs ++ ts)
   continued t f = f ∙ sym (first-append rs ts (taken-exactly rs .0 (sym e ∙ t)))
@@ -75,9 +75,10 @@ module _ (n q bound repeats : ℕ) (a b k : Bytes) (m : ℕ) where
 
   pub extract-order : (x : Openings)
       → test 5 0 (not (lentRanged (parameters 2 n q bound repeats a b k) m x))
-      ∷ (bothTests q n bound m (poly a) (poly b) (keysOf n k) (x .head) (x .shares0) (x .shares1) (x .ballots) (x .claims) (x .opening0) (x .opening1)
+      ∷ splitTest q n (poly b) (x .head)
+      ∷ (bothTests q n bound m (poly a) (keysOf n k) (x .head) (x .shares0) (x .shares1) (x .ballots) (x .claims) (x .opening0) (x .opening1)
       ++ threeTests q n (keysOf n k) (x .head) (x .repetition) (x .answer1) (x .answer2) (x .answer3))
-          ≡ extractTests (parameters 2 n q bound repeats a b k) m x
+      ≡ extractTests (parameters 2 n q bound repeats a b k) m x
   unfolding extractTests splits opensKey opensPairs
   extract-order x =
       ap (λ (l : List Test). test 5 0 (not (lentRanged (parameters 2 n q bound repeats a b k) m x)) ∷ splitTest q n (poly b) (x .head) ∷ l)

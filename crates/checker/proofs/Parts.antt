@@ -5,19 +5,19 @@ use mathlib.Core.List.{[], _∷_, _++_}
 use Prim.Native.Nat.{ℕ, _+_, _*_, _≤_, _<_}
 use native.Mathlib.Nat.{mul-zero, mul-one, mul-add}
 use native.Mathlib.Omega.{arith}
-use lib.ListN.{length, take, drop}
+use lib.ListN.{take, drop}
 use Rattle.codec.specs.Bytes.{Bytes, part, same}
 use Rattle.codec.specs.Reply.{test}
 use Rattle.modular.specs.Modulo.{centre}
 use Rattle.modular.specs.Division.{divide}
-use Rattle.ring.specs.Poly.{Poly, plus, minus, mul, modulo, Alike}
+use Rattle.ring.specs.Poly.{Poly, plus, minus, modulo, Alike}
 use Rattle.ring.specs.Slots.{poly, slot, list, encode}
 use Rattle.ring.proofs.Bridge.{encode-alike}
 use Rattle.ring.proofs.Polynomials.{mul-poly-comm, alike-refl, alike-plus}
 use Rattle.call.specs.Call.{Public}
 use Rattle.bgv.specs.Scheme.{key, worked, within, reconstructed}
 use Rattle.bgv.proofs.Form.{noisy-alike}
-use Rattle.commitment.specs.Commitment.{Keys, Three, threeOf, row, opens, pairBytes}
+use Rattle.commitment.specs.Commitment.{Keys, threeOf, row, opens, pairBytes}
 use Rattle.commitment.proofs.Additive.{second-alike}
 use Rattle.transcript.specs.Layout.{Opening, uAt, vAt, shareAt, claimAt, keyAt, pairAt}
 use Rattle.transcript.proofs.Many.{stretch}
@@ -67,7 +67,7 @@ module _ (n side : ℕ) (low : side < 2) where
 
 pub pairs-at : (n q side : ℕ) (k : Keys) (head : Bytes) (o : Opening)
     → (opens q n k (part head (16 * n + 2 * (8 * n * side)) (16 * n)) (threeOf q n (o .rs)) (o .s) && opens q n k (part head (16 * n + 2 * (8 * n * side) + 32 * n) (16 * n)) (threeOf q n (o .re)) (o .e))
-        ≡ (opens q n k (pairAt n head side) (threeOf q n (o .rs)) (o .s) && opens q n k (pairAt n head (2 + side)) (threeOf q n (o .re)) (o .e))
+    ≡ (opens q n k (pairAt n head side) (threeOf q n (o .rs)) (o .s) && opens q n k (pairAt n head (2 + side)) (threeOf q n (o .re)) (o .e))
 pairs-at n q side k head o =
     let e : 16 * n + 2 * (8 * n * side) ≡ 16 * n + 16 * n * side = omega arith in
     let f : 16 * n + 2 * (8 * n * side) + 32 * n ≡ 16 * n + 16 * n * (2 + side) = omega (arith, mul-add (16 * n) 2 side) in

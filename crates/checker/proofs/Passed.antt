@@ -1,7 +1,7 @@
 -- What is known of the lent parts of a round, and of what the extractor is lent, once the tests of lengths and ranges are passed. Assumes nothing.
-use mathlib.Core.Path.{_≡_, sym, ap, _∙_}
-use mathlib.Core.Bool.{Bool, true, _&&_}
-use Prim.Native.Nat.{ℕ, _+_, _*_, _/_, _^_, _≤_, _<_}
+use mathlib.Core.Path.{_≡_, ap, _∙_}
+use mathlib.Core.Bool.{true, _&&_}
+use Prim.Native.Nat.{ℕ, _+_, _*_, _/_, _≤_, _<_}
 use native.Mathlib.Nat.{mul-assoc}
 use native.Mathlib.Omega.{arith}
 use borrow.Author.Tests.{ltb-true}
@@ -10,21 +10,21 @@ use lib.ListN.{length}
 use Rattle.codec.specs.Bytes.{Bytes, part}
 use Rattle.codec.proofs.Laws.{length-part, both}
 use Rattle.ring.specs.Poly.{Below}
-use Rattle.ring.specs.Slots.{poly, slot, list, allBelow}
+use Rattle.ring.specs.Slots.{poly, list, allBelow}
 use Rattle.ring.proofs.Bridge.{poly-part}
 use Rattle.ring.proofs.Ranges.{below-sound}
 use Rattle.call.specs.Call.{Public}
 use Rattle.vector.specs.Vector.{vector}
-use Rattle.stern.specs.Shortness.{answerLength, inRange}
+use Rattle.stern.specs.Shortness.{inRange}
 use Rattle.stern.proofs.Written.{vector-below}
-use Rattle.transcript.specs.Layout.{all, ballotLength, headLength, uAt, pairsOf, answerAt}
+use Rattle.transcript.specs.Layout.{ballotLength, headLength, uAt, pairsOf, answerAt}
 use Rattle.transcript.specs.Round.{Parameters, Round, Lengths, challengeAt, isChallenge, ballotsRanged, openingRanged, headRanged, answersRanged, ranged}
 use Rattle.transcript.specs.Extractor.{Openings, lentRanged}
-use Rattle.transcript.specs.Method.{Batch, Shares, Answers}
+use Rattle.transcript.specs.Method.{Batch, Shares}
 use Rattle.transcript.proofs.Many.{all-sound, stretch}
-use Rattle.transcript.proofs.Written.{Coefficients, below-slot, coefficients-vector}
+use Rattle.transcript.proofs.Written.{below-slot, coefficients-vector}
 use Rattle.transcript.proofs.Compared.{lent-public}
-use Rattle.checker.specs.Lent.{Opened, Head, Answered, RoundInRange, OpeningsInRange}
+use Rattle.checker.specs.Lent.{Opened, Head, RoundInRange, OpeningsInRange}
 
 -- for a ring size and a modulus that some polynomial of the sheet has
 module _ (P : Parameters) (m : ℕ) {a : Bytes} (p : Public (P .N) (P .q) a) where

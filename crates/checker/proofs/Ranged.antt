@@ -1,4 +1,4 @@
--- Range tests of parts of lent slices, and the two loops over them: ballots of one length, and answers end to end. Assumes nothing.
+-- Range tests of parts of lent slices, and the loop over answers end to end. Assumes nothing.
 use mathlib.Core.Path.{_≡_, refl, sym, ap, _∙_}
 use mathlib.Core.Bool.{Bool, true, false, _&&_}
 use Prim.Native.Nat.{ℕ, suc, _+_, _*_, _/_, _≤_, _<_}
@@ -73,45 +73,6 @@ all-fails n f j h e = go (all n f) refl
     go : (b : Bool) → all n f ≡ b → false ≡ b
     go true t = sym e ∙ all-sound n f t j h
     go false t = refl
-
--- ---- the loop over ballots
-
-module _ (q n : ℕ) (ballots : Bytes) where
-  abbrev ballot-ranged : ℕ → Bool
-  ballot-ranged j = allBelow q (list (2 * n) (uAt n ballots j))
-
-  -- where the loop stands before ballot j, with all before it in range
-  pub record Read (count j at : ℕ) : Type 0 where
-    pub within : j ≤ count
-    pub place : at ≡ ballotLength n * j
-    pub fits : at ≤ 134234112
-    pub ranged : (i : ℕ) → i < j → ballot-ranged i ≡ true
-
-  pub read-first : (count : ℕ) → Read count 0 0
-  read-first count = record { within = omega arith; place = sym (mul-zero (ballotLength n)); fits = omega arith; ranged = below-none _ }
-
-  module _ (count j at : ℕ) (r : Read count j at) (h : j < count) (sized : length ballots ≡ ballotLength n * count) where
-    pub ballot-ends : at + (4 + 16 * n) ≤ length ballots
-    ballot-ends = omega (arith, r .place, stretch (ballotLength n) j count h)
-
-    module _ (b : Bool) (m : ℕ) (e : m ≡ 16 * n) (is : b ≡ allBelow q (list (length (take m (drop (at + 4) ballots)) / 8) (poly (take m (drop (at + 4) ballots))))) where
-      ballot-is : b ≡ ballot-ranged j
-      ballot-is =
-          is ∙ part-range q ballots (at + 4) m (2 * n) (omega arith) (omega (arith, ballot-ends)) ∙ ap (λ (x : ℕ). allBelow q (list (2 * n) (slot ballots (x + 4)))) (r .place)
-
-      pub read-more : n ≤ 2048 → count ≤ 4096 → b ≡ true → Read count (j + 1) (at + (4 + 16 * n))
-      read-more high few t = record {
-        within = omega arith;
-        place = omega (arith, r .place, mul-add (ballotLength n) j 1, mul-one (ballotLength n));
-        fits = omega (arith, ballot-ends, mul-le-mul {n₁ = ballotLength n} {m₁ = count} {n₂ = 32772} {m₂ = 4096} (omega arith) few);
-        ranged = below-more _ j (r .ranged) (sym ballot-is ∙ t);
-      }
-
-      pub read-fails : b ≡ false → false ≡ all count ballot-ranged
-      read-fails f = all-fails count ballot-ranged j h (sym ballot-is ∙ f)
-
-  pub read-all : (count j at : ℕ) → Read count j at → count ≤ j → true ≡ all count ballot-ranged
-  read-all count j at r h = sym (all-complete count ballot-ranged (λ i l. r .ranged i (omega arith)))
 
 -- ---- the loop over answers
 

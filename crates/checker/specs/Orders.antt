@@ -70,9 +70,9 @@ openingTests q n a k head side o =
 abbrev pub voteTests : (q n bound count : ℕ) (s : Poly) (ballots claims shares0 shares1 opened : Bytes) → List Test
 voteTests q n bound count s ballots claims shares0 shares1 opened =
     each count (λ j.
-        test 12 j (not (within bound n (worked q n 2 s (uAt n ballots j) (shareAt n opened j))))
-        ∷ test 13 j (not (same (claimAt n claims j) (list n (reconstructed q 2 (vAt n ballots j) (shareAt n shares0 j) (shareAt n shares1 j)))))
-        ∷ [])
+    test 12 j (not (within bound n (worked q n 2 s (uAt n ballots j) (shareAt n opened j))))
+    ∷ test 13 j (not (same (claimAt n claims j) (list n (reconstructed q 2 (vAt n ballots j) (shareAt n shares0 j) (shareAt n shares1 j)))))
+    ∷ [])
 
 -- a side's opening: 7, 8, then by ballot 12, 13
 abbrev pub sideTests : (q n bound count : ℕ) (a : Poly) → Keys → (head : Bytes) (side : ℕ) (opening ballots claims shares0 shares1 opened : Bytes) → List Test
@@ -92,12 +92,11 @@ laterTests q n bound count repeats a b k r =
     ++ (answersTests q n k repeats (r .head) (r .challenges) (r .answers)
     ++ voteTests q n bound count (slot (r .opening) 0) (r .ballots) (r .claims) (r .shares0) (r .shares1) (ofSide (r .side) (r .shares0) (r .shares1))))
 
--- the extractor's 6, then side 0, then side 1
-abbrev pub bothTests : (q n bound count : ℕ) (a b : Poly) → Keys → (head shares0 shares1 ballots claims opening0 opening1 : Bytes) → List Test
-bothTests q n bound count a b k head shares0 shares1 ballots claims opening0 opening1 =
-    splitTest q n b head
-    ∷ (sideTests q n bound count a k head 0 opening0 ballots claims shares0 shares1 shares0
-    ++ sideTests q n bound count a k head 1 opening1 ballots claims shares0 shares1 shares1)
+-- the extractor's side 0, then side 1
+abbrev pub bothTests : (q n bound count : ℕ) (a : Poly) → Keys → (head shares0 shares1 ballots claims opening0 opening1 : Bytes) → List Test
+bothTests q n bound count a k head shares0 shares1 ballots claims opening0 opening1 =
+    sideTests q n bound count a k head 0 opening0 ballots claims shares0 shares1 shares0
+    ++ sideTests q n bound count a k head 1 opening1 ballots claims shares0 shares1 shares1
 
 -- the three answers of a repetition, by answer 9, 10, 11
 abbrev pub threeTests : (q n : ℕ) → Keys → (head : Bytes) (repetition : ℕ) (answer1 answer2 answer3 : Bytes) → List Test

@@ -1,4 +1,5 @@
 // The tests of the extractor: 5, 6; for side 0 and then side 1 7, 8 and by ballot 12, 13; then for the three answers of a repetition 9, 10, 11.
+use crate::openings::refused;
 use crate::openings::splits;
 use crate::openings::test_side;
 use answers::layout::answer_ranged;
@@ -7,7 +8,7 @@ use crate::ranges::opening_ranged;
 use codec::Reply;
 ghost use mathlib.Core.Path.{_≡_};
 ghost use mathlib.Core.Bool.{_&&_};
-ghost use mathlib.Core.List.{_++_};
+ghost use mathlib.Core.List.{_∷_, _++_};
 ghost use Prim.Native.Nat.{_+_, _*_, _%_, _≤_, _<_};
 ghost use lib.ListN.{length};
 ghost use Rattle.codec.specs.Bytes.{part};
@@ -20,7 +21,7 @@ ghost use Rattle.transcript.specs.Layout.{ballotLength, pairsOf};
 ghost use Rattle.transcript.specs.Extractor.{Lent, lentRanged, extractTests};
 ghost use Rattle.transcript.specs.Method.{parameters, Batch, Shares};
 ghost use Rattle.checker.specs.Lent.{Opened, Head, Answered, OpeningsInRange};
-ghost use Rattle.checker.specs.Orders.{openingsOf, rangeParameters, bothTests, threeTests};
+ghost use Rattle.checker.specs.Orders.{openingsOf, rangeParameters, splitTest, bothTests, threeTests};
 
 // Whether the numbers of the three answers are in range.
 fn answers_ranged(answer1: &[u8], answer2: &[u8], answer3: &[u8], n: usize, q: u64) -> bool
@@ -124,27 +125,20 @@ fn test_answers(
     let digests = 80 * n + 96 * (repetition as usize);
     let place = repetition as u32;
     let one = test_answer(work, k, head, digests, 1, answer1, place, repeats, n, q);
-    match one {
-        Reply::Taken => {}
-        Reply::Refused { number, place } => {
-            return Reply::Refused { number, place };
-        }
-    }
+    let Reply::Taken = one else {
+        return one;
+    };
     let two = test_answer(work, k, head, digests, 2, answer2, place, repeats, n, q);
-    match two {
-        Reply::Taken => {}
-        Reply::Refused { number, place } => {
-            return Reply::Refused { number, place };
-        }
-    }
+    let Reply::Taken = two else {
+        return two;
+    };
     test_answer(work, k, head, digests, 3, answer3, place, repeats, n, q)
 }
 
-// The halves of the key, then each side's opening.
+// Each side's opening.
 fn test_sides(
     work: &mut [u8],
     a: &[u8],
-    b: &[u8],
     k: &[u8],
     head: &[u8],
     shares0: &[u8],
@@ -154,33 +148,54 @@ fn test_sides(
     opening0: &[u8],
     opening1: &[u8],
     count: usize,
-    repeats: usize,
     bound: u64,
     n: usize,
     q: u64,
 ) -> Reply
-    requires { ⌜ Public n q (now a) × Public n q (now b) × PublicKeys n q (now k) × (q % 2 ≡ 1) × (length (now work) ≡ scratchLength) × (count ≤ 4096) × Head q n repeats (now head) × Batch q n count (now ballots) (now claims) × Shares q n count (now shares0) × Shares q n count (now shares1) × Opened q n (now opening0) × Opened q n (now opening1) ⌝ }
-    ensures { λ reply. ⌜ reply ≡ first (bothTests q n bound count (poly (now (a .entry))) (poly (now (b .entry))) (keysOf n (now (k .entry))) (now (head .entry)) (now (shares0 .entry)) (now (shares1 .entry)) (now (ballots .entry)) (now (claims .entry)) (now (opening0 .entry)) (now (opening1 .entry))) ⌝ }
+    requires { ⌜ Public n q (now a) × PublicKeys n q (now k) × (q % 2 ≡ 1) × (length (now work) ≡ scratchLength) × (count ≤ 4096) × (80 * n ≤ length (now head)) × Batch q n count (now ballots) (now claims) × Shares q n count (now shares0) × Shares q n count (now shares1) × Opened q n (now opening0) × Opened q n (now opening1) ⌝ }
+    ensures { λ reply. ⌜ reply ≡ first (bothTests q n bound count (poly (now (a .entry))) (keysOf n (now (k .entry))) (now (head .entry)) (now (shares0 .entry)) (now (shares1 .entry)) (now (ballots .entry)) (now (claims .entry)) (now (opening0 .entry)) (now (opening1 .entry))) ⌝ }
     ensures { λ _. ⌜ length (now (work .exit)) ≡ length (now (work .entry)) ⌝ }
 {
-    if !splits(work, head, b, repeats, n, q) {
-        return Reply::Refused { number: 6, place: 0 };
-    }
     let reply = test_side(
-        work, a, k, head, 0, opening0, ballots, claims, shares0, shares1, shares0, count, bound, n, q,
+        work,
+        a,
+        k,
+        head,
+        0,
+        opening0,
+        ballots,
+        claims,
+        shares0,
+        shares1,
+        shares0,
+        count,
+        bound,
+        n,
+        q,
     );
-    match reply {
-        Reply::Taken => {}
-        Reply::Refused { number, place } => {
-            return Reply::Refused { number, place };
-        }
-    }
+    let Reply::Taken = reply else {
+        return reply;
+    };
     test_side(
-        work, a, k, head, 1, opening1, ballots, claims, shares0, shares1, shares1, count, bound, n, q,
+        work,
+        a,
+        k,
+        head,
+        1,
+        opening1,
+        ballots,
+        claims,
+        shares0,
+        shares1,
+        shares1,
+        count,
+        bound,
+        n,
+        q,
     )
 }
 
-// Both sides, then the answers, of what is in range.
+// 6, both sides, then the answers, of what is in range.
 fn test_ranged(
     work: &mut [u8],
     a: &[u8],
@@ -204,20 +219,43 @@ fn test_ranged(
     q: u64,
 ) -> Reply
     requires { ⌜ Public n q (now a) × Public n q (now b) × PublicKeys n q (now k) × (q % 2 ≡ 1) × (length (now work) ≡ scratchLength) × (count ≤ 4096) × (repeats ≤ 256) × OpeningsInRange q n count repeats (openingsOf (now head) (now shares0) (now shares1) (now ballots) (now claims) (now opening0) (now opening1) repetition (now answer1) (now answer2) (now answer3)) ⌝ }
-    ensures { λ reply. ⌜ reply ≡ first (bothTests q n bound count (poly (now (a .entry))) (poly (now (b .entry))) (keysOf n (now (k .entry))) (now (head .entry)) (now (shares0 .entry)) (now (shares1 .entry)) (now (ballots .entry)) (now (claims .entry)) (now (opening0 .entry)) (now (opening1 .entry)) ++ threeTests q n (keysOf n (now (k .entry))) (now (head .entry)) repetition (now (answer1 .entry)) (now (answer2 .entry)) (now (answer3 .entry))) ⌝ }
+    ensures { λ reply. ⌜ reply ≡ first (splitTest q n (poly (now (b .entry))) (now (head .entry)) ∷ (bothTests q n bound count (poly (now (a .entry))) (keysOf n (now (k .entry))) (now (head .entry)) (now (shares0 .entry)) (now (shares1 .entry)) (now (ballots .entry)) (now (claims .entry)) (now (opening0 .entry)) (now (opening1 .entry)) ++ threeTests q n (keysOf n (now (k .entry))) (now (head .entry)) repetition (now (answer1 .entry)) (now (answer2 .entry)) (now (answer3 .entry)))) ⌝ }
     ensures { λ _. ⌜ length (now (work .exit)) ≡ length (now (work .entry)) ⌝ }
 {
-    let reply = test_sides(
-        work, a, b, k, head, shares0, shares1, ballots, claims, opening0, opening1, count, repeats,
-        bound, n, q,
-    );
-    match reply {
-        Reply::Taken => {}
-        Reply::Refused { number, place } => {
-            return Reply::Refused { number, place };
-        }
+    if !splits(work, head, b, repeats, n, q) {
+        return refused(6);
     }
-    test_answers(work, k, head, repetition, answer1, answer2, answer3, repeats, n, q)
+    let reply = test_sides(
+        work,
+        a,
+        k,
+        head,
+        shares0,
+        shares1,
+        ballots,
+        claims,
+        opening0,
+        opening1,
+        count,
+        bound,
+        n,
+        q,
+    );
+    let Reply::Taken = reply else {
+        return reply;
+    };
+    test_answers(
+        work,
+        k,
+        head,
+        repetition,
+        answer1,
+        answer2,
+        answer3,
+        repeats,
+        n,
+        q,
+    )
 }
 
 // All tests of the extractor, for lengths that are right.
@@ -249,13 +287,44 @@ pub fn check_openings(
     ensures { λ _. ⌜ length (now (work .exit)) ≡ length (now (work .entry)) ⌝ }
 {
     if !openings_ranged(
-        head, shares0, shares1, ballots, claims, opening0, opening1, repetition, answer1, answer2,
-        answer3, count, repeats, n, q,
+        head,
+        shares0,
+        shares1,
+        ballots,
+        claims,
+        opening0,
+        opening1,
+        repetition,
+        answer1,
+        answer2,
+        answer3,
+        count,
+        repeats,
+        n,
+        q,
     ) {
-        return Reply::Refused { number: 5, place: 0 };
+        return refused(5);
     }
     test_ranged(
-        work, a, b, k, head, shares0, shares1, ballots, claims, opening0, opening1, repetition,
-        answer1, answer2, answer3, count, repeats, bound, n, q,
+        work,
+        a,
+        b,
+        k,
+        head,
+        shares0,
+        shares1,
+        ballots,
+        claims,
+        opening0,
+        opening1,
+        repetition,
+        answer1,
+        answer2,
+        answer3,
+        count,
+        repeats,
+        bound,
+        n,
+        q,
     )
 }

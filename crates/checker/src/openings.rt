@@ -6,6 +6,7 @@ ghost use Prim.Native.Nat.{_+_, _*_, _%_, _≤_, _<_};
 ghost use lib.ListN.{length};
 ghost use Rattle.codec.specs.Bytes.{part, same};
 ghost use Rattle.codec.specs.Reply.{first};
+ghost use Rattle.codec.specs.declared.Reply.the-variants.{Refused};
 ghost use Rattle.ring.specs.Poly.{plus, modulo};
 ghost use Rattle.ring.specs.Slots.{poly, slot, encode};
 ghost use Rattle.call.specs.Call.{scratchLength, Public};
@@ -15,6 +16,13 @@ ghost use Rattle.transcript.specs.Layout.{keyAt, openingOf};
 ghost use Rattle.transcript.specs.Method.{Batch, Shares};
 ghost use Rattle.checker.specs.Lent.{Opened, Head};
 ghost use Rattle.checker.specs.Orders.{openingTests, voteTests, sideTests};
+
+// A refusal that names no place.
+pub fn refused(number: u8) -> Reply
+    ensures { λ reply. ⌜ reply ≡ Refused number 0 ⌝ }
+{
+    Reply::Refused { number, place: 0 }
+}
 
 // Whether b0 and b1 of a first message add to b.
 pub fn splits(work: &mut [u8], head: &[u8], b: &[u8], repeats: usize, n: usize, q: u64) -> bool
@@ -96,10 +104,10 @@ pub fn test_opening(
 {
     let at = 8 * n * side;
     if !opens_key(work, a, head, at, opening, n, q) {
-        return Reply::Refused { number: 7, place: 0 };
+        return refused(7);
     }
     if !opens_pairs(work, k, head, 16 * n + 2 * at, opening, n, q) {
-        return Reply::Refused { number: 8, place: 0 };
+        return refused(8);
     }
     Reply::Taken
 }
@@ -160,12 +168,9 @@ pub fn test_side(
     ensures { λ _. ⌜ length (now (work .exit)) ≡ length (now (work .entry)) ⌝ }
 {
     let reply = test_opening(work, a, k, head, side, opening, n, q);
-    match reply {
-        Reply::Taken => {}
-        Reply::Refused { number, place } => {
-            return Reply::Refused { number, place };
-        }
-    }
+    let Reply::Taken = reply else {
+        return reply;
+    };
     test_votes(
         work,
         opening,

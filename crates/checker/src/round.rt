@@ -1,4 +1,5 @@
 // The check of a round: 5, 6, 7, 8; by repetition 9, 10, 11; by ballot 12, 13.
+use crate::openings::refused;
 use crate::openings::splits;
 use crate::openings::test_opening;
 use crate::openings::test_votes;
@@ -132,13 +133,22 @@ fn check_answers(
         n,
         q,
     );
-    match reply {
-        Reply::Taken => {}
-        Reply::Refused { number, place } => {
-            return Reply::Refused { number, place };
-        }
-    }
-    check_votes(work, side, opening, ballots, claims, shares0, shares1, count, bound, n, q)
+    let Reply::Taken = reply else {
+        return reply;
+    };
+    check_votes(
+        work,
+        side,
+        opening,
+        ballots,
+        claims,
+        shares0,
+        shares1,
+        count,
+        bound,
+        n,
+        q,
+    )
 }
 
 // 6, 7, 8, then the answers and the ballots, of a round that is in range.
@@ -167,18 +177,29 @@ fn check_ranged(
     ensures { λ _. ⌜ length (now (work .exit)) ≡ length (now (work .entry)) ⌝ }
 {
     if !splits(work, head, b, repeats, n, q) {
-        return Reply::Refused { number: 6, place: 0 };
+        return refused(6);
     }
     let reply = test_opening(work, a, k, head, side as usize, opening, n, q);
-    match reply {
-        Reply::Taken => {}
-        Reply::Refused { number, place } => {
-            return Reply::Refused { number, place };
-        }
-    }
+    let Reply::Taken = reply else {
+        return reply;
+    };
     check_answers(
-        work, k, side, challenges, ballots, claims, head, shares0, shares1, opening, answers, count,
-        repeats, bound, n, q,
+        work,
+        k,
+        side,
+        challenges,
+        ballots,
+        claims,
+        head,
+        shares0,
+        shares1,
+        opening,
+        answers,
+        count,
+        repeats,
+        bound,
+        n,
+        q,
     )
 }
 
@@ -209,13 +230,40 @@ pub fn check_round(
     ensures { λ _. ⌜ length (now (work .exit)) ≡ length (now (work .entry)) ⌝ }
 {
     if !round_ranged(
-        side, challenges, ballots, claims, head, shares0, shares1, opening, answers, count, repeats, n,
+        side,
+        challenges,
+        ballots,
+        claims,
+        head,
+        shares0,
+        shares1,
+        opening,
+        answers,
+        count,
+        repeats,
+        n,
         q,
     ) {
-        return Reply::Refused { number: 5, place: 0 };
+        return refused(5);
     }
     check_ranged(
-        work, a, b, k, side, challenges, ballots, claims, head, shares0, shares1, opening, answers,
-        count, repeats, bound, n, q,
+        work,
+        a,
+        b,
+        k,
+        side,
+        challenges,
+        ballots,
+        claims,
+        head,
+        shares0,
+        shares1,
+        opening,
+        answers,
+        count,
+        repeats,
+        bound,
+        n,
+        q,
     )
 }

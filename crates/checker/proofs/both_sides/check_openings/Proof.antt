@@ -21,11 +21,11 @@ openings-ranged-requires c κs =
 
 returns : tie.Need-returns
 returns c =
-    let a = c .before .before .before .before .before .before .before .before .before .before .before .before .before .before .before .before .args in
+    let a = c .before .before .before .before .before .before .before .before .before .before .before .before .before .before .before .before .before .args in
     let x = openingsOf (a .head .now) (a .shares0 .now) (a .shares1 .now) (a .ballots .now) (a .claims .now) (a .opening0 .now) (a .opening1 .now) (a .repetition) (a .answer1 .now) (a .answer2 .now) (a .answer3 .now) in
-    let t = c .before .openings-ranged in
+    let t = c .before .before .openings-ranged in
     let e = t .ensures ∙ same-lent-range (a .n) (a .q) (a .bound) (a .repeats) (a .a .now) (a .b .now) (a .k .now) (a .count) x in
-    (refuses 5 0 _ _ (ap not (sym e ∙ not-true (t .result) (c .if1 .taken))) ∙ ap first (extract-order (a .n) (a .q) (a .bound) (a .repeats) (a .a .now) (a .b .now) (a .k .now) (a .count) x), refl)
+    (c .refused .ensures ∙ refuses 5 0 _ _ (ap not (sym e ∙ not-true (t .result) (c .before .if1 .taken))) ∙ ap first (extract-order (a .n) (a .q) (a .bound) (a .repeats) (a .a .now) (a .b .now) (a .k .now) (a .count) x), refl)
 
 test-ranged-requires : tie.Need-test-ranged-requires
 test-ranged-requires c κs =
@@ -48,4 +48,4 @@ returns-2 c =
     )
 
 pub check-openings-spec : {M : Type 1} → statement M
-check-openings-spec = tie.close (tie.spec openings-ranged-requires returns test-ranged-requires (λ c. search needs) returns-2)
+check-openings-spec = tie.close (tie.spec openings-ranged-requires (λ c κs. search needs) returns test-ranged-requires (λ c. search needs) returns-2)

@@ -5,7 +5,6 @@ use Prim.Native.Nat.{ℕ, _+_, _-_, _*_}
 use native.Mathlib.Omega.{arith}
 use borrow.Author.Needs.{needs}
 use lib.ListN.{take, drop}
-use Rattle.codec.specs.Bytes.{Bytes}
 use Rattle.commitment.specs.Commitment.{keysOf}
 use Rattle.stern.proofs.Answered.{lent-length}
 use Rattle.checker.proofs.Parts.{lent-on, alike-s, alike-e, opens-alike}

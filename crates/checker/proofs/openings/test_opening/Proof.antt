@@ -19,8 +19,8 @@ opens-key-requires c κs = let p = c .before .before .before .before .before .be
 
 returns : tie.Need-returns
 returns c =
-    let o = c .before .before .before .opens-key in
-    (first-fails 7 8 0 _ _ (ap not (sym (o .ensures .0) ∙ not-true (o .result) (c .if1 .taken))), o .ensures .1)
+    let o = c .before .before .before .before .opens-key in
+    (c .refused .ensures ∙ first-fails 7 8 0 _ _ (ap not (sym (o .ensures .0) ∙ not-true (o .result) (c .before .if1 .taken))), o .ensures .1)
 
 mul-opens-pairs-2 : tie.Need-mul-opens-pairs-2
 mul-opens-pairs-2 c = omega (arith, pairs-end (c .before .before .before .before .before .before .before .before .before .before .before .args .n) (c .before .before .before .before .before .before .before .before .before .before .before .args .side) (c .before .before .before .before .before .before .before .before .before .before .before .pre .5), c .before .before .before .before .before .before .before .before .before .before .before .pre .0 .high)
@@ -33,11 +33,11 @@ opens-pairs-requires c κs = let p = c .before .before .before .before .before .
 
 returns-2 : tie.Need-returns-2
 returns-2 c =
-    let a = c .before .before .before .before .before .before .before .before .before .before .before .before .before .before .before .args in
-    let o = c .before .before .before .before .before .before .before .before .opens-key in
-    let b = c .before .before .before .opens-pairs in
+    let a = c .before .before .before .before .before .before .before .before .before .before .before .before .before .before .before .before .args in
+    let o = c .before .before .before .before .before .before .before .before .before .opens-key in
+    let b = c .before .before .before .before .opens-pairs in
     let e = b .ensures .0 ∙ pairs-at (a .n) (a .q) (a .side) (keysOf (a .n) (a .k .now)) (a .head .now) (openingOf (a .n) (a .opening .now)) in
-    (second-fails 7 8 0 _ _ (ap not (sym (o .ensures .0) ∙ not-false (o .result) (c .before .before .before .before .before .if1 .left))) (ap not (sym e ∙ not-true (b .result) (c .if2 .taken))), b .ensures .1 ∙ o .ensures .1)
+    (c .refused2 .ensures ∙ second-fails 7 8 0 _ _ (ap not (sym (o .ensures .0) ∙ not-false (o .result) (c .before .before .before .before .before .before .if1 .left))) (ap not (sym e ∙ not-true (b .result) (c .before .if2 .taken))), b .ensures .1 ∙ o .ensures .1)
 
 returns-3 : tie.Need-returns-3
 returns-3 c =
@@ -48,4 +48,4 @@ returns-3 c =
     (both-hold 7 8 0 _ _ (ap not (sym (o .ensures .0) ∙ not-false (o .result) (c .before .before .before .before .before .if1 .left))) (ap not (sym e ∙ not-false (b .result) (c .if2 .left))), b .ensures .1 ∙ o .ensures .1)
 
 pub test-opening-spec : {M : Type 1} → statement M
-test-opening-spec = tie.close (tie.spec (λ c. search needs) mul-at-2 opens-key-requires (λ c. search needs) returns (λ c. search needs) mul-opens-pairs-2 add-opens-pairs opens-pairs-requires (λ c. search needs) returns-2 (λ c. search needs) returns-3)
+test-opening-spec = tie.close (tie.spec (λ c. search needs) mul-at-2 opens-key-requires (λ c κs. search needs) (λ c. search needs) returns (λ c. search needs) mul-opens-pairs-2 add-opens-pairs opens-pairs-requires (λ c κs. search needs) (λ c. search needs) returns-2 (λ c. search needs) returns-3)

@@ -9,7 +9,7 @@ test-opening-requires : tie.Need-test-opening-requires
 test-opening-requires c κs = let p = c .before .before .before .before .before .before .before .before .before .before .before .pre in (p .0, p .1, p .2, p .4, p .5, p .6)
 
 returns : tie.Need-returns
-returns c = let o = c .before .before .before .before .before .test-opening in (stopped _ _ (o .ensures .0) _ _ (c .before .reply .given .1), o .ensures .1)
+returns c = let o = c .before .before .before .before .test-opening in (stopped _ _ (o .ensures .0) _ _ (c .enum-told2 .given .1), o .ensures .1)
 
 test-votes-requires : tie.Need-test-votes-requires
 test-votes-requires c κs = let p = c .before .before .before .before .before .before .before .before .before .before .before .before .before .before .before .before .before .pre in (p .2, p .3, c .before .before .before .before .before .test-opening .ensures .1 ∙ p .4, p .7, p .8, p .9, p .10, p .11)

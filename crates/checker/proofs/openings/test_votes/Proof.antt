@@ -4,7 +4,6 @@ use Prim.Native.Nat.{_-_, _*_}
 use native.Mathlib.Omega.{arith}
 use borrow.Author.Needs.{needs}
 use Rattle.codec.specs.Reply.{first}
-use Rattle.transcript.proofs.Compared.{lent-alike}
 use Rattle.checker.proofs.Parts.{lent-on, alike-s, votes-alike}
 use Rattle.checker.proofs.openings.test_votes.Statement.{statement}
 use Rattle.checker.proofs.openings.test_votes.Tie as tie

@@ -1,12 +1,8 @@
 -- `ranges::message_ranged` meets its contract. Assumes nothing.
-use mathlib.Core.Bool.{_&&_}
-use Prim.Native.Nat.{_*_}
 use borrow.Author.Needs.{needs}
 use borrow.Author.Tests.{not-true, not-false}
-use Rattle.ring.specs.Slots.{poly, list, allBelow}
 use Rattle.call.proofs.Order.{fails, goes-on}
 use Rattle.vector.specs.Vector.{vector}
-use Rattle.transcript.specs.Layout.{all, uAt}
 use Rattle.checker.proofs.ranges.message_ranged.Statement.{statement}
 use Rattle.checker.proofs.ranges.message_ranged.Tie as tie
 

@@ -12,7 +12,7 @@ test-repetitions-requires c κs =
     (p .0, p .2, p .4, r .head .sized, r .head .pairs, r .answers)
 
 returns : tie.Need-returns
-returns c = let t = c .before .before .before .before .before .test-repetitions in (stopped _ _ (t .ensures .0) _ _ (c .before .reply .given .1), t .ensures .1)
+returns c = let t = c .before .before .before .before .test-repetitions in (stopped _ _ (t .ensures .0) _ _ (c .enum-told2 .given .1), t .ensures .1)
 
 check-votes-requires : tie.Need-check-votes-requires
 check-votes-requires c κs =

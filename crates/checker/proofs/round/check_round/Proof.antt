@@ -21,11 +21,11 @@ round-ranged-requires c κs =
 
 returns : tie.Need-returns
 returns c =
-    let a = c .before .before .before .before .before .before .before .before .before .before .before .before .before .before .args in
+    let a = c .before .before .before .before .before .before .before .before .before .before .before .before .before .before .before .args in
     let r = roundOf (a .side) (a .challenges .now) (a .ballots .now) (a .claims .now) (a .head .now) (a .shares0 .now) (a .shares1 .now) (a .opening .now) (a .answers .now) in
-    let t = c .before .round-ranged in
+    let t = c .before .before .round-ranged in
     let e = t .ensures ∙ same-range (a .n) (a .q) (a .bound) (a .repeats) (a .a .now) (a .b .now) (a .k .now) (a .count) r in
-    (refuses 5 0 _ _ (ap not (sym e ∙ not-true (t .result) (c .if1 .taken))) ∙ ap first (round-order (a .n) (a .q) (a .bound) (a .repeats) (a .a .now) (a .b .now) (a .k .now) (a .count) r), refl)
+    (c .refused .ensures ∙ refuses 5 0 _ _ (ap not (sym e ∙ not-true (t .result) (c .before .if1 .taken))) ∙ ap first (round-order (a .n) (a .q) (a .bound) (a .repeats) (a .a .now) (a .b .now) (a .k .now) (a .count) r), refl)
 
 check-ranged-requires : tie.Need-check-ranged-requires
 check-ranged-requires c κs =
@@ -50,4 +50,4 @@ returns-2 c =
     )
 
 pub check-round-spec : {M : Type 1} → statement M
-check-round-spec = tie.close (tie.spec round-ranged-requires returns check-ranged-requires (λ c. search needs) returns-2)
+check-round-spec = tie.close (tie.spec round-ranged-requires (λ c κs. search needs) returns check-ranged-requires (λ c. search needs) returns-2)
