@@ -2,9 +2,9 @@
 use crate::openings::refused;
 use crate::openings::splits;
 use crate::openings::test_side;
-use answers::layout::answer_ranged;
 use crate::ranges::message_ranged;
 use crate::ranges::opening_ranged;
+use answers::layout::answer_ranged;
 use codec::Reply;
 ghost use mathlib.Core.Path.{_≡_};
 ghost use mathlib.Core.Bool.{_&&_};

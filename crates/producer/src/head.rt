@@ -69,5 +69,16 @@ pub fn write_head(
 {
     write_keys(head, work, a, secrets, s0, e0, n, q);
     write_pairs(head, work, k, secrets, s0, e0, n, q);
-    write_digests(head, work, k, secrets, vectors, permutations, salts, repeats, n, q);
+    write_digests(
+        head,
+        work,
+        k,
+        secrets,
+        vectors,
+        permutations,
+        salts,
+        repeats,
+        n,
+        q,
+    );
 }

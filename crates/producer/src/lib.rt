@@ -65,7 +65,18 @@ pub fn write_first(
         q,
     );
     ballots::write_ballots(
-        shares0, shares1, claims, work, secrets, s0, masks0, masks1, ballots, count, n, q,
+        shares0,
+        shares1,
+        claims,
+        work,
+        secrets,
+        s0,
+        masks0,
+        masks1,
+        ballots,
+        count,
+        n,
+        q,
     );
 }
 

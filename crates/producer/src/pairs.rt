@@ -41,15 +41,7 @@ fn lent_pair(
 }
 
 // The pair of x - x0, the other half, stands in scratch, for ternary bytes x.
-fn pair_difference(
-    work: &mut [u8],
-    k: &[u8],
-    x: &[u8],
-    x0: &[u8],
-    r: &[u8],
-    n: usize,
-    q: u64,
-)
+fn pair_difference(work: &mut [u8], k: &[u8], x: &[u8], x0: &[u8], r: &[u8], n: usize, q: u64)
     requires { ⌜ PublicKeys n q (now k) × Public n q (now x0) × (length (now x) ≡ n) × (length (now r) ≡ 3 * n) × (length (now work) ≡ scratchLength) ⌝ }
     ensures { λ _. ⌜ PairStands q n (committed q n (keysOf n (now (k .entry))) (threeOf q n (now (r .entry))) (other q (ternary q (now (x .entry))) (poly (now (x0 .entry))))) (now (work .entry)) (now (work .exit)) ⌝ }
 {
@@ -115,6 +107,26 @@ pub fn write_pairs(
     ensures { λ _. ⌜ now (head .exit) ≡ put (now (head .entry)) (16 * n) (producedPairs (parameters 2 n q 0 0 [] [] (now (k .entry))) 0 (materialOf (now (secrets .entry)) (now (s0 .entry)) (now (e0 .entry)) [] [] [] [] [] [])) ⌝ }
     ensures { λ _. ⌜ length (now (work .exit)) ≡ length (now (work .entry)) ⌝ }
 {
-    both_pairs(head, 16 * n, work, k, &secrets[0..n], s0, &secrets[2 * n..8 * n], n, q);
-    both_pairs(head, 48 * n, work, k, &secrets[n..2 * n], e0, &secrets[8 * n..14 * n], n, q);
+    both_pairs(
+        head,
+        16 * n,
+        work,
+        k,
+        &secrets[0..n],
+        s0,
+        &secrets[2 * n..8 * n],
+        n,
+        q,
+    );
+    both_pairs(
+        head,
+        48 * n,
+        work,
+        k,
+        &secrets[n..2 * n],
+        e0,
+        &secrets[8 * n..14 * n],
+        n,
+        q,
+    );
 }

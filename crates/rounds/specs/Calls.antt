@@ -52,8 +52,8 @@ module _ (N repeats : ℕ) where
 -- both openings, the three answers, the extractor's output, and scratch
 unfoldable pub openingsSized : (N : ℕ) → (opening0 opening1 answer1 answer2 answer3 out scratch : Bytes) → Bool
 openingsSized N opening0 opening1 answer1 answer2 answer3 out scratch =
-      same (length opening0 ∷ length opening1 ∷ length out ∷ length scratch ∷ []) (22 * N ∷ 22 * N ∷ 24 * N ∷ scratchLength ∷ [])
-      && same (length answer1 ∷ length answer2 ∷ length answer3 ∷ []) (answerLength N 1 ∷ answerLength N 2 ∷ answerLength N 3 ∷ [])
+    same (length opening0 ∷ length opening1 ∷ length out ∷ length scratch ∷ []) (22 * N ∷ 22 * N ∷ 24 * N ∷ scratchLength ∷ [])
+    && same (length answer1 ∷ length answer2 ∷ length answer3 ∷ []) (answerLength N 1 ∷ answerLength N 2 ∷ answerLength N 3 ∷ [])
 
 -- ---- the orders
 

@@ -58,7 +58,14 @@ pub fn material_sized(
     }
     call::sized(
         [vectors.len(), permutations.len(), salts.len(), 0, 0, 0],
-        [times(336 * n, repeats), times(168 * n, repeats), 96 * repeats, 0, 0, 0],
+        [
+            times(336 * n, repeats),
+            times(168 * n, repeats),
+            96 * repeats,
+            0,
+            0,
+            0,
+        ],
     )
 }
 
@@ -183,7 +190,14 @@ pub fn openings_sized(
     ensures { λ r. ⌜ r ≡ openingsSized n (now (opening0 .entry)) (now (opening1 .entry)) (now (answer1 .entry)) (now (answer2 .entry)) (now (answer3 .entry)) (now (out .entry)) (now (scratch .entry)) ⌝ }
 {
     if !call::sized(
-        [opening0.len(), opening1.len(), out.len(), scratch.len(), 0, 0],
+        [
+            opening0.len(),
+            opening1.len(),
+            out.len(),
+            scratch.len(),
+            0,
+            0,
+        ],
         [22 * n, 22 * n, 24 * n, call::SCRATCH, 0, 0],
     ) {
         return false;

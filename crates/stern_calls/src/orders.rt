@@ -1,11 +1,11 @@
 // The tests of a call in their order: specs/Calls.antt.
-use answers::layout::answer_length;
 use crate::lent::material_ranged;
 use crate::lent::material_sized;
 use crate::lent::refused;
 use crate::lent::ring_fits;
 use crate::lent::test_ranged;
 use crate::lent::test_sized;
+use answers::layout::answer_length;
 use codec::Reply;
 ghost use mathlib.Core.Path.{_≡_};
 ghost use lib.ListN.{length};

@@ -68,9 +68,13 @@ returns c =
     let two = encoded-alike q n high z (p .0 .few) (m .last .0) 16384 (mul q n s0 u) (m .ensures .two) in
     let last = encoded-alike q n high z (p .0 .few) (w .last .1 .1 .1 .0) 0 (mul q n s u) (k ∙ m .ensures .one) in (
       w .ensures .0 ∙ ap (put (a .shares0 .now) (a .at)) (lent-share q n 2 s s0 u (lentMask (a .mask0 .now)) two),
-      (w .ensures .1 .0 ∙ ap (put (a .shares1 .now) (a .at)) (other-share q n 2 s s0 u one (lentMask (a .mask1 .now)) two),
-      (v .ensures .0 ∙ ap (put (a .claims .now) (a .claim)) (claim-plain q n 2 s s0 u last (poly (a .v .now))),
-      v .ensures .1 ∙ w .ensures .1 .1 .0 ∙ m .ensures .sized)),
+      (
+        w .ensures .1 .0 ∙ ap (put (a .shares1 .now) (a .at)) (other-share q n 2 s s0 u one (lentMask (a .mask1 .now)) two),
+        (
+          v .ensures .0 ∙ ap (put (a .claims .now) (a .claim)) (claim-plain q n 2 s s0 u last (poly (a .v .now))),
+          v .ensures .1 ∙ w .ensures .1 .1 .0 ∙ m .ensures .sized,
+        ),
+      ),
     )
 
 pub write-ballot-spec : {M : Type 1} → statement M

@@ -1,4 +1,4 @@
--- `producing::second_tests` meets its contract. Assumes nothing.
+-- `orders::second_tests` meets its contract. Assumes nothing.
 use mathlib.Core.Path.{_≡_, refl, sym, ap, _∙_}
 use mathlib.Core.Bool.{Bool, _&&_}
 use mathlib.Core.List.{List, []}
@@ -17,8 +17,8 @@ use Rattle.material.proofs.Unread.{tests-lent, lengths-lent}
 use Rattle.rounds.specs.Calls.{materialSized, secondSized, secondTests}
 use Rattle.rounds.proofs.Sizes.{too-many, wrong-first, wrong-second, right, material-sizes, second-sizes}
 use Rattle.rounds.proofs.Swept.{later-material, swept-alike}
-use Rattle.rounds.proofs.producing.second_tests.Statement.{statement}
-use Rattle.rounds.proofs.producing.second_tests.Tie as tie
+use Rattle.rounds.proofs.orders.second_tests.Statement.{statement}
+use Rattle.rounds.proofs.orders.second_tests.Tie as tie
 
 material-sized-requires : tie.Need-material-sized-requires
 material-sized-requires c κs = (c .before .before .before .before .before .before .before .before .before .before .before .before .before .before .before .before .before .pre .0 .high, omega arith, c .before .before .before .before .before .before .before .before .before .before .before .before .before .before .before .before .before .pre .2)
