@@ -48,8 +48,8 @@ shares-of r (suc i) = refl
 
 -- ---- the orders of a check and of the extractor
 
--- the range tests read neither the bound nor the sheet's polynomials
 module _ (n q bound repeats : ℕ) (a b k : Bytes) (m : ℕ) where
+  -- the range tests read neither the bound nor the sheet's polynomials
   pub same-range : (r : Round) → ranged (rangeParameters n q repeats) m r ≡ ranged (parameters 2 n q bound repeats a b k) m r
   unfolding ranged answersRanged ballotsRanged headRanged openingRanged
   same-range r = refl
@@ -58,6 +58,7 @@ module _ (n q bound repeats : ℕ) (a b k : Bytes) (m : ℕ) where
   unfolding lentRanged ballotsRanged headRanged openingRanged
   same-lent-range x = refl
 
+  -- with the shares of the opened side as they are lent
   abbrev later : Round → (opened : Bytes) → List Test
   later r opened =
       splitTest q n (poly b) (r .head)

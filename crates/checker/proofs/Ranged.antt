@@ -44,27 +44,28 @@ grouped true true true false e o = refl
 grouped true true true true e o = refl
 
 module _ (q n count : ℕ) (ballots claims head shares0 shares1 : Bytes) (rest : Bool) where
-  abbrev a : Bool
-  a = all count (λ j. allBelow q (list (2 * n) (uAt n ballots j)))
+  abbrev ballots-pass : Bool
+  ballots-pass = all count (λ j. allBelow q (list (2 * n) (uAt n ballots j)))
 
-  abbrev b : Bool
-  b = allBelow 2 claims
+  abbrev claims-pass : Bool
+  claims-pass = allBelow 2 claims
 
-  abbrev c : Bool
-  c = allBelow q (list (10 * n) (poly head))
+  abbrev head-passes : Bool
+  head-passes = allBelow q (list (10 * n) (poly head))
 
-  abbrev d : Bool
-  d = allBelow q (vector shares0)
+  abbrev shares-pass : Bytes → Bool
+  shares-pass shares = allBelow q (vector shares)
 
-  abbrev e : Bool
-  e = allBelow q (vector shares1)
+  module _ {x : Bool} (is : x ≡ (ballots-pass && (claims-pass && (head-passes && (shares-pass shares0 && shares-pass shares1))))) where
+    regrouped : ((ballots-pass && (claims-pass && (head-passes && (shares-pass shares0 && shares-pass shares1)))) && rest)
+        ≡ (ballots-pass && (claims-pass && (head-passes && (shares-pass shares0 && (shares-pass shares1 && rest)))))
+    regrouped = grouped ballots-pass claims-pass head-passes (shares-pass shares0) (shares-pass shares1) rest
 
-  module _ {x : Bool} (is : x ≡ (a && (b && (c && (d && e))))) where
-    pub message-fails : x ≡ false → false ≡ (a && (b && (c && (d && (e && rest)))))
-    message-fails f = fails (a && (b && (c && (d && e)))) rest is f ∙ grouped a b c d e rest
+    pub message-fails : x ≡ false → false ≡ (ballots-pass && (claims-pass && (head-passes && (shares-pass shares0 && (shares-pass shares1 && rest)))))
+    message-fails f = fails (ballots-pass && (claims-pass && (head-passes && (shares-pass shares0 && shares-pass shares1)))) rest is f ∙ regrouped
 
-    pub message-passes : {y : Bool} → x ≡ true → y ≡ rest → y ≡ (a && (b && (c && (d && (e && rest)))))
-    message-passes t f = goes-on (a && (b && (c && (d && e)))) rest is t f ∙ grouped a b c d e rest
+    pub message-passes : {y : Bool} → x ≡ true → y ≡ rest → y ≡ (ballots-pass && (claims-pass && (head-passes && (shares-pass shares0 && (shares-pass shares1 && rest)))))
+    message-passes t f = goes-on (ballots-pass && (claims-pass && (head-passes && (shares-pass shares0 && shares-pass shares1)))) rest is t f ∙ regrouped
 
 -- one of many fails
 pub all-fails : (n : ℕ) (f : ℕ → Bool) (j : ℕ) → j < n → f j ≡ false → false ≡ all n f

@@ -1,4 +1,4 @@
--- What the inner functions of a check are given: parts of a round that passed the tests of lengths and ranges. No public contract cites this file. Assumes nothing.
+-- What the inner functions of a check are given: parts of a round that passed the tests of lengths and ranges. The contracts of the two whole orders do not cite this file. Assumes nothing.
 use mathlib.Core.Path.{_≡_}
 use mathlib.Core.Bool.{true}
 use Prim.Native.Nat.{ℕ, _*_, _<_}

@@ -3,3 +3,4 @@ pub mod both_sides;
 pub mod openings;
 pub mod ranges;
 pub mod round;
+pub mod three_answers;

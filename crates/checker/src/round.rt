@@ -7,6 +7,7 @@ use crate::ranges::answers_ranged;
 use crate::ranges::message_ranged;
 use crate::ranges::opening_ranged;
 use codec::Reply;
+use transcript::repetitions::test_repetitions;
 ghost use mathlib.Core.Path.{_≡_};
 ghost use mathlib.Core.List.{_++_};
 ghost use Prim.Native.Nat.{_*_, _%_, _≤_};
@@ -123,18 +124,9 @@ fn check_answers(
     ensures { λ reply. ⌜ reply ≡ first (answersTests q n (keysOf n (now (k .entry))) repeats (now (head .entry)) (now (challenges .entry)) (now (answers .entry)) ++ voteTests q n bound count (slot (now (opening .entry)) 0) (now (ballots .entry)) (now (claims .entry)) (now (shares0 .entry)) (now (shares1 .entry)) (ofSide side (now (shares0 .entry)) (now (shares1 .entry)))) ⌝ }
     ensures { λ _. ⌜ length (now (work .exit)) ≡ length (now (work .entry)) ⌝ }
 {
-    let reply = transcript::repetitions::test_repetitions(
-        work,
-        k,
-        head,
-        challenges,
-        answers,
-        repeats,
-        n,
-        q,
-    );
-    let Reply::Taken = reply else {
-        return reply;
+    let answered = test_repetitions(work, k, head, challenges, answers, repeats, n, q);
+    let Reply::Taken = answered else {
+        return answered;
     };
     check_votes(
         work,
@@ -179,9 +171,9 @@ fn check_ranged(
     if !splits(work, head, b, repeats, n, q) {
         return refused(6);
     }
-    let reply = test_opening(work, a, k, head, side as usize, opening, n, q);
-    let Reply::Taken = reply else {
-        return reply;
+    let opened = test_opening(work, a, k, head, side as usize, opening, n, q);
+    let Reply::Taken = opened else {
+        return opened;
     };
     check_answers(
         work,

@@ -1,10 +1,10 @@
--- `both_sides::test_answers` meets its contract. Assumes nothing.
+-- `three_answers::test_answers` meets its contract. Assumes nothing.
 use mathlib.Core.Path.{_∙_}
 use native.Mathlib.Omega.{arith}
 use borrow.Author.Needs.{needs}
 use Rattle.checker.proofs.InOrder.{stopped, continued}
-use Rattle.checker.proofs.both_sides.test_answers.Statement.{statement}
-use Rattle.checker.proofs.both_sides.test_answers.Tie as tie
+use Rattle.checker.proofs.three_answers.test_answers.Statement.{statement}
+use Rattle.checker.proofs.three_answers.test_answers.Tie as tie
 
 test-answer-requires : tie.Need-test-answer-requires
 test-answer-requires c κs = let p = c .before .before .before .before .before .before .before .pre in (p .0, p .1, p .4, omega (arith, p .4 .sized), p .5)
