@@ -41,10 +41,11 @@ unknownsOf q N u r = take (14 * N) (subtract q (vector u) (vector r))
 abbrev pub lessUnknowns : (q N : ℕ) (r0 r1 : Bytes) → List ℕ → ℕ → Three
 lessUnknowns q N r0 r1 z j = minus3 q (plus3 (threeOf q N r0) (threeOf q N r1)) (plus3 (threeFrom N z j) (threeFrom N z (j + 3)))
 
--- the same as 3N numbers side by side, from a number of the unknowns on
+-- the numbers of a list from one on
 unfoldable pub from : List ℕ → ℕ → Poly
 from z first = λ i. getD z (first + i) 0
 
+-- that vector as 3N numbers side by side; the first three r start at a number of the unknowns, the others behind them
 unfoldable pub excess : (q N : ℕ) (r0 r1 : Bytes) → List ℕ → ℕ → Poly
 excess q N r0 r1 z first = minus q (plus (ternary q r0) (ternary q r1)) (plus (from z first) (from z (first + 3 * N)))
 

@@ -19,7 +19,8 @@ ghost use Rattle.transcript.specs.Method.{parameters};
 ghost use Rattle.transcript.specs.Extractor.{kind, extracted};
 ghost use Rattle.extractor.specs.Lent.{openingsOf, Answers};
 
-// 1, 2, 3: the lowest digest whose two strings differ, with zeros in the output; else 4, 5: the nonzero vector for s, for e; else 6: the key.
+// 1, 2, 3: the lowest digest whose two strings differ, with zeros in the output; else 4, 5: the nonzero vector for s, for e; else 6: the key. It is called once every
+// test is passed, so nothing is refused any more and the output is used on the way.
 pub fn find(
     work: &mut [u8],
     k: &[u8],
