@@ -12,9 +12,9 @@ use Rattle.transcript.specs.Layout.{joined, answersLength}
 use Rattle.transcript.specs.Method.{parameters}
 use Rattle.transcript.specs.Producer.{producedAnswers, materialOf}
 use Rattle.transcript.proofs.Answers.{answersLength-append, answersLength-more, length-answers, length-honestAnswer}
-use Rattle.producer.specs.Method.{drawnFor, Drawings}
-use Rattle.producer.proofs.Drawing.{Placed, placed-first, placed-more, material, drawn-is}
-use Rattle.producer.proofs.Joining.{Filled, filled-first, filled-more, filled-all}
+use Rattle.message_head.specs.Method.{drawnFor, Drawings}
+use Rattle.message_head.proofs.Drawing.{Placed, placed-first, placed-more, material, drawn-is}
+use Rattle.message_head.proofs.Joining.{Filled, filled-first, filled-more, filled-all}
 
 -- a prefix is no longer than the whole
 prefix-le : (n : ℕ) (cs : Bytes) (m : ℕ) → answersLength n (take m cs) ≤ answersLength n cs

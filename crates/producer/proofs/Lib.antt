@@ -1,9 +1,3 @@
 pub mod Answering
-pub mod BallotWriting
-pub mod CommittedPairs
-pub mod Drawing
-pub mod Joining
-pub mod Messages
+pub mod OpeningParts
 pub mod Restated
-pub mod ShareAlgebra
-pub mod ShareSteps

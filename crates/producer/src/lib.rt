@@ -1,11 +1,6 @@
 // What the producer of a round writes once its material passed all tests (document 01, "One round", third paragraph): crates/transcript/specs/Producer.antt.
-mod ballots;
-mod digests;
-mod head;
 mod opening;
-mod pairs;
 mod repetitions;
-mod shares;
 
 ghost use mathlib.Core.Path.{_≡_};
 ghost use mathlib.Core.List.{[]};
@@ -16,7 +11,8 @@ ghost use Rattle.commitment.specs.Commitment.{PublicKeys};
 ghost use Rattle.transcript.specs.Layout.{headLength, answersLength};
 ghost use Rattle.transcript.specs.Method.{parameters};
 ghost use Rattle.transcript.specs.Producer.{producedHead, producedShares, producedClaims, producedOpening, producedAnswers, materialOf};
-ghost use Rattle.producer.specs.Method.{Drawings, Masked};
+ghost use Rattle.message_head.specs.Method.{Drawings};
+ghost use Rattle.message_shares.specs.Method.{Masked};
 
 // The first message and the claims.
 pub fn write_first(
@@ -49,7 +45,7 @@ pub fn write_first(
     ensures { λ _. ⌜ now (claims .exit) ≡ producedClaims (parameters 2 n q 0 repeats (now (a .entry)) [] (now (k .entry))) count (materialOf (now (secrets .entry)) (now (s0 .entry)) (now (e0 .entry)) (now (masks0 .entry)) (now (masks1 .entry)) (now (vectors .entry)) (now (permutations .entry)) (now (salts .entry)) (now (ballots .entry))) ⌝ }
     ensures { λ _. ⌜ length (now (work .exit)) ≡ length (now (work .entry)) ⌝ }
 {
-    head::write_head(
+    message_head::write_head(
         head,
         work,
         a,
@@ -64,7 +60,7 @@ pub fn write_first(
         n,
         q,
     );
-    ballots::write_ballots(
+    message_shares::write_ballots(
         shares0,
         shares1,
         claims,

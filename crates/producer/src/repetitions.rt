@@ -8,7 +8,7 @@ ghost use Rattle.stern.specs.Shortness.{Material, drawnOf, answerLength, honest
 ghost use Rattle.transcript.specs.Layout.{answersLength};
 ghost use Rattle.transcript.specs.Method.{parameters};
 ghost use Rattle.transcript.specs.Producer.{producedAnswers, materialOf};
-ghost use Rattle.producer.specs.Method.{Drawings};
+ghost use Rattle.message_head.specs.Method.{Drawings};
 
 // One repetition, at places of what was drawn: its stretch of the buffer is lent on.
 fn answer_at(

@@ -17,7 +17,8 @@ use Rattle.transcript.specs.Method.{parameters}
 use Rattle.transcript.specs.Producer.{Material, Sized, askedRanged, materialRanged, producerTests}
 use Rattle.material.proofs.Unread.{lengths-lent}
 use Rattle.material.proofs.Usable.{Usable, usable, none-refused}
-use Rattle.producer.specs.Method.{Drawings, Masked}
+use Rattle.message_head.specs.Method.{Drawings}
+use Rattle.message_shares.specs.Method.{Masked}
 use Rattle.rounds.specs.Calls.{countOf, materialSized, firstSized, firstTests, secondSized, secondTests}
 use Rattle.rounds.proofs.Sizes.{all-right, material-sizes, first-sizes, second-sizes}
 

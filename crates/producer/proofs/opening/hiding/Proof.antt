@@ -6,7 +6,7 @@ use borrow.Author.Needs.{needs}
 use Rattle.codec.specs.Bytes.{part, put}
 use Rattle.codec.proofs.Laws.{length-part}
 use Rattle.call.proofs.Writing.{written-behind}
-use Rattle.producer.proofs.Joining.{cut}
+use Rattle.message_head.proofs.Joining.{cut}
 use Rattle.producer.proofs.opening.hiding.Statement.{statement}
 use Rattle.producer.proofs.opening.hiding.Tie as tie
 

@@ -6,7 +6,7 @@ use borrow.Author.Needs.{needs}
 use Rattle.codec.specs.Bytes.{Octets, put}
 use Rattle.ring.specs.Slots.{poly}
 use Rattle.commitment.proofs.Opening.{encode-bytes}
-use Rattle.producer.proofs.Messages.{two-behind}
+use Rattle.message_head.proofs.HeadParts.{two-behind}
 use Rattle.producer.proofs.opening.lent_halves.Statement.{statement}
 use Rattle.producer.proofs.opening.lent_halves.Tie as tie
 

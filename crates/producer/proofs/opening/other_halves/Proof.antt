@@ -9,8 +9,8 @@ use Rattle.ring.specs.Ternary.{ternary}
 use Rattle.bgv.specs.Scheme.{other}
 use Rattle.scheme.specs.Calls.{written}
 use Rattle.stern.proofs.Answered.{lent-length}
-use Rattle.producer.proofs.Joining.{cut}
-use Rattle.producer.proofs.Messages.{two-behind}
+use Rattle.message_head.proofs.Joining.{cut}
+use Rattle.message_head.proofs.HeadParts.{two-behind}
 use Rattle.producer.proofs.opening.other_halves.Statement.{statement}
 use Rattle.producer.proofs.opening.other_halves.Tie as tie
 

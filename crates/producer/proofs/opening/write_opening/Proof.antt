@@ -7,7 +7,7 @@ use Rattle.codec.specs.Bytes.{part}
 use Rattle.ring.specs.Slots.{poly}
 use Rattle.ring.specs.Ternary.{ternary}
 use Rattle.bgv.specs.Scheme.{other}
-use Rattle.producer.proofs.Messages.{opening-whole, opening-lent, opening-other}
+use Rattle.producer.proofs.OpeningParts.{opening-whole, opening-lent, opening-other}
 use Rattle.producer.proofs.opening.write_opening.Statement.{statement}
 use Rattle.producer.proofs.opening.write_opening.Tie as tie
 

@@ -9,7 +9,7 @@ use Rattle.codec.proofs.Laws.{put-between}
 use Rattle.stern.specs.Argument.{Drawn}
 use Rattle.stern.specs.Shortness.{honestAnswer}
 use Rattle.stern.proofs.Answered.{lent-length}
-use Rattle.producer.proofs.Drawing.{material-lent, drawn-lent}
+use Rattle.message_head.proofs.Drawing.{material-lent, drawn-lent}
 use Rattle.producer.proofs.repetitions.answer_at.Statement.{statement}
 use Rattle.producer.proofs.repetitions.answer_at.Tie as tie
 

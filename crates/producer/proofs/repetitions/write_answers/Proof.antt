@@ -4,7 +4,7 @@ use Prim.Native.Nat.{_-_}
 use native.Mathlib.Omega.{arith}
 use borrow.Author.Needs.{needs}
 use Rattle.producer.proofs.Answering.{Answering, answering-first, answer-ends, answering-more, answering-all}
-use Rattle.producer.proofs.Drawing.{placed-fit, drawn-ends, material}
+use Rattle.message_head.proofs.Drawing.{placed-fit, drawn-ends, material}
 use Rattle.producer.proofs.repetitions.write_answers.Statement.{statement}
 use Rattle.producer.proofs.repetitions.write_answers.Tie as tie
 

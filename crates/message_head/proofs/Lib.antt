@@ -1,0 +1,4 @@
+pub mod CommittedPairs
+pub mod Drawing
+pub mod HeadParts
+pub mod Joining

@@ -1,0 +1,3 @@
+pub mod BallotWriting
+pub mod ShareAlgebra
+pub mod ShareSteps
