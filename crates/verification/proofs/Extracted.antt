@@ -18,7 +18,7 @@ extraction-refused r n p k e = rw e
 
 -- the reply can be told from what is answered
 pub reply-of : (r : Reply) (k : ℕ) → replyOf (extraction r k) ≡ r
-unfolding extraction replyOf
+unfolding extraction
 reply-of reply.Taken k = refl
 reply-of (reply.Refused n p) k = refl
 

@@ -10,12 +10,12 @@ unfoldable pub extraction : Reply → (kind : ℕ) → Extraction
 extraction reply.Taken kind = Found kind
 extraction (reply.Refused number place) kind = Refused number place
 
--- the reply of its tests
-unfoldable pub replyOf : Extraction → Reply
+-- the reply of its tests, which decides what is left in scratch
+abbrev pub replyOf : Extraction → Reply
 replyOf (Found kind) = reply.Taken
 replyOf (Refused number place) = reply.Refused number place
 
--- the one number that the C host is answered: the kind in the place of a refusal's number and place
+-- the one number that the C host is answered: 256 times the kind, or a refusal's number and 256 times its place
 abbrev pub answered : Extraction → ℕ
 answered (Found kind) = 256 * kind
 answered (Refused number place) = number + 256 * place

@@ -17,7 +17,7 @@ ghost use Rattle.transcript.specs.Method.{parameters};
 ghost use Rattle.transcript.specs.Extractor.{kind, extracted};
 ghost use Rattle.checker.specs.Orders.{roundOf, openingsOf};
 ghost use Rattle.rounds.specs.Calls.{countOf, checkTests, openingsTests};
-ghost use Rattle.verification.specs.Extraction.{extraction, answered};
+ghost use Rattle.verification.specs.Extraction.{extraction, replyOf, answered};
 
 // What the extractor's call answers: the kind of what it found, or refused with document 01's number and place.
 pub enum Extraction {
@@ -32,6 +32,16 @@ pub fn pack(answer: Extraction) -> u64
     match answer {
         Extraction::Found { kind } => 256 * (kind as u64),
         Extraction::Refused { number, place } => (number as u64) + 256 * (place as u64),
+    }
+}
+
+// The reply of the tests that an answer came from.
+pub fn reply_of(answer: Extraction) -> Reply
+    ensures { λ r. ⌜ r ≡ replyOf answer ⌝ }
+{
+    match answer {
+        Extraction::Found { kind: _ } => Reply::Taken,
+        Extraction::Refused { number, place } => Reply::Refused { number, place },
     }
 }
 
