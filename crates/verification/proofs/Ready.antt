@@ -1,0 +1,70 @@
+-- What the search of the extractor is given where its tests take what is lent: lengths, ranges and permutations. Assumes nothing.
+use mathlib.Core.Path.{_≡_}
+use mathlib.Core.Bool.{true}
+use Prim.Native.Nat.{ℕ, _*_, _≤_}
+use native.Mathlib.Omega.{arith}
+use borrow.Author.Tests.{not-false}
+use lib.ListN.{length}
+use Rattle.codec.specs.Bytes.{Bytes, Octets}
+use Rattle.codec.specs.Reply.{first, None}
+use Rattle.codec.specs.declared.Reply.the-variants.{Taken}
+use Rattle.codec.proofs.Replies.{taken-exactly}
+use Rattle.ring.specs.Slots.{allBelow}
+use Rattle.call.specs.Call.{scratchLength, Public}
+use Rattle.vector.specs.Vector.{vector}
+use Rattle.vector.specs.Permutation.{entries, permutes}
+use Rattle.stern.specs.Shortness.{answer2Of, answer3Of}
+use Rattle.transcript.specs.Layout.{pairsOf}
+use Rattle.transcript.specs.Round.{Parameters}
+use Rattle.transcript.specs.Extractor.{Openings, Lent, open0, open1, lentRanged, sideTests, extractTests}
+use Rattle.transcript.proofs.Many.{append-none}
+use Rattle.checker.proofs.Passed.{openings-passed}
+use Rattle.extractor.specs.Lent.{Answers}
+use Rattle.rounds.specs.Calls.{countOf, openingsTests}
+use Rattle.rounds.proofs.Sizes.{all-right}
+use Rattle.verification.proofs.Tested.{lent-message, lent-openings, extract-lengths}
+
+-- the ranges, and the permutations of answers 2 and 3: of each answer's two tests the first
+extract-passed : (P : Parameters) (m : ℕ) (x : Openings) → None (extractTests P m x)
+    → (lentRanged P m x ≡ true) × (permutes (42 * P .N) (entries (answer2Of (P .N) (x .answer2) .p)) ≡ true) × (permutes (42 * P .N) (entries (answer3Of (P .N) (x .answer3) .p)) ≡ true)
+unfolding extractTests
+extract-passed P m x none =
+    let after0 = append-none (sideTests P m x 0 (x .shares0) (open0 P m x)) _ (none .1 .1) in
+    let after1 = append-none (sideTests P m x 1 (x .shares1) (open1 P m x)) _ (after0 .1) in
+    let later = after1 .1 .1 .1 in
+    (not-false (lentRanged P m x) (none .0), not-false (permutes _ _) (later .0), not-false (permutes _ _) (later .1 .1 .0))
+
+module _ (P : Parameters) (x : Openings) (out scratch : Bytes) {a : Bytes} (public : Public (P .N) (P .q) a) (octets : Octets (x .head))
+    (taken : first (openingsTests P x out scratch) ≡ Taken) where
+  open Parameters P using (q, N)
+
+  abbrev m : ℕ
+  m = countOf N (x .ballots)
+
+  lengths : (Lent P m x × (length out ≡ 24 * N) × (length scratch ≡ scratchLength)) × None (extractTests P m x)
+  unfolding openingsTests
+  lengths =
+      let r = all-right m (lent-message P x out scratch m) (lent-openings P x out scratch m) (extractTests P m x) taken in
+      (extract-lengths P x out scratch m octets (r .1) (r .2), taken-exactly (extractTests P m x) .0 (r .3))
+
+  pub search-ready : ((length scratch ≡ scratchLength) × (length out ≡ 24 * N) × (80 * N ≤ length (x .head)) × (length (x .opening0) ≡ 22 * N) × (length (x .opening1) ≡ 22 * N))
+      × ((allBelow q (vector (pairsOf N (x .head))) ≡ true) × Answers q N (x .answer1) (x .answer2) (x .answer3))
+  search-ready =
+      let l = lengths .0 .0 in
+      let p = extract-passed P m x (lengths .1) in
+      let r = openings-passed P m public x l (p .0) in (
+        (lengths .0 .2, lengths .0 .1, omega (arith, l .head), l .opening0, l .opening1),
+        (
+          r .head .pairs,
+          record {
+            sized1 = l .answer1;
+            sized2 = l .answer2;
+            sized3 = l .answer3;
+            below1 = r .answer1 .ranged;
+            below2 = r .answer2 .ranged;
+            below3 = r .answer3 .ranged;
+            permutes2 = p .1;
+            permutes3 = p .2;
+          },
+        ),
+      )

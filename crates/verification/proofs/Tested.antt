@@ -1,0 +1,102 @@
+-- The orders of a check and of the extractor: too many ballots, a slice of wrong length, and what is known of the lent slices where every length is right. Assumes nothing.
+use mathlib.Core.Path.{_≡_}
+use mathlib.Core.Bool.{Bool, true, false}
+use Prim.Native.Nat.{ℕ, _*_, _≤_, _<_}
+use lib.ListN.{length}
+use Rattle.codec.specs.Bytes.{Bytes, Octets}
+use Rattle.codec.specs.Reply.{first}
+use Rattle.codec.specs.declared.Reply.{Reply}
+use Rattle.codec.specs.declared.Reply.the-variants.{Refused}
+use Rattle.call.specs.Call.{scratchLength}
+use Rattle.transcript.specs.Round.{Parameters, Round, Lengths, roundTests}
+use Rattle.transcript.specs.Extractor.{Openings, Lent, extractTests}
+use Rattle.rounds.specs.Calls.{countOf, messageSized, secondSized, openingsSized, checkTests, openingsTests}
+use Rattle.rounds.proofs.Sizes.{too-many, wrong-first, wrong-second, right, message-sizes, second-sizes, openings-sizes}
+
+-- ---- a check
+
+module _ (P : Parameters) (r : Round) (scratch : Bytes) where
+  open Parameters P using (N, repeats)
+
+  -- the first message, the ballots and the claims, for m ballots; and the rest
+  abbrev message : ℕ → Bool
+  message m = messageSized N repeats m (r .head) (r .shares0) (r .shares1) (r .ballots) (r .claims)
+
+  abbrev second : ℕ → Bool
+  second m = secondSized N repeats (r .challenges) (r .opening) (r .answers) scratch
+
+  module _ {count : ℕ} (is : count ≡ countOf N (r .ballots)) {reply : Reply} where
+    pub check-many : reply ≡ Refused 1 0 → 4096 < count → reply ≡ first (checkTests P r scratch)
+    unfolding checkTests
+    check-many = too-many message second (λ m. roundTests P m r) is
+
+    pub check-message : {x : Bool} → reply ≡ Refused 1 0 → count ≤ 4096 → x ≡ message count → x ≡ false → reply ≡ first (checkTests P r scratch)
+    unfolding checkTests
+    check-message = wrong-first message second (λ m. roundTests P m r) is
+
+    pub check-second : {x y : Bool} → reply ≡ Refused 1 0 → count ≤ 4096 → x ≡ message count → x ≡ true → y ≡ second count → y ≡ false → reply ≡ first (checkTests P r scratch)
+    unfolding checkTests
+    check-second = wrong-second message second (λ m. roundTests P m r) is
+
+    pub check-rest : {x y : Bool} → count ≤ 4096 → x ≡ message count → x ≡ true → y ≡ second count → y ≡ true → reply ≡ first (roundTests P count r)
+        → reply ≡ first (checkTests P r scratch)
+    unfolding checkTests
+    check-rest = right message second (λ m. roundTests P m r) is
+
+  pub check-lengths : (m : ℕ) → message m ≡ true → second m ≡ true → Lengths P m r × (length scratch ≡ scratchLength)
+  check-lengths m e f =
+      let s = message-sizes N repeats m (r .head) (r .shares0) (r .shares1) (r .ballots) (r .claims) e in
+      let t = second-sizes N repeats (r .challenges) (r .opening) (r .answers) scratch f in
+      (record { challenges = t .0; ballots = s .3; claims = s .4; head = s .0; shares0 = s .1; shares1 = s .2; opening = t .1; answers = t .2 }, t .3)
+
+-- ---- the extractor
+
+module _ (P : Parameters) (x : Openings) (out scratch : Bytes) where
+  open Parameters P using (N, repeats)
+
+  abbrev pub lent-message : ℕ → Bool
+  lent-message m = messageSized N repeats m (x .head) (x .shares0) (x .shares1) (x .ballots) (x .claims)
+
+  -- both openings, the three answers, the output, and scratch
+  abbrev pub lent-openings : ℕ → Bool
+  lent-openings m = openingsSized N (x .opening0) (x .opening1) (x .answer1) (x .answer2) (x .answer3) out scratch
+
+  module _ {count : ℕ} (is : count ≡ countOf N (x .ballots)) {reply : Reply} where
+    pub extract-many : reply ≡ Refused 1 0 → 4096 < count → reply ≡ first (openingsTests P x out scratch)
+    unfolding openingsTests
+    extract-many = too-many lent-message lent-openings (λ m. extractTests P m x) is
+
+    pub extract-message : {y : Bool} → reply ≡ Refused 1 0 → count ≤ 4096 → y ≡ lent-message count → y ≡ false → reply ≡ first (openingsTests P x out scratch)
+    unfolding openingsTests
+    extract-message = wrong-first lent-message lent-openings (λ m. extractTests P m x) is
+
+    pub extract-openings : {y z : Bool} → reply ≡ Refused 1 0 → count ≤ 4096 → y ≡ lent-message count → y ≡ true → z ≡ lent-openings count → z ≡ false
+        → reply ≡ first (openingsTests P x out scratch)
+    unfolding openingsTests
+    extract-openings = wrong-second lent-message lent-openings (λ m. extractTests P m x) is
+
+    pub extract-rest : {y z : Bool} → count ≤ 4096 → y ≡ lent-message count → y ≡ true → z ≡ lent-openings count → z ≡ true → reply ≡ first (extractTests P count x)
+        → reply ≡ first (openingsTests P x out scratch)
+    unfolding openingsTests
+    extract-rest = right lent-message lent-openings (λ m. extractTests P m x) is
+
+  pub extract-lengths : (m : ℕ) → Octets (x .head) → lent-message m ≡ true → lent-openings m ≡ true → Lent P m x × (length out ≡ 24 * N) × (length scratch ≡ scratchLength)
+  extract-lengths m o e f =
+      let s = message-sizes N repeats m (x .head) (x .shares0) (x .shares1) (x .ballots) (x .claims) e in
+      let t = openings-sizes N (x .opening0) (x .opening1) (x .answer1) (x .answer2) (x .answer3) out scratch f in (
+        record {
+          head = s .0;
+          octets = o;
+          shares0 = s .1;
+          shares1 = s .2;
+          ballots = s .3;
+          claims = s .4;
+          opening0 = t .0 .0;
+          opening1 = t .0 .1;
+          answer1 = t .1 .0;
+          answer2 = t .1 .1;
+          answer3 = t .1 .2;
+        },
+        t .0 .2,
+        t .0 .3,
+      )
