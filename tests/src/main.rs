@@ -5,7 +5,9 @@ mod digest;
 mod polynomials;
 mod random;
 mod ring;
+mod round;
 mod scheme;
+mod scratch;
 mod sha3;
 mod sheet;
 mod stern;
@@ -20,5 +22,6 @@ fn main() {
     sheet::run(&mut tally);
     scheme::run(&mut tally);
     stern::run(&mut tally);
+    round::run(&mut tally);
     std::process::exit(tally.finish());
 }

@@ -2,40 +2,36 @@
 use crate::calls::{decrypt, encrypt, keygen, reconstruct, share, split, Call, Kind, CALLS};
 use crate::polynomials::{signed, words, Ring};
 use crate::random::Random;
+use crate::scratch::{with_scratch, Scratch, SCRATCH};
 use crate::sheet::{self, Sheet};
 use crate::tally::{Comparison, Tally};
 
-const SCRATCH: usize = 1_048_576;
-
-/// The number, what the output holds, and whether scratch is zeroed.
-fn expected(call: &Call, text: &[u8], inputs: &[Vec<u8>], out: &[u8], scratch: usize) -> (u64, Vec<u8>, bool) {
+/// The number, and what the output holds.
+fn expected(call: &Call, text: &[u8], inputs: &[Vec<u8>], out: &[u8], scratch: usize) -> (u64, Vec<u8>) {
     let (sheet, [n, _, bound, _]) = match sheet::read(text) {
-        Err(number) => return (number, out.to_vec(), number != 1),
+        Err(number) => return (number, out.to_vec()),
         Ok(taken) => taken,
     };
     let (n, q) = (n as usize, sheet.numbers[1]);
     if inputs.iter().zip(call.kinds).any(|(x, k)| x.len() != k.length(n)) || out.len() != call.out * n || scratch != SCRATCH {
-        return (1, out.to_vec(), false);
+        return (1, out.to_vec());
     }
     if inputs.iter().zip(call.kinds).any(|(x, k)| !k.in_range(x, q)) {
-        return (5, out.to_vec(), true);
+        return (5, out.to_vec());
     }
     let over = |x: &Vec<u8>| signed(x).iter().any(|e| e.unsigned_abs() > u128::from(bound));
     if inputs.iter().zip(call.kinds).any(|(x, k)| *k == Kind::Mask && over(x)) {
-        return (12, out.to_vec(), true);
+        return (12, out.to_vec());
     }
     let ring = Ring { n, q: i128::from(q) };
-    (0, (call.writes)(&ring, &sheet, inputs), true)
+    (0, (call.writes)(&ring, &sheet, inputs))
 }
 
 fn compare(c: &mut Comparison, call: &Call, text: &[u8], inputs: &[Vec<u8>], out: &[u8], scratch: usize) -> u64 {
-    let theirs = expected(call, text, inputs, out, scratch);
+    let (number, output) = expected(call, text, inputs, out, scratch);
     let mut written = out.to_vec();
-    let mut room = vec![0xA5; scratch];
-    let reply = (call.run)(text, inputs, &mut written, &mut room);
-    let zeroed = room.iter().all(|b| *b == 0);
-    let kept = room.iter().all(|b| *b == 0xA5);
-    c.same(|| format!("{}, {} bytes of sheet", call.name, text.len()), (reply, written, if theirs.2 { zeroed } else { kept }), (theirs.0, theirs.1, true));
+    let (reply, state) = with_scratch(scratch, |room| (call.run)(text, inputs, &mut written, room));
+    c.same(|| format!("{}, {} bytes of sheet", call.name, text.len()), (reply, written, state), (number, output, Scratch::after(number, scratch)));
     reply
 }
 

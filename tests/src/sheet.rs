@@ -64,7 +64,7 @@ fn form(text: &[u8]) -> Option<Sheet> {
 }
 
 /// The largest m with 3^m ≤ 2^(rounds + m), that is 3^m < 2^(rounds + m), since no power of 3 above 1 is a power of 2.
-fn least_repeats(rounds: u64) -> u64 {
+pub fn least_repeats(rounds: u64) -> u64 {
     let mut power: Vec<u32> = vec![1]; // 3^m, the low 32 bits first
     let mut m = 0;
     loop {
@@ -85,7 +85,7 @@ fn least_repeats(rounds: u64) -> u64 {
     }
 }
 
-fn noise(n: u64) -> u128 {
+pub fn noise(n: u64) -> u128 {
     2 * (2 * u128::from(n) + 1) + 1
 }
 
