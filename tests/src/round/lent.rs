@@ -96,7 +96,8 @@ fn difference(call: &Call, ours: &Left, theirs: &Left) -> Option<String> {
     if ours.reply != theirs.reply {
         return Some(format!("ours {}, theirs {}", words(ours.reply), words(theirs.reply)));
     }
-    for (name, (a, b)) in call.writes.iter().zip(ours.outputs.iter().zip(&theirs.outputs)).filter(|(_, (a, b))| a != b) {
+    let mut outputs = call.writes.iter().zip(ours.outputs.iter().zip(&theirs.outputs));
+    if let Some((name, (a, b))) = outputs.find(|(_, (a, b))| a != b) {
         let at = a.iter().zip(b).position(|(x, y)| x != y);
         return Some(format!("after {}: {name} differs at {at:?}", words(ours.reply)));
     }
