@@ -10,6 +10,7 @@ mod scheme;
 mod scratch;
 mod sha3;
 mod sheet;
+mod sheets;
 mod stern;
 mod stern_refusals;
 mod tally;

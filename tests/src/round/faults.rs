@@ -1,7 +1,7 @@
 //! One thing wrong with what a call is lent, and the refusal that follows: alone, and together with a second, of which the earlier in the call's order decides.
 use super::lent::{refused, Lent, Refusal};
 use crate::random::Random;
-use crate::sheet;
+use crate::sheets;
 use crate::tally::Comparison;
 
 /// Where a test stands in a call's order: its step, the repetition, ballot or answer within the step, and its number.
@@ -46,12 +46,12 @@ impl Faults {
 
     /// Sheets that are refused, by each number of the sheet's order.
     pub fn sheets(&mut self, lent: &Lent) {
-        let (right, _) = sheet::read(&lent["sheet"]).unwrap_or_else(|number| panic!("the sheet is refused {number}"));
+        let (right, _) = sheets::read(&lent["sheet"]).unwrap_or_else(|number| panic!("the sheet is refused {number}"));
         let mut sheet = |number: u64, name: &str, text: Vec<u8>| self.add(SHEET, number, 0, name, move |lent| lent["sheet"] = text.clone());
         sheet(1, "an empty sheet", Vec::new());
         sheet(1, "a sheet above 262,144 bytes", vec![b'\n'; 262_145]);
         sheet(2, "a sheet without its last line feed", right.text().trim_end().into());
-        let mut other = |number: u64, name: &str, change: &dyn Fn(&mut sheet::Sheet)| {
+        let mut other = |number: u64, name: &str, change: &dyn Fn(&mut sheets::Sheet)| {
             let mut changed = right.clone();
             change(&mut changed);
             sheet(number, name, changed.text().into_bytes());
@@ -66,7 +66,9 @@ impl Faults {
     pub fn lengths(&mut self, lent: &Lent) {
         for name in lent.call.reads[1..].iter().chain(lent.call.writes).copied() {
             self.add(LENGTHS, 1, 0, &format!("{name} a byte longer"), move |lent| lent[name].push(0));
-            self.add(LENGTHS, 1, 0, &format!("{name} a byte shorter"), move |lent| drop(lent[name].pop()));
+            self.add(LENGTHS, 1, 0, &format!("{name} a byte shorter"), move |lent| {
+                lent[name].pop();
+            });
             self.add(LENGTHS, 1, 0, &format!("{name} empty"), move |lent| lent[name].clear());
         }
         for length in [0, lent.scratch - 1, lent.scratch + 1] {

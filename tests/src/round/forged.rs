@@ -9,7 +9,7 @@ use super::whole::Whole;
 use crate::argument::Drawn;
 use crate::polynomials::{list, poly, Poly, Ring};
 use crate::random::Random;
-use crate::sheet::Sheet;
+use crate::sheets::Sheet;
 use crate::stern::{coefficients, permutation};
 use crate::tally::{Comparison, Tally};
 

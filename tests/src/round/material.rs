@@ -6,7 +6,7 @@ use crate::calls::Kind;
 use crate::polynomials::{encode, list, poly, ternary, Poly, Ring};
 use crate::random::Random;
 use crate::scratch::SCRATCH;
-use crate::sheet::{self, Sheet};
+use crate::sheets::{self, Sheet};
 use crate::stern::{coefficients, permutation};
 
 /// How large the modulus is that a sheet's other numbers leave room for.
@@ -43,7 +43,7 @@ impl Plan {
     /// 2N divides q - 1, and (1 + 2^d) D is below (q - 1) / 2.
     fn modulus(&self, random: &mut Random) -> u64 {
         let n = self.n as u128;
-        let least = (1 + (1_u128 << self.drown)) * sheet::noise(self.n as u64) / n + 1;
+        let least = (1 + (1_u128 << self.drown)) * sheets::noise(self.n as u64) / n + 1;
         let largest = ((1 << 56) - 2) / (2 * n);
         let steps = match self.modulus {
             Modulus::Least => least,
@@ -56,7 +56,7 @@ impl Plan {
     /// A sheet with these numbers, whose polynomials are any.
     pub fn sheet(&self, random: &mut Random) -> Sheet {
         let q = self.modulus(random);
-        let repeats = sheet::least_repeats(self.rounds) + self.more;
+        let repeats = sheets::least_repeats(self.rounds) + self.more;
         let lists = std::array::from_fn(|_| (0..self.n).map(|_| random.below(q)).collect());
         Sheet { numbers: [self.n as u64, q, self.drown, self.rounds, repeats], lists }
     }

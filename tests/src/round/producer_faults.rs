@@ -6,7 +6,7 @@ use super::lent::Lent;
 use super::setting::Setting;
 use super::whole::Whole;
 use crate::polynomials::ternary;
-use crate::sheet;
+use crate::sheets;
 
 /// The steps of the producer after the ranges.
 const SECRET: u64 = 3;
@@ -62,7 +62,7 @@ fn secret(faults: &mut Faults, z: &Setting, lent: &Lent) {
     for (name, at) in [("the first of s", 0), ("the last of s", n - 1), ("the first of e", n), ("the last of e", 2 * n - 1)] {
         faults.add(SECRET, 14, 0, name, move |lent| turn(&mut lent["secrets"], at));
     }
-    if let Ok((right, _)) = sheet::read(&lent["sheet"]) {
+    if let Ok((right, _)) = sheets::read(&lent["sheet"]) {
         for (list, place) in [(1, 0), (1, n - 1), (0, 0)] {
             let mut changed = right.clone();
             changed.lists[list][place] = (changed.lists[list][place] + 1) % z.q();

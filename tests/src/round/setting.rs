@@ -3,7 +3,7 @@ use super::lent::{unless, Lent, Refusal};
 use crate::argument::Argument;
 use crate::polynomials::{encode, list, poly, ternary, Poly, Ring};
 use crate::scratch::SCRATCH;
-use crate::sheet;
+use crate::sheets;
 use crate::stern::answer_length;
 
 pub struct Setting {
@@ -20,7 +20,7 @@ pub struct Setting {
 
 impl Setting {
     pub fn read(text: &[u8]) -> Result<Setting, Refusal> {
-        let (sheet, [n, noise, bound, _]) = sheet::read(text).map_err(|number| Refusal { number, place: 0 })?;
+        let (sheet, [n, noise, bound, _]) = sheets::read(text).map_err(|number| Refusal { number, place: 0 })?;
         let ring = Ring { n: n as usize, q: i128::from(sheet.numbers[1]) };
         let keys = encode(&ring, sheet.lists[2..].iter().map(|k| list(k)).collect());
         Ok(Setting {
