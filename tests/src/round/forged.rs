@@ -7,7 +7,7 @@ use super::setting::Setting;
 use super::source::Source;
 use super::whole::Whole;
 use crate::argument::Drawn;
-use crate::polynomials::{list, poly, Poly, Ring};
+use crate::polynomials::{list, poly, ternary, Poly, Ring};
 use crate::random::Random;
 use crate::sheets::Sheet;
 use crate::stern::{coefficients, permutation};
@@ -82,7 +82,7 @@ fn hides(random: &mut Random, vector: &Vector) -> ([Vec<u8>; 2], [Vec<u8>; 2]) {
 fn halves(random: &mut Random, z: &Setting, m: &[u8], vector: &Vector) -> [Poly; 2] {
     let (n, q, ring) = (z.n(), z.q(), &z.ring);
     let moved = ring.sum(&vector[1], &ring.times(&poly(&z.keys[16 * n..]), &vector[2]), 1);
-    let whole = ring.sum(&crate::polynomials::ternary(m), &moved, -1);
+    let whole = ring.sum(&ternary(m), &moved, -1);
     let half = poly(&coefficients(random, n, q, false));
     [half.clone(), ring.reduce(ring.sum(&whole, &half, -1))]
 }

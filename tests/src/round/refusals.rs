@@ -1,5 +1,5 @@
 //! Every refusal of every call of a round, at every place, alone and two together.
-use super::lent::taken;
+use super::lent::{refused, taken, Refusal};
 use super::material::{Modulus, Plan, SMALL};
 use super::whole::{second, Whole};
 use super::{check_faults, extract_faults, producer_faults};
@@ -70,9 +70,38 @@ fn ignored(tally: &mut Tally, random: &mut Random) {
     c.claim(tally, "round: a check does not look at marks and unopened digests");
 }
 
+/// Honest parts where they do not belong: the other side's opening, an answer to another challenge or of another repetition.
+fn misplaced(tally: &mut Tally, random: &mut Random) {
+    let mut c = Comparison::default();
+    let whole = Whole::honest(&plan(8).material(random));
+    for side in 0..2 {
+        let mut lent = whole.check(side, &[1, 2, 3]);
+        lent.number = 1 - lent.number;
+        refused(&mut c, &lent, Refusal { number: 7, place: 0 }, || "the other side".into());
+        let mut lent = whole.check(side, &[1, 2, 3]);
+        lent["challenges"].copy_from_slice(&[1, 3, 2]);
+        refused(&mut c, &lent, Refusal { number: 11, place: 1 }, || "answers to each other's challenges".into());
+        let mut lent = whole.check(side, &[3, 3, 3]);
+        lent["answers"].rotate_left(504 * 8 + 64);
+        refused(&mut c, &lent, Refusal { number: 11, place: 0 }, || "answers of each other's repetitions".into());
+    }
+    for repetition in 0..3 {
+        let mut lent = whole.extract(random, repetition);
+        lent.number = (lent.number + 1) % 3;
+        refused(&mut c, &lent, Refusal { number: 11, place: lent.number }, || "another repetition".into());
+        let mut lent = whole.extract(random, repetition);
+        lent["answer3"] = whole.source.answer((repetition + 1) % 3, 3);
+        refused(&mut c, &lent, Refusal { number: 11, place: repetition as u64 }, || "answer 3 of another repetition".into());
+        lent["opening0"] = whole.source.opening(1);
+        refused(&mut c, &lent, Refusal { number: 7, place: 0 }, || "side 1 opened twice".into());
+    }
+    c.claim(tally, "round: openings and answers where they do not belong");
+}
+
 pub fn run(tally: &mut Tally, random: &mut Random) {
     producers(tally, random);
     checks(tally, random);
     extractors(tally, random);
     ignored(tally, random);
+    misplaced(tally, random);
 }
