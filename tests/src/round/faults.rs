@@ -80,7 +80,7 @@ impl Faults {
         });
     }
 
-    /// Each fault alone, and then any two that come first of those with their rank.
+    /// Each fault alone; then, for any two ranks, one fault of each, the later applied first so that it cannot undo the earlier.
     pub fn run(&self, c: &mut Comparison, random: &mut Random, base: &Lent) {
         for fault in &self.0 {
             let mut lent = base.clone();

@@ -44,18 +44,18 @@ fn searched(sheet: &Sheet) -> Vec<Vector> {
     found
 }
 
-/// A vector of any size up to 4, and k2 on the sheet changed so that it is one: z3 is a power of X, which has an inverse.
+/// A vector of any numbers up to 4 in size, and k2 on the sheet changed so that the row takes it to zero: z3 is a power of X, which has an inverse.
 fn planted(random: &mut Random, sheet: &mut Sheet) -> Vector {
     let (n, q) = (sheet.numbers[0] as usize, sheet.numbers[1]);
     let ring = Ring { n, q: i128::from(q) };
     let mut any = || (0..n).map(|_| between(random, -4, 4)).collect::<Poly>();
     let (z1, z2) = (any(), any());
     let power = 1 + random.below(n as u64 - 1) as usize;
-    let term = |at: usize, value: i128| (0..n).map(|k| if k == at { value } else { 0 }).collect::<Poly>();
+    let raised = |at: usize| (0..n).map(|k| i128::from(k == at)).collect::<Poly>();
     // k2 = -(z1 + k1 z2) / X^power, and 1 / X^power is -X^(N - power)
-    let k2 = ring.times(&ring.sum(&z1, &ring.times(&list(&sheet.lists[2]), &z2), 1), &term(n - power, 1));
+    let k2 = ring.times(&ring.sum(&z1, &ring.times(&list(&sheet.lists[2]), &z2), 1), &raised(n - power));
     sheet.lists[3] = k2.into_iter().map(|x| x as u64).collect();
-    [z1, z2, term(power, 1)]
+    [z1, z2, raised(power)]
 }
 
 /// Two ternary numbers that add to a sum of size at most 2, as bytes.

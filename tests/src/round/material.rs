@@ -95,7 +95,7 @@ impl Plan {
         Lent { call: &FIRST, slices, number: 0, outputs, scratch: SCRATCH }
     }
 
-    /// E of one side for every ballot, in turn random and of size B.
+    /// E of one side for every ballot: any sizes up to B, and now and then, or always in an extreme round, B everywhere.
     pub fn masks(&self, random: &mut Random, bound: i128) -> Vec<u8> {
         let mask = |random: &mut Random| match self.extreme {
             true => Kind::Mask.highest(self.n, 0, bound as u64),
