@@ -1,15 +1,12 @@
 //! Stern's shortness argument of a round in the plainest way, from document 01 ("One round" and "Layouts"): what the calls are compared with.
 use crate::polynomials::{encode, poly, ternary, Poly, Ring};
-use crate::sha3::sha3_256;
-use std::cell::RefCell;
-use std::collections::HashMap;
+use crate::sha3::sha3_256_on_lanes;
 
-/// What producer and checker share. A string is hashed once only, since the independent SHA3-256 works bit by bit.
+/// What producer and checker share.
 pub struct Argument {
     pub ring: Ring,
     pub keys: Vec<u8>,
     pub pairs: Vec<u8>,
-    hashed: RefCell<HashMap<Vec<u8>, [u8; 32]>>,
 }
 
 /// What is drawn for a repetition.
@@ -56,7 +53,7 @@ fn balanced(w: &[u8]) -> bool {
 
 impl Argument {
     pub fn new(n: usize, q: u64, keys: Vec<u8>) -> Argument {
-        Argument { ring: Ring { n, q: i128::from(q) }, keys, pairs: Vec::new(), hashed: RefCell::default() }
+        Argument { ring: Ring { n, q: i128::from(q) }, keys, pairs: Vec::new() }
     }
 
     pub fn below(&self, bytes: &[u8]) -> bool {
@@ -88,19 +85,13 @@ impl Argument {
         [(0, 2), (1, 3), (4, 6), (5, 7)].into_iter().flat_map(|(i, j)| self.ring.sum(&c[i], &c[j], 1)).collect()
     }
 
-    fn hash(&self, lead: u8, parts: &[&[u8]]) -> [u8; 32] {
-        let mut message = vec![lead];
-        parts.iter().for_each(|part| message.extend(*part));
-        *self.hashed.borrow_mut().entry(message).or_insert_with_key(|m| sha3_256(m))
-    }
-
-    /// Digest 1 of P and a vector, less the right-hand sides or not.
-    fn first_digest(&self, salt: &[u8], p: &[u8], vector: &[i128], less: bool) -> [u8; 32] {
+    /// The string of digest 1: P and a vector under the equations, less the right-hand sides or not.
+    fn first_string(&self, salt: &[u8], p: &[u8], vector: &[i128], less: bool) -> Vec<u8> {
         let mut applied = self.equations(&vector[..14 * self.ring.n]);
         if less {
             applied = self.ring.sum(&applied, &self.sides(), -1);
         }
-        self.hash(1, &[salt, p, &self.bytes(applied)])
+        [&[1], salt, p, &self.bytes(applied)].concat()
     }
 
     /// The extended unknowns and R, added.
@@ -111,10 +102,10 @@ impl Argument {
     pub fn digests(&self, x: &[u8], d: &Drawn) -> Vec<u8> {
         let r = poly(&d.r);
         let masked = self.masked(&extended(x), &d.r);
-        let one = self.first_digest(d.salt(1), &d.p, &r, false);
-        let two = self.hash(2, &[d.salt(2), &self.bytes(permuted(&d.p, &r))]);
-        let three = self.hash(3, &[d.salt(3), &self.bytes(permuted(&d.p, &masked))]);
-        [one, two, three].concat()
+        let one = self.first_string(d.salt(1), &d.p, &r, false);
+        let two = [&[2], d.salt(2), &self.bytes(permuted(&d.p, &r))].concat();
+        let three = [&[3], d.salt(3), &self.bytes(permuted(&d.p, &masked))].concat();
+        [one, two, three].map(|string| sha3_256_on_lanes(&string)).concat()
     }
 
     pub fn answer(&self, challenge: u8, x: &[u8], d: &Drawn) -> Vec<u8> {
@@ -125,39 +116,48 @@ impl Argument {
         }
     }
 
+    /// Whether the numbers of an answer of the right length are in range. Entries of P are not tested here.
+    pub fn ranged(&self, challenge: u8, answer: &[u8]) -> bool {
+        let n = self.ring.n;
+        match challenge {
+            1 => answer[..42 * n].iter().all(|b| *b < 3) && self.below(&answer[42 * n..378 * n]),
+            _ => self.below(&answer[168 * n..504 * n]),
+        }
+    }
+
+    /// The two strings that an answer opens, each with the number of its digest.
+    pub fn strings(&self, challenge: u8, answer: &[u8]) -> [(usize, Vec<u8>); 2] {
+        let n = self.ring.n;
+        let (head, salts) = answer.split_at(answer.len() - 64);
+        let (first, second) = salts.split_at(32);
+        if challenge == 1 {
+            let (w, t) = head.split_at(42 * n);
+            return [(2, [&[2], first, t].concat()), (3, [&[3], second, &self.bytes(self.masked(w, t))].concat())];
+        }
+        let (p, vector) = head.split_at(168 * n);
+        let other = if challenge == 2 { 3 } else { 2 };
+        let gathered = self.bytes(permuted(p, &poly(vector)));
+        [(1, self.first_string(first, p, &poly(vector), challenge == 2)), (other, [&[other as u8], second, &gathered].concat())]
+    }
+
     /// What a test of an answer of the right length replies: 5, or 9, 10, 11 with the place above the low byte.
     pub fn test(&self, digests: &[u8], challenge: u8, answer: &[u8], place: u32) -> u64 {
-        let number = match challenge {
-            1 => self.test_balanced(digests, answer),
-            _ => self.test_permuted(digests, challenge == 2, answer),
-        };
+        let number = self.refused(digests, challenge, answer);
         if number > 5 { number + 256 * u64::from(place) } else { number }
     }
 
-    fn test_balanced(&self, digests: &[u8], answer: &[u8]) -> u64 {
+    fn refused(&self, digests: &[u8], challenge: u8, answer: &[u8]) -> u64 {
         let n = self.ring.n;
-        let (w, t, salts) = (&answer[..42 * n], &answer[42 * n..378 * n], &answer[378 * n..]);
-        if w.iter().any(|b| *b > 2) || !self.below(t) {
+        if !self.ranged(challenge, answer) {
             return 5;
         }
-        if !balanced(w) {
+        if challenge == 1 && !balanced(&answer[..42 * n]) {
             return 10;
         }
-        let opened = self.hash(2, &[&salts[..32], t]) == digests[32..64] && self.hash(3, &[&salts[32..], &self.bytes(self.masked(w, t))]) == digests[64..];
-        if opened { 0 } else { 11 }
-    }
-
-    fn test_permuted(&self, digests: &[u8], less: bool, answer: &[u8]) -> u64 {
-        let n = self.ring.n;
-        let (p, v, salts) = (&answer[..168 * n], &answer[168 * n..504 * n], &answer[504 * n..]);
-        if !self.below(v) {
-            return 5;
-        }
-        if !is_permutation(p) {
+        if challenge != 1 && !is_permutation(&answer[..168 * n]) {
             return 9;
         }
-        let (lead, other) = if less { (3, &digests[64..]) } else { (2, &digests[32..64]) };
-        let opened = self.first_digest(&salts[..32], p, &poly(v), less) == digests[..32] && self.hash(lead, &[&salts[32..], &self.bytes(permuted(p, &poly(v)))]) == *other;
-        if opened { 0 } else { 11 }
+        let opened = |(number, string): (usize, Vec<u8>)| sha3_256_on_lanes(&string) == digests[32 * (number - 1)..32 * number];
+        if self.strings(challenge, answer).into_iter().all(opened) { 0 } else { 11 }
     }
 }

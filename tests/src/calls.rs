@@ -1,7 +1,7 @@
 //! The calls of encryption, decryption shares and commitment: what each is lent, and what it writes by plain 128-bit arithmetic.
 use crate::polynomials::{encode, list, poly, signed, ternary, words, Poly, Ring};
 use crate::random::Random;
-use crate::sheet::Sheet;
+use crate::sheets::Sheet;
 
 /// Declares the C calls with so many slices before the output, and for each a function over slices.
 macro_rules! calls {

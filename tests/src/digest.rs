@@ -18,9 +18,7 @@ fn compare(c: &mut Comparison, message: &[u8]) {
     c.same(|| format!("{} bytes", message.len()), (reply, out), (0, sha3_256(message)));
 }
 
-pub fn run(tally: &mut Tally) {
-    let mut random = Random(202);
-
+fn messages(tally: &mut Tally, random: &mut Random) {
     let mut c = Comparison::default();
     for length in 0..=700 {
         compare(&mut c, &random.bytes(length));
@@ -41,7 +39,9 @@ pub fn run(tally: &mut Tally) {
         compare(&mut c, &message[start..start + 500]);
     }
     c.claim(tally, "digest: messages at every alignment");
+}
 
+fn lengths(tally: &mut Tally, random: &mut Random) {
     let mut c = Comparison::default();
     for length in (0..200).filter(|l| *l != 32) {
         let kept = random.bytes(length);
@@ -58,4 +58,10 @@ pub fn run(tally: &mut Tally) {
     let reply = unsafe { jdn_digest(b"abc".as_ptr(), 3, std::ptr::null_mut(), 0) };
     c.same(|| "a null output".into(), reply, 1);
     c.claim(tally, "digest: null with length 0");
+}
+
+pub fn run(tally: &mut Tally) {
+    let mut random = Random(202);
+    messages(tally, &mut random);
+    lengths(tally, &mut random);
 }

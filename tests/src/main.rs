@@ -5,9 +5,12 @@ mod digest;
 mod polynomials;
 mod random;
 mod ring;
+mod round;
 mod scheme;
+mod scratch;
 mod sha3;
 mod sheet;
+mod sheets;
 mod stern;
 mod stern_refusals;
 mod tally;
@@ -20,5 +23,6 @@ fn main() {
     sheet::run(&mut tally);
     scheme::run(&mut tally);
     stern::run(&mut tally);
+    round::run(&mut tally);
     std::process::exit(tally.finish());
 }

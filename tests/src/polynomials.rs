@@ -11,25 +11,30 @@ impl Ring {
         a.into_iter().map(|x| x.rem_euclid(self.q)).collect()
     }
 
+    /// Each coefficient is summed up whole and reduced once, which leaves room for factors of up to 2^57.
     pub fn times(&self, a: &Poly, b: &Poly) -> Poly {
         let mut product = vec![0; self.n];
-        for (i, x) in a.iter().enumerate() {
-            for (j, y) in b.iter().enumerate() {
-                let term = x * y % self.q;
-                let k = (i + j) % self.n;
-                product[k] = (product[k] + if i + j < self.n { term } else { -term }) % self.q;
-            }
+        let [a, b] = [a, b].map(|f| f.iter().map(|x| i64::try_from(*x).unwrap()).collect::<Vec<_>>());
+        for (i, x) in a.iter().enumerate().filter(|(_, x)| **x != 0) {
+            let term = |y: &i64| i128::from(*x) * i128::from(*y);
+            let (below, wrapped) = b.split_at(self.n - i);
+            product[i..].iter_mut().zip(below).for_each(|(sum, y)| *sum += term(y));
+            product.iter_mut().zip(wrapped).for_each(|(sum, y)| *sum -= term(y));
         }
-        product
+        self.reduce(product)
     }
 
     pub fn sum(&self, a: &Poly, b: &Poly, factor: i128) -> Poly {
         a.iter().zip(b).map(|(x, y)| x + factor * y).collect()
     }
 
+    /// The whole numbers of least size that are congruent to the coefficients.
+    pub fn centred(&self, a: Poly) -> Poly {
+        self.reduce(a).into_iter().map(|x| if x > (self.q - 1) / 2 { x - self.q } else { x }).collect()
+    }
+
     pub fn vote(&self, a: Poly) -> Vec<u8> {
-        let centred = |x: i128| if x > (self.q - 1) / 2 { x - self.q } else { x };
-        self.reduce(a).into_iter().map(|x| centred(x).rem_euclid(2) as u8).collect()
+        self.centred(a).into_iter().map(|x| x.rem_euclid(2) as u8).collect()
     }
 }
 

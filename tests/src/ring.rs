@@ -120,7 +120,9 @@ fn numbers(tally: &mut Tally, random: &mut Random) {
     c.same(|| "94 modulo 97 by 2".into(), unsafe { modular_numbers(5, 94, 0, 97) }, 256);
     c.claim(tally, "modular: every operation, at and past the ends of the range");
     centred.claim(tally, "modular: centred");
+}
 
+fn reduced(tally: &mut Tally, random: &mut Random) {
     let mut c = Comparison::default();
     for q in MODULI {
         let ends = [i64::MIN, i64::MIN + 1, -1, 0, 1, i64::MAX - 1, i64::MAX];
@@ -239,6 +241,7 @@ fn refusals(tally: &mut Tally, random: &mut Random) {
 pub fn run(tally: &mut Tally) {
     let mut random = Random(97);
     numbers(tally, &mut random);
+    reduced(tally, &mut random);
     ternary(tally, &mut random);
     polynomials(tally, &mut random);
     refusals(tally, &mut random);

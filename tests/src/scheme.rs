@@ -2,40 +2,36 @@
 use crate::calls::{decrypt, encrypt, keygen, reconstruct, share, split, Call, Kind, CALLS};
 use crate::polynomials::{signed, words, Ring};
 use crate::random::Random;
-use crate::sheet::{self, Sheet};
+use crate::scratch::{with_scratch, Scratch, SCRATCH};
+use crate::sheets::{self, Sheet};
 use crate::tally::{Comparison, Tally};
 
-const SCRATCH: usize = 1_048_576;
-
-/// The number, what the output holds, and whether scratch is zeroed.
-fn expected(call: &Call, text: &[u8], inputs: &[Vec<u8>], out: &[u8], scratch: usize) -> (u64, Vec<u8>, bool) {
-    let (sheet, [n, _, bound, _]) = match sheet::read(text) {
-        Err(number) => return (number, out.to_vec(), number != 1),
+/// The number, and what the output holds.
+fn expected(call: &Call, text: &[u8], inputs: &[Vec<u8>], out: &[u8], scratch: usize) -> (u64, Vec<u8>) {
+    let (sheet, [n, _, bound, _]) = match sheets::read(text) {
+        Err(number) => return (number, out.to_vec()),
         Ok(taken) => taken,
     };
     let (n, q) = (n as usize, sheet.numbers[1]);
     if inputs.iter().zip(call.kinds).any(|(x, k)| x.len() != k.length(n)) || out.len() != call.out * n || scratch != SCRATCH {
-        return (1, out.to_vec(), false);
+        return (1, out.to_vec());
     }
     if inputs.iter().zip(call.kinds).any(|(x, k)| !k.in_range(x, q)) {
-        return (5, out.to_vec(), true);
+        return (5, out.to_vec());
     }
     let over = |x: &Vec<u8>| signed(x).iter().any(|e| e.unsigned_abs() > u128::from(bound));
     if inputs.iter().zip(call.kinds).any(|(x, k)| *k == Kind::Mask && over(x)) {
-        return (12, out.to_vec(), true);
+        return (12, out.to_vec());
     }
     let ring = Ring { n, q: i128::from(q) };
-    (0, (call.writes)(&ring, &sheet, inputs), true)
+    (0, (call.writes)(&ring, &sheet, inputs))
 }
 
 fn compare(c: &mut Comparison, call: &Call, text: &[u8], inputs: &[Vec<u8>], out: &[u8], scratch: usize) -> u64 {
-    let theirs = expected(call, text, inputs, out, scratch);
+    let (number, output) = expected(call, text, inputs, out, scratch);
     let mut written = out.to_vec();
-    let mut room = vec![0xA5; scratch];
-    let reply = (call.run)(text, inputs, &mut written, &mut room);
-    let zeroed = room.iter().all(|b| *b == 0);
-    let kept = room.iter().all(|b| *b == 0xA5);
-    c.same(|| format!("{}, {} bytes of sheet", call.name, text.len()), (reply, written, if theirs.2 { zeroed } else { kept }), (theirs.0, theirs.1, true));
+    let (reply, state) = with_scratch(scratch, |room| (call.run)(text, inputs, &mut written, room));
+    c.same(|| format!("{}, {} bytes of sheet", call.name, text.len()), (reply, written, state), (number, output, Scratch::after(number, scratch)));
     reply
 }
 
@@ -48,7 +44,7 @@ fn damage(random: &mut Random, call: &Call, text: &mut Vec<u8>, inputs: &mut [Ve
         1 => drop(inputs[i].pop()),
         2 => out.push(7),
         3 => *scratch = [0, 1, SCRATCH - 1, SCRATCH + 1][random.below(4) as usize],
-        4 => *text = if random.below(2) == 0 { sheet::damaged(random, text) } else { sheet::changed(random, sheet) },
+        4 => *text = if random.below(2) == 0 { sheets::damaged(random, text) } else { sheets::changed(random, sheet) },
         _ => {
             let at = random.below(inputs[i].len() as u64) as usize;
             let word = (at / 8).min((inputs[i].len() / 8).saturating_sub(1)) * 8;
@@ -75,7 +71,7 @@ fn material(random: &mut Random, call: &Call, sheet: &Sheet) -> (Vec<Vec<u8>>, V
 
 /// Every number of the slices and of the sheet's lists at the end of its range, and then one past it in each slice in turn.
 fn ends(c: &mut Comparison, random: &mut Random, call: &Call, n: u64) {
-    let mut sheet = sheet::right(random, n);
+    let mut sheet = sheets::right(random, n);
     let q = sheet.numbers[1];
     sheet.lists = std::array::from_fn(|_| vec![q - 1; n as usize]);
     let text = sheet.text().into_bytes();
@@ -96,7 +92,7 @@ fn ends(c: &mut Comparison, random: &mut Random, call: &Call, n: u64) {
 
 /// Key, ballot, split, shares and votes from one end to the other: decryption and reconstruction give the message.
 fn honest(c: &mut Comparison, random: &mut Random, n: u64) {
-    let mut sheet = sheet::right(random, n);
+    let mut sheet = sheets::right(random, n);
     let size = n as usize;
     let q = sheet.numbers[1];
     let mut room = vec![0; SCRATCH];
@@ -127,30 +123,38 @@ fn honest(c: &mut Comparison, random: &mut Random, n: u64) {
     c.same(|| format!("a ballot at N = {n}"), (replies, vote, counted), (vec![0; 7], m.clone(), m));
 }
 
+/// The numbers that each call was refused with.
+type Reached = std::collections::BTreeSet<(&'static str, u64)>;
+
+/// What one call writes, and what it refuses where one thing or two are damaged.
+fn one(tally: &mut Tally, random: &mut Random, reached: &mut Reached, call: &Call) {
+    let mut taken = Comparison::default();
+    let mut refused = Comparison::default();
+    for round in 0..160 {
+        let sheet = sheets::right(random, [4, 8, 16, 64][round % 4]);
+        let text = sheet.text().into_bytes();
+        let (inputs, out, bound) = material(random, call, &sheet);
+        compare(&mut taken, call, &text, &inputs, &out, SCRATCH);
+        for _ in 0..4 {
+            let (mut text, mut inputs, mut out, mut scratch) = (text.clone(), inputs.clone(), out.clone(), SCRATCH);
+            for _ in 0..1 + random.below(2) {
+                damage(random, call, &mut text, &mut inputs, &mut out, &mut scratch, &sheet, bound);
+            }
+            reached.insert((call.name, compare(&mut refused, call, &text, &inputs, &out, scratch)));
+        }
+    }
+    let sheet = sheets::right(random, 2048);
+    let (inputs, out, _) = material(random, call, &sheet);
+    compare(&mut taken, call, sheet.text().as_bytes(), &inputs, &out, SCRATCH);
+    taken.claim(tally, &format!("{}: what is written, N from 4 to 2048", call.name));
+    refused.claim(tally, &format!("{}: damaged slices, numbers and sheets", call.name));
+}
+
 pub fn run(tally: &mut Tally) {
     let mut random = Random(404);
-    let mut reached = std::collections::BTreeSet::new();
+    let mut reached = Reached::new();
     for call in &CALLS {
-        let mut taken = Comparison::default();
-        let mut refused = Comparison::default();
-        for round in 0..160 {
-            let sheet = sheet::right(&mut random, [4, 8, 16, 64][round % 4]);
-            let text = sheet.text().into_bytes();
-            let (inputs, out, bound) = material(&mut random, call, &sheet);
-            compare(&mut taken, call, &text, &inputs, &out, SCRATCH);
-            for _ in 0..4 {
-                let (mut text, mut inputs, mut out, mut scratch) = (text.clone(), inputs.clone(), out.clone(), SCRATCH);
-                for _ in 0..1 + random.below(2) {
-                    damage(&mut random, call, &mut text, &mut inputs, &mut out, &mut scratch, &sheet, bound);
-                }
-                reached.insert((call.name, compare(&mut refused, call, &text, &inputs, &out, scratch)));
-            }
-        }
-        let sheet = sheet::right(&mut random, 2048);
-        let (inputs, out, _) = material(&mut random, call, &sheet);
-        compare(&mut taken, call, sheet.text().as_bytes(), &inputs, &out, SCRATCH);
-        taken.claim(tally, &format!("{}: what is written, N from 4 to 2048", call.name));
-        refused.claim(tally, &format!("{}: damaged slices, numbers and sheets", call.name));
+        one(tally, &mut random, &mut reached, call);
     }
 
     let mut c = Comparison::default();

@@ -1,5 +1,6 @@
 //! SHA3-256 written from FIPS 202's bit-level text: state array A[x][y][z] of single bits, the step mappings of section 3.2,
 //! the constants from the shift register of 3.2.5, the sponge of section 4 with pad10*1.
+use crate::random::Random;
 use crate::tally::{Comparison, Tally};
 
 type Bits = [[[bool; 64]; 5]; 5];
@@ -107,6 +108,42 @@ pub fn sha3_256(message: &[u8]) -> [u8; 32] {
     digest
 }
 
+/// One round on lanes of 64 bits: bit z of a lane is A[x][y][z].
+fn round_on_lanes(a: &mut [[u64; 5]; 5], constant: u64) {
+    let parity: [u64; 5] = std::array::from_fn(|x| a[x].iter().fold(0, |p, lane| p ^ lane));
+    for x in 0..5 {
+        a[x].iter_mut().for_each(|lane| *lane ^= parity[(x + 4) % 5] ^ parity[(x + 1) % 5].rotate_left(1));
+    }
+    let (mut x, mut y) = (1, 0);
+    for t in 0..24 {
+        a[x][y] = a[x][y].rotate_left((t + 1) * (t + 2) / 2 % 64);
+        (x, y) = (y, (2 * x + 3 * y) % 5);
+    }
+    let moved: [[u64; 5]; 5] = std::array::from_fn(|x| std::array::from_fn(|y| a[(x + 3 * y) % 5][x]));
+    *a = std::array::from_fn(|x| std::array::from_fn(|y| moved[x][y] ^ !moved[(x + 1) % 5][y] & moved[(x + 2) % 5][y]));
+    a[0][0] ^= constant;
+}
+
+/// The same digest a hundred times as fast, for what is hashed a thousand times: it is tested against the one on single bits.
+pub fn sha3_256_on_lanes(message: &[u8]) -> [u8; 32] {
+    const RATE: usize = 136;
+    let constant = |round: usize| (0..=6).fold(0, |lane, j| lane | u64::from(rc(j + 7 * round)) << ((1 << j) - 1));
+    let constants: [u64; 24] = std::array::from_fn(constant);
+    let mut padded = message.to_vec();
+    padded.push(6);
+    padded.resize(padded.len().next_multiple_of(RATE), 0);
+    *padded.last_mut().unwrap() |= 128;
+    let mut state = [[0; 5]; 5];
+    for block in padded.chunks(RATE) {
+        for (i, lane) in block.chunks(8).enumerate() {
+            state[i % 5][i / 5] ^= u64::from_le_bytes(lane.try_into().unwrap());
+        }
+        constants.into_iter().for_each(|constant| round_on_lanes(&mut state, constant));
+    }
+    let lanes: [[u8; 8]; 4] = std::array::from_fn(|i| state[i][0].to_le_bytes());
+    lanes.concat().try_into().unwrap()
+}
+
 pub fn hex(bytes: &[u8]) -> String {
     bytes.iter().map(|b| format!("{b:02x}")).collect()
 }
@@ -127,4 +164,12 @@ pub fn run(tally: &mut Tally) {
         c.same(|| format!("{} bytes", message.len()), hex(&sha3_256(message)), digest.to_string());
     }
     c.claim(tally, "the independent SHA3-256 has the published digests");
+
+    let mut c = Comparison::default();
+    let mut random = Random(256);
+    for length in (0..300).chain([1_377, 10_000]) {
+        let message = random.bytes(length);
+        c.same(|| format!("{length} bytes"), sha3_256_on_lanes(&message), sha3_256(&message));
+    }
+    c.claim(tally, "the independent SHA3-256 on lanes is that on bits");
 }

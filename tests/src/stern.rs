@@ -2,6 +2,7 @@
 use crate::argument::{Argument, Drawn};
 use crate::polynomials::{encode, poly, ternary, Poly};
 use crate::random::Random;
+use crate::scratch::{with_scratch, Scratch, SCRATCH};
 use crate::stern_refusals;
 use crate::tally::{Comparison, Tally};
 
@@ -20,21 +21,12 @@ extern "C" {
     ) -> u64;
 }
 
-pub const SCRATCH: usize = 1_048_576;
-
 /// Document 01's small ring, its example I, one near 2^55, and the largest below 2^56 with 4096 dividing q - 1.
 pub const MODULI: [u64; 4] = [97, 81, 36_028_797_018_820_609, (1 << 56) - 4095];
 
 /// What a call leaves: its reply, the output, and what became of scratch.
 #[derive(Debug, PartialEq)]
 pub struct Left(pub u64, pub Vec<u8>, pub Scratch);
-
-#[derive(Debug, PartialEq)]
-pub enum Scratch {
-    Kept,
-    Zeroed,
-    Other,
-}
 
 /// What a call is lent besides an output.
 pub struct Lent {
@@ -44,18 +36,6 @@ pub struct Lent {
     pub x: Vec<u8>,
     pub drawn: Drawn,
     pub scratch: usize,
-}
-
-/// Lends scratch that holds one byte everywhere, and says what became of it.
-fn with_scratch(length: usize, call: impl FnOnce(&mut [u8]) -> u64) -> (u64, Scratch) {
-    let mut scratch = vec![0xA5; length];
-    let reply = call(&mut scratch);
-    let state = match scratch {
-        s if s.iter().all(|b| *b == 0xA5) => Scratch::Kept,
-        s if s.iter().all(|b| *b == 0) => Scratch::Zeroed,
-        _ => Scratch::Other,
-    };
-    (reply, state)
 }
 
 pub fn digests(l: &Lent, kept: &[u8]) -> Left {
@@ -99,7 +79,7 @@ pub fn coefficients(random: &mut Random, count: usize, q: u64, extreme: bool) ->
     (0..count).flat_map(|_| (if extreme { q - 1 } else { random.below(q) }).to_le_bytes()).collect()
 }
 
-fn permutation(random: &mut Random, count: usize) -> Vec<u8> {
+pub fn permutation(random: &mut Random, count: usize) -> Vec<u8> {
     let mut p: Vec<u32> = (0..count as u32).collect();
     for i in (1..count).rev() {
         p.swap(i, random.below(i as u64 + 1) as usize);

@@ -1,7 +1,8 @@
 //! What the calls of `stern_calls` refuse: a damaged P, an answer 1 that is not balanced, lengths and ranges.
 use crate::argument::{is_permutation, Argument};
 use crate::random::Random;
-use crate::stern::{answer, answer_length, digests, material, place, repetition, test, Left, Lent, Scratch, MODULI, SCRATCH};
+use crate::scratch::{Scratch, SCRATCH};
+use crate::stern::{answer, answer_length, digests, material, place, repetition, test, Left, Lent, MODULI};
 use crate::tally::{Comparison, Tally};
 
 /// P with one entry written over: a repeat, or an index out of range.
