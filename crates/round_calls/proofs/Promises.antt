@@ -66,11 +66,11 @@ module _ (n q B repeats : ℕ) (s : Bytes) where
       ∙ ap (λ (i : ℕ). parameters 2 n q B repeats (part s 0 (8 * n)) (part s (8 * n) (8 * n)) (take i (drop (16 * n) s))) three
 
 -- the sheet is taken: the rest of the order decides
-over : (p : ℕ) (text : Bytes) {k : Numbers} {r : Reply} (ts : List Test) → reading p text ≡ Taken k → r ≡ first ts → r ≡ first (order p text ++ ts)
+pub over : (p : ℕ) (text : Bytes) {k : Numbers} {r : Reply} (ts : List Test) → reading p text ≡ Taken k → r ≡ first ts → r ≡ first (order p text ++ ts)
 over p text ts said e = e ∙ sym (order-first p text ts ∙ ap (λ (s : Reading). onwards s (first ts)) said)
 
 -- it is refused, and the call with it
-refused-over : (p : ℕ) (text : Bytes) {s : Reading} {i : ℕ} (ts : List Test) → s ≡ reading p text → s ≡ Refused i → reply.Refused i 0 ≡ first (order p text ++ ts)
+pub refused-over : (p : ℕ) (text : Bytes) {s : Reading} {i : ℕ} (ts : List Test) → s ≡ reading p text → s ≡ Refused i → reply.Refused i 0 ≡ first (order p text ++ ts)
 refused-over p text ts f e = sym (order-first p text ts ∙ ap (λ (z : Reading). onwards z (first ts)) (sym f ∙ e))
 
 -- ---- the first call
