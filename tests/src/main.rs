@@ -5,7 +5,6 @@ mod digest;
 mod polynomials;
 mod random;
 mod ring;
-#[cfg(feature = "rounds")]
 mod round;
 mod scheme;
 mod scratch;
@@ -24,7 +23,6 @@ fn main() {
     sheet::run(&mut tally);
     scheme::run(&mut tally);
     stern::run(&mut tally);
-    #[cfg(feature = "rounds")]
     round::run(&mut tally);
     std::process::exit(tally.finish());
 }

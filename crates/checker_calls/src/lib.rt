@@ -1,0 +1,40 @@
+// The check of one round for tests and benchmarks outside the proof, with the side and the challenges lent; in the library a session draws them.
+// In C a slice is `uint8_t *, size_t`, and `const` where it is lent to be read.
+ghost use mathlib.Core.Path.{_≡_};
+ghost use Rattle.codec.specs.Reply.{packed};
+ghost use Rattle.call.specs.Call.{swept};
+ghost use Rattle.checker.specs.Orders.{roundOf};
+ghost use Rattle.verification_calls.specs.Replies.{checkReply};
+
+// Answers 0 where the round is accepted, and else document 01's number, with the place above the low byte.
+#[no_mangle]
+pub extern "C" fn checker_calls_round(
+    sheet: &[u8],
+    side: u64,
+    challenges: &[u8],
+    ballots: &[u8],
+    claims: &[u8],
+    head: &[u8],
+    shares0: &[u8],
+    shares1: &[u8],
+    opening: &[u8],
+    answers: &[u8],
+    scratch: &mut [u8],
+) -> u64
+    ensures reply { λ answer. ⌜ answer ≡ packed (checkReply 2 (now (sheet .entry)) (roundOf side (now (challenges .entry)) (now (ballots .entry)) (now (claims .entry)) (now (head .entry)) (now (shares0 .entry)) (now (shares1 .entry)) (now (opening .entry)) (now (answers .entry))) (now (scratch .entry))) ⌝ }
+    ensures swept { λ _. ⌜ now (scratch .exit) ≡ swept (checkReply 2 (now (sheet .entry)) (roundOf side (now (challenges .entry)) (now (ballots .entry)) (now (claims .entry)) (now (head .entry)) (now (shares0 .entry)) (now (shares1 .entry)) (now (opening .entry)) (now (answers .entry))) (now (scratch .entry))) (now (scratch .entry)) ⌝ }
+{
+    codec::pack(verification_calls::check(
+        sheet,
+        side,
+        challenges,
+        ballots,
+        claims,
+        head,
+        shares0,
+        shares1,
+        opening,
+        answers,
+        scratch,
+    ))
+}

@@ -1,0 +1,160 @@
+// The calls of a round: the producer's two, the extractor and the opened share.
+ghost use mathlib.Core.Path.{_≡_};
+ghost use lib.ListN.{length};
+ghost use Rattle.codec.specs.Reply.{packed, leaves};
+ghost use Rattle.call.specs.Call.{swept};
+ghost use Rattle.transcript.specs.Producer.{materialOf, producedHead, producedShares, producedClaims, producedOpening, producedAnswers};
+ghost use Rattle.transcript.specs.Extractor.{kind, extracted};
+ghost use Rattle.checker.specs.Orders.{openingsOf};
+ghost use Rattle.rounds.specs.Sheets.{parametersOf};
+ghost use Rattle.verification.specs.Extraction.{extraction, answered};
+ghost use Rattle.round_calls.specs.Replies.{ballotsIn, firstReply, secondReply};
+ghost use Rattle.verification_calls.specs.Replies.{extractReply};
+ghost use Rattle.jackdawnail.specs.Opened.{openedReply};
+
+// The producer's first call: the first message and the claims.
+#[no_mangle]
+pub extern "C" fn jdn_produce_first(
+    sheet: &[u8],
+    secrets: &[u8],
+    s0: &[u8],
+    e0: &[u8],
+    masks0: &[u8],
+    masks1: &[u8],
+    vectors: &[u8],
+    permutations: &[u8],
+    salts: &[u8],
+    ballots: &[u8],
+    head: &mut [u8],
+    shares0: &mut [u8],
+    shares1: &mut [u8],
+    claims: &mut [u8],
+    scratch: &mut [u8],
+) -> u64
+    ensures reply { λ answer. ⌜ answer ≡ packed (firstReply 2 (now (sheet .entry)) (materialOf (now (secrets .entry)) (now (s0 .entry)) (now (e0 .entry)) (now (masks0 .entry)) (now (masks1 .entry)) (now (vectors .entry)) (now (permutations .entry)) (now (salts .entry)) (now (ballots .entry))) (now (head .entry)) (now (shares0 .entry)) (now (shares1 .entry)) (now (claims .entry)) (now (scratch .entry))) ⌝ }
+    ensures head { λ _. ⌜ now (head .exit) ≡ leaves (firstReply 2 (now (sheet .entry)) (materialOf (now (secrets .entry)) (now (s0 .entry)) (now (e0 .entry)) (now (masks0 .entry)) (now (masks1 .entry)) (now (vectors .entry)) (now (permutations .entry)) (now (salts .entry)) (now (ballots .entry))) (now (head .entry)) (now (shares0 .entry)) (now (shares1 .entry)) (now (claims .entry)) (now (scratch .entry))) (producedHead (parametersOf 2 (now (sheet .entry))) (ballotsIn (now (sheet .entry)) (now (ballots .entry))) (materialOf (now (secrets .entry)) (now (s0 .entry)) (now (e0 .entry)) (now (masks0 .entry)) (now (masks1 .entry)) (now (vectors .entry)) (now (permutations .entry)) (now (salts .entry)) (now (ballots .entry)))) (now (head .entry)) ⌝ }
+    ensures shares0 { λ _. ⌜ now (shares0 .exit) ≡ leaves (firstReply 2 (now (sheet .entry)) (materialOf (now (secrets .entry)) (now (s0 .entry)) (now (e0 .entry)) (now (masks0 .entry)) (now (masks1 .entry)) (now (vectors .entry)) (now (permutations .entry)) (now (salts .entry)) (now (ballots .entry))) (now (head .entry)) (now (shares0 .entry)) (now (shares1 .entry)) (now (claims .entry)) (now (scratch .entry))) (producedShares (parametersOf 2 (now (sheet .entry))) (ballotsIn (now (sheet .entry)) (now (ballots .entry))) (materialOf (now (secrets .entry)) (now (s0 .entry)) (now (e0 .entry)) (now (masks0 .entry)) (now (masks1 .entry)) (now (vectors .entry)) (now (permutations .entry)) (now (salts .entry)) (now (ballots .entry))) 0) (now (shares0 .entry)) ⌝ }
+    ensures shares1 { λ _. ⌜ now (shares1 .exit) ≡ leaves (firstReply 2 (now (sheet .entry)) (materialOf (now (secrets .entry)) (now (s0 .entry)) (now (e0 .entry)) (now (masks0 .entry)) (now (masks1 .entry)) (now (vectors .entry)) (now (permutations .entry)) (now (salts .entry)) (now (ballots .entry))) (now (head .entry)) (now (shares0 .entry)) (now (shares1 .entry)) (now (claims .entry)) (now (scratch .entry))) (producedShares (parametersOf 2 (now (sheet .entry))) (ballotsIn (now (sheet .entry)) (now (ballots .entry))) (materialOf (now (secrets .entry)) (now (s0 .entry)) (now (e0 .entry)) (now (masks0 .entry)) (now (masks1 .entry)) (now (vectors .entry)) (now (permutations .entry)) (now (salts .entry)) (now (ballots .entry))) 1) (now (shares1 .entry)) ⌝ }
+    ensures claims { λ _. ⌜ now (claims .exit) ≡ leaves (firstReply 2 (now (sheet .entry)) (materialOf (now (secrets .entry)) (now (s0 .entry)) (now (e0 .entry)) (now (masks0 .entry)) (now (masks1 .entry)) (now (vectors .entry)) (now (permutations .entry)) (now (salts .entry)) (now (ballots .entry))) (now (head .entry)) (now (shares0 .entry)) (now (shares1 .entry)) (now (claims .entry)) (now (scratch .entry))) (producedClaims (parametersOf 2 (now (sheet .entry))) (ballotsIn (now (sheet .entry)) (now (ballots .entry))) (materialOf (now (secrets .entry)) (now (s0 .entry)) (now (e0 .entry)) (now (masks0 .entry)) (now (masks1 .entry)) (now (vectors .entry)) (now (permutations .entry)) (now (salts .entry)) (now (ballots .entry)))) (now (claims .entry)) ⌝ }
+    ensures swept { λ _. ⌜ now (scratch .exit) ≡ swept (firstReply 2 (now (sheet .entry)) (materialOf (now (secrets .entry)) (now (s0 .entry)) (now (e0 .entry)) (now (masks0 .entry)) (now (masks1 .entry)) (now (vectors .entry)) (now (permutations .entry)) (now (salts .entry)) (now (ballots .entry))) (now (head .entry)) (now (shares0 .entry)) (now (shares1 .entry)) (now (claims .entry)) (now (scratch .entry))) (now (scratch .entry)) ⌝ }
+{
+    codec::pack(round_calls::produce_first(
+        sheet,
+        secrets,
+        s0,
+        e0,
+        masks0,
+        masks1,
+        vectors,
+        permutations,
+        salts,
+        ballots,
+        head,
+        shares0,
+        shares1,
+        claims,
+        scratch,
+    ))
+}
+
+// Its second call: the opening of a side, and the answers to challenges.
+#[no_mangle]
+pub extern "C" fn jdn_produce_second(
+    sheet: &[u8],
+    secrets: &[u8],
+    s0: &[u8],
+    e0: &[u8],
+    masks0: &[u8],
+    masks1: &[u8],
+    vectors: &[u8],
+    permutations: &[u8],
+    salts: &[u8],
+    ballots: &[u8],
+    side: u64,
+    challenges: &[u8],
+    opening: &mut [u8],
+    answers: &mut [u8],
+    scratch: &mut [u8],
+) -> u64
+    ensures reply { λ answer. ⌜ answer ≡ packed (secondReply 2 (now (sheet .entry)) (materialOf (now (secrets .entry)) (now (s0 .entry)) (now (e0 .entry)) (now (masks0 .entry)) (now (masks1 .entry)) (now (vectors .entry)) (now (permutations .entry)) (now (salts .entry)) (now (ballots .entry))) side (now (challenges .entry)) (now (opening .entry)) (now (answers .entry)) (now (scratch .entry))) ⌝ }
+    ensures opening { λ _. ⌜ now (opening .exit) ≡ leaves (secondReply 2 (now (sheet .entry)) (materialOf (now (secrets .entry)) (now (s0 .entry)) (now (e0 .entry)) (now (masks0 .entry)) (now (masks1 .entry)) (now (vectors .entry)) (now (permutations .entry)) (now (salts .entry)) (now (ballots .entry))) side (now (challenges .entry)) (now (opening .entry)) (now (answers .entry)) (now (scratch .entry))) (producedOpening (parametersOf 2 (now (sheet .entry))) (ballotsIn (now (sheet .entry)) (now (ballots .entry))) (materialOf (now (secrets .entry)) (now (s0 .entry)) (now (e0 .entry)) (now (masks0 .entry)) (now (masks1 .entry)) (now (vectors .entry)) (now (permutations .entry)) (now (salts .entry)) (now (ballots .entry))) side) (now (opening .entry)) ⌝ }
+    ensures answers { λ _. ⌜ now (answers .exit) ≡ leaves (secondReply 2 (now (sheet .entry)) (materialOf (now (secrets .entry)) (now (s0 .entry)) (now (e0 .entry)) (now (masks0 .entry)) (now (masks1 .entry)) (now (vectors .entry)) (now (permutations .entry)) (now (salts .entry)) (now (ballots .entry))) side (now (challenges .entry)) (now (opening .entry)) (now (answers .entry)) (now (scratch .entry))) (producedAnswers (parametersOf 2 (now (sheet .entry))) (ballotsIn (now (sheet .entry)) (now (ballots .entry))) (materialOf (now (secrets .entry)) (now (s0 .entry)) (now (e0 .entry)) (now (masks0 .entry)) (now (masks1 .entry)) (now (vectors .entry)) (now (permutations .entry)) (now (salts .entry)) (now (ballots .entry))) (now (challenges .entry))) (now (answers .entry)) ⌝ }
+    ensures swept { λ _. ⌜ now (scratch .exit) ≡ swept (secondReply 2 (now (sheet .entry)) (materialOf (now (secrets .entry)) (now (s0 .entry)) (now (e0 .entry)) (now (masks0 .entry)) (now (masks1 .entry)) (now (vectors .entry)) (now (permutations .entry)) (now (salts .entry)) (now (ballots .entry))) side (now (challenges .entry)) (now (opening .entry)) (now (answers .entry)) (now (scratch .entry))) (now (scratch .entry)) ⌝ }
+{
+    codec::pack(round_calls::produce_second(
+        sheet,
+        secrets,
+        s0,
+        e0,
+        masks0,
+        masks1,
+        vectors,
+        permutations,
+        salts,
+        ballots,
+        side,
+        challenges,
+        opening,
+        answers,
+        scratch,
+    ))
+}
+
+// What two openings and three answers give away.
+#[no_mangle]
+pub extern "C" fn jdn_extract(
+    sheet: &[u8],
+    head: &[u8],
+    shares0: &[u8],
+    shares1: &[u8],
+    ballots: &[u8],
+    claims: &[u8],
+    opening0: &[u8],
+    opening1: &[u8],
+    repetition: u64,
+    answer1: &[u8],
+    answer2: &[u8],
+    answer3: &[u8],
+    out: &mut [u8],
+    scratch: &mut [u8],
+) -> u64
+    ensures reply { λ answer. ⌜ answer ≡ answered (extraction (extractReply 2 (now (sheet .entry)) (openingsOf (now (head .entry)) (now (shares0 .entry)) (now (shares1 .entry)) (now (ballots .entry)) (now (claims .entry)) (now (opening0 .entry)) (now (opening1 .entry)) repetition (now (answer1 .entry)) (now (answer2 .entry)) (now (answer3 .entry))) (now (out .entry)) (now (scratch .entry))) (kind (parametersOf 2 (now (sheet .entry))) (ballotsIn (now (sheet .entry)) (now (ballots .entry))) (openingsOf (now (head .entry)) (now (shares0 .entry)) (now (shares1 .entry)) (now (ballots .entry)) (now (claims .entry)) (now (opening0 .entry)) (now (opening1 .entry)) repetition (now (answer1 .entry)) (now (answer2 .entry)) (now (answer3 .entry))))) ⌝ }
+    ensures output { λ _. ⌜ now (out .exit) ≡ leaves (extractReply 2 (now (sheet .entry)) (openingsOf (now (head .entry)) (now (shares0 .entry)) (now (shares1 .entry)) (now (ballots .entry)) (now (claims .entry)) (now (opening0 .entry)) (now (opening1 .entry)) repetition (now (answer1 .entry)) (now (answer2 .entry)) (now (answer3 .entry))) (now (out .entry)) (now (scratch .entry))) (extracted (parametersOf 2 (now (sheet .entry))) (ballotsIn (now (sheet .entry)) (now (ballots .entry))) (openingsOf (now (head .entry)) (now (shares0 .entry)) (now (shares1 .entry)) (now (ballots .entry)) (now (claims .entry)) (now (opening0 .entry)) (now (opening1 .entry)) repetition (now (answer1 .entry)) (now (answer2 .entry)) (now (answer3 .entry)))) (now (out .entry)) ⌝ }
+    ensures swept { λ _. ⌜ now (scratch .exit) ≡ swept (extractReply 2 (now (sheet .entry)) (openingsOf (now (head .entry)) (now (shares0 .entry)) (now (shares1 .entry)) (now (ballots .entry)) (now (claims .entry)) (now (opening0 .entry)) (now (opening1 .entry)) repetition (now (answer1 .entry)) (now (answer2 .entry)) (now (answer3 .entry))) (now (out .entry)) (now (scratch .entry))) (now (scratch .entry)) ⌝ }
+{
+    verification::pack(verification_calls::extract(
+        sheet,
+        head,
+        shares0,
+        shares1,
+        ballots,
+        claims,
+        opening0,
+        opening1,
+        repetition,
+        answer1,
+        answer2,
+        answer3,
+        out,
+        scratch,
+    ))
+}
+
+// Where ballot j's opened share stands in the slice of the opened side, plus one, as the reply's value; 0 where the stretch is empty.
+#[no_mangle]
+pub extern "C" fn jdn_opened_share(side: u64, n: u64, shares0: &[u8], shares1: &[u8], j: u64) -> u64
+    ensures { λ answer. ⌜ answer ≡ openedReply side n (length (now (shares0 .entry))) (length (now (shares1 .entry))) j ⌝ }
+{
+    let place = transcript::shares::opened_place(
+        side,
+        n as usize,
+        shares0.len(),
+        shares1.len(),
+        j as usize,
+    );
+    if place < 72057594037927936 {
+        256 * (place as u64)
+    } else {
+        0
+    }
+}
