@@ -47,7 +47,8 @@ uint64_t jdn_reconstruct(JDN_IN(sheet), JDN_IN(v), JDN_IN(t0), JDN_IN(t1), JDN_O
 /* m: a polynomial. r: r1, r2, r3, 3N ternary bytes. pair: r1 + k1 r2 + k2 r3, then r2 + k3 r3 + m, 16N bytes. */
 uint64_t jdn_commitment(JDN_IN(sheet), JDN_IN(m), JDN_IN(r), JDN_OUT(pair), JDN_OUT(scratch));
 
-/* The calls of a round. m is the number of ballots, whole ballots of 4 + 16N bytes (mark, u, v), 4,096 at most. After the sheet each refuses 1 and then what is said.
+/* The calls of a round: scratch, and outputs on a refusal, are as above. Ballots are whole, 4 + 16N bytes each (mark, u, v), 4,096 at most. Ballots and repetitions count
+ * from 0. After the sheet each call refuses 1 and then what is said.
  *
  * The producer. secrets: s, e, then the three r of s0, of s1, of e0, of e1, 14N ternary bytes. s0, e0: polynomials. masks0, masks1: E of each side, 8N bytes a ballot.
  * vectors: R, 336N bytes a repetition. permutations: P, 168N bytes a repetition, 4 to an entry. salts: 96 bytes a repetition.
@@ -56,18 +57,20 @@ uint64_t jdn_commitment(JDN_IN(sheet), JDN_IN(m), JDN_IN(r), JDN_OUT(pair), JDN_
 uint64_t jdn_produce_first(JDN_IN(sheet), JDN_IN(secrets), JDN_IN(s0), JDN_IN(e0), JDN_IN(masks0), JDN_IN(masks1),
                            JDN_IN(vectors), JDN_IN(permutations), JDN_IN(salts), JDN_IN(ballots),
                            JDN_OUT(head), JDN_OUT(shares0), JDN_OUT(shares1), JDN_OUT(claims), JDN_OUT(scratch));
-/* challenges: one byte (1, 2, 3) a repetition. opening: s_i, e_i, their three r each, 22N bytes. answers: 378N + 64 bytes for challenge 1, else 504N + 64, end to end. */
+/* side: 0 or 1, the half of the key that is opened. challenges: one byte (1, 2, 3) a repetition. opening: s and e of that side, the three r of each, 22N bytes.
+ * answers: 378N + 64 bytes for challenge 1, 504N + 64 for any other byte, end to end. */
 uint64_t jdn_produce_second(JDN_IN(sheet), JDN_IN(secrets), JDN_IN(s0), JDN_IN(e0), JDN_IN(masks0), JDN_IN(masks1),
                             JDN_IN(vectors), JDN_IN(permutations), JDN_IN(salts), JDN_IN(ballots),
                             uint64_t side, JDN_IN(challenges), JDN_OUT(opening), JDN_OUT(answers), JDN_OUT(scratch));
-/* The extractor. answer1, answer2, answer3: the answers of one repetition to the challenges 1, 2, 3. Refuses 5, 6; for side 0 and then 1: 7, 8 and by ballot 12, 13;
+/* The extractor. answer1, answer2, answer3: the answers of one repetition, below the sheet's repeats, to the challenges 1, 2, 3. Refuses 5, 6; for side 0 and then 1: 7, 8 and by ballot 12, 13;
  * then by answer 9, 10, 11, with the repetition as the place. out: 24N bytes. value: 1, 2, 3 two strings with that digest (out: zeros); 4 the vector for s; 5 the vector
  * for e; 6 the key (out: s and e as ternary bytes, then zeros). */
 uint64_t jdn_extract(JDN_IN(sheet), JDN_IN(head), JDN_IN(shares0), JDN_IN(shares1), JDN_IN(ballots), JDN_IN(claims),
                      JDN_IN(opening0), JDN_IN(opening1), uint64_t repetition, JDN_IN(answer1), JDN_IN(answer2),
                      JDN_IN(answer3), JDN_OUT(out), JDN_OUT(scratch));
-/* The stretch of the opened side that holds ballot j's share, 8N bytes: value is its first byte's place in that slice plus one, 0 where it is empty: side above 1, n no
- * ring size, slices unequal or not whole ballots, or j past them. number is always 0. */
+
+/* Lent no sheet, and refuses nothing: number is always 0. The stretch of the opened side that holds ballot j's share, 8N bytes: value is its first byte's place in that
+ * slice plus one, 0 where it is empty (side above 1, n no ring size, slices unequal or not whole ballots, or j past them) or the place has more than 56 bits. */
 uint64_t jdn_opened_share(uint64_t side, uint64_t n, JDN_IN(shares0), JDN_IN(shares1), uint64_t j);
 
 #ifdef __cplusplus
