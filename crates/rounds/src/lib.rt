@@ -1,4 +1,4 @@
-// The producer's two calls, the check of one round and the extractor once the sheet is taken: the tests of the lent slices in their order, and then the work.
+// The producer's two calls once the sheet is taken, and the tests of lengths that the check and the extractor share with them.
 mod asked;
 pub mod lengths;
 mod orders;

@@ -1,5 +1,5 @@
 -- What an accepted round is (document 01, "One round" and refusals 5 to 13), in propositions to hold against the paper: no test stands in them, and the numbers
--- behind the lines are those of the refusals that they exclude. Assumes nothing.
+-- beside them are those of the refusals that they exclude. The lengths (1) stand apart: `Lengths`, specs/Round.antt. Assumes nothing.
 use mathlib.Core.Path.{_≡_}
 use mathlib.Core.List.{List}
 use Prim.Native.Nat.{ℕ, _+_, _*_, _≤_, _<_}

@@ -33,7 +33,7 @@ pub record Openings : Type 0 where
   pub answer2 : Bytes
   pub answer3 : Bytes
 
--- the lengths are right, for m ballots, and the first message is in bytes
+-- the lengths are right, for m ballots, and the head of the first message is bytes
 pub record Lent (P : Parameters) (m : ℕ) (x : Openings) : Type 0 where
   pub head : length (x .head) ≡ headLength (P .N) (P .repeats)
   pub octets : Octets (x .head)

@@ -1,4 +1,4 @@
--- What inner functions are given: ballots, claims and shares that passed the tests of lengths and ranges. No public contract cites this file. Assumes nothing.
+-- The parameters of a round from lent bytes, and what inner functions are given: ballots, claims, shares, challenges and answers that passed the tests of lengths and ranges. Assumes nothing.
 use mathlib.Core.Path.{_≡_}
 use Prim.Native.Nat.{ℕ, _+_, _*_, _<_}
 use mathlib.Core.Bool.{true}

@@ -1,5 +1,5 @@
 -- The check of one round and the extractor over the sheet and lent bytes: their replies, which are the sheet's own order and then that of the call (document 01, "Refused
--- because of the state"). Assumes nothing.
+-- because of the state"). This check has no session: 31 and 16, and lengths by the number that was closed, are the session's. Assumes nothing.
 use mathlib.Core.List.{_++_}
 use Prim.Native.Nat.{ℕ}
 use Rattle.codec.specs.Bytes.{Bytes}
