@@ -1,0 +1,185 @@
+-- The steps of a session (document 01, "Register and session", and the orders under "Refused because of the state"), for the plaintext modulus p: what each refuses, in its
+-- order, and what a step that is taken leaves. A step that is refused leaves everything, but for a check whose round is refused. Assumes nothing.
+use mathlib.Core.Bool.{Bool, not, cond, _&&_, _||_}
+use mathlib.Core.List.{List, [], _∷_, _++_}
+use Prim.Native.Nat.{ℕ, _+_, _*_}
+use lib.Dec.{eqb, ltb, leb}
+use lib.ListN.{length, drop}
+use Rattle.codec.specs.Bytes.{Bytes, put, zeros, same}
+use Rattle.codec.specs.Reply.{Test, test, first, leaves}
+use Rattle.codec.specs.declared.Reply.{Reply}
+use Rattle.sha3.specs.Sponge.{sha3}
+use Rattle.ring.specs.Slots.{allBelow}
+use Rattle.sheet.specs.Reader.{sheetOf}
+use Rattle.sheet.specs.Sheet.{order}
+use Rattle.vector.specs.Vector.{vector}
+use Rattle.transcript.specs.Layout.{ballotLength, headLength}
+use Rattle.register.specs.Register.{capacity, registerLength, stateAt, find, standing, standingDigests, markOf}
+use Rattle.digests.specs.Digests.{closingDigest, claimDigest, roundDigest}
+use Rattle.drawing.specs.Draw.{drawnSide, drawnChallenges}
+use Rattle.checking.specs.Check.{Stored, Inputs, earlyTests, lateTests}
+use Rattle.session.specs.declared.Session.{Session}
+use Rattle.session.specs.Session.{gathering, closed, claimed, drawn, ended-refused, ended-accepted, valid, trailAt, changed}
+
+-- 31: not valid, or not due
+abbrev pub dueTest : (p : ℕ) → Session → (due : Bool) → Test
+dueTest p s due = test 31 0 (not (valid p s && due))
+
+-- ---- clear: 1, 2, 3, 4, 5, from any session. It starts a zeroed register
+
+unfoldable pub clearTests : (p : ℕ) → (reg text : Bytes) → List Test
+clearTests p reg text = test 1 0 (not (eqb (length reg) registerLength)) ∷ order p text
+
+unfoldable pub cleared : (text : Bytes) → Session
+cleared text = record {
+  phase = gathering;
+  numbers = sheetOf text .numbers;
+  sheet = sha3 text;
+  used = 0;
+  closed = 0;
+  closing = zeros 32;
+  claim = zeros 32;
+  committed = 0;
+  seed = zeros 32;
+  checked = 0;
+  trail = zeros 4096;
+}
+
+-- ---- admit: 31, 1, 5, 32, 33, 35
+
+unfoldable pub admitTests : (p : ℕ) → Session → (reg ballot : Bytes) → List Test
+admitTests p s reg ballot =
+    let i = find reg (markOf ballot) (s .used) in
+    dueTest p s (eqb (s .phase) gathering)
+    ∷ test 1 0 (not (same (length reg ∷ length ballot ∷ []) (registerLength ∷ ballotLength (s .numbers .ring) ∷ [])))
+    ∷ test 5 0 (not (allBelow (s .numbers .modulus) (vector (drop 4 ballot))))
+    ∷ test 32 0 (ltb i (s .used) && eqb (stateAt reg i) 1)
+    ∷ test 33 0 (ltb i (s .used))
+    ∷ test 35 0 (eqb (s .used) capacity)
+    ∷ []
+
+-- one entry more
+unfoldable pub admittedBy : Session → Session
+admittedBy s = changed s (s .phase) (s .used + 1) (s .closed) (s .closing) (s .claim) (s .committed) (s .seed) (s .checked) (s .trail)
+
+-- ---- withdraw: 31, 1, 34, 33
+
+unfoldable pub withdrawTests : (p : ℕ) → Session → (reg : Bytes) (mark : ℕ) → List Test
+withdrawTests p s reg mark =
+    let i = find reg mark (s .used) in
+    dueTest p s (eqb (s .phase) gathering)
+    ∷ test 1 0 (not (eqb (length reg) registerLength))
+    ∷ test 34 0 (eqb i (s .used))
+    ∷ test 33 0 (not (eqb (stateAt reg i) 1))
+    ∷ []
+
+-- ---- close: 31, 1, 36
+
+unfoldable pub closeTests : (p : ℕ) → Session → (reg : Bytes) → List Test
+closeTests p s reg =
+    dueTest p s (eqb (s .phase) gathering)
+    ∷ test 1 0 (not (eqb (length reg) registerLength))
+    ∷ test 36 0 (eqb (length (standing reg (s .used))) 0)
+    ∷ []
+
+-- the batch is that of the standing entries
+unfoldable pub closedBy : Session → (reg : Bytes) → Session
+closedBy s reg =
+    let ds = standingDigests reg (s .used) in
+    changed s closed (s .used) (length ds) (closingDigest (s .sheet) ds) (s .claim) (s .committed) (s .seed) (s .checked) (s .trail)
+
+-- ---- claim: 31, 1, 5
+
+unfoldable pub claimTests : (p : ℕ) → Session → (claims : Bytes) → List Test
+claimTests p s claims =
+    dueTest p s (eqb (s .phase) closed)
+    ∷ test 1 0 (not (eqb (length claims) (s .numbers .ring * s .closed)))
+    ∷ test 5 0 (not (allBelow p claims))
+    ∷ []
+
+unfoldable pub claimedBy : Session → (claims : Bytes) → Session
+claimedBy s claims =
+    changed s claimed (s .used) (s .closed) (s .closing) (claimDigest (s .closing) claims) (s .committed) (s .seed) (s .checked) (s .trail)
+
+-- ---- commit: 31, 1. Rounds come in order
+
+unfoldable pub commitTests : (p : ℕ) → Session → (round : ℕ) (head shares0 shares1 : Bytes) → List Test
+commitTests p s round head shares0 shares1 =
+    let n = s .numbers .ring in
+    dueTest p s (eqb (s .phase) claimed && (eqb round (s .committed) && ltb round (s .numbers .rounds)))
+    ∷ test 1 0 (not (same (length head ∷ length shares0 ∷ length shares1 ∷ []) (headLength n (s .numbers .repeats) ∷ 8 * n * s .closed ∷ 8 * n * s .closed ∷ [])))
+    ∷ []
+
+unfoldable pub committedBy : Session → (round : ℕ) (head shares0 shares1 : Bytes) → Session
+committedBy s round head shares0 shares1 =
+    changed s (s .phase) (s .used) (s .closed) (s .closing) (s .claim) (s .committed + 1) (s .seed) (s .checked)
+    (put (s .trail) (32 * round) (roundDigest (s .claim) round head shares0 shares1))
+
+-- ---- draw: 31, 1. All rounds are committed
+
+unfoldable pub drawTests : (p : ℕ) → Session → (seed : Bytes) → List Test
+drawTests p s seed =
+    dueTest p s (eqb (s .phase) claimed && eqb (s .committed) (s .numbers .rounds))
+    ∷ test 1 0 (not (eqb (length seed) 32))
+    ∷ []
+
+unfoldable pub drawnBy : Session → (seed : Bytes) → Session
+drawnBy s seed = changed s drawn (s .used) (s .closed) (s .closing) (s .claim) (s .committed) seed (s .checked) (s .trail)
+
+-- ---- check: 31, the sheet's 1 to 5, 1, 16; then the round's own 5 to 13, whose refusal ends the session refused
+
+abbrev pub storedFor : Session → (round : ℕ) → Stored
+storedFor s round = record {
+  numbers = s .numbers;
+  closed = s .closed;
+  sheet = s .sheet;
+  closing = s .closing;
+  claim = s .claim;
+  message = trailAt s round;
+  seed = s .seed;
+  round = round;
+}
+
+-- before the round itself is looked at
+unfoldable pub checkEarly : (p : ℕ) → Session → (round : ℕ) → Inputs → List Test
+checkEarly p s round x =
+    dueTest p s (eqb (s .phase) drawn && (eqb round (s .checked) && ltb round (s .numbers .rounds))) ∷ earlyTests (storedFor s round) p x
+
+unfoldable pub checkLate : (p : ℕ) → Session → (round : ℕ) → Inputs → List Test
+checkLate p s round x = lateTests (storedFor s round) p x
+
+unfoldable pub checkTests : (p : ℕ) → Session → (round : ℕ) → Inputs → List Test
+checkTests p s round x = checkEarly p s round x ++ checkLate p s round x
+
+-- the last acceptance ends the session accepted
+unfoldable pub acceptedBy : Session → Session
+acceptedBy s =
+    changed s (cond (eqb (s .checked + 1) (s .numbers .rounds)) ended-accepted drawn) (s .used) (s .closed) (s .closing) (s .claim) (s .committed) (s .seed) (s .checked + 1) (s .trail)
+
+unfoldable pub refusedBy : Session → Session
+refusedBy s = changed s ended-refused (s .used) (s .closed) (s .closing) (s .claim) (s .committed) (s .seed) (s .checked) (s .trail)
+
+-- what a check leaves
+unfoldable pub checkedBy : (p : ℕ) → Session → (round : ℕ) → Inputs → Session
+checkedBy p s round x = leaves (first (checkEarly p s round x)) (leaves (first (checkLate p s round x)) (acceptedBy s) (refusedBy s)) s
+
+-- ---- challenges: 31, 1. From draw on, for any round of the session
+
+unfoldable pub challengesTests : (p : ℕ) → Session → (round : ℕ) (out : Bytes) → List Test
+challengesTests p s round out =
+    dueTest p s (leb drawn (s .phase) && ltb round (s .numbers .rounds))
+    ∷ test 1 0 (not (eqb (length out) (1 + s .numbers .repeats)))
+    ∷ []
+
+-- the side, then a challenge for each repetition
+unfoldable pub challengesOut : Session → (round : ℕ) → Bytes
+challengesOut s round = drawnSide (s .seed) round ∷ drawnChallenges (s .seed) round (s .numbers .repeats)
+
+-- ---- turnout: 31, 1, 3, in any phase
+
+unfoldable pub turnoutTests : (p : ℕ) → Session → (reg : Bytes) (enrolled : ℕ) → List Test
+turnoutTests p s reg enrolled =
+    test 31 0 (not (valid p s))
+    ∷ test 1 0 (not (eqb (length reg) registerLength))
+    ∷ test 3 0 (ltb enrolled 1 || ltb 1000000 enrolled)
+    ∷ []
