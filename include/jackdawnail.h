@@ -73,6 +73,41 @@ uint64_t jdn_extract(JDN_IN(sheet), JDN_IN(head), JDN_IN(shares0), JDN_IN(shares
  * slice plus one, 0 where it is empty (side above 1, n no ring size, slices unequal or not whole ballots, or j past them) or the place has more than 56 bits. */
 uint64_t jdn_opened_share(uint64_t side, uint64_t n, JDN_IN(shares0), JDN_IN(shares1), uint64_t j);
 
+/* The steps of a session, over its image (docs/INTERFACE.md has its layout) and a register of 4,096 entries of 40 bytes. An image of another length than JDN_IMAGE is refused 1
+ * before all else. A session is refused 31 where the step or the round is not due, its phase is unknown, a count is past its limit, or 3 or 4 refuse its numbers; only
+ * clear asks nothing of the session. A refusal leaves image, register and outputs as they were, but for one: see jdn_check. Rounds count from 0. */
+#define JDN_IMAGE 4297
+#define JDN_REGISTER 163840
+
+/* The fixed lengths: JDN_IMAGE, JDN_SCRATCH, JDN_REGISTER. */
+uint64_t jdn_image_length(void);
+uint64_t jdn_scratch_length(void);
+uint64_t jdn_register_length(void);
+
+/* Starts anew, from any image: gathering, on this sheet, with a zeroed register. Refused 1 (register or sheet), 2, 3, 4, 5 as the sheet is. */
+uint64_t jdn_clear(JDN_OUT(image), JDN_OUT(reg), JDN_IN(sheet));
+/* ballot: mark, u, v, 4 + 16N bytes. Refused 31, 1, 5 a coefficient, 32 the mark stands, 33 it was withdrawn, 35 4,096 entries are used. */
+uint64_t jdn_admit(JDN_OUT(image), JDN_OUT(reg), JDN_IN(ballot));
+/* Refused 31, 1, 34 the mark is unknown, 33 it was withdrawn. The entry keeps its place, and its mark cannot be admitted again before the next clear. */
+uint64_t jdn_withdraw(JDN_IN(image), JDN_OUT(reg), uint32_t mark);
+/* The standing entries are the batch. Refused 31, 1, 36 none stands. */
+uint64_t jdn_close(JDN_OUT(image), JDN_IN(reg));
+/* claims: N bytes 0 or 1 for each ballot closed. Refused 31, 1, 5. */
+uint64_t jdn_claim(JDN_OUT(image), JDN_IN(claims));
+/* The first message of a round, in their order. head: 80N + 96 repeats bytes; shares0, shares1: 8N for each ballot closed. Refused 31, 1. */
+uint64_t jdn_commit(JDN_OUT(image), uint64_t round, JDN_IN(head), JDN_IN(shares0), JDN_IN(shares1));
+/* seed: 32 bytes, once all rounds are committed. Refused 31, 1. */
+uint64_t jdn_draw(JDN_OUT(image), JDN_IN(seed));
+/* Checks a round, in their order, with the sheet and the ballots lent again. Refused 31, the sheet's 1 to 5, 1, 16 something differs from its stored digest, then 5, 6, 7, 8;
+ * by repetition 9, 10, 11; by ballot 12, 13. A refusal listed after 16 ends the session refused; the last acceptance ends it accepted. scratch: as above, and a call
+ * refused 31 leaves it too. */
+uint64_t jdn_check(JDN_OUT(image), JDN_IN(sheet), JDN_IN(ballots), JDN_IN(claims), uint64_t round, JDN_IN(head),
+                   JDN_IN(shares0), JDN_IN(shares1), JDN_IN(opening), JDN_IN(answers), JDN_OUT(scratch));
+/* What was drawn for a round, from draw on and after the end: out is the side, then one challenge a repetition, 1 + repeats bytes. Refused 31, 1. */
+uint64_t jdn_challenges(JDN_IN(image), uint64_t round, JDN_OUT(out));
+/* value: the standing entries in thousandths of the enrolled (1 to 1,000,000), half up; in any phase. Refused 31, 1, 3. */
+uint64_t jdn_turnout(JDN_IN(image), JDN_IN(reg), uint64_t enrolled);
+
 #ifdef __cplusplus
 }
 #endif
