@@ -12,12 +12,16 @@ use Rattle.sha3.specs.Sponge.{sha3}
 use Rattle.sha3.proofs.Squeezing.{length-sha3}
 use Rattle.digests.specs.Digests.{concatenated, ballotDigests, closingDigest, claimDigest, roundDigest}
 
--- ---- one string more
+-- ---- strings one after the other
+
+pub concatenated-append : (ss ts : List Bytes) → concatenated (ss ++ ts) ≡ concatenated ss ++ concatenated ts
+unfolding concatenated
+concatenated-append [] ts = refl
+concatenated-append (s ∷ ss) ts = ap (λ (u : Bytes). s ++ u) (concatenated-append ss ts) ∙ sym (append-assoc s (concatenated ss) (concatenated ts))
 
 pub concatenated-more : (ss : List Bytes) (s : Bytes) → concatenated (ss ++ (s ∷ [])) ≡ concatenated ss ++ s
 unfolding concatenated
-concatenated-more [] s = append-nil s
-concatenated-more (t ∷ ss) s = ap (λ (u : Bytes). t ++ u) (concatenated-more ss s) ∙ sym (append-assoc t (concatenated ss) s)
+concatenated-more ss s = concatenated-append ss (s ∷ []) ∙ ap (λ (u : Bytes). concatenated ss ++ u) (append-nil s)
 
 -- ---- lengths
 

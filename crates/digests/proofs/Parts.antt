@@ -1,4 +1,4 @@
--- The strings that the digests cover, absorbed part by part: 32 bytes first, then a digest at a time; and how the digests of a register's standing entries grow.
+-- The strings that the digests cover, absorbed part by part: 32 bytes first, then a digest at a time; and how the digests of standing entries and of ballots grow.
 -- Assumes nothing.
 use mathlib.Core.Path.{_≡_, sym, ap, _∙_}
 use mathlib.Core.Bool.{Bool, true, false, cond}
