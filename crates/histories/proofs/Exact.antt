@@ -25,7 +25,7 @@ use Rattle.session.specs.declared.Session.{Session}
 use Rattle.session.specs.Steps.{clearTests, admitTests, withdrawTests, closeTests, claimTests, commitTests, drawTests}
 use Rattle.histories.specs.Conditions.{SheetTaken, Valid, Clears, Admits, Withdraws, Closes, Claims, Commits, Draws}
 use Rattle.histories.specs.Claims.{ClearedExactly, AdmittedExactly, WithdrawnExactly, ClosedExactly, ClaimedExactly, CommittedExactly, DrawnExactly}
-use Rattle.histories.proofs.Valid.{unequal, equal, agree, ready, is-ready, on-turn, is-turn, sheet-exactly}
+use Rattle.histories.proofs.Valid.{numbers-match, numbers-pass, bytes-pass, ready, is-ready, on-turn, is-turn, sheet-exactly}
 
 -- an order that says what a proposition says
 by-order : {A : Type 0} (ts : List Test) → (None ts → A) → (A → None ts) → (first ts ≡ Taken) ↔ A
@@ -35,8 +35,8 @@ module _ (p : ℕ) where
   pub cleared-exactly : ClearedExactly p
   unfolding clearTests
   cleared-exactly reg text =
-      by-order _ (λ n. record { register-size = unequal (n .0); sheet = sheet-exactly p text .0 (n .1) })
-      (λ c. (equal (c .register-size), sheet-exactly p text .1 (c .sheet)))
+      by-order _ (λ n. record { register-size = numbers-match (n .0); sheet = sheet-exactly p text .0 (n .1) })
+      (λ c. (numbers-pass (c .register-size), sheet-exactly p text .1 (c .sheet)))
 
   -- ---- admit
 
@@ -85,7 +85,7 @@ module _ (p : ℕ) where
         let room = a .room in (
           is-ready p s (a .sound) (eq-eqb (s .phase) 0 (a .phase)),
           (
-            agree (ap₂ (λ (x y : ℕ). x ∷ y ∷ []) (a .register-size) (a .ballot-size)),
+            bytes-pass (ap₂ (λ (x y : ℕ). x ∷ y ∷ []) (a .register-size) (a .ballot-size)),
             (
               ap not (each-exactly _ _ .1 (a .coefficients)),
               (ap (λ (b : Bool). b && eqb (stateAt reg place) 1) past, (past, (ne-eqb (s .used) 4096 (λ e. omega arith), tt))),
@@ -110,12 +110,12 @@ module _ (p : ℕ) where
         record {
           sound = r .0;
           phase = eqb-true _ _ (r .1);
-          register-size = unequal (n .1 .0);
+          register-size = numbers-match (n .1 .0);
           at = find reg mark (s .used);
           within = l;
           marked = f .marked l;
           earlier = f .before;
-          stands = unequal (n .1 .1 .1 .0);
+          stands = numbers-match (n .1 .1 .1 .0);
         }
 
     withdraws-holds : Withdraws p s reg mark → None (withdrawTests p s reg mark)
@@ -124,7 +124,7 @@ module _ (p : ℕ) where
         let here : find reg mark (s .used) ≡ a .at = find-first reg mark (a .at) (s .used) (absent reg mark (a .at) (a .earlier)) (a .marked) (a .within) in
         let l = a .within in (
           is-ready p s (a .sound) (eq-eqb (s .phase) 0 (a .phase)),
-          (equal (a .register-size), (ne-eqb (find reg mark (s .used)) (s .used) (λ e. omega arith), (equal (ap (stateAt reg) here ∙ a .stands), tt))),
+          (numbers-pass (a .register-size), (ne-eqb (find reg mark (s .used)) (s .used) (λ e. omega arith), (numbers-pass (ap (stateAt reg) here ∙ a .stands), tt))),
         )
 
   pub withdrawn-exactly : WithdrawnExactly p
@@ -146,13 +146,13 @@ module _ (p : ℕ) where
       let r = ready p s _ (n .0) in
       let i = some (standing reg (s .used)) (eqb-false _ _ (n .1 .1 .0)) in
       let t = stands reg (s .used) (i .0) (i .1) in
-      record { sound = r .0; phase = eqb-true _ _ (r .1); register-size = unequal (n .1 .0); at = i .0; within = t .0; stands = t .1 }
+      record { sound = r .0; phase = eqb-true _ _ (r .1); register-size = numbers-match (n .1 .0); at = i .0; within = t .0; stands = t .1 }
 
   closes-holds : (s : Session) (reg : Bytes) → Closes p s reg → None (closeTests p s reg)
   unfolding closeTests
   closes-holds s reg c = (
     is-ready p s (c .sound) (eq-eqb (s .phase) 0 (c .phase)),
-    (equal (c .register-size), (ne-eqb _ _ (not-empty (c .at) (standing reg (s .used)) (stands-all reg (s .used) (c .at) (c .within) (c .stands))), tt)),
+    (numbers-pass (c .register-size), (ne-eqb _ _ (not-empty (c .at) (standing reg (s .used)) (stands-all reg (s .used) (c .at) (c .within) (c .stands))), tt)),
   )
 
   pub closed-exactly : ClosedExactly p
@@ -164,11 +164,11 @@ module _ (p : ℕ) where
   unfolding claimTests
   claims-says s claims n =
       let r = ready p s _ (n .0) in
-      record { sound = r .0; phase = eqb-true _ _ (r .1); size = unequal (n .1 .0); votes = each-exactly p claims .0 (not-false _ (n .1 .1 .0)) }
+      record { sound = r .0; phase = eqb-true _ _ (r .1); size = numbers-match (n .1 .0); votes = each-exactly p claims .0 (not-false _ (n .1 .1 .0)) }
 
   claims-holds : (s : Session) (claims : Bytes) → Claims p s claims → None (claimTests p s claims)
   unfolding claimTests
-  claims-holds s claims c = (is-ready p s (c .sound) (eq-eqb (s .phase) 1 (c .phase)), (equal (c .size), (ap not (each-exactly p claims .1 (c .votes)), tt)))
+  claims-holds s claims c = (is-ready p s (c .sound) (eq-eqb (s .phase) 1 (c .phase)), (numbers-pass (c .size), (ap not (each-exactly p claims .1 (c .votes)), tt)))
 
   pub claimed-exactly : ClaimedExactly p
   claimed-exactly s claims = by-order _ (claims-says s claims) (claims-holds s claims)
@@ -198,7 +198,7 @@ module _ (p : ℕ) where
 
     commits-holds : Commits p s round head shares0 shares1 → None (commitTests p s round head shares0 shares1)
     unfolding commitTests
-    commits-holds c = (is-ready p s (c .sound) (is-turn (c .phase) (c .due) (c .within)), (agree (cc (c .head-size, c .shares0-size, c .shares1-size)), tt))
+    commits-holds c = (is-ready p s (c .sound) (is-turn (c .phase) (c .due) (c .within)), (bytes-pass (cc (c .head-size, c .shares0-size, c .shares1-size)), tt))
 
   pub committed-exactly : CommittedExactly p
   committed-exactly s round head shares0 shares1 = by-order _ (commits-says s round head shares0 shares1) (commits-holds s round head shares0 shares1)
@@ -208,11 +208,11 @@ module _ (p : ℕ) where
   draws-says s seed n =
       let r = ready p s _ (n .0) in
       let t = both _ _ (r .1) in
-      record { sound = r .0; phase = eqb-true _ _ (t .0); all = eqb-true _ _ (t .1); size = unequal (n .1 .0) }
+      record { sound = r .0; phase = eqb-true _ _ (t .0); all = eqb-true _ _ (t .1); size = numbers-match (n .1 .0) }
 
   draws-holds : (s : Session) (seed : Bytes) → Draws p s seed → None (drawTests p s seed)
   unfolding drawTests
-  draws-holds s seed d = (is-ready p s (d .sound) (ap₂ _&&_ (eq-eqb (s .phase) 2 (d .phase)) (eq-eqb (s .committed) (s .numbers .rounds) (d .all))), (equal (d .size), tt))
+  draws-holds s seed d = (is-ready p s (d .sound) (ap₂ _&&_ (eq-eqb (s .phase) 2 (d .phase)) (eq-eqb (s .committed) (s .numbers .rounds) (d .all))), (numbers-pass (d .size), tt))
 
   pub drawn-exactly : DrawnExactly p
   drawn-exactly s seed = by-order _ (draws-says s seed) (draws-holds s seed)

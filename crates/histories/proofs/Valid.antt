@@ -9,9 +9,10 @@ use lib.ListN.{length}
 use borrow.Author.Tests.{leb-true, le-leb, le-ltb, ltb-true, ltb-false, lt-ltb, eqb-true, eqb-false, eq-eqb, ne-eqb, not-true, not-false}
 use Rattle.codec.specs.Bytes.{Bytes, same}
 use Rattle.codec.specs.Reply.{None}
-use Rattle.codec.proofs.Laws.{both, same-equal, same-refl}
+use Rattle.codec.proofs.Laws.{both, same-equal}
 use Rattle.sheet.specs.Reader.{formed, sheetOf}
 use Rattle.sheet.specs.Sheet.{outside, unsound, unfit, order}
+use Rattle.transcript.proofs.Tests.{equal-same}
 use Rattle.session.specs.declared.Session.{Session}
 use Rattle.session.specs.Session.{valid}
 use Rattle.session.specs.Steps.{dueTest}
@@ -19,17 +20,17 @@ use Rattle.histories.specs.Conditions.{SheetTaken, Valid}
 
 -- ---- tests that something is not as it must be
 
-pub unequal : {a b : ℕ} → not (eqb a b) ≡ false → a ≡ b
-unequal {a} {b} e = eqb-true a b (not-false _ e)
+pub numbers-match : {a b : ℕ} → not (eqb a b) ≡ false → a ≡ b
+numbers-match {a} {b} e = eqb-true a b (not-false _ e)
 
-pub equal : {a b : ℕ} → a ≡ b → not (eqb a b) ≡ false
-equal {a} {b} e = ap not (eq-eqb a b e)
+pub numbers-pass : {a b : ℕ} → a ≡ b → not (eqb a b) ≡ false
+numbers-pass {a} {b} e = ap not (eq-eqb a b e)
 
-pub differ : {s t : Bytes} → not (same s t) ≡ false → s ≡ t
-differ {s} {t} e = same-equal s t (not-false _ e)
+pub bytes-match : {s t : Bytes} → not (same s t) ≡ false → s ≡ t
+bytes-match {s} {t} e = same-equal s t (not-false _ e)
 
-pub agree : {s t : Bytes} → s ≡ t → not (same s t) ≡ false
-agree {s} {t} e = rw (e, same-refl t)
+pub bytes-pass : {s t : Bytes} → s ≡ t → not (same s t) ≡ false
+bytes-pass e = ap not (equal-same e)
 
 -- neither of two
 neither : (a b : Bool) → (a || b) ≡ false → (a ≡ false) × (b ≡ false)

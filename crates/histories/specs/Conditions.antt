@@ -22,6 +22,25 @@ use Rattle.session.specs.declared.Session.{Session}
 use Rattle.session.specs.Session.{gathering, closed, claimed, drawn, trailAt}
 use Rattle.session.specs.Steps.{storedFor}
 
+-- the lengths of what a check is lent, by the session's numbers and closed count (1)
+pub record Lengths (s : Session) (round : ℕ) (x : Inputs) : Type 0 where
+  pub head : length (x .head) ≡ headLength (s .numbers .ring) (s .numbers .repeats)
+  pub shares0 : length (x .shares0) ≡ 8 * s .numbers .ring * s .closed
+  pub shares1 : length (x .shares1) ≡ 8 * s .numbers .ring * s .closed
+  pub ballots : length (x .ballots) ≡ ballotLength (s .numbers .ring) * s .closed
+  pub claims : length (x .claims) ≡ s .numbers .ring * s .closed
+  pub opening : length (x .opening) ≡ 22 * s .numbers .ring
+  pub answers : length (x .answers) ≡ answersLength (s .numbers .ring) (drawnChallenges (s .seed) round (s .numbers .repeats))
+  pub scratch : length (x .scratch) ≡ scratchLength
+
+-- what a check is lent is what the session holds (16)
+pub record Matches (s : Session) (round : ℕ) (x : Inputs) : Type 0 where
+  pub sheet : sha3 (x .sheet) ≡ s .sheet
+  pub numbers : sheetOf (x .sheet) .numbers ≡ s .numbers
+  pub ballots : closingDigest (s .sheet) (ballotDigests (ballotLength (s .numbers .ring)) (s .closed) (x .ballots)) ≡ s .closing
+  pub claims : claimDigest (s .closing) (x .claims) ≡ s .claim
+  pub message : roundDigest (s .claim) round (x .head) (x .shares0) (x .shares1) ≡ trailAt s round
+
 module _ (p : ℕ) where
   -- a sheet that is taken
   pub record SheetTaken (text : Bytes) : Type 0 where
@@ -96,17 +115,6 @@ module _ (p : ℕ) where
     pub all : s .committed ≡ s .numbers .rounds  -- 31
     pub size : length seed ≡ 32  -- 1
 
-  -- the lengths of what a check is lent, by the session's numbers and closed count
-  pub record Lengths (s : Session) (round : ℕ) (x : Inputs) : Type 0 where
-    pub head : length (x .head) ≡ headLength (s .numbers .ring) (s .numbers .repeats)
-    pub shares0 : length (x .shares0) ≡ 8 * s .numbers .ring * s .closed
-    pub shares1 : length (x .shares1) ≡ 8 * s .numbers .ring * s .closed
-    pub ballots : length (x .ballots) ≡ ballotLength (s .numbers .ring) * s .closed
-    pub claims : length (x .claims) ≡ s .numbers .ring * s .closed
-    pub opening : length (x .opening) ≡ 22 * s .numbers .ring
-    pub answers : length (x .answers) ≡ answersLength (s .numbers .ring) (drawnChallenges (s .seed) round (s .numbers .repeats))
-    pub scratch : length (x .scratch) ≡ scratchLength
-
   -- all that an accepted check has found, in any round; what a round is accepted for, in propositions: transcript, specs/Accepted.antt
   pub record Checks (s : Session) (round : ℕ) (x : Inputs) : Type 0 where
     pub sound : Valid s  -- 31
@@ -115,9 +123,5 @@ module _ (p : ℕ) where
     pub within : round < s .numbers .rounds  -- 31
     pub sheet : SheetTaken (x .sheet)  -- 1 to 5
     pub lengths : Lengths s round x  -- 1
-    pub sheet-stored : sha3 (x .sheet) ≡ s .sheet  -- 16
-    pub numbers-stored : sheetOf (x .sheet) .numbers ≡ s .numbers  -- 16
-    pub ballots-stored : closingDigest (s .sheet) (ballotDigests (ballotLength (s .numbers .ring)) (s .closed) (x .ballots)) ≡ s .closing  -- 16
-    pub claims-stored : claimDigest (s .closing) (x .claims) ≡ s .claim  -- 16
-    pub message-stored : roundDigest (s .claim) round (x .head) (x .shares0) (x .shares1) ≡ trailAt s round  -- 16
+    pub matches : Matches s round x  -- 16
     pub accepted : Accepted (parametersOf p (x .sheet)) (s .closed) (drawnRound (storedFor s round) x)  -- 5 to 13
