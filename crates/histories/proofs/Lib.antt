@@ -4,3 +4,4 @@ pub mod Exact
 pub mod Drawn
 pub mod Checked
 pub mod Kept
+pub mod Reach
