@@ -5,3 +5,4 @@ pub mod Drawn
 pub mod Checked
 pub mod Kept
 pub mod Reach
+pub mod Honest
