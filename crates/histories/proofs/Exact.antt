@@ -31,6 +31,20 @@ use Rattle.histories.proofs.Valid.{numbers-match, numbers-pass, bytes-p
 by-order : {A : Type 0} (ts : List Test) → (None ts → A) → (A → None ts) → (first ts ≡ Taken) ↔ A
 by-order ts says holds = let t = taken-exactly ts in (λ e. says (t .0 e), λ a. t .1 (holds a))
 
+-- ---- search
+
+-- a mark that no entry has is not found
+absent : (reg : Bytes) (mark n : ℕ) → ((i : ℕ) → i < n → markAt reg i ≢ mark) → find reg mark n ≡ n
+absent reg mark n none = go (decLt (find reg mark n) n)
+  where
+    go : Dec (find reg mark n < n) → find reg mark n ≡ n
+    go (yes l) = absurd (none (find reg mark n) l (found reg mark n .marked l))
+    go (no l) = let w = found reg mark n .within in omega arith
+
+-- the first entry with a mark is found
+pub here : (reg : Bytes) (mark at n : ℕ) → at < n → markAt reg at ≡ mark → ((i : ℕ) → i < at → markAt reg i ≢ mark) → find reg mark n ≡ at
+here reg mark at n within marked earlier = find-first reg mark at n (absent reg mark at earlier) marked within
+
 module _ (p : ℕ) where
   pub cleared-exactly : ClearedExactly p
   unfolding clearTests
@@ -39,14 +53,6 @@ module _ (p : ℕ) where
       (λ c. (numbers-pass (c .register-size), sheet-exactly p text .1 (c .sheet)))
 
   -- ---- admit
-
-  -- a mark that no entry has is not found
-  absent : (reg : Bytes) (mark n : ℕ) → ((i : ℕ) → i < n → markAt reg i ≢ mark) → find reg mark n ≡ n
-  absent reg mark n none = go (decLt (find reg mark n) n)
-    where
-      go : Dec (find reg mark n < n) → find reg mark n ≡ n
-      go (yes l) = absurd (none (find reg mark n) l (found reg mark n .marked l))
-      go (no l) = let w = found reg mark n .within in omega arith
 
   module _ (s : Session) (reg ballot : Bytes) where
     abbrev place : ℕ
@@ -121,10 +127,10 @@ module _ (p : ℕ) where
     withdraws-holds : Withdraws p s reg mark → None (withdrawTests p s reg mark)
     unfolding withdrawTests
     withdraws-holds a =
-        let here : find reg mark (s .used) ≡ a .at = find-first reg mark (a .at) (s .used) (absent reg mark (a .at) (a .earlier)) (a .marked) (a .within) in
+        let there = here reg mark (a .at) (s .used) (a .within) (a .marked) (a .earlier) in
         let l = a .within in (
           is-ready p s (a .sound) (eq-eqb (s .phase) 0 (a .phase)),
-          (numbers-pass (a .register-size), (ne-eqb (find reg mark (s .used)) (s .used) (λ e. omega arith), (numbers-pass (ap (stateAt reg) here ∙ a .stands), tt))),
+          (numbers-pass (a .register-size), (ne-eqb (find reg mark (s .used)) (s .used) (λ e. omega arith), (numbers-pass (ap (stateAt reg) there ∙ a .stands), tt))),
         )
 
   pub withdrawn-exactly : WithdrawnExactly p

@@ -6,3 +6,4 @@ pub mod Checked
 pub mod Kept
 pub mod Reach
 pub mod Honest
+pub mod Withdrawn
