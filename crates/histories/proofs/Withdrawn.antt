@@ -36,7 +36,7 @@ record Gone (mark : ℕ) (reg : Bytes) (used : ℕ) : Type 0 where
   marked : markAt reg at ≡ mark
   down : stateAt reg at ≢ 1
 
-single-none : (reg : Bytes) → Single reg 0
+pub single-none : (reg : Bytes) → Single reg 0
 single-none reg = record { one = λ i j hi hj m. absurd (omega arith) }
 
 -- an entry that stands and has the mark is not the one that is down
