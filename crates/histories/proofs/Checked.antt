@@ -1,23 +1,20 @@
 -- A check is taken exactly if its conditions hold, in every round. Assumes nothing.
-use mathlib.Core.Path.{_≡_, refl, sym, ap, ap₂, _∙_}
+use mathlib.Core.Path.{_≡_, ap, ap₂}
 use mathlib.Core.Logic.{_↔_}
 use mathlib.Core.Bool.{true, false, not, _&&_}
-use mathlib.Core.List.{List, [], _∷_, _++_}
-use Prim.Native.Nat.{ℕ, _*_, _^_, _≤_, _<_}
+use mathlib.Core.List.{List, [], _∷_}
+use Prim.Native.Nat.{ℕ, _<_}
 use native.Mathlib.Omega.{arith}
-use lib.ListN.{length, getD}
+use lib.ListN.{getD}
 use borrow.Author.Tests.{not-false}
 use Rattle.codec.specs.Bytes.{Bytes, Octets, same}
-use Rattle.codec.specs.Reply.{Test, test, None, first}
-use Rattle.codec.specs.declared.Reply.the-variants.{Taken}
+use Rattle.codec.specs.Reply.{Test, test, None}
 use Rattle.codec.proofs.Laws.{both, same-equal}
 use Rattle.codec.proofs.Replies.{taken-exactly}
 use Rattle.sheet.specs.Reader.{sheetOf}
 use Rattle.sheet.specs.Sheet.{order}
 use Rattle.sheet.specs.declared.Numbers.{Numbers}
 use Rattle.sheet.proofs.Ranges.{in-range}
-use Rattle.transcript.specs.Layout.{ballotLength, headLength, answersLength}
-use Rattle.transcript.specs.Round.{roundTests}
 use Rattle.transcript.specs.Accepted.{Accepted}
 use Rattle.transcript.proofs.Many.{none-append, append-none}
 use Rattle.transcript.proofs.Tests.{equal-same}
@@ -26,7 +23,7 @@ use Rattle.rounds.specs.Calls.{messageSized, secondSized}
 use Rattle.rounds.specs.Sheets.{parametersOf}
 use Rattle.rounds.proofs.Sizes.{message-sizes, second-sizes}
 use Rattle.drawing.specs.Draw.{drawnChallenges}
-use Rattle.checking.specs.Check.{Inputs, sameNumbers, inputsSized, storedTests, earlyTests, lateTests, challengesOf, drawnRound}
+use Rattle.checking.specs.Check.{Inputs, sameNumbers, inputsSized, storedTests, earlyTests, lateTests, drawnRound}
 use Rattle.session.specs.declared.Session.{Session}
 use Rattle.session.specs.Steps.{storedFor, checkEarly, checkLate, checkTests}
 use Rattle.histories.specs.Conditions.{Valid, SheetTaken, Lengths, Matches, Checks}

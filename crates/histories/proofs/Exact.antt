@@ -1,29 +1,27 @@
 -- Each step but the check is taken exactly if its conditions hold. Assumes nothing.
-use mathlib.Core.Path.{_≡_, refl, sym, ap, ap₂, _∙_}
+use mathlib.Core.Path.{_≡_, refl, ap, ap₂, _∙_}
 use mathlib.Core.Logic.{_↔_, _≢_}
-use mathlib.Core.Bool.{Bool, true, false, not, _&&_}
+use mathlib.Core.Bool.{Bool, false, not, _&&_}
 use mathlib.Core.List.{List, [], _∷_, List·Memᴰ, List·Memᴰ·head, List·Memᴰ·not-nil}
-use Prim.Native.Nat.{ℕ, zero, suc, _+_, _*_, _≤_, _<_}
+use Prim.Native.Nat.{ℕ, _*_, _<_}
 use native.Mathlib.Decide.{decLt}
 use native.Mathlib.Omega.{arith}
 use lib.Dec.{eqb, ltb}
-use lib.ListN.{length, drop}
-use borrow.Author.Tests.{ltb-false, le-ltb, lt-ltb, eqb-true, eqb-false, eq-eqb, ne-eqb, not-false}
+use lib.ListN.{length}
+use borrow.Author.Tests.{ltb-false, le-ltb, eqb-true, eqb-false, eq-eqb, ne-eqb, not-false}
 use Rattle.codec.specs.Bytes.{Bytes, same}
 use Rattle.codec.specs.Reply.{Test, None, first}
 use Rattle.codec.specs.declared.Reply.the-variants.{Taken}
 use Rattle.codec.proofs.Laws.{both}
 use Rattle.codec.proofs.Replies.{taken-exactly}
-use Rattle.sheet.specs.Sheet.{order}
 use Rattle.call.proofs.Order.{length-at}
-use Rattle.vector.specs.Vector.{vector}
 use Rattle.transcript.specs.Layout.{ballotLength, headLength}
 use Rattle.transcript.proofs.Ranged.{each-exactly}
 use Rattle.register.specs.Register.{registerLength, markAt, stateAt, find, standing, markOf}
 use Rattle.register.proofs.Entries.{found, find-first, stands, stands-all}
 use Rattle.session.specs.declared.Session.{Session}
 use Rattle.session.specs.Steps.{clearTests, admitTests, withdrawTests, closeTests, claimTests, commitTests, drawTests}
-use Rattle.histories.specs.Conditions.{SheetTaken, Valid, Clears, Admits, Withdraws, Closes, Claims, Commits, Draws}
+use Rattle.histories.specs.Conditions.{Admits, Withdraws, Closes, Claims, Commits, Draws}
 use Rattle.histories.specs.Claims.{ClearedExactly, AdmittedExactly, WithdrawnExactly, ClosedExactly, ClaimedExactly, CommittedExactly, DrawnExactly}
 use Rattle.histories.proofs.Valid.{numbers-match, numbers-pass, bytes-pass, ready, is-ready, on-turn, is-turn, sheet-exactly}
 

@@ -1,6 +1,6 @@
 -- The third demand's last sentence: a round that the producer wrote for the session's sheet and batch, lodged, is accepted at its turn. Assumes nothing.
-use mathlib.Core.Path.{_≡_, refl, sym, ap, _∙_}
-use Prim.Native.Nat.{ℕ, _*_, _^_, _≤_, _<_}
+use mathlib.Core.Path.{_≡_, sym, ap, _∙_}
+use Prim.Native.Nat.{ℕ, _<_}
 use native.Mathlib.Omega.{arith}
 use lib.ListN.{length}
 use Rattle.codec.specs.Bytes.{Bytes}
@@ -18,20 +18,20 @@ use Rattle.sheet.specs.declared.Reading.the-variants as reading
 use Rattle.sheet.proofs.Ranges.{in-range}
 use Rattle.bgv.specs.Scheme.{Sound}
 use Rattle.bgv.proofs.Sheets.{sheet-sound, two-sound}
-use Rattle.transcript.specs.Layout.{ballotLength, headLength, answersLength}
-use Rattle.transcript.specs.Round.{Parameters, Round, roundTests}
+use Rattle.transcript.specs.Layout.{ballotLength}
+use Rattle.transcript.specs.Round.{Parameters}
 use Rattle.transcript.specs.Producer.{Material, producedRound}
 use Rattle.transcript.proofs.Many.{none-append}
 use Rattle.transcript.proofs.Produced.{length-producedHead, length-producedShares, length-producedClaims, length-producedOpening, length-producedAnswers}
 use Rattle.transcript.proofs.Honest.{honest-round}
 use Rattle.rounds.specs.Sheets.{parametersOf}
-use Rattle.digests.specs.Digests.{ballotDigests, closingDigest, claimDigest, roundDigest}
+use Rattle.digests.specs.Digests.{ballotDigests, closingDigest, claimDigest}
 use Rattle.drawing.specs.Draw.{drawnSide, drawnChallenges}
 use Rattle.checking.specs.Check.{Inputs, lateTests, drawnRound}
 use Rattle.session.specs.declared.Session.{Session}
 use Rattle.session.specs.Session.{trailAt}
 use Rattle.session.specs.Steps.{storedFor, checkEarly, checkLate, checkTests}
-use Rattle.histories.specs.Runs.{check, Message, Life, History, reply, lives, born}
+use Rattle.histories.specs.Runs.{Life, reply, lives, born}
 use Rattle.histories.specs.Conditions.{SheetTaken, Lengths, Matches}
 use Rattle.histories.specs.Claims.{Produced, Turn, HonestAccepted}
 use Rattle.histories.proofs.Drawn.{side-fits, length-challenges, challenges-fit}

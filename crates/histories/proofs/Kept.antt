@@ -1,7 +1,6 @@
 -- What a session reached from a clear taken keeps, whatever register each step was lent: it is valid, and its digests are functions of what was taken. Assumes nothing.
 use mathlib.Core.Path.{_≡_, refl, sym, ap, _∙_}
-use mathlib.Core.Logic.{_≢_}
-use mathlib.Core.Bool.{Bool, true, false, cond, not}
+use mathlib.Core.Bool.{Bool, true, false, cond}
 use mathlib.Core.List.{List, [], _∷_}
 use Prim.Native.Nat.{ℕ, _+_, _*_, _≤_, _<_}
 use native.Mathlib.Omega.{arith}
@@ -10,7 +9,7 @@ use lib.Dec.{eqb}
 use lib.ListN.{length, length-map, length-replicate}
 use borrow.Author.Tests.{eqb-false, eq-eqb, ne-eqb}
 use Rattle.codec.specs.Bytes.{Bytes, part, put}
-use Rattle.codec.specs.Reply.{None, first, leaves}
+use Rattle.codec.specs.Reply.{first, leaves}
 use Rattle.codec.specs.declared.Reply.the-variants.{Taken}
 use Rattle.codec.proofs.Laws.{length-put, part-put, part-put-before}
 use Rattle.codec.proofs.Replies.{taken-exactly}
@@ -24,7 +23,7 @@ use Rattle.digests.specs.Digests.{closingDigest, claimDigest, roundDigest}
 use Rattle.digests.proofs.Laws.{length-roundDigest}
 use Rattle.checking.specs.Check.{Inputs}
 use Rattle.session.specs.declared.Session.{Session}
-use Rattle.session.specs.Session.{trailAt, changed}
+use Rattle.session.specs.Session.{changed}
 use Rattle.session.specs.Steps.{cleared, admittedBy, closedBy, claimedBy, committedBy, drawnBy, checkEarly, checkLate, checkTests, acceptedBy, refusedBy, checkedBy}
 use Rattle.histories.specs.Runs.{Step, clear, admit, withdraw, close, claim, commit, draw, check, State, state, Message, message, Call, History, blank, note, Life, reply, after, live, lives, born}
 use Rattle.histories.specs.Conditions.{SheetTaken, Valid, Admits, Closes, Claims, Commits, Draws}

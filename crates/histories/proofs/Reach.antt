@@ -1,14 +1,13 @@
 -- Sessions reached from a clear taken are valid, so that 31 is met only for wrong phase or round. Assumes nothing.
-use mathlib.Core.Path.{_≡_, refl, sym}
-use mathlib.Core.Logic.{_≢_}
+use mathlib.Core.Path.{_≡_, sym}
 use mathlib.Core.Bool.{Bool, true, false, not, _&&_}
-use mathlib.Core.List.{List, [], _∷_, _++_}
+use mathlib.Core.List.{_∷_, _++_}
 use Prim.Native.Nat.{ℕ}
 use native.Mathlib.Omega.{arith}
 use borrow.Author.Tests.{not-true}
 use Rattle.codec.specs.Bytes.{Bytes}
-use Rattle.codec.specs.Reply.{Test, test, first, leaves}
-use Rattle.codec.specs.declared.Reply.the-variants.{Taken, Refused}
+use Rattle.codec.specs.Reply.{test, first}
+use Rattle.codec.specs.declared.Reply.the-variants.{Refused}
 use Rattle.codec.proofs.Replies.{taken-exactly}
 use Rattle.call.proofs.Sweeping.{leaves-taken}
 use Rattle.sheet.specs.Sheet.{order}
@@ -18,7 +17,7 @@ use Rattle.checking.specs.Check.{Inputs, inputsSized, storedTests, earlyTests, 
 use Rattle.session.specs.declared.Session.{Session}
 use Rattle.session.specs.Session.{valid}
 use Rattle.session.specs.Steps.{storedFor, clearTests, admitTests, withdrawTests, closeTests, claimTests, commitTests, drawTests, checkEarly, checkLate, checkTests}
-use Rattle.histories.specs.Runs.{Step, clear, admit, withdraw, close, claim, commit, draw, check, State, state, reply, after, begun, born, lives}
+use Rattle.histories.specs.Runs.{Step, clear, admit, withdraw, close, claim, commit, draw, check, state, reply, after, begun, born, lives}
 use Rattle.histories.specs.Claims.{due, ClearTaken, StaysValid, OnlyPhaseOrRound}
 use Rattle.histories.proofs.Replies.{Others, others, others-append, later-others, head-holds}
 use Rattle.histories.proofs.Valid.{valid-holds, sheet-exactly}

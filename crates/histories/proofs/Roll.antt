@@ -17,13 +17,12 @@ use Rattle.sha3.specs.Sponge.{sha3}
 use Rattle.transcript.specs.Layout.{ballotLength}
 use Rattle.register.specs.Register.{markAt, stateAt, digestAt, find, standing, standingDigests, markOf, admitted, withdrawn}
 use Rattle.register.proofs.Entries.{admitted-marks, admitted-states, admitted-digests, admitted-mark, admitted-state, admitted-digest, withdrawn-marks, withdrawn-digests, withdrawn-state, withdrawn-states}
-use Rattle.digests.specs.Digests.{concatenated, ballotDigests}
 use Rattle.digests.proofs.Laws.{Long, ballotDigests-concatenated}
 use Rattle.checking.specs.Check.{Inputs}
 use Rattle.session.specs.declared.Session.{Session}
 use Rattle.session.specs.Steps.{cleared, admittedBy, closedBy, claimedBy, committedBy, drawnBy, checkEarly, checkLate, checkTests, acceptedBy, refusedBy, checkedBy}
-use Rattle.histories.specs.Runs.{Step, clear, admit, withdraw, close, claim, commit, draw, check, State, state, History, blank, note, without, enrol, Tale, Life, Call, born, begun, reply, after, tell, tells, live, lives, calls}
-use Rattle.histories.specs.Conditions.{Admits, Withdraws, Closes, Claims, Draws}
+use Rattle.histories.specs.Runs.{Step, clear, admit, withdraw, close, claim, commit, draw, check, State, state, History, note, without, enrol, Tale, Life, born, begun, reply, after, tell, tells, live, lives, calls}
+use Rattle.histories.specs.Conditions.{Admits, Withdraws, Claims, Draws}
 use Rattle.histories.specs.Claims.{RollIsBatch, Lodged}
 use Rattle.histories.proofs.Replies.{left, left-all, left-alone}
 use Rattle.histories.proofs.Exact.{here, admitted-exactly, withdrawn-exactly, claimed-exactly, drawn-exactly}
@@ -205,7 +204,7 @@ own-tells p (x ∷ xs) t single o = own-tells p xs (tell p x t) (single-step p (
 
 pub roll-is-batch : (p : ℕ) → RollIsBatch p
 unfolding begun cleared
-roll-is-batch p sheet steps e l =
+roll-is-batch p sheet steps l =
     let t = tells p steps (begun sheet) in
     let o = own-tells p steps (begun sheet) (single-none _) (record { rows = start; long = tt; noted = λ q. absurd (omega arith) }) in
     rw (o .noted l, length-map (t .roll) sha3) (ballotDigests-concatenated _ (t .roll) (o .long))

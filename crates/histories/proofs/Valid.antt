@@ -1,21 +1,20 @@
 -- What the test of a session, the test 31 of a step and the order of a sheet say, and that they are passed where that holds. Assumes nothing.
-use mathlib.Core.Path.{_≡_, refl, sym, ap, ap₂, _∙_}
+use mathlib.Core.Path.{_≡_, refl, ap, ap₂}
 use mathlib.Core.Logic.{_↔_}
 use mathlib.Core.Bool.{Bool, true, false, not, _&&_, _||_}
-use Prim.Native.Nat.{ℕ, suc, _≤_, _<_}
+use Prim.Native.Nat.{ℕ, _<_}
 use native.Mathlib.Omega.{arith}
-use lib.Dec.{eqb, ltb, leb}
+use lib.Dec.{eqb, ltb}
 use lib.ListN.{length}
 use borrow.Author.Tests.{leb-true, le-leb, le-ltb, ltb-true, ltb-false, lt-ltb, eqb-true, eqb-false, eq-eqb, ne-eqb, not-true, not-false}
 use Rattle.codec.specs.Bytes.{Bytes, same}
 use Rattle.codec.specs.Reply.{None}
 use Rattle.codec.proofs.Laws.{both, same-equal}
-use Rattle.sheet.specs.Reader.{formed, sheetOf}
-use Rattle.sheet.specs.Sheet.{outside, unsound, unfit, order}
+use Rattle.sheet.specs.Reader.{formed}
+use Rattle.sheet.specs.Sheet.{order}
 use Rattle.transcript.proofs.Tests.{equal-same}
 use Rattle.session.specs.declared.Session.{Session}
 use Rattle.session.specs.Session.{valid}
-use Rattle.session.specs.Steps.{dueTest}
 use Rattle.histories.specs.Conditions.{SheetTaken, Valid}
 
 -- ---- tests that something is not as it must be

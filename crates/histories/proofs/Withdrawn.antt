@@ -1,5 +1,5 @@
 -- The second demand: a mark whose withdrawal was taken stands in no batch closed later, before the next clear taken. Assumes nothing.
-use mathlib.Core.Path.{_≡_, refl, sym, _∙_}
+use mathlib.Core.Path.{_≡_, sym, _∙_}
 use mathlib.Core.Logic.{_≢_}
 use mathlib.Core.Bool.{true, false}
 use mathlib.Core.List.{List, [], _∷_, List·Memᴰ}
@@ -8,16 +8,16 @@ use native.Mathlib.Omega.{arith}
 use native.Mathlib.Decide.{ℕ-discrete}
 use lib.ListN.{length}
 use Rattle.codec.specs.Bytes.{Bytes, zeros}
-use Rattle.codec.specs.Reply.{first, leaves}
+use Rattle.codec.specs.Reply.{first}
 use Rattle.codec.specs.declared.Reply.{Reply}
 use Rattle.codec.specs.declared.Reply.the-variants.{Taken}
 use Rattle.call.proofs.Sweeping.{leaves-taken}
 use Rattle.register.specs.Register.{registerLength, markAt, stateAt, find, standing, markOf, admitted, withdrawn}
 use Rattle.register.proofs.Entries.{stands, admitted-marks, admitted-states, admitted-mark, withdrawn-marks, withdrawn-state, withdrawn-states}
 use Rattle.session.specs.declared.Session.{Session}
-use Rattle.session.specs.Steps.{clearTests, cleared, admitTests, admittedBy, withdrawTests, closedBy, claimedBy, committedBy, drawnBy, acceptedBy, refusedBy, checkedBy}
-use Rattle.histories.specs.Runs.{Step, clear, admit, withdraw, close, claim, commit, draw, check, State, state, clears, reply, after, run, Uncleared, none, more}
-use Rattle.histories.specs.Conditions.{Valid, Admits, Withdraws}
+use Rattle.session.specs.Steps.{clearTests, cleared, admittedBy, withdrawTests, closedBy, claimedBy, committedBy, drawnBy, acceptedBy, refusedBy, checkedBy}
+use Rattle.histories.specs.Runs.{Step, clear, admit, withdraw, close, claim, commit, draw, check, State, clears, reply, after, run, Uncleared, none, more}
+use Rattle.histories.specs.Conditions.{Admits, Withdraws}
 use Rattle.histories.specs.Claims.{StaysOut}
 use Rattle.histories.proofs.Replies.{left}
 use Rattle.histories.proofs.Exact.{here, admitted-exactly, withdrawn-exactly}

@@ -25,7 +25,7 @@ use Rattle.session.specs.declared.Session.{Session}
 use Rattle.session.specs.Session.{gathering, closed, claimed, drawn}
 use Rattle.session.specs.Steps.{clearTests, admitTests, withdrawTests, closeTests, claimTests, commitTests, drawTests, checkTests}
 use Rattle.histories.specs.Runs.{Step, clear, admit, withdraw, close, claim, commit, draw, check, State, state, message, Life, Call, born, begun, reply, after, run, Uncleared, tells, lives, calls}
-use Rattle.histories.specs.Conditions.{Valid, SheetTaken, Clears, Admits, Withdraws, Closes, Claims, Commits, Draws, Checks}
+use Rattle.histories.specs.Conditions.{Valid, Clears, Admits, Withdraws, Closes, Claims, Commits, Draws, Checks}
 
 -- the phase and the round are those of the step
 unfoldable pub due : Step → Session → Bool
@@ -131,7 +131,7 @@ module _ (p : ℕ) where
 
   -- without host writing, the ballots admitted and not withdrawn are a batch, as a turn asks for one
   abbrev pub RollIsBatch : Type 0
-  RollIsBatch = (sheet : Bytes) (steps : List Step) → first (order p sheet) ≡ Taken
+  RollIsBatch = (sheet : Bytes) (steps : List Step)
       → let t = tells p steps (begun sheet) in
       0 < t .now .session .phase
       → ballotDigests (ballotLength (t .now .session .numbers .ring)) (length (t .history .batch)) (concatenated (t .roll)) ≡ t .history .batch
