@@ -1,1 +1,77 @@
-// register
+// The register of ballots over a lent slice (document 01, "Register and session"): find, admit, withdraw, count, turnout.
+ghost use mathlib.Core.Path.{_≡_};
+ghost use Prim.Native.Nat.{_+_, _*_, _≤_};
+ghost use lib.Dec.{eqb};
+ghost use lib.ListN.{length};
+ghost use Rattle.register.specs.Register as def;
+
+// The length of a register.
+pub const REGISTER: usize = 163840;
+
+// The first of the n entries that has the mark; n where none has.
+pub fn find(reg: &[u8], mark: u32, n: usize) -> usize
+    requires { ⌜ 40 * n ≤ length (now reg) ⌝ }
+    ensures { λ r. ⌜ (r ≡ def.find (now (reg .entry)) mark n) × (r ≤ n) ⌝ }
+{
+    let mut i = 0;
+    while i < n {
+        if codec::read32(reg, 40 * i) == mark {
+            return i;
+        }
+        i += 1;
+    }
+    n
+}
+
+// Whether entry i stands.
+pub fn is_standing(reg: &[u8], i: usize) -> bool
+    requires { ⌜ 40 * i + 40 ≤ length (now reg) ⌝ }
+    ensures { λ r. ⌜ r ≡ eqb (def.stateAt (now (reg .entry)) i) 1 ⌝ }
+{
+    reg[40 * i + 4] == 1
+}
+
+// Admits a ballot after n entries.
+pub fn admit(reg: &mut [u8], n: usize, ballot: &[u8])
+    requires { ⌜ (40 * n + 40 ≤ length (now reg)) × (4 ≤ length (now ballot)) ⌝ }
+    ensures { λ _. ⌜ now (reg .exit) ≡ def.admitted (now (reg .entry)) n (now (ballot .entry)) ⌝ }
+{
+    let at = 40 * n;
+    let digest = sha3::hash(ballot);
+    codec::copy(reg, at, &ballot[0..4]);
+    codec::write32(reg, at + 4, 1);
+    codec::copy(reg, at + 8, &digest);
+}
+
+// Withdraws entry i.
+pub fn withdraw(reg: &mut [u8], i: usize)
+    requires { ⌜ 40 * i + 40 ≤ length (now reg) ⌝ }
+    ensures { λ _. ⌜ now (reg .exit) ≡ def.withdrawn (now (reg .entry)) i ⌝ }
+{
+    codec::write8(reg, 40 * i + 4, 2);
+}
+
+// How many of the first n entries stand.
+pub fn count_standing(reg: &[u8], n: usize) -> usize
+    requires { ⌜ 40 * n ≤ length (now reg) ⌝ }
+    ensures { λ r. ⌜ (r ≡ length (def.standing (now (reg .entry)) n)) × (r ≤ n) ⌝ }
+{
+    let mut i = 0;
+    let mut count = 0;
+    while i < n {
+        if is_standing(reg, i) {
+            count += 1;
+        }
+        i += 1;
+    }
+    count
+}
+
+// The standing ones of the first n entries in thousandths of the enrolled, half up.
+pub fn turnout(reg: &[u8], n: usize, enrolled: u64) -> u64
+    requires { ⌜ (40 * n ≤ length (now reg)) × (n ≤ 4096) × (1 ≤ enrolled) × (enrolled ≤ 1000000) ⌝ }
+    ensures { λ r. ⌜ (r ≡ def.turnout (now (reg .entry)) n enrolled) × (r ≤ 4096000) ⌝ }
+{
+    let count = count_standing(reg, n) as u64;
+    (2000 * count + enrolled) / (2 * enrolled)
+}
