@@ -23,12 +23,12 @@ use Rattle.rounds.specs.Calls.{messageSized, secondSized}
 use Rattle.rounds.specs.Sheets.{parametersOf}
 use Rattle.rounds.proofs.Sizes.{message-sizes, second-sizes}
 use Rattle.drawing.specs.Draw.{drawnChallenges}
+use Rattle.drawing.proofs.Range.{length-challenges}
 use Rattle.checking.specs.Check.{Inputs, sameNumbers, inputsSized, storedTests, earlyTests, lateTests, drawnRound}
 use Rattle.session.specs.declared.Session.{Session}
 use Rattle.session.specs.Steps.{storedFor, checkEarly, checkLate, checkTests}
 use Rattle.histories.specs.Conditions.{Valid, SheetTaken, Lengths, Matches, Checks}
 use Rattle.histories.specs.Claims.{AcceptedExactly}
-use Rattle.histories.proofs.Drawn.{length-challenges}
 use Rattle.histories.proofs.Valid.{bytes-match, bytes-pass, ready, is-ready, on-turn, is-turn, sheet-exactly}
 
 -- ---- equal numbers

@@ -27,6 +27,7 @@ use Rattle.transcript.proofs.Honest.{honest-round}
 use Rattle.rounds.specs.Sheets.{parametersOf}
 use Rattle.digests.specs.Digests.{ballotDigests, closingDigest, claimDigest}
 use Rattle.drawing.specs.Draw.{drawnSide, drawnChallenges}
+use Rattle.drawing.proofs.Range.{side-range, length-challenges, challenge-range}
 use Rattle.checking.specs.Check.{Inputs, lateTests, drawnRound}
 use Rattle.session.specs.declared.Session.{Session}
 use Rattle.session.specs.Session.{trailAt}
@@ -34,7 +35,6 @@ use Rattle.session.specs.Steps.{storedFor, checkEarly, checkLate, checkTests}
 use Rattle.histories.specs.Runs.{Life, reply, lives, born}
 use Rattle.histories.specs.Conditions.{SheetTaken, Lengths, Matches}
 use Rattle.histories.specs.Claims.{Produced, Turn, HonestAccepted}
-use Rattle.histories.proofs.Drawn.{side-fits, length-challenges, challenges-fit}
 use Rattle.histories.proofs.Valid.{sheet-exactly}
 use Rattle.histories.proofs.Kept.{Kept, messageDigest, kept}
 use Rattle.histories.proofs.Checked.{early-none}
@@ -84,7 +84,7 @@ module _ (p : ℕ) (roomy : Roomy p) (l : Life) (k : Kept p (l .session) (l .his
     shares1 = ap length (made .shares1) ∙ length-producedShares P m material 1;
     ballots = ap length (made .ballots) ∙ made .sized .ballots;
     claims = ap length (made .claims) ∙ length-producedClaims P m material;
-    opening = ap length (made .opening) ∙ length-producedOpening P m material (made .sized) side (side-fits (s .seed) round);
+    opening = ap length (made .opening) ∙ length-producedOpening P m material (made .sized) side (side-range (s .seed) round);
     answers = ap length (made .answers) ∙ length-producedAnswers P m material (made .sized) challenges (length-challenges (s .seed) round (P .repeats));
     scratch = turn .scratch;
   })
@@ -128,7 +128,7 @@ module _ (p : ℕ) (roomy : Roomy p) (l : Life) (k : Kept p (l .session) (l .his
       let r = in-range (sheetOf (x .sheet) .numbers) (sheet-taken .inside) in
       rw (closed, round-is)
       (honest-round P m material (roomy (x .sheet) (sheetOf (x .sheet) .numbers) (reads p (x .sheet) sheet-taken)) (omega (arith, r .modulus-low)) (omega (arith, r .modulus-high)) (made .sized) (made .taken)
-      side (side-fits (s .seed) round) challenges (length-challenges (s .seed) round (P .repeats)) (challenges-fit (s .seed) round (P .repeats)))
+      side (side-range (s .seed) round) challenges (length-challenges (s .seed) round (P .repeats)) (challenge-range (s .seed) round (P .repeats)))
 
   accepted : first (checkTests p s round x) ≡ Taken
   unfolding checkTests

@@ -1,7 +1,6 @@
 pub mod Replies
 pub mod Valid
 pub mod Exact
-pub mod Drawn
 pub mod Checked
 pub mod Kept
 pub mod Reach
