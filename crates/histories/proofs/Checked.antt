@@ -1,19 +1,17 @@
 -- A check is taken exactly if its conditions hold, in every round. Assumes nothing.
 use mathlib.Core.Path.{_≡_, ap, ap₂}
 use mathlib.Core.Logic.{_↔_}
-use mathlib.Core.Bool.{true, false, not, _&&_}
-use mathlib.Core.List.{List, [], _∷_}
+use mathlib.Core.Bool.{true, not, _&&_}
+use mathlib.Core.List.{List, _∷_}
 use Prim.Native.Nat.{ℕ, _<_}
 use native.Mathlib.Omega.{arith}
-use lib.ListN.{getD}
 use borrow.Author.Tests.{not-false}
-use Rattle.codec.specs.Bytes.{Bytes, Octets, same}
+use Rattle.codec.specs.Bytes.{Bytes, Octets}
 use Rattle.codec.specs.Reply.{Test, test, None}
-use Rattle.codec.proofs.Laws.{both, same-equal}
+use Rattle.codec.proofs.Laws.{both}
 use Rattle.codec.proofs.Replies.{taken-exactly}
 use Rattle.sheet.specs.Reader.{sheetOf}
 use Rattle.sheet.specs.Sheet.{order}
-use Rattle.sheet.specs.declared.Numbers.{Numbers}
 use Rattle.sheet.proofs.Ranges.{in-range}
 use Rattle.transcript.specs.Accepted.{Accepted}
 use Rattle.transcript.proofs.Many.{none-append, append-none}
@@ -24,27 +22,13 @@ use Rattle.rounds.specs.Sheets.{parametersOf}
 use Rattle.rounds.proofs.Sizes.{message-sizes, second-sizes}
 use Rattle.drawing.specs.Draw.{drawnChallenges}
 use Rattle.drawing.proofs.Range.{length-challenges}
-use Rattle.checking.specs.Check.{Inputs, sameNumbers, inputsSized, storedTests, earlyTests, lateTests, drawnRound}
+use Rattle.checking.specs.Check.{Inputs, inputsSized, storedTests, earlyTests, lateTests, drawnRound}
+use Rattle.checking.proofs.Numbers.{same-numbers}
 use Rattle.session.specs.declared.Session.{Session}
 use Rattle.session.specs.Steps.{storedFor, checkEarly, checkLate, checkTests}
 use Rattle.histories.specs.Conditions.{Valid, SheetTaken, Lengths, Matches, Checks}
 use Rattle.histories.specs.Claims.{AcceptedExactly}
 use Rattle.histories.proofs.Valid.{bytes-match, bytes-pass, ready, is-ready, on-turn, is-turn, sheet-exactly}
-
--- ---- equal numbers
-
-abbrev five : Numbers → List ℕ
-five k = k .ring ∷ k .modulus ∷ k .drown ∷ k .rounds ∷ k .repeats ∷ []
-
-same-numbers : (a b : Numbers) → not (sameNumbers a b) ≡ false → a ≡ b
-unfolding sameNumbers
-same-numbers a b e =
-    let l = same-equal (five a) (five b) (not-false (same (five a) (five b)) e) in
-    ap (λ (l : List ℕ). record { ring = getD l 0 0; modulus = getD l 1 0; drown = getD l 2 0; rounds = getD l 3 0; repeats = getD l 4 0 }) l
-
-numbers-same : (a b : Numbers) → a ≡ b → not (sameNumbers a b) ≡ false
-unfolding sameNumbers
-numbers-same a b e = bytes-pass (ap five e)
 
 -- ---- the lengths
 
@@ -72,7 +56,7 @@ module _ (s : Session) (round : ℕ) (x : Inputs) where
   unfolding storedTests
   matches-say n = record {
     sheet = bytes-match (n .0);
-    numbers = same-numbers _ _ (n .1 .0);
+    numbers = same-numbers _ _ .0 (not-false _ (n .1 .0));
     ballots = bytes-match (n .1 .1 .0);
     claims = bytes-match (n .1 .1 .1 .0);
     message = bytes-match (n .1 .1 .1 .1 .0);
@@ -80,7 +64,7 @@ module _ (s : Session) (round : ℕ) (x : Inputs) where
 
   matches-hold : Matches s round x → None (storedTests (storedFor s round) x)
   unfolding storedTests
-  matches-hold m = (bytes-pass (m .sheet), (numbers-same _ _ (m .numbers), (bytes-pass (m .ballots), (bytes-pass (m .claims), (bytes-pass (m .message), tt)))))
+  matches-hold m = (bytes-pass (m .sheet), (ap not (same-numbers _ _ .1 (m .numbers)), (bytes-pass (m .ballots), (bytes-pass (m .claims), (bytes-pass (m .message), tt)))))
 
   -- ---- before the round is looked at
 

@@ -70,7 +70,7 @@ module _ (p : ℕ) where
     pub phase : s .phase ≡ gathering  -- 31
     pub register-size : length reg ≡ 163840  -- 1
     pub ballot-size : length ballot ≡ 4 + 16 * s .numbers .ring  -- 1
-    pub coefficients : EachBelow (s .numbers .modulus) (vector (drop 4 ballot))  -- 5
+    pub coefficients : EachBelow (s .numbers .modulus) (vector (drop 4 ballot))  -- 5, u and v
     pub unknown : (i : ℕ) → i < s .used → markAt reg i ≢ markOf ballot  -- 32, 33
     pub room : s .used < 4096  -- 35
 
