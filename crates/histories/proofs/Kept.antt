@@ -263,20 +263,17 @@ module _ (p : ℕ) where
 
   -- ---- every step, and every list of them
 
-  abbrev Left : State → History → Type 0
-  Left st h = Kept p (st .session) h
-
   kept-step : (x : Step) (reg : Bytes) (s : Session) (h : History) → Kept p s h
       → let st = state s reg in Kept p (after p x st .session) (leaves (reply p x st) (note x st h) h)
   unfolding reply after note
-  kept-step (clear text) reg s h k = left-both Left _ (λ e. kept-clear text (cleared-exactly p reg text .0 e .sheet)) k
-  kept-step (admit ballot) reg s h k = left-both Left _ (λ e. kept-admit s h k reg ballot (admitted-exactly p s reg ballot .0 e)) k
-  kept-step (withdraw mark) reg s h k = left-both Left _ (λ e. k) k
-  kept-step close reg s h k = left-both Left _ (λ e. kept-close s h k reg (closed-exactly p s reg .0 e)) k
-  kept-step (claim claims) reg s h k = left-both Left _ (λ e. kept-claim s h k (state s reg) claims (claimed-exactly p s claims .0 e)) k
+  kept-step (clear text) reg s h k = left-both (Kept p) _ (λ e. kept-clear text (cleared-exactly p reg text .0 e .sheet)) k
+  kept-step (admit ballot) reg s h k = left-both (Kept p) _ (λ e. kept-admit s h k reg ballot (admitted-exactly p s reg ballot .0 e)) k
+  kept-step (withdraw mark) reg s h k = left (Kept p s) _ (λ e. k) k
+  kept-step close reg s h k = left-both (Kept p) _ (λ e. kept-close s h k reg (closed-exactly p s reg .0 e)) k
+  kept-step (claim claims) reg s h k = left-both (Kept p) _ (λ e. kept-claim s h k (state s reg) claims (claimed-exactly p s claims .0 e)) k
   kept-step (commit r head shares0 shares1) reg s h k =
-      left-both Left _ (λ e. kept-commit s h k r head shares0 shares1 (committed-exactly p s r head shares0 shares1 .0 e) (state s reg)) k
-  kept-step (draw seed) reg s h k = left-both Left _ (λ e. kept-draw s h k seed (drawn-exactly p s seed .0 e)) k
+      left-both (Kept p) _ (λ e. kept-commit s h k r head shares0 shares1 (committed-exactly p s r head shares0 shares1 .0 e) (state s reg)) k
+  kept-step (draw seed) reg s h k = left-both (Kept p) _ (λ e. kept-draw s h k seed (drawn-exactly p s seed .0 e)) k
   kept-step (check r x) reg s h k = rw (left-alone (first (checkTests p s r x)) h) (kept-check s h k r x)
 
   kept-lives : (cs : List Call) (l : Life) → Kept p (l .session) (l .history) → Kept p (lives p cs l .session) (lives p cs l .history)

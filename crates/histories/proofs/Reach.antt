@@ -1,5 +1,5 @@
 -- Sessions reached from a clear taken are valid, so that 31 is met only for wrong phase or round. Assumes nothing.
-use mathlib.Core.Path.{_≡_, sym}
+use mathlib.Core.Path.{_≡_, sym, ap₂}
 use mathlib.Core.Bool.{Bool, true, false, not, _&&_}
 use mathlib.Core.List.{_∷_, _++_}
 use Prim.Native.Nat.{ℕ}
@@ -29,10 +29,11 @@ reachable-valid p sheet cs e = let k = kept p sheet cs e in (k .sound, k .number
 
 pub clear-taken : (p : ℕ) → ClearTaken p
 unfolding reply after begun
-clear-taken p st sheet e = (
-  taken-exactly (order p sheet) .1 (sheet-exactly p sheet .1 (cleared-exactly p (st .register) sheet .0 e .sheet)),
-  sym (leaves-taken (first (clearTests p (st .register) sheet)) st e),
-)
+clear-taken p st sheet e =
+    let r = first (clearTests p (st .register) sheet) in (
+      taken-exactly (order p sheet) .1 (sheet-exactly p sheet .1 (cleared-exactly p (st .register) sheet .0 e .sheet)),
+      sym (ap₂ state (leaves-taken r (st .session) e) (leaves-taken r (st .register) e)),
+    )
 
 -- where a valid session is not taken for valid and due, it is not due
 undue : (v d : Bool) → v ≡ true → not (v && d) ≡ true → d ≡ false

@@ -24,7 +24,7 @@ use Rattle.session.specs.Steps.{cleared, admittedBy, closedBy, claimedBy, commi
 use Rattle.histories.specs.Runs.{Step, clear, admit, withdraw, close, claim, commit, draw, check, State, state, History, note, without, enrol, Tale, Life, born, begun, reply, after, tell, tells, live, lives, calls}
 use Rattle.histories.specs.Conditions.{Admits, Withdraws, Claims, Draws}
 use Rattle.histories.specs.Claims.{RollIsBatch, Lodged}
-use Rattle.histories.proofs.Replies.{left, left-all, left-alone}
+use Rattle.histories.proofs.Replies.{left, left-all, left-four, left-alone}
 use Rattle.histories.proofs.Exact.{here, admitted-exactly, withdrawn-exactly, claimed-exactly, drawn-exactly}
 use Rattle.histories.proofs.Kept.{drawn-now}
 use Rattle.histories.proofs.Withdrawn.{Single, single-none, single-step}
@@ -184,16 +184,23 @@ module _ (p : ℕ) (st : State) (h : History) (bs : List Bytes) (o : Own st h bs
           left Here (first (checkLate p s round x)) (λ f. record { rows = o .rows; long = o .long; noted = λ l. o .noted (omega arith) })
           (record { rows = o .rows; long = o .long; noted = λ l. o .noted (omega arith) })
 
+  -- with session and register apart, and with this register
+  abbrev Whole : Session → Bytes → History → List Bytes → Type 0
+  Whole t other = Own (state t other)
+
+  abbrev With : Session → History → List Bytes → Type 0
+  With t = Own (state t reg)
+
   own-step : Single reg (s .used) → (x : Step)
       → Own (after p x st) (leaves (reply p x st) (note x st h) h) (leaves (reply p x st) (enrol x bs) bs)
   unfolding reply after cleared committedBy note enrol
-  own-step single (clear text) = left-all Own _ (λ e. record { rows = start; long = tt; noted = λ l. absurd (omega arith) }) o
-  own-step single (admit ballot) = left-all Own _ (λ e. own-admit ballot (admitted-exactly p s reg ballot .0 e)) o
-  own-step single (withdraw mark) = left-all Own _ (λ e. own-withdraw single mark (withdrawn-exactly p s reg mark .0 e)) o
-  own-step single close = left-all Own _ (λ e. own-close) o
-  own-step single (claim claims) = left-all Own _ (λ e. own-claim claims (claimed-exactly p s claims .0 e)) o
-  own-step single (commit k head shares0 shares1) = left-all Own _ (λ e. record { rows = o .rows; long = o .long; noted = o .noted }) o
-  own-step single (draw seed) = left-all Own _ (λ e. own-draw seed (drawn-exactly p s seed .0 e)) o
+  own-step single (clear text) = left-four Whole _ (λ e. record { rows = start; long = tt; noted = λ l. absurd (omega arith) }) o
+  own-step single (admit ballot) = left-four Whole _ (λ e. own-admit ballot (admitted-exactly p s reg ballot .0 e)) o
+  own-step single (withdraw mark) = left-all (Whole s) _ (λ e. own-withdraw single mark (withdrawn-exactly p s reg mark .0 e)) o
+  own-step single close = left-all With _ (λ e. own-close) o
+  own-step single (claim claims) = left-all With _ (λ e. own-claim claims (claimed-exactly p s claims .0 e)) o
+  own-step single (commit k head shares0 shares1) = left-all With _ (λ e. record { rows = o .rows; long = o .long; noted = o .noted }) o
+  own-step single (draw seed) = left-all With _ (λ e. own-draw seed (drawn-exactly p s seed .0 e)) o
   own-step single (check k x) = rw (left-alone (first (checkTests p s k x)) h, left-alone (first (checkTests p s k x)) bs) (own-check k x)
 
 own-tells : (p : ℕ) (xs : List Step) (t : Tale) → Single (t .now .register) (t .now .session .used) → Own (t .now) (t .history) (t .roll)

@@ -19,7 +19,7 @@ use Rattle.session.specs.Steps.{clearTests, cleared, admittedBy, withdrawTests,
 use Rattle.histories.specs.Runs.{Step, clear, admit, withdraw, close, claim, commit, draw, check, State, clears, reply, after, run, Uncleared, none, more}
 use Rattle.histories.specs.Conditions.{Admits, Withdraws}
 use Rattle.histories.specs.Claims.{StaysOut}
-use Rattle.histories.proofs.Replies.{left}
+use Rattle.histories.proofs.Replies.{left, left-both}
 use Rattle.histories.proofs.Exact.{here, admitted-exactly, withdrawn-exactly}
 
 clears-taken : (text : Bytes) (r : Reply) → r ≡ Taken → clears (clear text) r ≡ true
@@ -52,21 +52,21 @@ module _ (p : ℕ) where
   module _ (P : Bytes → ℕ → Type 0) (st : State)
       (admits : (ballot : Bytes) → Admits p (st .session) (st .register) ballot → P (admitted (st .register) (st .session .used) ballot) (st .session .used + 1))
       (withdraws : (mark : ℕ) → Withdraws p (st .session) (st .register) mark → P (withdrawn (st .register) (find (st .register) mark (st .session .used))) (st .session .used)) where
-    abbrev At : State → Type 0
-    At t = P (t .register) (t .session .used)
+    abbrev Both : Session → Bytes → Type 0
+    Both s reg = P reg (s .used)
 
     abbrev Used : Session → Type 0
     Used s = P (st .register) (s .used)
 
-    rule : (x : Step) → (clears x (reply p x st) ≡ true → P (zeros registerLength) 0) → At st → At (after p x st)
+    rule : (x : Step) → (clears x (reply p x st) ≡ true → P (zeros registerLength) 0) → P (st .register) (st .session .used) → P (after p x st .register) (after p x st .session .used)
     unfolding reply after cleared admittedBy closedBy claimedBy committedBy drawnBy acceptedBy refusedBy checkedBy
-    rule (clear text) c h = left At (first (clearTests p (st .register) text)) (λ e. c (clears-taken text _ e)) h
-    rule (admit ballot) c h = left At _ (λ e. admits ballot (admitted-exactly p (st .session) (st .register) ballot .0 e)) h
-    rule (withdraw mark) c h = left At _ (λ e. withdraws mark (withdrawn-exactly p (st .session) (st .register) mark .0 e)) h
-    rule close c h = left At _ (λ e. h) h
-    rule (claim claims) c h = left At _ (λ e. h) h
-    rule (commit k head shares0 shares1) c h = left At _ (λ e. h) h
-    rule (draw seed) c h = left At _ (λ e. h) h
+    rule (clear text) c h = left-both Both (first (clearTests p (st .register) text)) (λ e. c (clears-taken text _ e)) h
+    rule (admit ballot) c h = left-both Both _ (λ e. admits ballot (admitted-exactly p (st .session) (st .register) ballot .0 e)) h
+    rule (withdraw mark) c h = left (λ reg. P reg (st .session .used)) _ (λ e. withdraws mark (withdrawn-exactly p (st .session) (st .register) mark .0 e)) h
+    rule close c h = left Used _ (λ e. h) h
+    rule (claim claims) c h = left Used _ (λ e. h) h
+    rule (commit k head shares0 shares1) c h = left Used _ (λ e. h) h
+    rule (draw seed) c h = left Used _ (λ e. h) h
     rule (check k x) c h = left Used _ (λ e. left Used _ (λ f. h) h) h
 
   module _ (st : State) where
@@ -158,12 +158,14 @@ module _ (p : ℕ) where
 
     gone-after : (mark : ℕ) → reply p (withdraw mark) st ≡ Taken → Gone mark (after p (withdraw mark) st .register) (after p (withdraw mark) st .session .used)
     unfolding reply after
-    gone-after mark e = rw (← leaves-taken (first (withdrawTests p (st .session) reg mark)) st e) (gone-first mark (withdrawn-exactly p (st .session) reg mark .0 e))
+    gone-after mark e = rw (← leaves-taken (first (withdrawTests p (st .session) reg mark)) {x = withdrawn reg (find reg mark used)} reg e) (gone-first mark (withdrawn-exactly p (st .session) reg mark .0 e))
 
     -- after a clear that is taken no entry is used
     single-clear : (sheet : Bytes) → reply p (clear sheet) st ≡ Taken → Single (after p (clear sheet) st .register) (after p (clear sheet) st .session .used)
     unfolding reply after cleared
-    single-clear sheet e = rw (← leaves-taken (first (clearTests p reg sheet)) st e) (single-none (zeros registerLength))
+    single-clear sheet e =
+        let r = first (clearTests p reg sheet) in
+        rw (← leaves-taken r {x = zeros registerLength} reg e, ← leaves-taken r {x = cleared sheet} (st .session) e) (single-none (zeros registerLength))
 
   -- ---- over a run
 

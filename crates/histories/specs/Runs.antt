@@ -136,17 +136,23 @@ module _ (p : ℕ) where
   reply (draw seed) st = first (drawTests p (st .session) seed)
   reply (check k x) st = first (checkTests p (st .session) k x)
 
+  -- session and register, as the contracts of the steps have them
   unfoldable pub after : Step → State → State
-  after (clear text) st = leaves (reply (clear text) st) (state (cleared text) (zeros registerLength)) st
+  after (clear text) st =
+      let r = reply (clear text) st in
+      state (leaves r (cleared text) (st .session)) (leaves r (zeros registerLength) (st .register))
   after (admit ballot) st =
-      leaves (reply (admit ballot) st) (state (admittedBy (st .session)) (admitted (st .register) (st .session .used) ballot)) st
+      let r = reply (admit ballot) st in
+      state (leaves r (admittedBy (st .session)) (st .session)) (leaves r (admitted (st .register) (st .session .used) ballot) (st .register))
   after (withdraw mark) st =
-      leaves (reply (withdraw mark) st) (state (st .session) (withdrawn (st .register) (find (st .register) mark (st .session .used)))) st
-  after close st = leaves (reply close st) (state (closedBy (st .session) (st .register)) (st .register)) st
-  after (claim claims) st = leaves (reply (claim claims) st) (state (claimedBy (st .session) claims) (st .register)) st
+      let r = reply (withdraw mark) st in
+      state (st .session) (leaves r (withdrawn (st .register) (find (st .register) mark (st .session .used))) (st .register))
+  after close st = state (leaves (reply close st) (closedBy (st .session) (st .register)) (st .session)) (st .register)
+  after (claim claims) st = state (leaves (reply (claim claims) st) (claimedBy (st .session) claims) (st .session)) (st .register)
   after (commit k head shares0 shares1) st =
-      leaves (reply (commit k head shares0 shares1) st) (state (committedBy (st .session) k head shares0 shares1) (st .register)) st
-  after (draw seed) st = leaves (reply (draw seed) st) (state (drawnBy (st .session) seed) (st .register)) st
+      let r = reply (commit k head shares0 shares1) st in
+      state (leaves r (committedBy (st .session) k head shares0 shares1) (st .session)) (st .register)
+  after (draw seed) st = state (leaves (reply (draw seed) st) (drawnBy (st .session) seed) (st .session)) (st .register)
   after (check k x) st = state (checkedBy p (st .session) k x) (st .register)
 
   -- ---- each step is given the session and the register that the last one left
