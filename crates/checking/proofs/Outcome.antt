@@ -1,0 +1,100 @@
+-- What a check comes to, from the replies of its two parts, and the same over the sheet. Assumes nothing.
+use mathlib.Core.Path.{_≡_, refl, sym, ap, ap₂, _∙_}
+use mathlib.Core.Bool.{not}
+use mathlib.Core.List.{List, [], _∷_, _++_}
+use Prim.Native.Nat.{ℕ, _-_, _*_}
+use native.Mathlib.Omega.{arith}
+use lib.ListN.{length, take, drop}
+use Rattle.codec.specs.Bytes.{Bytes, part}
+use Rattle.codec.specs.Reply.{Test, test, first}
+use Rattle.codec.specs.declared.Reply.{Reply}
+use Rattle.codec.specs.declared.Reply.the-variants as reply
+use Rattle.sheet.specs.Bounds.{mask}
+use Rattle.sheet.specs.Sheet.{reading}
+use Rattle.sheet.specs.declared.Numbers.{Numbers}
+use Rattle.sheet.specs.declared.Reading.{Reading}
+use Rattle.sheet.specs.declared.Reading.the-variants.{Taken, Refused}
+use Rattle.call.specs.Call.{swept}
+use Rattle.call.proofs.Lent as call
+use Rattle.bgv.proofs.Sheets.{two-sound}
+use Rattle.scheme_calls.proofs.Keys.{lent-keys}
+use Rattle.transcript.specs.Method.{parameters}
+use Rattle.transcript.specs.Round.{Parameters, Round, roundTests}
+use Rattle.checker.specs.Orders.{roundOf}
+use Rattle.rounds.specs.Sheets.{given, parametersOf}
+use Rattle.rounds.proofs.Swept.{later-round, swept-alike}
+use Rattle.round_calls.proofs.Promises.{lent-keyed, over, refused-over}
+use Rattle.checking.specs.Check.{Stored, Inputs, storedOf, sideOf, challengesOf, inputsSized, storedTests, drawnRound, earlyTests, lateTests, verdict, replyOf}
+use Rattle.checking.specs.declared.Verdict.{Verdict}
+use Rattle.checking.specs.declared.Verdict.the-variants.{Stopped, Failed, Passed}
+use Rattle.checking.specs.Parts.{Lent, lentTests}
+
+-- ---- from the two replies
+
+pub stopped : (late : Reply) {early : Reply} {number place : ℕ} → early ≡ reply.Refused number place → Stopped number place ≡ verdict early late
+stopped late e = sym (ap (λ (r : Reply). verdict r late) e)
+
+-- the reply of a round that was looked at is that of the verdict
+reply-late : (r : Reply) → replyOf (verdict reply.Taken r) ≡ r
+reply-late reply.Taken = refl
+reply-late (reply.Refused number place) = refl
+
+module _ (P : Parameters) (m : ℕ) (r : Round) {v : Verdict} {late : Reply} (is : v ≡ verdict reply.Taken late) (said : late ≡ first (roundTests P m r)) where
+  pub judged : {early : Reply} → early ≡ reply.Taken → v ≡ verdict early (first (roundTests P m r))
+  judged e = is ∙ ap₂ verdict (sym e) said
+
+  -- and scratch, which the round was lent, is zeroed
+  pub judged-swept : (w w' : Bytes) → length w' ≡ length w → swept (replyOf v) w' ≡ swept (replyOf v) w
+  judged-swept w w' l = swept-alike (roundTests P m r) (later-round P m r) (replyOf v) (ap replyOf is ∙ reply-late late ∙ said) w w' l
+
+-- ---- with what was drawn
+
+module _ (k : Numbers) (m : ℕ) (sheet closing claim message seed : Bytes) (round : ℕ) (x : Inputs) (P : Parameters) where
+  abbrev s : Stored
+  s = storedOf k m sheet closing claim message seed round
+
+  pub drawn-are : {v : Verdict} {side : ℕ} {challenges : Bytes} → side ≡ sideOf s → challenges ≡ challengesOf s
+      → v ≡ verdict (first (lentTests (storedOf k m sheet closing claim message [] round) challenges x)) (first (roundTests P m (roundOf side challenges (x .ballots) (x .claims) (x .head) (x .shares0) (x .shares1) (x .opening) (x .answers))))
+      → v ≡ verdict (first (test 1 0 (not (inputsSized s x)) ∷ storedTests s x)) (first (roundTests P m (drawnRound s x)))
+  unfolding inputsSized storedTests
+  drawn-are e f g =
+      g ∙ ap₂ (λ (i : ℕ) (c : Bytes). verdict (first (lentTests s c x)) (first (roundTests P m (roundOf i c (x .ballots) (x .claims) (x .head) (x .shares0) (x .shares1) (x .opening) (x .answers))))) e f
+
+-- ---- over the sheet
+
+-- the round's parameters, from parts that are lent with a length that is a difference of places
+pub parted : (k : Numbers) (s : Bytes) {B : ℕ} → B ≡ mask 2 (k .ring) (k .drown)
+    → parameters 2 (k .ring) (k .modulus) B (k .repeats) (take (8 * k .ring - 0) (drop 0 s)) (take (16 * k .ring - 8 * k .ring) (drop (8 * k .ring) s)) (take (40 * k .ring - 16 * k .ring) (drop (16 * k .ring) s))
+    ≡ given 2 k s
+parted k s {B} b =
+    lent-keyed (k .ring) (k .modulus) B (k .repeats) s
+    ∙ ap (λ (x : ℕ). parameters 2 (k .ring) (k .modulus) x (k .repeats) (part s 0 (8 * k .ring)) (part s (8 * k .ring) (8 * k .ring)) (part s (16 * k .ring) (24 * k .ring))) b
+
+-- what the round is given of a sheet that is taken
+pub sheet-lent : {text public : Bytes} {k : Numbers} → call.Lent 2 text public k → Lent k public
+sheet-lent {text} {public} {k} h =
+    let n = k .ring in
+    record {
+      a = h .polynomial 0 0 (8 * n) (omega arith) (omega arith) refl;
+      b = h .polynomial 1 (8 * n) (8 * n) (omega arith) (omega arith) refl;
+      keys = lent-keys h (16 * n) (24 * n) refl refl;
+      odd = two-sound text k (h .said) .odd;
+      drown-high = h .ranged .drown-high;
+      repeats-high = h .ranged .repeats-high;
+      sized = omega (arith, h .sized, h .ranged .ring-high);
+    }
+
+module _ (s : Stored) (x : Inputs) where
+  abbrev pub Checked : Verdict → Bytes → Type 0
+  Checked v w = (v ≡ verdict (first (earlyTests s 2 x)) (first (lateTests s 2 x))) × (w ≡ swept (replyOf v) (x .scratch))
+
+  pub checked-over : {k : Numbers} {P : Parameters} {v : Verdict} {r : Reply} (w' : Bytes) {w'' : Bytes} → reading 2 (x .sheet) ≡ Taken k → P ≡ parametersOf 2 (x .sheet)
+      → (v ≡ verdict (first (test 1 0 (not (inputsSized s x)) ∷ storedTests s x)) (first (roundTests P (s .closed) (drawnRound s x)))) × (swept (replyOf v) w' ≡ swept (replyOf v) (x .scratch))
+      → r ≡ replyOf v → w'' ≡ swept r w' → Checked v w''
+  unfolding earlyTests lateTests
+  checked-over w' said e f g z =
+      (f .0 ∙ ap₂ verdict (over 2 (x .sheet) (test 1 0 (not (inputsSized s x)) ∷ storedTests s x) said refl) (ap (λ (P : Parameters). first (roundTests P (s .closed) (drawnRound s x))) e), z ∙ ap (λ (r : Reply). swept r w') g ∙ f .1)
+
+  pub checked-refused : {read : Reading} {i : ℕ} {w'' : Bytes} → read ≡ reading 2 (x .sheet) → read ≡ Refused i → w'' ≡ swept (reply.Refused i 0) (x .scratch) → Checked (Stopped i 0) w''
+  unfolding earlyTests lateTests
+  checked-refused f e z = (stopped (first (lateTests s 2 x)) (sym (refused-over 2 (x .sheet) (test 1 0 (not (inputsSized s x)) ∷ storedTests s x) f e)), z)

@@ -1,0 +1,27 @@
+-- `stored::test_lent` meets its contract. Assumes nothing.
+use mathlib.Core.Path.{_≡_, sym, _∙_}
+use mathlib.Core.List.{[]}
+use borrow.Author.Needs.{needs}
+use borrow.Author.Tests.{not-false}
+use Rattle.checking.specs.Check.{inputsOf, storedTests}
+use Rattle.checking.proofs.Held.{fails, holds, ballots-sized}
+use Rattle.checking.proofs.stored.test_lent.Statement.{statement}
+use Rattle.checking.proofs.stored.test_lent.Tie as tie
+
+returns : tie.Need-returns
+returns c = fails 1 0 _ _ (c .before .inputs-sized .ensures) (c .if1 .taken)
+
+test-stored-requires : tie.Need-test-stored-requires
+test-stored-requires c κs =
+    let a = c .before .before .before .before .before .before .before .before .before .before .before .before .args in
+    let p = c .before .before .before .before .before .before .before .before .before .before .before .before .pre in
+    let t = c .before .inputs-sized in
+    let x = inputsOf [] (a .ballots .now) (a .claims .now) (a .head .now) (a .shares0 .now) (a .shares1 .now) (a .opening .now) (a .answers .now) (a .scratch .now) in
+    (p .0, p .1, p .2, ballots-sized (a .numbers) (a .closed) (a .challenges .now) x (sym (t .ensures) ∙ not-false (t .result) (c .if1 .left)))
+
+returns-2 : tie.Need-returns-2
+unfolding storedTests
+returns-2 c = holds 1 0 _ _ (c .before .before .inputs-sized .ensures) (c .before .if1 .left) (c .test-stored .ensures)
+
+pub test-lent-spec : {M : Type 1} → statement M
+test-lent-spec = tie.close (tie.spec (λ c κs. search needs) returns test-stored-requires returns-2)

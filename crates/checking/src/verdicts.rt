@@ -1,0 +1,206 @@
+// What a check comes to once the sheet is taken: stopped before the round was looked at, failed by the round, or passed.
+use crate::Verdict;
+use crate::stored::test_lent;
+use codec::Reply;
+use sheet::Numbers;
+ghost use mathlib.Core.Path.{_≡_};
+ghost use mathlib.Core.Bool.{false, not};
+ghost use mathlib.Core.List.{[], _∷_};
+ghost use Prim.Native.Nat.{_≤_};
+ghost use lib.ListN.{length, take};
+ghost use Rattle.codec.specs.Reply.{first, test};
+ghost use Rattle.codec.specs.declared.Reply.the-variants.{Taken};
+ghost use Rattle.sheet.specs.Reader.{sheetOf};
+ghost use Rattle.sheet.specs.Sheet.{outside};
+ghost use Rattle.call.specs.Call.{scratchLength, swept};
+ghost use Rattle.transcript.specs.Round.{Lengths, roundTests};
+ghost use Rattle.checker.specs.Orders.{roundOf};
+ghost use Rattle.rounds.specs.Sheets.{given};
+ghost use Rattle.drawing.specs.Draw.{drawnChallenges};
+ghost use Rattle.checking.specs.Check.{storedOf, inputsOf, inputsSized, storedTests, drawnRound, verdict, replyOf};
+ghost use Rattle.checking.specs.Parts.{Lent, lentTests};
+
+// The challenges that are drawn for a round, from the first place on.
+fn challenges_of(seed: &[u8; 32], round: u16, repeats: usize) -> [u8; 256]
+    requires { ⌜ repeats ≤ 256 ⌝ }
+    ensures { λ r. ⌜ take repeats r ≡ drawnChallenges (now (seed .entry)) round repeats ⌝ }
+{
+    let mut drawn = [0u8; 256];
+    drawing::challenges(seed, round, &mut drawn[0..repeats]);
+    drawn
+}
+
+// The verdict by a round's reply.
+fn verdict_of(late: Reply) -> Verdict
+    ensures { λ v. ⌜ v ≡ verdict Taken late ⌝ }
+{
+    match late {
+        Reply::Refused { number, place } => Verdict::Failed { number, place },
+        Reply::Taken => Verdict::Passed,
+    }
+}
+
+// The round itself, with the sheet's polynomials parted: a, b, and k1, k2, k3.
+fn test_round(
+    public: &[u8],
+    k: Numbers,
+    closed: usize,
+    side: u64,
+    challenges: &[u8],
+    ballots: &[u8],
+    claims: &[u8],
+    head: &[u8],
+    shares0: &[u8],
+    shares1: &[u8],
+    opening: &[u8],
+    answers: &[u8],
+    scratch: &mut [u8],
+) -> Reply
+    requires { ⌜ Lent k (now public) × (closed ≤ 4096) × (length (now scratch) ≡ scratchLength) × Lengths (given 2 k (now public)) closed (roundOf side (now challenges) (now ballots) (now claims) (now head) (now shares0) (now shares1) (now opening) (now answers)) ⌝ }
+    ensures { λ reply. ⌜ reply ≡ first (roundTests (given 2 k (now (public .entry))) closed (roundOf side (now (challenges .entry)) (now (ballots .entry)) (now (claims .entry)) (now (head .entry)) (now (shares0 .entry)) (now (shares1 .entry)) (now (opening .entry)) (now (answers .entry)))) ⌝ }
+    ensures { λ _. ⌜ length (now (scratch .exit)) ≡ length (now (scratch .entry)) ⌝ }
+{
+    let n = k.ring as usize;
+    let repeats = k.repeats as usize;
+    let bound = sheet::mask_bound(k.ring, k.drown);
+    checker::round::check_round(
+        scratch,
+        &public[0..8 * n],
+        &public[8 * n..16 * n],
+        &public[16 * n..40 * n],
+        side,
+        challenges,
+        ballots,
+        claims,
+        head,
+        shares0,
+        shares1,
+        opening,
+        answers,
+        closed,
+        repeats,
+        bound,
+        n,
+        k.modulus,
+    )
+}
+
+// The check with the side and the challenges that were drawn.
+fn check_drawn(
+    public: &[u8],
+    k: Numbers,
+    numbers: Numbers,
+    closed: usize,
+    digest: &[u8; 32],
+    closing: &[u8; 32],
+    claim: &[u8; 32],
+    message: &[u8; 32],
+    round: u16,
+    side: u64,
+    challenges: &[u8],
+    sheet: &[u8],
+    ballots: &[u8],
+    claims: &[u8],
+    head: &[u8],
+    shares0: &[u8],
+    shares1: &[u8],
+    opening: &[u8],
+    answers: &[u8],
+    scratch: &mut [u8],
+) -> Verdict
+    requires { ⌜ (outside numbers ≡ false) × (closed ≤ 4096) × (sheetOf (now sheet) .numbers ≡ k) × Lent k (now public) ⌝ }
+    ensures { λ v. ⌜ v ≡ verdict (first (lentTests (storedOf numbers closed (now (digest .entry)) (now (closing .entry)) (now (claim .entry)) (now (message .entry)) [] round) (now (challenges .entry)) (inputsOf (now (sheet .entry)) (now (ballots .entry)) (now (claims .entry)) (now (head .entry)) (now (shares0 .entry)) (now (shares1 .entry)) (now (opening .entry)) (now (answers .entry)) (now (scratch .entry))))) (first (roundTests (given 2 k (now (public .entry))) closed (roundOf side (now (challenges .entry)) (now (ballots .entry)) (now (claims .entry)) (now (head .entry)) (now (shares0 .entry)) (now (shares1 .entry)) (now (opening .entry)) (now (answers .entry))))) ⌝ }
+    ensures { λ v. ⌜ swept (replyOf v) (now (scratch .exit)) ≡ swept (replyOf v) (now (scratch .entry)) ⌝ }
+{
+    let early = test_lent(
+        numbers,
+        closed,
+        digest,
+        closing,
+        claim,
+        message,
+        round,
+        k,
+        challenges,
+        sheet,
+        ballots,
+        claims,
+        head,
+        shares0,
+        shares1,
+        opening,
+        answers,
+        scratch,
+    );
+    match early {
+        Reply::Refused { number, place } => Verdict::Stopped { number, place },
+        Reply::Taken => verdict_of(test_round(
+            public,
+            k,
+            closed,
+            side,
+            challenges,
+            ballots,
+            claims,
+            head,
+            shares0,
+            shares1,
+            opening,
+            answers,
+            scratch,
+        )),
+    }
+}
+
+// The check against what a session holds.
+pub fn check_taken(
+    public: &[u8],
+    k: Numbers,
+    numbers: Numbers,
+    closed: usize,
+    digest: &[u8; 32],
+    closing: &[u8; 32],
+    claim: &[u8; 32],
+    message: &[u8; 32],
+    seed: &[u8; 32],
+    round: u16,
+    sheet: &[u8],
+    ballots: &[u8],
+    claims: &[u8],
+    head: &[u8],
+    shares0: &[u8],
+    shares1: &[u8],
+    opening: &[u8],
+    answers: &[u8],
+    scratch: &mut [u8],
+) -> Verdict
+    requires { ⌜ (outside numbers ≡ false) × (closed ≤ 4096) × (sheetOf (now sheet) .numbers ≡ k) × Lent k (now public) ⌝ }
+    ensures { λ v. ⌜ v ≡ verdict (first (test 1 0 (not (inputsSized (storedOf numbers closed (now (digest .entry)) (now (closing .entry)) (now (claim .entry)) (now (message .entry)) (now (seed .entry)) round) (inputsOf (now (sheet .entry)) (now (ballots .entry)) (now (claims .entry)) (now (head .entry)) (now (shares0 .entry)) (now (shares1 .entry)) (now (opening .entry)) (now (answers .entry)) (now (scratch .entry))))) ∷ storedTests (storedOf numbers closed (now (digest .entry)) (now (closing .entry)) (now (claim .entry)) (now (message .entry)) (now (seed .entry)) round) (inputsOf (now (sheet .entry)) (now (ballots .entry)) (now (claims .entry)) (now (head .entry)) (now (shares0 .entry)) (now (shares1 .entry)) (now (opening .entry)) (now (answers .entry)) (now (scratch .entry))))) (first (roundTests (given 2 k (now (public .entry))) closed (drawnRound (storedOf numbers closed (now (digest .entry)) (now (closing .entry)) (now (claim .entry)) (now (message .entry)) (now (seed .entry)) round) (inputsOf (now (sheet .entry)) (now (ballots .entry)) (now (claims .entry)) (now (head .entry)) (now (shares0 .entry)) (now (shares1 .entry)) (now (opening .entry)) (now (answers .entry)) (now (scratch .entry)))))) ⌝ }
+    ensures { λ v. ⌜ swept (replyOf v) (now (scratch .exit)) ≡ swept (replyOf v) (now (scratch .entry)) ⌝ }
+{
+    let repeats = numbers.repeats as usize;
+    let drawn = challenges_of(seed, round, repeats);
+    let side = drawing::side(seed, round);
+    check_drawn(
+        public,
+        k,
+        numbers,
+        closed,
+        digest,
+        closing,
+        claim,
+        message,
+        round,
+        side,
+        &drawn[0..repeats],
+        sheet,
+        ballots,
+        claims,
+        head,
+        shares0,
+        shares1,
+        opening,
+        answers,
+        scratch,
+    )
+}

@@ -1,0 +1,150 @@
+-- The third demand's last sentence: a round that the producer wrote for the session's sheet and batch, lodged, is accepted at its turn. Assumes nothing.
+use mathlib.Core.Path.{_≡_, sym, ap, _∙_}
+use Prim.Native.Nat.{ℕ, _<_}
+use native.Mathlib.Omega.{arith}
+use lib.ListN.{length}
+use Rattle.codec.specs.Bytes.{Bytes}
+use Rattle.codec.specs.Reply.{None, first}
+use Rattle.codec.specs.declared.Reply.{Reply}
+use Rattle.codec.specs.declared.Reply.the-variants.{Taken}
+use Rattle.codec.proofs.Replies.{taken-exactly}
+use Rattle.modular.specs.Division.{Coprime}
+use Rattle.sha3.specs.Sponge.{sha3}
+use Rattle.sheet.specs.Reader.{sheetOf}
+use Rattle.sheet.specs.Bounds.{noise, mask}
+use Rattle.sheet.specs.Sheet.{order, readingBy, reading}
+use Rattle.sheet.specs.declared.Numbers.{Numbers}
+use Rattle.sheet.specs.declared.Reading.the-variants as reading
+use Rattle.sheet.proofs.Ranges.{in-range}
+use Rattle.bgv.specs.Scheme.{Sound}
+use Rattle.bgv.proofs.Sheets.{sheet-sound, two-sound}
+use Rattle.transcript.specs.Layout.{ballotLength}
+use Rattle.transcript.specs.Round.{Parameters}
+use Rattle.transcript.specs.Producer.{Material, producedRound}
+use Rattle.transcript.proofs.Many.{none-append}
+use Rattle.transcript.proofs.Produced.{length-producedHead, length-producedShares, length-producedClaims, length-producedOpening, length-producedAnswers}
+use Rattle.transcript.proofs.Honest.{honest-round}
+use Rattle.rounds.specs.Sheets.{parametersOf}
+use Rattle.digests.specs.Digests.{ballotDigests, closingDigest, claimDigest}
+use Rattle.drawing.specs.Draw.{drawnSide, drawnChallenges}
+use Rattle.drawing.proofs.Range.{side-range, length-challenges, challenge-range}
+use Rattle.checking.specs.Check.{Inputs, lateTests, drawnRound}
+use Rattle.session.specs.declared.Session.{Session}
+use Rattle.session.specs.Session.{trailAt}
+use Rattle.session.specs.Steps.{storedFor, checkEarly, checkLate, checkTests}
+use Rattle.histories.specs.Runs.{Life, reply, lives, born}
+use Rattle.histories.specs.Conditions.{SheetTaken, Lengths, Matches}
+use Rattle.histories.specs.Claims.{Produced, Turn, HonestAccepted}
+use Rattle.histories.proofs.Valid.{sheet-exactly}
+use Rattle.histories.proofs.Kept.{Kept, messageDigest, kept}
+use Rattle.histories.proofs.Checked.{early-none}
+
+-- the sheets that are taken have the room that one round's theorem asks for
+abbrev pub Roomy : ℕ → Type 0
+Roomy p = (text : Bytes) (k : Numbers) → reading p text ≡ reading.Taken k → Sound (k .modulus) p (noise p (k .ring)) (mask p (k .ring) (k .drown))
+
+reads : (p : ℕ) (text : Bytes) → SheetTaken p text → reading p text ≡ reading.Taken (sheetOf text .numbers)
+unfolding reading
+reads p text t = ap (λ (r : Reply). readingBy r (sheetOf text .numbers)) (taken-exactly (order p text) .1 (sheet-exactly p text .1 t))
+
+module _ (p : ℕ) (roomy : Roomy p) (l : Life) (k : Kept p (l .session) (l .history)) (material : Material) (round : ℕ) (x : Inputs) (turn : Turn p l material round x) where
+  abbrev s : Session
+  s = l .session
+
+  abbrev P : Parameters
+  P = parametersOf p (x .sheet)
+
+  abbrev m : ℕ
+  m = length (l .history .batch)
+
+  abbrev side : ℕ
+  side = drawnSide (s .seed) round
+
+  abbrev challenges : Bytes
+  challenges = drawnChallenges (s .seed) round (P .repeats)
+
+  abbrev made : Produced P m material (s .seed) round x
+  made = turn .made
+
+  sheet-taken : SheetTaken p (x .sheet)
+  sheet-taken = rw (turn .sheet) (k .taken)
+
+  numbers : sheetOf (x .sheet) .numbers ≡ s .numbers
+  numbers = rw (turn .sheet) (sym (k .numbers))
+
+  closed : s .closed ≡ m
+  closed = let phase = turn .phase in k .closed (omega arith)
+
+  -- ---- the lengths
+
+  lengths : Lengths s round x
+  lengths = rw (closed, ← numbers) (record {
+    head = ap length (made .head) ∙ length-producedHead P m material;
+    shares0 = ap length (made .shares0) ∙ length-producedShares P m material 0;
+    shares1 = ap length (made .shares1) ∙ length-producedShares P m material 1;
+    ballots = ap length (made .ballots) ∙ made .sized .ballots;
+    claims = ap length (made .claims) ∙ length-producedClaims P m material;
+    opening = ap length (made .opening) ∙ length-producedOpening P m material (made .sized) side (side-range (s .seed) round);
+    answers = ap length (made .answers) ∙ length-producedAnswers P m material (made .sized) challenges (length-challenges (s .seed) round (P .repeats));
+    scratch = turn .scratch;
+  })
+
+  -- ---- what the session holds
+
+  matches : Matches s round x
+  unfolding trailAt
+  matches =
+      let phase = turn .phase in
+      let next = k .next phase in
+      let due = turn .due in
+      let all = k .whole (omega arith) in
+      let batch : ballotDigests (ballotLength (s .numbers .ring)) (s .closed) (x .ballots) ≡ l .history .batch = rw (closed, ← numbers) (turn .batch) in
+      record {
+        sheet = ap sha3 (turn .sheet) ∙ sym (k .sheet);
+        numbers = numbers;
+        ballots = ap (closingDigest (s .sheet)) batch ∙ sym (k .closing (omega arith));
+        claims = ap (claimDigest (s .closing)) (turn .claims) ∙ sym (k .claim (omega arith));
+        message = ap (messageDigest (s .claim) round) (turn .first-message) ∙ sym (k .trail (omega arith) round (omega arith));
+      }
+
+  -- ---- the round
+
+  round-is : drawnRound (storedFor s round) x ≡ producedRound P m material side challenges
+  round-is = λ d. record {
+    side = side;
+    challenges = ap (λ (n : Numbers). drawnChallenges (s .seed) round (n .repeats)) (sym numbers) d;
+    ballots = made .ballots d;
+    claims = made .claims d;
+    head = made .head d;
+    shares0 = made .shares0 d;
+    shares1 = made .shares1 d;
+    opening = made .opening d;
+    answers = made .answers d;
+  }
+
+  late-none : None (checkLate p s round x)
+  unfolding checkLate lateTests
+  late-none =
+      let r = in-range (sheetOf (x .sheet) .numbers) (sheet-taken .inside) in
+      rw (closed, round-is)
+      (honest-round P m material (roomy (x .sheet) (sheetOf (x .sheet) .numbers) (reads p (x .sheet) sheet-taken)) (omega (arith, r .modulus-low)) (omega (arith, r .modulus-high)) (made .sized) (made .taken)
+      side (side-range (s .seed) round) challenges (length-challenges (s .seed) round (P .repeats)) (challenge-range (s .seed) round (P .repeats)))
+
+  accepted : first (checkTests p s round x) ≡ Taken
+  unfolding checkTests
+  accepted =
+      let next = k .next (turn .phase) in
+      let due = turn .due in
+      taken-exactly (checkTests p s round x) .1
+      (none-append (checkEarly p s round x) (checkLate p s round x) (early-none s round x p (k .sound) (turn .phase) due (omega arith) sheet-taken lengths matches) late-none)
+
+pub honest-accepted-by : (p : ℕ) → Roomy p → HonestAccepted p
+unfolding reply
+honest-accepted-by p roomy sheet cs e register material round x turn = accepted p roomy (lives p cs (born sheet)) (kept p sheet cs e) material round x turn
+
+-- for every p that has no factor in common with the modulus of a sheet that is taken, and so for 2
+pub honest-accepted : (p : ℕ) → 0 < p → ((text : Bytes) (k : Numbers) → reading p text ≡ reading.Taken k → Coprime p (k .modulus)) → HonestAccepted p
+honest-accepted p positive apart = honest-accepted-by p (λ text k e. sheet-sound p text k e positive (apart text k e))
+
+pub two-accepted : HonestAccepted 2
+two-accepted = honest-accepted-by 2 two-sound

@@ -1,0 +1,286 @@
+-- What a session reached from a clear taken keeps, whatever register each step was lent: it is valid, and its digests are functions of what was taken. Assumes nothing.
+use mathlib.Core.Path.{_≡_, refl, sym, ap, _∙_}
+use mathlib.Core.Bool.{Bool, true, false, cond}
+use mathlib.Core.List.{List, [], _∷_}
+use Prim.Native.Nat.{ℕ, _+_, _*_, _≤_, _<_}
+use native.Mathlib.Omega.{arith}
+use native.Mathlib.Decide.{ℕ-discrete}
+use lib.Dec.{eqb}
+use lib.ListN.{length, length-map, length-replicate}
+use borrow.Author.Tests.{eqb-false, eq-eqb, ne-eqb}
+use Rattle.codec.specs.Bytes.{Bytes, part, put}
+use Rattle.codec.specs.Reply.{first, leaves}
+use Rattle.codec.specs.declared.Reply.the-variants.{Taken}
+use Rattle.codec.proofs.Laws.{length-put, part-put, part-put-before}
+use Rattle.codec.proofs.Replies.{taken-exactly}
+use Rattle.sha3.specs.Sponge.{sha3}
+use Rattle.sheet.specs.Reader.{sheetOf}
+use Rattle.sheet.specs.Sheet.{order}
+use Rattle.sheet.proofs.Ranges.{in-range}
+use Rattle.register.specs.Register.{digestAt, standing, standingDigests}
+use Rattle.register.proofs.Entries.{standing-few}
+use Rattle.digests.specs.Digests.{closingDigest, claimDigest, roundDigest}
+use Rattle.digests.proofs.Laws.{length-roundDigest}
+use Rattle.checking.specs.Check.{Inputs}
+use Rattle.session.specs.declared.Session.{Session}
+use Rattle.session.specs.Session.{changed}
+use Rattle.session.specs.Steps.{cleared, admittedBy, closedBy, claimedBy, committedBy, drawnBy, checkEarly, checkLate, checkTests, acceptedBy, refusedBy, checkedBy}
+use Rattle.histories.specs.Runs.{Step, clear, admit, withdraw, close, claim, commit, draw, check, State, state, Message, message, Call, History, blank, note, Life, reply, after, live, lives, born}
+use Rattle.histories.specs.Conditions.{SheetTaken, Valid, Admits, Closes, Claims, Commits, Draws}
+use Rattle.histories.proofs.Replies.{left, left-both, left-alone}
+use Rattle.histories.proofs.Valid.{ready, on-turn, sheet-exactly}
+use Rattle.histories.proofs.Exact.{cleared-exactly, admitted-exactly, closed-exactly, claimed-exactly, committed-exactly, drawn-exactly}
+
+-- the digest of a first message
+abbrev pub messageDigest : Bytes → (k : ℕ) → Message → Bytes
+messageDigest d k m = roundDigest d k (m .head) (m .shares0) (m .shares1)
+
+pub record Kept (p : ℕ) (s : Session) (h : History) : Type 0 where
+  pub sound : Valid p s
+  pub taken : SheetTaken p (h .sheet)
+  pub numbers : s .numbers ≡ sheetOf (h .sheet) .numbers
+  pub sheet : s .sheet ≡ sha3 (h .sheet)
+  pub long : length (s .trail) ≡ 4096
+  pub uncommitted : s .phase < 2 → s .committed ≡ 0
+  pub unchecked : s .phase < 3 → s .checked ≡ 0
+  pub closing : 0 < s .phase → s .closing ≡ closingDigest (s .sheet) (h .batch)
+  pub closed : 0 < s .phase → s .closed ≡ length (h .batch)
+  pub claim : 1 < s .phase → s .claim ≡ claimDigest (s .closing) (h .claims)
+  pub trail : 1 < s .phase → (j : ℕ) → j < s .committed → part (s .trail) (32 * j) 32 ≡ messageDigest (s .claim) j (h .firsts j)
+  pub whole : 2 < s .phase → s .committed ≡ s .numbers .rounds
+  pub next : s .phase ≡ 3 → s .checked < s .numbers .rounds
+
+-- a check that is not stopped early finds its round due
+pub drawn-now : (p : ℕ) (s : Session) (round : ℕ) (x : Inputs) → first (checkEarly p s round x) ≡ Taken → (s .phase ≡ 3) × (s .checked < s .numbers .rounds)
+unfolding checkEarly
+drawn-now p s round x e =
+    let n = taken-exactly _ .0 e in
+    let d = on-turn (s .phase) 3 round (s .checked) (s .numbers .rounds) (ready p s _ (n .0) .1) in
+    (d .0, omega arith)
+
+module _ (p : ℕ) where
+  kept-clear : (text : Bytes) → SheetTaken p text → Kept p (cleared text) (blank text)
+  unfolding cleared
+  kept-clear text t = record {
+    sound = record { phase = omega arith; inside = t .inside; sound = t .sound; used = omega arith; closed = omega arith; committed = omega arith; checked = omega arith };
+    taken = t;
+    numbers = refl;
+    sheet = refl;
+    long = length-replicate {A = ℕ} 4096 0;
+    uncommitted = λ l. refl;
+    unchecked = λ l. refl;
+    closing = λ l. absurd (omega arith);
+    closed = λ l. absurd (omega arith);
+    claim = λ l. absurd (omega arith);
+    trail = λ l. absurd (omega arith);
+    whole = λ l. absurd (omega arith);
+    next = λ l. absurd (omega arith);
+  }
+
+  module _ (s : Session) (h : History) (k : Kept p s h) where
+    abbrev v : Valid p s
+    v = k .sound
+
+    kept-admit : (reg ballot : Bytes) → Admits p s reg ballot → Kept p (admittedBy s) h
+    unfolding admittedBy
+    kept-admit reg ballot a =
+        let room = a .room in
+        record {
+          sound = record { phase = v .phase; inside = v .inside; sound = v .sound; used = omega arith; closed = v .closed; committed = v .committed; checked = v .checked };
+          taken = k .taken;
+          numbers = k .numbers;
+          sheet = k .sheet;
+          long = k .long;
+          uncommitted = k .uncommitted;
+          unchecked = k .unchecked;
+          closing = k .closing;
+          closed = k .closed;
+          claim = k .claim;
+          trail = k .trail;
+          whole = k .whole;
+          next = k .next;
+        }
+
+    kept-close : (reg : Bytes) → Closes p s reg → Kept p (closedBy s reg) (note close (state s reg) h)
+    unfolding closedBy note standingDigests
+    kept-close reg c =
+        let was = c .phase in
+        let few = standing-few reg (s .used) in
+        let used = v .used in
+        record {
+          sound = record {
+            phase = omega arith;
+            inside = v .inside;
+            sound = v .sound;
+            used = v .used;
+            closed = rw (length-map (standing reg (s .used)) (digestAt reg)) (omega arith);
+            committed = v .committed;
+            checked = v .checked;
+          };
+          taken = k .taken;
+          numbers = k .numbers;
+          sheet = k .sheet;
+          long = k .long;
+          uncommitted = λ l. k .uncommitted (omega arith);
+          unchecked = λ l. k .unchecked (omega arith);
+          closing = λ l. refl;
+          closed = λ l. refl;
+          claim = λ l. absurd (omega arith);
+          trail = λ l. absurd (omega arith);
+          whole = λ l. absurd (omega arith);
+          next = λ l. absurd (omega arith);
+        }
+
+    kept-claim : (st : State) (claims : Bytes) → Claims p s claims → Kept p (claimedBy s claims) (note (claim claims) st h)
+    unfolding claimedBy note
+    kept-claim st claims c =
+        let was = c .phase in
+        record {
+          sound = record { phase = omega arith; inside = v .inside; sound = v .sound; used = v .used; closed = v .closed; committed = v .committed; checked = v .checked };
+          taken = k .taken;
+          numbers = k .numbers;
+          sheet = k .sheet;
+          long = k .long;
+          uncommitted = λ l. absurd (omega arith);
+          unchecked = λ l. k .unchecked (omega arith);
+          closing = λ l. k .closing (omega arith);
+          closed = λ l. k .closed (omega arith);
+          claim = λ l. refl;
+          trail = λ l j g. let z = k .uncommitted (omega arith) in absurd (omega arith);
+          whole = λ l. absurd (omega arith);
+          next = λ l. absurd (omega arith);
+        }
+
+    kept-draw : (seed : Bytes) → Draws p s seed → Kept p (drawnBy s seed) h
+    unfolding drawnBy
+    kept-draw seed d =
+        let was = d .phase in
+        let some = in-range (s .numbers) (v .inside) .rounds-low in
+        record {
+          sound = record { phase = omega arith; inside = v .inside; sound = v .sound; used = v .used; closed = v .closed; committed = v .committed; checked = v .checked };
+          taken = k .taken;
+          numbers = k .numbers;
+          sheet = k .sheet;
+          long = k .long;
+          uncommitted = λ l. absurd (omega arith);
+          unchecked = λ l. absurd (omega arith);
+          closing = λ l. k .closing (omega arith);
+          closed = λ l. k .closed (omega arith);
+          claim = λ l. k .claim (omega arith);
+          trail = λ l. k .trail (omega arith);
+          whole = λ l. d .all;
+          next = λ l. let z = k .unchecked (omega arith) in omega arith;
+        }
+
+    -- ---- commit
+
+    module _ (r : ℕ) (head shares0 shares1 : Bytes) (c : Commits p s r head shares0 shares1) where
+      abbrev new : Bytes
+      new = roundDigest (s .claim) r head shares0 shares1
+
+      size : length new ≡ 32
+      size = length-roundDigest (s .claim) r head shares0 shares1
+
+      fits : 32 * r + length new ≤ length (s .trail)
+      fits =
+          let long = k .long in
+          let low = c .within in
+          let few = in-range (s .numbers) (v .inside) .rounds-high in
+          omega (arith, size)
+
+      -- the new digest stands at its place, and the earlier ones stay
+      digests : (j : ℕ) → Dec (j ≡ r) → j < s .committed + 1 → 1 < s .phase
+          → part (put (s .trail) (32 * r) new) (32 * j) 32 ≡ messageDigest (s .claim) j (cond (eqb j r) (message head shares0 shares1) (h .firsts j))
+      digests j (yes e) l g = rw (e, eq-eqb r r refl) (ap (λ (n : ℕ). part (put (s .trail) (32 * r) new) (32 * r) n) (sym size) ∙ part-put (s .trail) (32 * r) new fits)
+      digests j (no e) l g =
+          let due = c .due in
+          rw (ne-eqb j r e) (part-put-before (s .trail) (32 * r) new (32 * j) 32 fits (omega arith) ∙ k .trail g j (omega arith))
+
+      kept-commit : (st : State) → Kept p (committedBy s r head shares0 shares1) (note (commit r head shares0 shares1) st h)
+      unfolding committedBy note
+      kept-commit st =
+          let was = c .phase in
+          let due = c .due in
+          let low = c .within in
+          record {
+            sound = record { phase = v .phase; inside = v .inside; sound = v .sound; used = v .used; closed = v .closed; committed = omega arith; checked = v .checked };
+            taken = k .taken;
+            numbers = k .numbers;
+            sheet = k .sheet;
+            long = length-put (s .trail) (32 * r) new fits ∙ k .long;
+            uncommitted = λ l. absurd (omega arith);
+            unchecked = k .unchecked;
+            closing = k .closing;
+            closed = k .closed;
+            claim = k .claim;
+            trail = λ l j g. digests j (ℕ-discrete j r) g l;
+            whole = λ l. absurd (omega arith);
+            next = k .next;
+          }
+
+    -- ---- check
+
+    -- one that is not stopped early leaves another phase, from drawn on, and a count
+    kept-checked : (phase checked : ℕ) → s .phase ≡ 3 → 3 ≤ phase → phase ≤ 5 → checked ≤ s .numbers .rounds → (phase ≡ 3 → checked < s .numbers .rounds)
+        → Kept p (changed s phase (s .used) (s .closed) (s .closing) (s .claim) (s .committed) (s .seed) checked (s .trail)) h
+    kept-checked phase checked was low high few next = record {
+      sound = record { phase = high; inside = v .inside; sound = v .sound; used = v .used; closed = v .closed; committed = v .committed; checked = few };
+      taken = k .taken;
+      numbers = k .numbers;
+      sheet = k .sheet;
+      long = k .long;
+      uncommitted = λ l. absurd (omega arith);
+      unchecked = λ l. absurd (omega arith);
+      closing = λ l. k .closing (omega arith);
+      closed = λ l. k .closed (omega arith);
+      claim = λ l. k .claim (omega arith);
+      trail = λ l. k .trail (omega arith);
+      whole = λ l. k .whole (omega arith);
+      next = next;
+    }
+
+    kept-accepted : s .phase ≡ 3 → s .checked < s .numbers .rounds → Kept p (acceptedBy s) h
+    unfolding acceptedBy
+    kept-accepted was low = go (eqb (s .checked + 1) (s .numbers .rounds)) refl
+      where
+        go : (b : Bool) → eqb (s .checked + 1) (s .numbers .rounds) ≡ b
+            → Kept p (changed s (cond b 5 3) (s .used) (s .closed) (s .closing) (s .claim) (s .committed) (s .seed) (s .checked + 1) (s .trail)) h
+        go true e = kept-checked 5 (s .checked + 1) was (omega arith) (omega arith) (omega arith) (λ l. absurd (omega arith))
+        go false e =
+            let other = eqb-false (s .checked + 1) (s .numbers .rounds) e in
+            kept-checked 3 (s .checked + 1) was (omega arith) (omega arith) (omega arith) (λ l. omega arith)
+
+    kept-refused : s .phase ≡ 3 → s .checked < s .numbers .rounds → Kept p (refusedBy s) h
+    unfolding refusedBy
+    kept-refused was low = kept-checked 4 (s .checked) was (omega arith) (omega arith) (omega arith) (λ l. absurd (omega arith))
+
+    kept-check : (round : ℕ) (x : Inputs) → Kept p (checkedBy p s round x) h
+    unfolding checkedBy
+    kept-check round x =
+        left (λ t. Kept p t h) (first (checkEarly p s round x))
+        (λ e. let d = drawn-now p s round x e in left (λ t. Kept p t h) (first (checkLate p s round x)) (λ f. kept-accepted (d .0) (d .1)) (kept-refused (d .0) (d .1)))
+        k
+
+  -- ---- every step, and every list of them
+
+  kept-step : (x : Step) (reg : Bytes) (s : Session) (h : History) → Kept p s h
+      → let st = state s reg in Kept p (after p x st .session) (leaves (reply p x st) (note x st h) h)
+  unfolding reply after note
+  kept-step (clear text) reg s h k = left-both (Kept p) _ (λ e. kept-clear text (cleared-exactly p reg text .0 e .sheet)) k
+  kept-step (admit ballot) reg s h k = left-both (Kept p) _ (λ e. kept-admit s h k reg ballot (admitted-exactly p s reg ballot .0 e)) k
+  kept-step (withdraw mark) reg s h k = left (Kept p s) _ (λ e. k) k
+  kept-step close reg s h k = left-both (Kept p) _ (λ e. kept-close s h k reg (closed-exactly p s reg .0 e)) k
+  kept-step (claim claims) reg s h k = left-both (Kept p) _ (λ e. kept-claim s h k (state s reg) claims (claimed-exactly p s claims .0 e)) k
+  kept-step (commit r head shares0 shares1) reg s h k =
+      left-both (Kept p) _ (λ e. kept-commit s h k r head shares0 shares1 (committed-exactly p s r head shares0 shares1 .0 e) (state s reg)) k
+  kept-step (draw seed) reg s h k = left-both (Kept p) _ (λ e. kept-draw s h k seed (drawn-exactly p s seed .0 e)) k
+  kept-step (check r x) reg s h k = rw (left-alone (first (checkTests p s r x)) h) (kept-check s h k r x)
+
+  kept-lives : (cs : List Call) (l : Life) → Kept p (l .session) (l .history) → Kept p (lives p cs l .session) (lives p cs l .history)
+  unfolding lives live
+  kept-lives [] l k = k
+  kept-lives (c ∷ cs) l k = kept-lives cs (live p c l) (kept-step (c .step) (c .register) (l .session) (l .history) k)
+
+  pub kept : (sheet : Bytes) (cs : List Call) → first (order p sheet) ≡ Taken → Kept p (lives p cs (born sheet) .session) (lives p cs (born sheet) .history)
+  unfolding born
+  kept sheet cs e = kept-lives cs (born sheet) (kept-clear sheet (sheet-exactly p sheet .0 (taken-exactly (order p sheet) .0 e)))

@@ -1,0 +1,9 @@
+pub mod Replies
+pub mod Valid
+pub mod Exact
+pub mod Checked
+pub mod Kept
+pub mod Reach
+pub mod Honest
+pub mod Withdrawn
+pub mod Roll

@@ -1,0 +1,66 @@
+-- Sessions reached from a clear taken are valid, so that 31 is met only for wrong phase or round. Assumes nothing.
+use mathlib.Core.Path.{_≡_, sym, ap₂}
+use mathlib.Core.Bool.{Bool, true, false, not, _&&_}
+use mathlib.Core.List.{_∷_, _++_}
+use Prim.Native.Nat.{ℕ}
+use native.Mathlib.Omega.{arith}
+use borrow.Author.Tests.{not-true}
+use Rattle.codec.specs.Bytes.{Bytes}
+use Rattle.codec.specs.Reply.{test, first}
+use Rattle.codec.specs.declared.Reply.the-variants.{Refused}
+use Rattle.codec.proofs.Replies.{taken-exactly}
+use Rattle.call.proofs.Sweeping.{leaves-taken}
+use Rattle.sheet.specs.Sheet.{order}
+use Rattle.rounds.specs.Sheets.{parametersOf}
+use Rattle.rounds.proofs.Swept.{later-round}
+use Rattle.checking.specs.Check.{Inputs, inputsSized, storedTests, earlyTests, lateTests, drawnRound}
+use Rattle.session.specs.declared.Session.{Session}
+use Rattle.session.specs.Session.{valid}
+use Rattle.session.specs.Steps.{storedFor, clearTests, admitTests, withdrawTests, closeTests, claimTests, commitTests, drawTests, checkEarly, checkLate, checkTests}
+use Rattle.histories.specs.Runs.{Step, clear, admit, withdraw, close, claim, commit, draw, check, state, reply, after, begun, born, lives}
+use Rattle.histories.specs.Claims.{due, ClearTaken, StaysValid, OnlyPhaseOrRound}
+use Rattle.histories.proofs.Replies.{Others, others, others-append, later-others, head-holds}
+use Rattle.histories.proofs.Valid.{valid-holds, sheet-exactly}
+use Rattle.histories.proofs.Exact.{cleared-exactly}
+use Rattle.histories.proofs.Kept.{kept}
+
+pub reachable-valid : (p : ℕ) → StaysValid p
+reachable-valid p sheet cs e = let k = kept p sheet cs e in (k .sound, k .numbers)
+
+pub clear-taken : (p : ℕ) → ClearTaken p
+unfolding reply after begun
+clear-taken p st sheet e =
+    let r = first (clearTests p (st .register) sheet) in (
+      taken-exactly (order p sheet) .1 (sheet-exactly p sheet .1 (cleared-exactly p (st .register) sheet .0 e .sheet)),
+      sym (ap₂ state (leaves-taken r (st .session) e) (leaves-taken r (st .register) e)),
+    )
+
+-- where a valid session is not taken for valid and due, it is not due
+undue : (v d : Bool) → v ≡ true → not (v && d) ≡ true → d ≡ false
+undue true d e h = not-true d h
+undue false d e h = absurd (let z : _≡_ {A = ℕ} 0 1 = cc in omega arith)
+
+module _ (p : ℕ) (s : Session) (reg : Bytes) (place : ℕ) (v : valid p s ≡ true) where
+  -- the order of a check after 31
+  check-others : (round : ℕ) (x : Inputs) → Others 31 (earlyTests (storedFor s round) p x ++ checkLate p s round x)
+  unfolding earlyTests storedTests checkLate lateTests
+  check-others round x =
+      others-append 31 (order p (x .sheet) ++ (test 1 0 (not (inputsSized (storedFor s round) x)) ∷ storedTests (storedFor s round) x)) (checkLate p s round x)
+      (omega arith)
+      (later-others (checkLate p s round x) (later-round (parametersOf p (x .sheet)) (s .closed) (drawnRound (storedFor s round) x)))
+
+  only-31 : (x : Step) → reply p x (state s reg) ≡ Refused 31 place → due x s ≡ false
+  unfolding reply due clearTests admitTests withdrawTests closeTests claimTests commitTests drawTests checkEarly checkTests
+  only-31 (clear text) e = absurd (others 31 place (clearTests p reg text) (omega arith) e)
+  only-31 (admit ballot) e = undue (valid p s) _ v (head-holds 31 place _ _ (omega arith) e)
+  only-31 (withdraw mark) e = undue (valid p s) _ v (head-holds 31 place _ _ (omega arith) e)
+  only-31 close e = undue (valid p s) _ v (head-holds 31 place _ _ (omega arith) e)
+  only-31 (claim claims) e = undue (valid p s) _ v (head-holds 31 place _ _ (omega arith) e)
+  only-31 (commit k head shares0 shares1) e = undue (valid p s) _ v (head-holds 31 place _ _ (omega arith) e)
+  only-31 (draw seed) e = undue (valid p s) _ v (head-holds 31 place _ _ (omega arith) e)
+  only-31 (check k x) e = undue (valid p s) _ v (head-holds 31 place _ (earlyTests (storedFor s k) p x ++ checkLate p s k x) (check-others k x) e)
+
+pub only-phase-or-round : (p : ℕ) → OnlyPhaseOrRound p
+only-phase-or-round p sheet cs e x reg place r =
+    let s = lives p cs (born sheet) .session in
+    only-31 p s reg place (valid-holds p s (reachable-valid p sheet cs e .0)) x r

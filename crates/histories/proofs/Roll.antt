@@ -1,0 +1,229 @@
+-- Without host writing, the ballots admitted and not withdrawn are the batch that close found standing. Assumes nothing.
+use mathlib.Core.Path.{_≡_, refl, sym, ap, _∙_}
+use mathlib.Core.Logic.{_≢_}
+use mathlib.Core.Bool.{Bool, true, false, cond}
+use mathlib.Core.List.{List, [], _∷_, _++_, map, map-append, append-nil}
+use Prim.Native.Nat.{ℕ, zero, suc, _+_, _≤_, _<_}
+use native.Mathlib.Omega.{arith}
+use native.Mathlib.Numerals.{add-one}
+use native.Mathlib.Decide.{ℕ-discrete}
+use lib.Dec.{eqb}
+use lib.ListN.{length, length-map}
+use borrow.Author.Tests.{eq-eqb, ne-eqb}
+use Rattle.codec.specs.Bytes.{Bytes}
+use Rattle.codec.specs.Reply.{first, leaves}
+use Rattle.codec.specs.declared.Reply.the-variants.{Taken}
+use Rattle.sha3.specs.Sponge.{sha3}
+use Rattle.transcript.specs.Layout.{ballotLength}
+use Rattle.register.specs.Register.{markAt, stateAt, digestAt, find, standing, standingDigests, markOf, admitted, withdrawn}
+use Rattle.register.proofs.Entries.{admitted-marks, admitted-states, admitted-digests, admitted-mark, admitted-state, admitted-digest, withdrawn-marks, withdrawn-digests, withdrawn-state, withdrawn-states}
+use Rattle.digests.proofs.Laws.{Long, ballotDigests-concatenated}
+use Rattle.checking.specs.Check.{Inputs}
+use Rattle.session.specs.declared.Session.{Session}
+use Rattle.session.specs.Steps.{cleared, admittedBy, closedBy, claimedBy, committedBy, drawnBy, checkEarly, checkLate, checkTests, acceptedBy, refusedBy, checkedBy}
+use Rattle.histories.specs.Runs.{Step, clear, admit, withdraw, close, claim, commit, draw, check, State, state, History, note, without, enrol, Tale, Life, born, begun, reply, after, tell, tells, live, lives, calls}
+use Rattle.histories.specs.Conditions.{Admits, Withdraws, Claims, Draws}
+use Rattle.histories.specs.Claims.{RollIsBatch, Lodged}
+use Rattle.histories.proofs.Replies.{left, left-all, left-four, left-alone}
+use Rattle.histories.proofs.Exact.{here, admitted-exactly, withdrawn-exactly, claimed-exactly, drawn-exactly}
+use Rattle.histories.proofs.Kept.{drawn-now}
+use Rattle.histories.proofs.Withdrawn.{Single, single-none, single-step}
+
+-- the first n entries are those of the ballots, in order, and of others that do not stand
+data Rows (reg : Bytes) : ℕ → List Bytes → Type 0 where
+  start : Rows reg zero []
+  up : {n : ℕ} {bs : List Bytes} (b : Bytes) → Rows reg n bs → stateAt reg n ≡ 1 → markAt reg n ≡ markOf b → digestAt reg n ≡ sha3 b → Rows reg (suc n) (bs ++ (b ∷ []))
+  down : {n : ℕ} {bs : List Bytes} → Rows reg n bs → stateAt reg n ≢ 1 → Rows reg (suc n) bs
+
+-- so their digests are those of the standing entries
+rows-digests : {reg : Bytes} {n : ℕ} {bs : List Bytes} → Rows reg n bs → map sha3 bs ≡ map (digestAt reg) (standing reg n)
+unfolding standing
+rows-digests start = refl
+rows-digests {reg} (up {n = n} {bs = bs} b r s m d) =
+    rw (eq-eqb _ _ s, map-append sha3 bs (b ∷ []), map-append (digestAt reg) (standing reg n) (n ∷ []), d) (ap (λ (l : List Bytes). l ++ (sha3 b ∷ [])) (rows-digests r))
+rows-digests {reg} (down {n = n} r s) = rw (ne-eqb _ _ s, append-nil (standing reg n)) (rows-digests r)
+
+-- entries that stay the same
+rows-keep : {reg : Bytes} (new : Bytes) {n : ℕ} {bs : List Bytes} → Rows reg n bs
+    → ((i : ℕ) → i < n → (stateAt new i ≡ stateAt reg i) × (markAt new i ≡ markAt reg i) × (digestAt new i ≡ digestAt reg i)) → Rows new n bs
+rows-keep new start e = start
+rows-keep new (up {n = n} b r s m d) e =
+    let q = e n (omega arith) in
+    up b (rows-keep new r (λ i h. e i (omega arith))) (q .0 ∙ s) (q .1 ∙ m) (q .2 ∙ d)
+rows-keep new (down {n = n} r s) e = down (rows-keep new r (λ i h. e i (omega arith))) (λ t. s (sym (e n (omega arith) .0) ∙ t))
+
+-- ---- the roll without a mark
+
+without-append : (mark : ℕ) (bs : List Bytes) (b : Bytes) → without mark (bs ++ (b ∷ [])) ≡ without mark bs ++ without mark (b ∷ [])
+unfolding without
+without-append mark [] b = refl
+without-append mark (c ∷ bs) b = go (eqb (markOf c) mark) (without-append mark bs b)
+  where
+    go : (t : Bool) → without mark (bs ++ (b ∷ [])) ≡ without mark bs ++ without mark (b ∷ [])
+        → cond t (without mark (bs ++ (b ∷ []))) (c ∷ without mark (bs ++ (b ∷ []))) ≡ cond t (without mark bs) (c ∷ without mark bs) ++ without mark (b ∷ [])
+    go true e = e
+    go false e = ap (λ (l : List Bytes). c ∷ l) e
+
+without-it : (mark : ℕ) (bs : List Bytes) (b : Bytes) → markOf b ≡ mark → without mark (bs ++ (b ∷ [])) ≡ without mark bs
+unfolding without
+without-it mark bs b e = without-append mark bs b ∙ rw (eq-eqb (markOf b) mark e, append-nil (without mark bs))
+
+without-other : (mark : ℕ) (bs : List Bytes) (b : Bytes) → markOf b ≢ mark → without mark (bs ++ (b ∷ [])) ≡ without mark bs ++ (b ∷ [])
+unfolding without
+without-other mark bs b e = without-append mark bs b ∙ rw (ne-eqb (markOf b) mark e)
+
+-- an entry withdrawn
+module _ (reg : Bytes) (at mark : ℕ) (size : length reg ≡ 163840) (place : at < 4096) (marked : markAt reg at ≡ mark) where
+  abbrev left-by : Bytes
+  left-by = withdrawn reg at
+
+  -- its state, where it is entry n
+  not-one : (n : ℕ) → n ≡ at → stateAt left-by n ≢ 1
+  not-one n e t =
+      let two = withdrawn-state reg at size place in
+      let one : stateAt left-by at ≡ 1 = rw e at t in
+      omega arith
+
+  rows-withdraw : {n : ℕ} {bs : List Bytes} → Rows reg n bs → ((i : ℕ) → i < n → i ≢ at → markAt reg i ≢ mark) → Rows left-by n (without mark bs)
+  rows-withdraw start u = unfold without in start
+  rows-withdraw (up {n = n} {bs = bs} b r s m d) u = go (ℕ-discrete n at) (rows-withdraw r (λ i h. u i (omega arith)))
+    where
+      go : Dec (n ≡ at) → Rows left-by n (without mark bs) → Rows left-by (suc n) (without mark (bs ++ (b ∷ [])))
+      go (yes e) rest = rw (without-it mark bs b (sym m ∙ ap (markAt reg) e ∙ marked)) (down rest (not-one n e))
+      go (no e) rest =
+          rw (without-other mark bs b (λ f. u n (omega arith) e (m ∙ f)))
+          (up b rest (withdrawn-states reg at size place n e ∙ s) (withdrawn-marks reg at size place n ∙ m) (withdrawn-digests reg at size place n ∙ d))
+  rows-withdraw (down {n = n} {bs = bs} r s) u = down (rows-withdraw r (λ i h. u i (omega arith))) (go (ℕ-discrete n at))
+    where
+      go : Dec (n ≡ at) → stateAt left-by n ≢ 1
+      go (yes e) = not-one n e
+      go (no e) = λ t. s (sym (withdrawn-states reg at size place n e) ∙ t)
+
+-- ---- ballots of one length
+
+long-more : (size : ℕ) (bs : List Bytes) (b : Bytes) → Long size bs → length b ≡ size → Long size (bs ++ (b ∷ []))
+long-more size [] b h e = (e, tt)
+long-more size (c ∷ bs) b h e = (h .0, long-more size bs b (h .1) e)
+
+long-without : (size mark : ℕ) (bs : List Bytes) → Long size bs → Long size (without mark bs)
+unfolding without
+long-without size mark [] h = tt
+long-without size mark (b ∷ bs) h = go (eqb (markOf b) mark) (long-without size mark bs (h .1))
+  where
+    go : (t : Bool) → Long size (without mark bs) → Long size (cond t (without mark bs) (b ∷ without mark bs))
+    go true rest = rest
+    go false rest = (h .0, rest)
+
+-- ---- what is kept where nothing else writes the register
+
+record Own (st : State) (h : History) (bs : List Bytes) : Type 0 where
+  rows : Rows (st .register) (st .session .used) bs
+  long : Long (ballotLength (st .session .numbers .ring)) bs
+  noted : 0 < st .session .phase → h .batch ≡ map sha3 bs
+
+module _ (p : ℕ) (st : State) (h : History) (bs : List Bytes) (o : Own st h bs) where
+  abbrev s : Session
+  s = st .session
+
+  abbrev reg : Bytes
+  reg = st .register
+
+  own-admit : (ballot : Bytes) → Admits p s reg ballot → Own (state (admittedBy s) (admitted reg (s .used) ballot)) h (bs ++ (ballot ∷ []))
+  unfolding admittedBy
+  own-admit ballot a =
+      let was = a .phase in
+      let four : 4 ≤ length ballot = omega (arith, a .ballot-size) in
+      record {
+        rows = rw (add-one (s .used)) (up ballot
+            (rows-keep _ (o .rows) (λ i l. (
+              admitted-states reg (s .used) ballot (a .register-size) (a .room) four i l,
+              admitted-marks reg (s .used) ballot (a .register-size) (a .room) four i l,
+              admitted-digests reg (s .used) ballot (a .register-size) (a .room) four i l,
+            )))
+            (admitted-state reg (s .used) ballot (a .register-size) (a .room) four)
+            (admitted-mark reg (s .used) ballot (a .register-size) (a .room) four)
+            (admitted-digest reg (s .used) ballot (a .register-size) (a .room) four));
+        long = long-more _ bs ballot (o .long) (a .ballot-size);
+        noted = λ l. absurd (omega arith);
+      }
+
+  own-withdraw : Single reg (s .used) → (mark : ℕ) → Withdraws p s reg mark → Own (state s (withdrawn reg (find reg mark (s .used)))) h (without mark bs)
+  own-withdraw single mark w =
+      let was = w .phase in
+      let l = w .within in
+      let few = w .sound .used in
+      record {
+        rows = rw (here reg mark (w .at) (s .used) (w .within) (w .marked) (w .earlier)) (rows-withdraw reg (w .at) mark (w .register-size) (omega arith) (w .marked) (o .rows)
+            (λ i hi ne m. ne (single .one i (w .at) hi l (m ∙ sym (w .marked)))));
+        long = long-without _ mark bs (o .long);
+        noted = λ l. absurd (omega arith);
+      }
+
+  own-close : Own (state (closedBy s reg) reg) (note close st h) bs
+  unfolding closedBy note standingDigests
+  own-close = record { rows = o .rows; long = o .long; noted = λ l. sym (rows-digests (o .rows)) }
+
+  own-claim : (claims : Bytes) → Claims p s claims → Own (state (claimedBy s claims) reg) (note (claim claims) st h) bs
+  unfolding claimedBy note
+  own-claim claims c = let was = c .phase in record { rows = o .rows; long = o .long; noted = λ l. o .noted (omega arith) }
+
+  own-draw : (seed : Bytes) → Draws p s seed → Own (state (drawnBy s seed) reg) h bs
+  unfolding drawnBy
+  own-draw seed d = let was = d .phase in record { rows = o .rows; long = o .long; noted = λ l. o .noted (omega arith) }
+
+  abbrev Here : Session → Type 0
+  Here t = Own (state t reg) h bs
+
+  own-check : (round : ℕ) (x : Inputs) → Here (checkedBy p s round x)
+  unfolding checkedBy acceptedBy refusedBy
+  own-check round x = left Here (first (checkEarly p s round x)) judged o
+    where
+      judged : first (checkEarly p s round x) ≡ Taken → Here (leaves (first (checkLate p s round x)) (acceptedBy s) (refusedBy s))
+      judged e =
+          let was = drawn-now p s round x e .0 in
+          left Here (first (checkLate p s round x)) (λ f. record { rows = o .rows; long = o .long; noted = λ l. o .noted (omega arith) })
+          (record { rows = o .rows; long = o .long; noted = λ l. o .noted (omega arith) })
+
+  -- with session and register apart, and with this register
+  abbrev Whole : Session → Bytes → History → List Bytes → Type 0
+  Whole t other = Own (state t other)
+
+  abbrev With : Session → History → List Bytes → Type 0
+  With t = Own (state t reg)
+
+  own-step : Single reg (s .used) → (x : Step)
+      → Own (after p x st) (leaves (reply p x st) (note x st h) h) (leaves (reply p x st) (enrol x bs) bs)
+  unfolding reply after cleared committedBy note enrol
+  own-step single (clear text) = left-four Whole _ (λ e. record { rows = start; long = tt; noted = λ l. absurd (omega arith) }) o
+  own-step single (admit ballot) = left-four Whole _ (λ e. own-admit ballot (admitted-exactly p s reg ballot .0 e)) o
+  own-step single (withdraw mark) = left-all (Whole s) _ (λ e. own-withdraw single mark (withdrawn-exactly p s reg mark .0 e)) o
+  own-step single close = left-all With _ (λ e. own-close) o
+  own-step single (claim claims) = left-all With _ (λ e. own-claim claims (claimed-exactly p s claims .0 e)) o
+  own-step single (commit k head shares0 shares1) = left-all With _ (λ e. record { rows = o .rows; long = o .long; noted = o .noted }) o
+  own-step single (draw seed) = left-all With _ (λ e. own-draw seed (drawn-exactly p s seed .0 e)) o
+  own-step single (check k x) = rw (left-alone (first (checkTests p s k x)) h, left-alone (first (checkTests p s k x)) bs) (own-check k x)
+
+own-tells : (p : ℕ) (xs : List Step) (t : Tale) → Single (t .now .register) (t .now .session .used) → Own (t .now) (t .history) (t .roll)
+    → Own (tells p xs t .now) (tells p xs t .history) (tells p xs t .roll)
+unfolding tells tell
+own-tells p [] t single o = o
+own-tells p (x ∷ xs) t single o = own-tells p xs (tell p x t) (single-step p (t .now) x single) (own-step p (t .now) (t .history) (t .roll) o single x)
+
+pub roll-is-batch : (p : ℕ) → RollIsBatch p
+unfolding begun cleared
+roll-is-batch p sheet steps l =
+    let t = tells p steps (begun sheet) in
+    let o = own-tells p steps (begun sheet) (single-none _) (record { rows = start; long = tt; noted = λ q. absurd (omega arith) }) in
+    rw (o .noted l, length-map (t .roll) sha3) (ballotDigests-concatenated _ (t .roll) (o .long))
+
+-- ---- such a list is one of those in which each step is lent any register
+
+same-lives : (p : ℕ) (xs : List Step) (t : Tale) (l : Life) → l .session ≡ t .now .session → l .history ≡ t .history
+    → (lives p (calls p xs (t .now)) l .session ≡ tells p xs t .now .session) × (lives p (calls p xs (t .now)) l .history ≡ tells p xs t .history)
+unfolding lives live tells tell calls
+same-lives p [] t l es eh = (es, eh)
+same-lives p (x ∷ xs) t l es eh = same-lives p xs (tell p x t) (live p (record { step = x; register = t .now .register }) l) (rw es) (rw (es, eh))
+
+pub lodged : (p : ℕ) → Lodged p
+unfolding begun born
+lodged p sheet steps = same-lives p steps (begun sheet) (born sheet) refl refl

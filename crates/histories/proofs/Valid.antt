@@ -1,0 +1,114 @@
+-- What the test of a session, the test 31 of a step and the order of a sheet say, and that they are passed where that holds. Assumes nothing.
+use mathlib.Core.Path.{_≡_, refl, ap, ap₂}
+use mathlib.Core.Logic.{_↔_}
+use mathlib.Core.Bool.{Bool, true, false, not, _&&_, _||_}
+use Prim.Native.Nat.{ℕ, _<_}
+use native.Mathlib.Omega.{arith}
+use lib.Dec.{eqb, ltb}
+use lib.ListN.{length}
+use borrow.Author.Tests.{leb-true, le-leb, le-ltb, ltb-true, ltb-false, lt-ltb, eqb-true, eqb-false, eq-eqb, ne-eqb, not-true, not-false}
+use Rattle.codec.specs.Bytes.{Bytes, same}
+use Rattle.codec.specs.Reply.{None}
+use Rattle.codec.proofs.Laws.{both, same-equal}
+use Rattle.sheet.specs.Reader.{formed}
+use Rattle.sheet.specs.Sheet.{order}
+use Rattle.transcript.proofs.Tests.{equal-same}
+use Rattle.session.specs.declared.Session.{Session}
+use Rattle.session.specs.Session.{valid}
+use Rattle.histories.specs.Conditions.{SheetTaken, Valid}
+
+-- ---- tests that something is not as it must be
+
+pub numbers-match : {a b : ℕ} → not (eqb a b) ≡ false → a ≡ b
+numbers-match {a} {b} e = eqb-true a b (not-false _ e)
+
+pub numbers-pass : {a b : ℕ} → a ≡ b → not (eqb a b) ≡ false
+numbers-pass {a} {b} e = ap not (eq-eqb a b e)
+
+pub bytes-match : {s t : Bytes} → not (same s t) ≡ false → s ≡ t
+bytes-match {s} {t} e = same-equal s t (not-false _ e)
+
+pub bytes-pass : {s t : Bytes} → s ≡ t → not (same s t) ≡ false
+bytes-pass e = ap not (equal-same e)
+
+-- neither of two
+neither : (a b : Bool) → (a || b) ≡ false → (a ≡ false) × (b ≡ false)
+neither true b e = absurd (let z : _≡_ {A = ℕ} 0 1 = cc in omega arith)
+neither false b e = (refl, e)
+
+-- ---- a session
+
+pub valid-says : (p : ℕ) (s : Session) → valid p s ≡ true → Valid p s
+unfolding valid
+valid-says p s e =
+    let a = both _ _ e in
+    let b = both _ _ (a .1) in
+    let c = both _ _ (b .1) in
+    let d = both _ _ (c .1) in
+    let f = both _ _ (d .1) in
+    let g = both _ _ (f .1) in
+    record {
+      phase = leb-true _ _ (a .0);
+      inside = not-true _ (b .0);
+      sound = not-true _ (c .0);
+      used = leb-true _ _ (d .0);
+      closed = leb-true _ _ (f .0);
+      committed = leb-true _ _ (g .0);
+      checked = leb-true _ _ (g .1);
+    }
+
+pub valid-holds : (p : ℕ) (s : Session) → Valid p s → valid p s ≡ true
+unfolding valid
+valid-holds p s v =
+    rw (
+      le-leb (s .phase) 5 (v .phase),
+      v .inside,
+      v .sound,
+      le-leb (s .used) 4096 (v .used),
+      le-leb (s .closed) 4096 (v .closed),
+      le-leb (s .committed) (s .numbers .rounds) (v .committed),
+      le-leb (s .checked) (s .numbers .rounds) (v .checked),
+    )
+
+-- ---- 31
+
+pub ready : (p : ℕ) (s : Session) (due : Bool) → not (valid p s && due) ≡ false → Valid p s × (due ≡ true)
+ready p s due e = let h = both (valid p s) due (not-false _ e) in (valid-says p s (h .0), h .1)
+
+pub is-ready : (p : ℕ) (s : Session) {due : Bool} → Valid p s → due ≡ true → not (valid p s && due) ≡ false
+is-ready p s v e = ap not (ap₂ _&&_ (valid-holds p s v) e)
+
+-- in a phase, a round is due
+pub on-turn : (phase at r k n : ℕ) → (eqb phase at && (eqb r k && ltb r n)) ≡ true → (phase ≡ at) × (r ≡ k) × (r < n)
+on-turn phase at r k n e =
+    let a = both (eqb phase at) (eqb r k && ltb r n) e in
+    let b = both (eqb r k) (ltb r n) (a .1) in
+    (eqb-true phase at (a .0), eqb-true r k (b .0), ltb-true r n (b .1))
+
+pub is-turn : {phase at r k n : ℕ} → phase ≡ at → r ≡ k → r < n → (eqb phase at && (eqb r k && ltb r n)) ≡ true
+is-turn {phase} {at} {r} {k} {n} a b c = ap₂ _&&_ (eq-eqb phase at a) (ap₂ _&&_ (eq-eqb r k b) (lt-ltb r n c))
+
+-- ---- the sheet's order
+
+pub sheet-exactly : (p : ℕ) (text : Bytes) → None (order p text) ↔ SheetTaken p text
+sheet-exactly p text = (says, holds)
+  where
+    says : None (order p text) → SheetTaken p text
+    says n =
+        let l = neither (eqb (length text) 0) (ltb 262144 (length text)) (n .0) in
+        let some = eqb-false (length text) 0 (l .0) in
+        record {
+          some = omega arith;
+          few = ltb-false 262144 (length text) (l .1);
+          form = not-false (formed text) (n .1 .0);
+          inside = n .1 .1 .0;
+          sound = n .1 .1 .1 .0;
+          fit = n .1 .1 .1 .1 .0;
+        }
+
+    holds : SheetTaken p text → None (order p text)
+    holds t =
+        let some = t .some in (
+          ap₂ _||_ (ne-eqb (length text) 0 (λ e. omega arith)) (le-ltb 262144 (length text) (t .few)),
+          (ap not (t .form), (t .inside, (t .sound, (t .fit, tt)))),
+        )

@@ -1,0 +1,144 @@
+-- What is claimed of a session's steps (the second and the third demand; document 01, the paragraph on demand 3's last sentence), for the plaintext modulus p: that each step
+-- is taken exactly under its conditions, and what holds of lists of steps. Assumes nothing.
+use mathlib.Core.Path.{_≡_}
+use mathlib.Core.Logic.{_↔_, _≢_}
+use mathlib.Core.Bool.{Bool, true, false, _&&_}
+use mathlib.Core.List.{List, List·Memᴰ}
+use Prim.Native.Nat.{ℕ, _<_}
+use lib.Dec.{eqb, ltb}
+use lib.ListN.{length}
+use Rattle.codec.specs.Bytes.{Bytes, Octets}
+use Rattle.codec.specs.Reply.{None, first}
+use Rattle.codec.specs.declared.Reply.the-variants.{Taken, Refused}
+use Rattle.sheet.specs.Reader.{sheetOf}
+use Rattle.sheet.specs.Sheet.{order}
+use Rattle.call.specs.Call.{scratchLength}
+use Rattle.transcript.specs.Layout.{ballotLength}
+use Rattle.transcript.specs.Round.{Parameters}
+use Rattle.transcript.specs.Producer.{Material, Sized, producerTests, producedHead, producedShares, producedClaims, producedOpening, producedAnswers}
+use Rattle.rounds.specs.Sheets.{parametersOf}
+use Rattle.register.specs.Register.{markAt, standing}
+use Rattle.digests.specs.Digests.{concatenated, ballotDigests}
+use Rattle.drawing.specs.Draw.{drawnSide, drawnChallenges}
+use Rattle.checking.specs.Check.{Inputs}
+use Rattle.session.specs.declared.Session.{Session}
+use Rattle.session.specs.Session.{gathering, closed, claimed, drawn}
+use Rattle.session.specs.Steps.{clearTests, admitTests, withdrawTests, closeTests, claimTests, commitTests, drawTests, checkTests}
+use Rattle.histories.specs.Runs.{Step, clear, admit, withdraw, close, claim, commit, draw, check, State, state, message, Life, Call, born, begun, reply, after, run, Uncleared, tells, lives, calls}
+use Rattle.histories.specs.Conditions.{Valid, Clears, Admits, Withdraws, Closes, Claims, Commits, Draws, Checks}
+
+-- the phase and the round are those of the step
+unfoldable pub due : Step → Session → Bool
+due (clear text) s = true
+due (admit ballot) s = eqb (s .phase) gathering
+due (withdraw mark) s = eqb (s .phase) gathering
+due close s = eqb (s .phase) gathering
+due (claim claims) s = eqb (s .phase) closed
+due (commit k head shares0 shares1) s = eqb (s .phase) claimed && (eqb k (s .committed) && ltb k (s .numbers .rounds))
+due (draw seed) s = eqb (s .phase) claimed && eqb (s .committed) (s .numbers .rounds)
+due (check k x) s = eqb (s .phase) drawn && (eqb k (s .checked) && ltb k (s .numbers .rounds))
+
+-- what the producer makes of material, as a check of round k is lent it: made for the parameters of a sheet, m ballots, and what a seed draws
+module _ (P : Parameters) (m : ℕ) (material : Material) (seed : Bytes) (k : ℕ) where
+  pub record Produced (x : Inputs) : Type 0 where
+    pub sized : Sized P m material  -- 1
+    pub taken : None (producerTests P m material true)  -- 5, 14, 12, 9, 15
+    pub ballots : x .ballots ≡ material .ballots
+    pub claims : x .claims ≡ producedClaims P m material
+    pub head : x .head ≡ producedHead P m material
+    pub shares0 : x .shares0 ≡ producedShares P m material 0
+    pub shares1 : x .shares1 ≡ producedShares P m material 1
+    pub opening : x .opening ≡ producedOpening P m material (drawnSide seed k)
+    pub answers : x .answers ≡ producedAnswers P m material (drawnChallenges seed k (P .repeats))
+
+module _ (p : ℕ) where
+  -- ---- the second demand: each step is taken exactly if its conditions hold, the check in every round; what is lent is bytes
+
+  abbrev pub ClearedExactly : Type 0
+  ClearedExactly = (reg text : Bytes) → (first (clearTests p reg text) ≡ Taken) ↔ Clears p reg text
+
+  abbrev pub AdmittedExactly : Type 0
+  AdmittedExactly = (s : Session) (reg ballot : Bytes) → (first (admitTests p s reg ballot) ≡ Taken) ↔ Admits p s reg ballot
+
+  abbrev pub WithdrawnExactly : Type 0
+  WithdrawnExactly = (s : Session) (reg : Bytes) (mark : ℕ) → (first (withdrawTests p s reg mark) ≡ Taken) ↔ Withdraws p s reg mark
+
+  abbrev pub ClosedExactly : Type 0
+  ClosedExactly = (s : Session) (reg : Bytes) → (first (closeTests p s reg) ≡ Taken) ↔ Closes p s reg
+
+  abbrev pub ClaimedExactly : Type 0
+  ClaimedExactly = (s : Session) (claims : Bytes) → (first (claimTests p s claims) ≡ Taken) ↔ Claims p s claims
+
+  abbrev pub CommittedExactly : Type 0
+  CommittedExactly = (s : Session) (round : ℕ) (head shares0 shares1 : Bytes)
+      → (first (commitTests p s round head shares0 shares1) ≡ Taken) ↔ Commits p s round head shares0 shares1
+
+  abbrev pub DrawnExactly : Type 0
+  DrawnExactly = (s : Session) (seed : Bytes) → (first (drawTests p s seed) ≡ Taken) ↔ Draws p s seed
+
+  abbrev pub AcceptedExactly : Type 0
+  AcceptedExactly = (s : Session) (round : ℕ) (x : Inputs) → Octets (x .head) → (first (checkTests p s round x) ≡ Taken) ↔ Checks p s round x
+
+  -- ---- the second demand: withdrawn stays out
+
+  -- run any steps after a clear taken, then a withdrawal that is taken, then any steps among which no clear is taken: a close taken then closes no entry with that mark
+  abbrev pub StaysOut : Type 0
+  StaysOut = (start : State) (sheet : Bytes) (before between : List Step) (mark : ℕ)
+      → reply p (clear sheet) start ≡ Taken
+      → let found = run p before (after p (clear sheet) start) in
+      let last = run p between (after p (withdraw mark) found) in
+      reply p (withdraw mark) found ≡ Taken
+      → Uncleared p between (after p (withdraw mark) found)
+      → reply p close last ≡ Taken
+      → (i : ℕ) → List·Memᴰ i (standing (last .register) (last .session .used)) → markAt (last .register) i ≢ mark
+
+  -- ---- the third demand: lists of steps from a newly cleared session, each lent any register
+
+  -- a clear that is taken leaves what such a list starts from
+  abbrev pub ClearTaken : Type 0
+  ClearTaken = (start : State) (sheet : Bytes) → reply p (clear sheet) start ≡ Taken
+      → (first (order p sheet) ≡ Taken) × (after p (clear sheet) start ≡ begun sheet .now)
+
+  abbrev pub StaysValid : Type 0
+  StaysValid = (sheet : Bytes) (cs : List Call) → first (order p sheet) ≡ Taken
+      → let l = lives p cs (born sheet) in
+      Valid p (l .session) × (l .session .numbers ≡ sheetOf (l .history .sheet) .numbers)
+
+  -- so 31 is only ever met for wrong phase or round
+  abbrev pub OnlyPhaseOrRound : Type 0
+  OnlyPhaseOrRound = (sheet : Bytes) (cs : List Call) → first (order p sheet) ≡ Taken
+      → (x : Step) (register : Bytes) (place : ℕ)
+      → let s = lives p cs (born sheet) .session in
+      reply p x (state s register) ≡ Refused 31 place → due x s ≡ false
+
+  -- a round's turn: the check of the round next due after draw, lent the session's sheet and batch, the claims and the first message that were lodged, all of it
+  -- the producer's, and scratch
+  pub record Turn (l : Life) (material : Material) (round : ℕ) (x : Inputs) : Type 0 where
+    pub phase : l .session .phase ≡ drawn
+    pub due : round ≡ l .session .checked
+    pub sheet : x .sheet ≡ l .history .sheet
+    pub batch : ballotDigests (ballotLength (sheetOf (x .sheet) .numbers .ring)) (length (l .history .batch)) (x .ballots) ≡ l .history .batch
+    pub claims : x .claims ≡ l .history .claims
+    pub first-message : message (x .head) (x .shares0) (x .shares1) ≡ l .history .firsts round
+    pub made : Produced (parametersOf p (x .sheet)) (length (l .history .batch)) material (l .session .seed) round x
+    pub scratch : length (x .scratch) ≡ scratchLength
+
+  -- the last sentence: a round that the producer wrote for the session's sheet and batch, lodged, is accepted at its turn, whatever was drawn
+  abbrev pub HonestAccepted : Type 0
+  HonestAccepted = (sheet : Bytes) (cs : List Call) → first (order p sheet) ≡ Taken
+      → let l = lives p cs (born sheet) in
+      (register : Bytes) (material : Material) (round : ℕ) (x : Inputs) → Turn l material round x → reply p (check round x) (state (l .session) register) ≡ Taken
+
+  -- without host writing, the ballots admitted and not withdrawn are a batch, as a turn asks for one
+  abbrev pub RollIsBatch : Type 0
+  RollIsBatch = (sheet : Bytes) (steps : List Step)
+      → let t = tells p steps (begun sheet) in
+      0 < t .now .session .phase
+      → ballotDigests (ballotLength (t .now .session .numbers .ring)) (length (t .history .batch)) (concatenated (t .roll)) ≡ t .history .batch
+
+  -- and such a list is one of those above, so that a turn's batch can be that roll
+  abbrev pub Lodged : Type 0
+  Lodged = (sheet : Bytes) (steps : List Step)
+      → let t = tells p steps (begun sheet) in
+      let l = lives p (calls p steps (begun sheet .now)) (born sheet) in
+      (l .session ≡ t .now .session) × (l .history ≡ t .history)

@@ -1,0 +1,127 @@
+-- When each step of a session is taken (document 01, the orders under "Refused because of the state"), for the plaintext modulus p, in propositions to hold against the
+-- paper and not as its order again; the numbers beside them are those of the refusals that they exclude. Assumes nothing.
+use mathlib.Core.Path.{_≡_}
+use mathlib.Core.Logic.{_≢_}
+use mathlib.Core.Bool.{true, false}
+use Prim.Native.Nat.{ℕ, _+_, _*_, _≤_, _<_}
+use lib.ListN.{length, drop}
+use Rattle.codec.specs.Bytes.{Bytes}
+use Rattle.sha3.specs.Sponge.{sha3}
+use Rattle.sheet.specs.Reader.{formed, sheetOf}
+use Rattle.sheet.specs.Sheet.{outside, unsound, unfit}
+use Rattle.call.specs.Call.{scratchLength}
+use Rattle.vector.specs.Vector.{vector}
+use Rattle.transcript.specs.Layout.{ballotLength, headLength, answersLength}
+use Rattle.transcript.specs.Accepted.{EachBelow, Accepted}
+use Rattle.rounds.specs.Sheets.{parametersOf}
+use Rattle.register.specs.Register.{markAt, stateAt, markOf}
+use Rattle.digests.specs.Digests.{ballotDigests, closingDigest, claimDigest, roundDigest}
+use Rattle.drawing.specs.Draw.{drawnChallenges}
+use Rattle.checking.specs.Check.{Inputs, drawnRound}
+use Rattle.session.specs.declared.Session.{Session}
+use Rattle.session.specs.Session.{gathering, closed, claimed, drawn, trailAt}
+use Rattle.session.specs.Steps.{storedFor}
+
+-- the lengths of what a check is lent, by the session's numbers and closed count (1)
+pub record Lengths (s : Session) (round : ℕ) (x : Inputs) : Type 0 where
+  pub head : length (x .head) ≡ headLength (s .numbers .ring) (s .numbers .repeats)
+  pub shares0 : length (x .shares0) ≡ 8 * s .numbers .ring * s .closed
+  pub shares1 : length (x .shares1) ≡ 8 * s .numbers .ring * s .closed
+  pub ballots : length (x .ballots) ≡ ballotLength (s .numbers .ring) * s .closed
+  pub claims : length (x .claims) ≡ s .numbers .ring * s .closed
+  pub opening : length (x .opening) ≡ 22 * s .numbers .ring
+  pub answers : length (x .answers) ≡ answersLength (s .numbers .ring) (drawnChallenges (s .seed) round (s .numbers .repeats))
+  pub scratch : length (x .scratch) ≡ scratchLength
+
+-- what a check is lent is what the session holds (16)
+pub record Matches (s : Session) (round : ℕ) (x : Inputs) : Type 0 where
+  pub sheet : sha3 (x .sheet) ≡ s .sheet
+  pub numbers : sheetOf (x .sheet) .numbers ≡ s .numbers
+  pub ballots : closingDigest (s .sheet) (ballotDigests (ballotLength (s .numbers .ring)) (s .closed) (x .ballots)) ≡ s .closing
+  pub claims : claimDigest (s .closing) (x .claims) ≡ s .claim
+  pub message : roundDigest (s .claim) round (x .head) (x .shares0) (x .shares1) ≡ trailAt s round
+
+module _ (p : ℕ) where
+  -- a sheet that is taken
+  pub record SheetTaken (text : Bytes) : Type 0 where
+    pub some : 0 < length text  -- 1
+    pub few : length text ≤ 262144  -- 1
+    pub form : formed text ≡ true  -- 2
+    pub inside : outside (sheetOf text .numbers) ≡ false  -- 3
+    pub sound : unsound p (sheetOf text .numbers) ≡ false  -- 4
+    pub fit : unfit (sheetOf text) ≡ false  -- 5
+
+  -- a session with a known phase, counts within their limits, and numbers that 3 and 4 take
+  pub record Valid (s : Session) : Type 0 where
+    pub phase : s .phase ≤ 5
+    pub inside : outside (s .numbers) ≡ false
+    pub sound : unsound p (s .numbers) ≡ false
+    pub used : s .used ≤ 4096
+    pub closed : s .closed ≤ 4096
+    pub committed : s .committed ≤ s .numbers .rounds
+    pub checked : s .checked ≤ s .numbers .rounds
+
+  pub record Clears (reg text : Bytes) : Type 0 where
+    pub register-size : length reg ≡ 163840  -- 1
+    pub sheet : SheetTaken text  -- 1 to 5
+
+  pub record Admits (s : Session) (reg ballot : Bytes) : Type 0 where
+    pub sound : Valid s  -- 31
+    pub phase : s .phase ≡ gathering  -- 31
+    pub register-size : length reg ≡ 163840  -- 1
+    pub ballot-size : length ballot ≡ 4 + 16 * s .numbers .ring  -- 1
+    pub coefficients : EachBelow (s .numbers .modulus) (vector (drop 4 ballot))  -- 5, u and v
+    pub unknown : (i : ℕ) → i < s .used → markAt reg i ≢ markOf ballot  -- 32, 33
+    pub room : s .used < 4096  -- 35
+
+  -- `at` is the first entry with the mark
+  pub record Withdraws (s : Session) (reg : Bytes) (mark : ℕ) : Type 0 where
+    pub sound : Valid s  -- 31
+    pub phase : s .phase ≡ gathering  -- 31
+    pub register-size : length reg ≡ 163840  -- 1
+    pub at : ℕ
+    pub within : at < s .used  -- 34
+    pub marked : markAt reg at ≡ mark  -- 34
+    pub earlier : (i : ℕ) → i < at → markAt reg i ≢ mark
+    pub stands : stateAt reg at ≡ 1  -- 33
+
+  -- `at` is an entry that stands
+  pub record Closes (s : Session) (reg : Bytes) : Type 0 where
+    pub sound : Valid s  -- 31
+    pub phase : s .phase ≡ gathering  -- 31
+    pub register-size : length reg ≡ 163840  -- 1
+    pub at : ℕ
+    pub within : at < s .used  -- 36
+    pub stands : stateAt reg at ≡ 1  -- 36
+
+  pub record Claims (s : Session) (claims : Bytes) : Type 0 where
+    pub sound : Valid s  -- 31
+    pub phase : s .phase ≡ closed  -- 31
+    pub size : length claims ≡ s .numbers .ring * s .closed  -- 1
+    pub votes : EachBelow p claims  -- 5
+
+  pub record Commits (s : Session) (round : ℕ) (head shares0 shares1 : Bytes) : Type 0 where
+    pub sound : Valid s  -- 31
+    pub phase : s .phase ≡ claimed  -- 31
+    pub due : round ≡ s .committed  -- 31
+    pub within : round < s .numbers .rounds  -- 31
+    pub head-size : length head ≡ headLength (s .numbers .ring) (s .numbers .repeats)  -- 1
+    pub shares0-size : length shares0 ≡ 8 * s .numbers .ring * s .closed  -- 1
+    pub shares1-size : length shares1 ≡ 8 * s .numbers .ring * s .closed  -- 1
+
+  pub record Draws (s : Session) (seed : Bytes) : Type 0 where
+    pub sound : Valid s  -- 31
+    pub phase : s .phase ≡ claimed  -- 31
+    pub all : s .committed ≡ s .numbers .rounds  -- 31
+    pub size : length seed ≡ 32  -- 1
+
+  -- all that an accepted check has found, in any round; what a round is accepted for, in propositions: transcript, specs/Accepted.antt
+  pub record Checks (s : Session) (round : ℕ) (x : Inputs) : Type 0 where
+    pub sound : Valid s  -- 31
+    pub phase : s .phase ≡ drawn  -- 31
+    pub due : round ≡ s .checked  -- 31
+    pub within : round < s .numbers .rounds  -- 31
+    pub sheet : SheetTaken (x .sheet)  -- 1 to 5
+    pub lengths : Lengths s round x  -- 1
+    pub matches : Matches s round x  -- 16
+    pub accepted : Accepted (parametersOf p (x .sheet)) (s .closed) (drawnRound (storedFor s round) x)  -- 5 to 13

@@ -1,0 +1,4 @@
+pub mod Runs
+pub mod Conditions
+pub mod Claims
+pub mod Examples

@@ -1,0 +1,196 @@
+-- Lists of a session's steps (document 01, "Register and session", and the paragraph on demand 3's last sentence), for the plaintext modulus p: what each step answers and
+-- leaves, what was taken since the last clear taken, and the ballots admitted and not withdrawn. Assumes nothing.
+use mathlib.Core.Bool.{Bool, true, false, cond}
+use mathlib.Core.Path.{_≡_}
+use mathlib.Core.List.{List, [], _∷_, _++_}
+use Prim.Native.Nat.{ℕ}
+use lib.Dec.{eqb}
+use Rattle.codec.specs.Bytes.{Bytes, zeros}
+use Rattle.codec.specs.Reply.{first, leaves}
+use Rattle.codec.specs.declared.Reply.{Reply}
+use Rattle.codec.specs.declared.Reply.the-variants.{Taken, Refused}
+use Rattle.register.specs.Register.{registerLength, find, standingDigests, markOf, admitted, withdrawn}
+use Rattle.checking.specs.Check.{Inputs}
+use Rattle.session.specs.declared.Session.{Session}
+use Rattle.session.specs.Steps.{clearTests, cleared, admitTests, admittedBy, withdrawTests, closeTests, closedBy, claimTests, claimedBy, commitTests, committedBy, drawTests, drawnBy, checkTests, checkedBy}
+
+-- a step, with what it is lent beside session and register
+pub data Step : Type 0 where
+  clear : (sheet : Bytes) → Step
+  admit : (ballot : Bytes) → Step
+  withdraw : (mark : ℕ) → Step
+  close : Step
+  claim : (claims : Bytes) → Step
+  commit : (round : ℕ) (head shares0 shares1 : Bytes) → Step
+  draw : (seed : Bytes) → Step
+  check : (round : ℕ) → Inputs → Step
+
+-- a session, and the register lent with it
+pub record State : Type 0 where
+  pub session : Session
+  pub register : Bytes
+
+abbrev pub state : Session → Bytes → State
+state s reg = record { session = s; register = reg }
+
+-- a first message, as it is lent
+pub record Message : Type 0 where
+  pub head : Bytes
+  pub shares0 : Bytes
+  pub shares1 : Bytes
+
+abbrev pub message : (head shares0 shares1 : Bytes) → Message
+message head shares0 shares1 = record { head = head; shares0 = shares0; shares1 = shares1 }
+
+-- what was taken since the last clear taken
+pub record History : Type 0 where
+  pub sheet : Bytes
+  pub batch : List Bytes  -- the digests that close found standing, in order
+  pub claims : Bytes
+  pub firsts : ℕ → Message  -- the first messages, by round
+
+abbrev pub blank : Bytes → History
+blank text = record { sheet = text; batch = []; claims = []; firsts = λ k. message [] [] [] }
+
+-- a step that is taken, written down
+unfoldable pub note : Step → State → History → History
+note (clear text) st h = blank text
+note (admit ballot) st h = h
+note (withdraw mark) st h = h
+note close st h = record { sheet = h .sheet; batch = standingDigests (st .register) (st .session .used); claims = h .claims; firsts = h .firsts }
+note (claim claims) st h = record { sheet = h .sheet; batch = h .batch; claims = claims; firsts = h .firsts }
+note (commit k head shares0 shares1) st h = record {
+  sheet = h .sheet;
+  batch = h .batch;
+  claims = h .claims;
+  firsts = λ j. cond (eqb j k) (message head shares0 shares1) (h .firsts j);
+}
+note (draw seed) st h = h
+note (check k x) st h = h
+
+-- the ballots that do not have the mark
+unfoldable pub without : ℕ → List Bytes → List Bytes
+without mark [] = []
+without mark (b ∷ bs) = cond (eqb (markOf b) mark) (without mark bs) (b ∷ without mark bs)
+
+-- a step that is taken, entered on the roll of the ballots admitted and not withdrawn
+unfoldable pub enrol : Step → List Bytes → List Bytes
+enrol (clear text) bs = []
+enrol (admit ballot) bs = bs ++ (ballot ∷ [])
+enrol (withdraw mark) bs = without mark bs
+enrol close bs = bs
+enrol (claim claims) bs = bs
+enrol (commit k head shares0 shares1) bs = bs
+enrol (draw seed) bs = bs
+enrol (check k x) bs = bs
+
+-- a clear that is taken
+abbrev pub clears : Step → Reply → Bool
+clears (clear text) Taken = true
+clears (clear text) (Refused number place) = false
+clears (admit ballot) r = false
+clears (withdraw mark) r = false
+clears close r = false
+clears (claim claims) r = false
+clears (commit k head shares0 shares1) r = false
+clears (draw seed) r = false
+clears (check k x) r = false
+
+-- a session, and what was taken
+pub record Life : Type 0 where
+  pub session : Session
+  pub history : History
+
+-- a step, and the register that it is lent
+pub record Call : Type 0 where
+  pub step : Step
+  pub register : Bytes
+
+abbrev pub lent : Life → Call → State
+lent l c = state (l .session) (c .register)
+
+-- a session with its register, what was taken, and the roll
+pub record Tale : Type 0 where
+  pub now : State
+  pub history : History
+  pub roll : List Bytes
+
+-- newly cleared, on a sheet
+unfoldable pub born : Bytes → Life
+born text = record { session = cleared text; history = blank text }
+
+-- with the register that clear leaves
+unfoldable pub begun : Bytes → Tale
+begun text = record { now = state (cleared text) (zeros registerLength); history = blank text; roll = [] }
+
+module _ (p : ℕ) where
+  -- ---- one step
+
+  unfoldable pub reply : Step → State → Reply
+  reply (clear text) st = first (clearTests p (st .register) text)
+  reply (admit ballot) st = first (admitTests p (st .session) (st .register) ballot)
+  reply (withdraw mark) st = first (withdrawTests p (st .session) (st .register) mark)
+  reply close st = first (closeTests p (st .session) (st .register))
+  reply (claim claims) st = first (claimTests p (st .session) claims)
+  reply (commit k head shares0 shares1) st = first (commitTests p (st .session) k head shares0 shares1)
+  reply (draw seed) st = first (drawTests p (st .session) seed)
+  reply (check k x) st = first (checkTests p (st .session) k x)
+
+  -- session and register, as the contracts of the steps have them
+  unfoldable pub after : Step → State → State
+  after (clear text) st =
+      let r = reply (clear text) st in
+      state (leaves r (cleared text) (st .session)) (leaves r (zeros registerLength) (st .register))
+  after (admit ballot) st =
+      let r = reply (admit ballot) st in
+      state (leaves r (admittedBy (st .session)) (st .session)) (leaves r (admitted (st .register) (st .session .used) ballot) (st .register))
+  after (withdraw mark) st =
+      let r = reply (withdraw mark) st in
+      state (st .session) (leaves r (withdrawn (st .register) (find (st .register) mark (st .session .used))) (st .register))
+  after close st = state (leaves (reply close st) (closedBy (st .session) (st .register)) (st .session)) (st .register)
+  after (claim claims) st = state (leaves (reply (claim claims) st) (claimedBy (st .session) claims) (st .session)) (st .register)
+  after (commit k head shares0 shares1) st =
+      let r = reply (commit k head shares0 shares1) st in
+      state (leaves r (committedBy (st .session) k head shares0 shares1) (st .session)) (st .register)
+  after (draw seed) st = state (leaves (reply (draw seed) st) (drawnBy (st .session) seed) (st .session)) (st .register)
+  after (check k x) st = state (checkedBy p (st .session) k x) (st .register)
+
+  -- ---- each step is given the session and the register that the last one left
+
+  unfoldable pub run : List Step → State → State
+  run [] st = st
+  run (x ∷ xs) st = run xs (after x st)
+
+  -- no clear is taken
+  pub data Uncleared : List Step → State → Type 0 where
+    none : {st : State} → Uncleared [] st
+    more : {x : Step} {xs : List Step} {st : State} → clears x (reply x st) ≡ false → Uncleared xs (after x st) → Uncleared (x ∷ xs) st
+
+  -- the same with the history and the roll
+  unfoldable pub tell : Step → Tale → Tale
+  tell x t = record {
+    now = after x (t .now);
+    history = leaves (reply x (t .now)) (note x (t .now) (t .history)) (t .history);
+    roll = leaves (reply x (t .now)) (enrol x (t .roll)) (t .roll);
+  }
+
+  unfoldable pub tells : List Step → Tale → Tale
+  tells [] t = t
+  tells (x ∷ xs) t = tells xs (tell x t)
+
+  -- ---- each step is given the session that the last one left, and any register
+
+  unfoldable pub live : Call → Life → Life
+  live c l = record {
+    session = after (c .step) (lent l c) .session;
+    history = leaves (reply (c .step) (lent l c)) (note (c .step) (lent l c) (l .history)) (l .history);
+  }
+
+  unfoldable pub lives : List Call → Life → Life
+  lives [] l = l
+  lives (c ∷ cs) l = lives cs (live c l)
+
+  -- steps as calls that are lent the register that the last step left
+  unfoldable pub calls : List Step → State → List Call
+  calls [] st = []
+  calls (x ∷ xs) st = record { step = x; register = st .register } ∷ calls xs (after x st)
