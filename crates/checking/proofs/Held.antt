@@ -1,6 +1,6 @@
 -- The order of 1 and 16, test by test, and what is known where none of them holds. Assumes nothing.
 use mathlib.Core.Path.{_≡_, refl, sym, ap, subst, _∙_}
-use mathlib.Core.Bool.{Bool, true, false, not, _&&_}
+use mathlib.Core.Bool.{Bool, true, false, not}
 use mathlib.Core.List.{List, [], _∷_}
 use Prim.Native.Nat.{ℕ, _*_}
 use borrow.Author.Tests.{not-false}
@@ -16,7 +16,7 @@ use Rattle.sheet.specs.declared.Numbers.{Numbers}
 use Rattle.call.specs.Call.{scratchLength}
 use Rattle.call.proofs.Order.{refuses, passes}
 use Rattle.transcript.specs.Layout.{ballotLength}
-use Rattle.transcript.specs.Round.{Parameters, Lengths}
+use Rattle.transcript.specs.Round.{Lengths}
 use Rattle.checker.specs.Orders.{roundOf}
 use Rattle.rounds.specs.Calls.{messageSized, secondSized}
 use Rattle.rounds.specs.Sheets.{given}
@@ -26,13 +26,13 @@ use Rattle.checking.specs.Check.{Stored, Inputs, sameNumbers, storedTest
 use Rattle.checking.specs.Parts.{lentSized, lentTests}
 use Rattle.checking.proofs.Numbers.{same-numbers}
 
--- a test that is told by x: what is lent fails it, or it does not and the rest of the order decides
+-- a test by what was compared: it refuses, or the rest of the order decides
 module _ (number place : ℕ) (passing : Bool) (ts : List Test) {x : Bool} (is : x ≡ passing) where
-  pub fails : not x ≡ true → Refused number place ≡ first (test number place (not passing) ∷ ts)
-  fails e = refuses number place (not passing) ts (ap not (sym is) ∙ e)
+  pub refused-by : not x ≡ true → Refused number place ≡ first (test number place (not passing) ∷ ts)
+  refused-by e = refuses number place (not passing) ts (ap not (sym is) ∙ e)
 
-  pub holds : {r : Reply} → not x ≡ false → r ≡ first ts → r ≡ first (test number place (not passing) ∷ ts)
-  holds e f = f ∙ sym (passes number place (not passing) ts (ap not (sym is) ∙ e))
+  pub passed-by : {r : Reply} → not x ≡ false → r ≡ first ts → r ≡ first (test number place (not passing) ∷ ts)
+  passed-by e f = f ∙ sym (passes number place (not passing) ts (ap not (sym is) ∙ e))
 
 pub none-left : Taken ≡ first []
 unfolding first
@@ -53,7 +53,7 @@ ballots-sized k m challenges x e =
 
 -- none of the tests holds: the sheet's numbers are the session's, and the lengths are those of a round with them
 module _ (s : Stored) (challenges : Bytes) (x : Inputs) {k : Numbers} (read : sheetOf (x .sheet) .numbers ≡ k) (taken : first (lentTests s challenges x) ≡ Taken) where
-  pub numbers-are : s .numbers ≡ k
+  numbers-are : s .numbers ≡ k
   unfolding storedTests
   numbers-are = sym (same-numbers (sheetOf (x .sheet) .numbers) (s .numbers) .0 (not-false _ (taken-exactly (lentTests s challenges x) .0 taken .1 .1 .0))) ∙ read
 

@@ -1,12 +1,12 @@
 -- What a check comes to, from the replies of its two parts, and the same over the sheet. Assumes nothing.
 use mathlib.Core.Path.{_≡_, refl, sym, ap, ap₂, _∙_}
 use mathlib.Core.Bool.{not}
-use mathlib.Core.List.{List, [], _∷_, _++_}
+use mathlib.Core.List.{[], _∷_}
 use Prim.Native.Nat.{ℕ, _-_, _*_}
 use native.Mathlib.Omega.{arith}
 use lib.ListN.{length, take, drop}
 use Rattle.codec.specs.Bytes.{Bytes, part}
-use Rattle.codec.specs.Reply.{Test, test, first}
+use Rattle.codec.specs.Reply.{test, first}
 use Rattle.codec.specs.declared.Reply.{Reply}
 use Rattle.codec.specs.declared.Reply.the-variants as reply
 use Rattle.sheet.specs.Bounds.{mask}
@@ -15,7 +15,7 @@ use Rattle.sheet.specs.declared.Numbers.{Numbers}
 use Rattle.sheet.specs.declared.Reading.{Reading}
 use Rattle.sheet.specs.declared.Reading.the-variants.{Taken, Refused}
 use Rattle.call.specs.Call.{swept}
-use Rattle.call.proofs.Lent as call
+use Rattle.call.proofs.Lent.{Lent}
 use Rattle.bgv.proofs.Sheets.{two-sound}
 use Rattle.scheme_calls.proofs.Keys.{lent-keys}
 use Rattle.transcript.specs.Method.{parameters}
@@ -26,8 +26,8 @@ use Rattle.rounds.proofs.Swept.{later-round, swept-alike}
 use Rattle.round_calls.proofs.Promises.{lent-keyed, over, refused-over}
 use Rattle.checking.specs.Check.{Stored, Inputs, storedOf, sideOf, challengesOf, inputsSized, storedTests, drawnRound, earlyTests, lateTests, verdict, replyOf}
 use Rattle.checking.specs.declared.Verdict.{Verdict}
-use Rattle.checking.specs.declared.Verdict.the-variants.{Stopped, Failed, Passed}
-use Rattle.checking.specs.Parts.{Lent, lentTests}
+use Rattle.checking.specs.declared.Verdict.the-variants.{Stopped}
+use Rattle.checking.specs.Parts.{Loaded, lentTests}
 
 -- ---- from the two replies
 
@@ -71,8 +71,8 @@ parted k s {B} b =
     ∙ ap (λ (x : ℕ). parameters 2 (k .ring) (k .modulus) x (k .repeats) (part s 0 (8 * k .ring)) (part s (8 * k .ring) (8 * k .ring)) (part s (16 * k .ring) (24 * k .ring))) b
 
 -- what the round is given of a sheet that is taken
-pub sheet-lent : {text public : Bytes} {k : Numbers} → call.Lent 2 text public k → Lent k public
-sheet-lent {text} {public} {k} h =
+pub sheet-loaded : {text public : Bytes} {k : Numbers} → Lent 2 text public k → Loaded k public
+sheet-loaded {text} {public} {k} h =
     let n = k .ring in
     record {
       a = h .polynomial 0 0 (8 * n) (omega arith) (omega arith) refl;

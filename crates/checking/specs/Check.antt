@@ -3,7 +3,6 @@
 use mathlib.Core.Bool.{Bool, not, _&&_}
 use mathlib.Core.List.{List, [], _∷_, _++_}
 use Prim.Native.Nat.{ℕ}
-use lib.Dec.{eqb}
 use Rattle.codec.specs.Bytes.{Bytes, same}
 use Rattle.codec.specs.Reply.{Test, test}
 use Rattle.codec.specs.declared.Reply.{Reply}

@@ -1,20 +1,19 @@
--- What the parts of the check are given: the sheet's polynomials in lent bytes, and challenges that were drawn before. Assumes nothing.
+-- What the parts of the check are given (specs/Check.antt): the sheet's polynomials in lent bytes, and challenges that were drawn before. Assumes nothing.
 use mathlib.Core.Path.{_≡_}
 use mathlib.Core.Bool.{Bool, not, _&&_}
-use mathlib.Core.List.{List, [], _∷_}
+use mathlib.Core.List.{List, _∷_}
 use Prim.Native.Nat.{ℕ, _*_, _%_, _≤_}
 use lib.ListN.{length}
 use Rattle.codec.specs.Bytes.{Bytes, part}
 use Rattle.codec.specs.Reply.{Test, test}
-use Rattle.sheet.specs.Reader.{sheetOf}
 use Rattle.sheet.specs.declared.Numbers.{Numbers}
 use Rattle.call.specs.Call.{Public}
 use Rattle.commitment.specs.Commitment.{PublicKeys}
 use Rattle.rounds.specs.Calls.{messageSized, secondSized}
-use Rattle.checking.specs.Check.{Stored, Inputs, storedOf, storedTests}
+use Rattle.checking.specs.Check.{Stored, Inputs, storedTests}
 
 -- a sheet that was taken with the numbers k, and the bytes that its polynomials were put into
-pub record Lent (k : Numbers) (public : Bytes) : Type 0 where
+pub record Loaded (k : Numbers) (public : Bytes) : Type 0 where
   pub a : Public (k .ring) (k .modulus) (part public 0 (8 * k .ring))
   pub b : Public (k .ring) (k .modulus) (part public (8 * k .ring) (8 * k .ring))
   pub keys : PublicKeys (k .ring) (k .modulus) (part public (16 * k .ring) (24 * k .ring))

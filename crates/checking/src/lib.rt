@@ -6,7 +6,7 @@ use codec::Reply;
 use sheet::Numbers;
 ghost use mathlib.Core.Path.{_≡_};
 ghost use mathlib.Core.Bool.{false};
-ghost use Prim.Native.Nat.{_≤_, _<_};
+ghost use Prim.Native.Nat.{_≤_};
 ghost use Rattle.codec.specs.Reply.{first};
 ghost use Rattle.call.specs.Call.{swept};
 ghost use Rattle.sheet.specs.Sheet.{outside};
@@ -30,7 +30,7 @@ pub fn reply_of(verdict: Verdict) -> Reply
     }
 }
 
-// Checks a round.
+// Checks a round. The parameters up to `round` are what the session holds, `digest` that of its sheet; the others are lent.
 pub fn check(
     numbers: Numbers,
     closed: usize,

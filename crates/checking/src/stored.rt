@@ -1,4 +1,4 @@
-// Before the round itself is looked at, once the sheet is taken: 1 by the session's numbers and closed count, then 16.
+// Before the round itself is looked at, once the sheet is taken: 1 by the session's numbers and closed count, then 16. The sheet's own numbers are k.
 use codec::Reply;
 use rounds::lengths::message_sized;
 use rounds::lengths::second_sized;
@@ -39,7 +39,7 @@ fn same_numbers(a: Numbers, b: Numbers) -> bool
     )
 }
 
-// Whether what is lent has the lengths of the session's numbers and closed count.
+// 1: whether what is lent has the lengths that the session's numbers and closed count ask for.
 fn inputs_sized(
     numbers: Numbers,
     closed: usize,
@@ -88,24 +88,24 @@ fn test_stored(
         number: 16,
         place: 0,
     };
-    let read = sha3::hash(sheet);
-    if !codec::equal(&read, digest) {
+    let sheet_again = sha3::hash(sheet);
+    if !codec::equal(&sheet_again, digest) {
         return refused;
     }
     if !same_numbers(k, numbers) {
         return refused;
     }
     let size = 4 + 16 * (numbers.ring as usize);
-    let closed_now = digests::closing_of_ballots(digest, ballots, size, closed);
-    if !codec::equal(&closed_now, closing) {
+    let closing_again = digests::closing_of_ballots(digest, ballots, size, closed);
+    if !codec::equal(&closing_again, closing) {
         return refused;
     }
-    let claimed = digests::claim_digest(closing, claims);
-    if !codec::equal(&claimed, claim) {
+    let claim_again = digests::claim_digest(closing, claims);
+    if !codec::equal(&claim_again, claim) {
         return refused;
     }
-    let committed = digests::round_digest(claim, round, head, shares0, shares1);
-    if !codec::equal(&committed, message) {
+    let message_again = digests::round_digest(claim, round, head, shares0, shares1);
+    if !codec::equal(&message_again, message) {
         return refused;
     }
     Reply::Taken

@@ -1,4 +1,4 @@
-// What a check comes to once the sheet is taken: stopped before the round was looked at, failed by the round, or passed.
+// What a check comes to once the sheet is taken, with its numbers k: stopped before the round was looked at, failed by the round itself, or passed.
 use crate::Verdict;
 use crate::stored::test_lent;
 use codec::Reply;
@@ -18,9 +18,9 @@ ghost use Rattle.checker.specs.Orders.{roundOf};
 ghost use Rattle.rounds.specs.Sheets.{given};
 ghost use Rattle.drawing.specs.Draw.{drawnChallenges};
 ghost use Rattle.checking.specs.Check.{storedOf, inputsOf, inputsSized, storedTests, drawnRound, verdict, replyOf};
-ghost use Rattle.checking.specs.Parts.{Lent, lentTests};
+ghost use Rattle.checking.specs.Parts.{Loaded, lentTests};
 
-// The challenges that are drawn for a round, from the first place on.
+// The challenges that are drawn for a round, at the head of room for as many as there can be.
 fn challenges_of(seed: &[u8; 32], round: u16, repeats: usize) -> [u8; 256]
     requires { ⌜ repeats ≤ 256 ⌝ }
     ensures { λ r. ⌜ take repeats r ≡ drawnChallenges (now (seed .entry)) round repeats ⌝ }
@@ -30,7 +30,7 @@ fn challenges_of(seed: &[u8; 32], round: u16, repeats: usize) -> [u8; 256]
     drawn
 }
 
-// The verdict by a round's reply.
+// The verdict on a round that was looked at, by its reply.
 fn verdict_of(late: Reply) -> Verdict
     ensures { λ v. ⌜ v ≡ verdict Taken late ⌝ }
 {
@@ -56,7 +56,7 @@ fn test_round(
     answers: &[u8],
     scratch: &mut [u8],
 ) -> Reply
-    requires { ⌜ Lent k (now public) × (closed ≤ 4096) × (length (now scratch) ≡ scratchLength) × Lengths (given 2 k (now public)) closed (roundOf side (now challenges) (now ballots) (now claims) (now head) (now shares0) (now shares1) (now opening) (now answers)) ⌝ }
+    requires { ⌜ Loaded k (now public) × (closed ≤ 4096) × (length (now scratch) ≡ scratchLength) × Lengths (given 2 k (now public)) closed (roundOf side (now challenges) (now ballots) (now claims) (now head) (now shares0) (now shares1) (now opening) (now answers)) ⌝ }
     ensures { λ reply. ⌜ reply ≡ first (roundTests (given 2 k (now (public .entry))) closed (roundOf side (now (challenges .entry)) (now (ballots .entry)) (now (claims .entry)) (now (head .entry)) (now (shares0 .entry)) (now (shares1 .entry)) (now (opening .entry)) (now (answers .entry)))) ⌝ }
     ensures { λ _. ⌜ length (now (scratch .exit)) ≡ length (now (scratch .entry)) ⌝ }
 {
@@ -108,7 +108,7 @@ fn check_drawn(
     answers: &[u8],
     scratch: &mut [u8],
 ) -> Verdict
-    requires { ⌜ (outside numbers ≡ false) × (closed ≤ 4096) × (sheetOf (now sheet) .numbers ≡ k) × Lent k (now public) ⌝ }
+    requires { ⌜ (outside numbers ≡ false) × (closed ≤ 4096) × (sheetOf (now sheet) .numbers ≡ k) × Loaded k (now public) ⌝ }
     ensures { λ v. ⌜ v ≡ verdict (first (lentTests (storedOf numbers closed (now (digest .entry)) (now (closing .entry)) (now (claim .entry)) (now (message .entry)) [] round) (now (challenges .entry)) (inputsOf (now (sheet .entry)) (now (ballots .entry)) (now (claims .entry)) (now (head .entry)) (now (shares0 .entry)) (now (shares1 .entry)) (now (opening .entry)) (now (answers .entry)) (now (scratch .entry))))) (first (roundTests (given 2 k (now (public .entry))) closed (roundOf side (now (challenges .entry)) (now (ballots .entry)) (now (claims .entry)) (now (head .entry)) (now (shares0 .entry)) (now (shares1 .entry)) (now (opening .entry)) (now (answers .entry))))) ⌝ }
     ensures { λ v. ⌜ swept (replyOf v) (now (scratch .exit)) ≡ swept (replyOf v) (now (scratch .entry)) ⌝ }
 {
@@ -152,7 +152,7 @@ fn check_drawn(
     }
 }
 
-// The check against what a session holds.
+// The check with the sheet's polynomials at hand: draws the side and the challenges.
 pub fn check_taken(
     public: &[u8],
     k: Numbers,
@@ -174,7 +174,7 @@ pub fn check_taken(
     answers: &[u8],
     scratch: &mut [u8],
 ) -> Verdict
-    requires { ⌜ (outside numbers ≡ false) × (closed ≤ 4096) × (sheetOf (now sheet) .numbers ≡ k) × Lent k (now public) ⌝ }
+    requires { ⌜ (outside numbers ≡ false) × (closed ≤ 4096) × (sheetOf (now sheet) .numbers ≡ k) × Loaded k (now public) ⌝ }
     ensures { λ v. ⌜ v ≡ verdict (first (test 1 0 (not (inputsSized (storedOf numbers closed (now (digest .entry)) (now (closing .entry)) (now (claim .entry)) (now (message .entry)) (now (seed .entry)) round) (inputsOf (now (sheet .entry)) (now (ballots .entry)) (now (claims .entry)) (now (head .entry)) (now (shares0 .entry)) (now (shares1 .entry)) (now (opening .entry)) (now (answers .entry)) (now (scratch .entry))))) ∷ storedTests (storedOf numbers closed (now (digest .entry)) (now (closing .entry)) (now (claim .entry)) (now (message .entry)) (now (seed .entry)) round) (inputsOf (now (sheet .entry)) (now (ballots .entry)) (now (claims .entry)) (now (head .entry)) (now (shares0 .entry)) (now (shares1 .entry)) (now (opening .entry)) (now (answers .entry)) (now (scratch .entry))))) (first (roundTests (given 2 k (now (public .entry))) closed (drawnRound (storedOf numbers closed (now (digest .entry)) (now (closing .entry)) (now (claim .entry)) (now (message .entry)) (now (seed .entry)) round) (inputsOf (now (sheet .entry)) (now (ballots .entry)) (now (claims .entry)) (now (head .entry)) (now (shares0 .entry)) (now (shares1 .entry)) (now (opening .entry)) (now (answers .entry)) (now (scratch .entry)))))) ⌝ }
     ensures { λ v. ⌜ swept (replyOf v) (now (scratch .exit)) ≡ swept (replyOf v) (now (scratch .entry)) ⌝ }
 {

@@ -1,13 +1,11 @@
 -- `check` meets its contract. Assumes nothing.
-use mathlib.Core.Path.{_≡_, refl, sym}
-use Prim.Native.Nat.{_*_}
-use native.Mathlib.Omega.{arith}
+use mathlib.Core.Path.{refl, sym}
 use borrow.Author.Needs.{needs}
 use Rattle.sheet.specs.Bounds.{mask}
 use Rattle.call.proofs.Lent.{lent}
 use Rattle.round_calls.proofs.Promises.{parameters-are}
 use Rattle.checking.specs.Check.{storedOf, inputsOf}
-use Rattle.checking.proofs.Outcome.{sheet-lent, checked-over, checked-refused}
+use Rattle.checking.proofs.Outcome.{sheet-loaded, checked-over, checked-refused}
 use Rattle.checking.proofs.check.Statement.{statement}
 use Rattle.checking.proofs.check.Tie as tie
 
@@ -18,7 +16,7 @@ check-taken-requires : tie.Need-check-taken-requires
 check-taken-requires c κs =
     let p = c .before .before .before .before .before .before .before .before .before .before .before .before .before .before .before .before .pre in
     let h = lent 2 (c .before .before .before .before .before .before .before .before .before .before .before .before .before .before .before .before .args .sheet .now) (c .before .before .before .before .before .load .ensures) (c .before .before .before .reading .given .1) in
-    (p .0, p .1, h .numbers, sheet-lent h)
+    (p .0, p .1, h .numbers, sheet-loaded h)
 
 returns : tie.Need-returns
 returns c =

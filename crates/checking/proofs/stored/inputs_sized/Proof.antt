@@ -1,6 +1,4 @@
 -- `stored::inputs_sized` meets its contract. Assumes nothing.
-use mathlib.Core.Path.{sym, _∙_}
-use borrow.Author.Needs.{needs}
 use borrow.Author.Tests.{not-true, not-false}
 use Rattle.sheet.proofs.Ranges.{in-range}
 use Rattle.call.proofs.Order.{fails, goes-on}

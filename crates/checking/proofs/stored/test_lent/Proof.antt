@@ -1,15 +1,15 @@
 -- `stored::test_lent` meets its contract. Assumes nothing.
-use mathlib.Core.Path.{_≡_, sym, _∙_}
+use mathlib.Core.Path.{sym, _∙_}
 use mathlib.Core.List.{[]}
 use borrow.Author.Needs.{needs}
 use borrow.Author.Tests.{not-false}
 use Rattle.checking.specs.Check.{inputsOf, storedTests}
-use Rattle.checking.proofs.Held.{fails, holds, ballots-sized}
+use Rattle.checking.proofs.Held.{refused-by, passed-by, ballots-sized}
 use Rattle.checking.proofs.stored.test_lent.Statement.{statement}
 use Rattle.checking.proofs.stored.test_lent.Tie as tie
 
 returns : tie.Need-returns
-returns c = fails 1 0 _ _ (c .before .inputs-sized .ensures) (c .if1 .taken)
+returns c = refused-by 1 0 _ _ (c .before .inputs-sized .ensures) (c .if1 .taken)
 
 test-stored-requires : tie.Need-test-stored-requires
 test-stored-requires c κs =
@@ -21,7 +21,7 @@ test-stored-requires c κs =
 
 returns-2 : tie.Need-returns-2
 unfolding storedTests
-returns-2 c = holds 1 0 _ _ (c .before .before .inputs-sized .ensures) (c .before .if1 .left) (c .test-stored .ensures)
+returns-2 c = passed-by 1 0 _ _ (c .before .before .inputs-sized .ensures) (c .before .if1 .left) (c .test-stored .ensures)
 
 pub test-lent-spec : {M : Type 1} → statement M
 test-lent-spec = tie.close (tie.spec (λ c κs. search needs) returns test-stored-requires returns-2)

@@ -3,33 +3,33 @@ use native.Mathlib.Omega.{arith}
 use borrow.Author.Needs.{needs}
 use Rattle.sheet.proofs.Ranges.{in-range}
 use Rattle.checking.specs.Check.{storedTests}
-use Rattle.checking.proofs.Held.{fails, holds, none-left, told, numbers-told}
+use Rattle.checking.proofs.Held.{refused-by, passed-by, none-left, told, numbers-told}
 use Rattle.checking.proofs.stored.test_stored.Statement.{statement}
 use Rattle.checking.proofs.stored.test_stored.Tie as tie
 
 returns : tie.Need-returns
 unfolding storedTests
-returns c = fails 16 0 _ _ (told _ (c .before .equal .ensures) (c .before .before .before .before .hash .ensures)) (c .if1 .taken)
+returns c = refused-by 16 0 _ _ (told _ (c .before .equal .ensures) (c .before .before .before .before .hash .ensures)) (c .if1 .taken)
 
 returns-2 : tie.Need-returns-2
 unfolding storedTests
-returns-2 c = holds 16 0 _ _ (told _ (c .before .before .before .equal .ensures) (c .before .before .before .before .before .before .hash .ensures)) (c .before .before .if1 .left) (fails 16 0 _ _ (numbers-told _ (c .before .same-numbers .ensures) (c .before .before .before .before .before .before .before .before .before .before .before .before .before .pre .2)) (c .if2 .taken))
+returns-2 c = passed-by 16 0 _ _ (told _ (c .before .before .before .equal .ensures) (c .before .before .before .before .before .before .hash .ensures)) (c .before .before .if1 .left) (refused-by 16 0 _ _ (numbers-told _ (c .before .same-numbers .ensures) (c .before .before .before .before .before .before .before .before .before .before .before .before .before .pre .2)) (c .if2 .taken))
 
 returns-3 : tie.Need-returns-3
 unfolding storedTests
-returns-3 c = holds 16 0 _ _ (told _ (c .before .before .before .before .before .before .before .before .equal .ensures) (c .before .before .before .before .before .before .before .before .before .before .before .hash .ensures)) (c .before .before .before .before .before .before .before .if1 .left) (holds 16 0 _ _ (numbers-told _ (c .before .before .before .before .before .before .same-numbers .ensures) (c .before .before .before .before .before .before .before .before .before .before .before .before .before .before .before .before .before .before .pre .2)) (c .before .before .before .before .before .if2 .left) (fails 16 0 _ _ (told _ (c .before .equal2 .ensures) (c .before .before .before .before .closing-of-ballots .ensures)) (c .if3 .taken)))
+returns-3 c = passed-by 16 0 _ _ (told _ (c .before .before .before .before .before .before .before .before .equal .ensures) (c .before .before .before .before .before .before .before .before .before .before .before .hash .ensures)) (c .before .before .before .before .before .before .before .if1 .left) (passed-by 16 0 _ _ (numbers-told _ (c .before .before .before .before .before .before .same-numbers .ensures) (c .before .before .before .before .before .before .before .before .before .before .before .before .before .before .before .before .before .before .pre .2)) (c .before .before .before .before .before .if2 .left) (refused-by 16 0 _ _ (told _ (c .before .equal2 .ensures) (c .before .before .before .before .closing-of-ballots .ensures)) (c .if3 .taken)))
 
 returns-4 : tie.Need-returns-4
 unfolding storedTests
-returns-4 c = holds 16 0 _ _ (told _ (c .before .before .before .before .before .before .before .before .before .before .before .before .before .equal .ensures) (c .before .before .before .before .before .before .before .before .before .before .before .before .before .before .before .before .hash .ensures)) (c .before .before .before .before .before .before .before .before .before .before .before .before .if1 .left) (holds 16 0 _ _ (numbers-told _ (c .before .before .before .before .before .before .before .before .before .before .before .same-numbers .ensures) (c .before .before .before .before .before .before .before .before .before .before .before .before .before .before .before .before .before .before .before .before .before .before .before .pre .2)) (c .before .before .before .before .before .before .before .before .before .before .if2 .left) (holds 16 0 _ _ (told _ (c .before .before .before .before .before .before .equal2 .ensures) (c .before .before .before .before .before .before .before .before .before .closing-of-ballots .ensures)) (c .before .before .before .before .before .if3 .left) (fails 16 0 _ _ (told _ (c .before .equal3 .ensures) (c .before .before .before .before .claim-digest .ensures)) (c .if4 .taken))))
+returns-4 c = passed-by 16 0 _ _ (told _ (c .before .before .before .before .before .before .before .before .before .before .before .before .before .equal .ensures) (c .before .before .before .before .before .before .before .before .before .before .before .before .before .before .before .before .hash .ensures)) (c .before .before .before .before .before .before .before .before .before .before .before .before .if1 .left) (passed-by 16 0 _ _ (numbers-told _ (c .before .before .before .before .before .before .before .before .before .before .before .same-numbers .ensures) (c .before .before .before .before .before .before .before .before .before .before .before .before .before .before .before .before .before .before .before .before .before .before .before .pre .2)) (c .before .before .before .before .before .before .before .before .before .before .if2 .left) (passed-by 16 0 _ _ (told _ (c .before .before .before .before .before .before .equal2 .ensures) (c .before .before .before .before .before .before .before .before .before .closing-of-ballots .ensures)) (c .before .before .before .before .before .if3 .left) (refused-by 16 0 _ _ (told _ (c .before .equal3 .ensures) (c .before .before .before .before .claim-digest .ensures)) (c .if4 .taken))))
 
 returns-5 : tie.Need-returns-5
 unfolding storedTests
-returns-5 c = holds 16 0 _ _ (told _ (c .before .before .before .before .before .before .before .before .before .before .before .before .before .before .before .before .before .before .equal .ensures) (c .before .before .before .before .before .before .before .before .before .before .before .before .before .before .before .before .before .before .before .before .before .hash .ensures)) (c .before .before .before .before .before .before .before .before .before .before .before .before .before .before .before .before .before .if1 .left) (holds 16 0 _ _ (numbers-told _ (c .before .before .before .before .before .before .before .before .before .before .before .before .before .before .before .before .same-numbers .ensures) (c .before .before .before .before .before .before .before .before .before .before .before .before .before .before .before .before .before .before .before .before .before .before .before .before .before .before .before .before .pre .2)) (c .before .before .before .before .before .before .before .before .before .before .before .before .before .before .before .if2 .left) (holds 16 0 _ _ (told _ (c .before .before .before .before .before .before .before .before .before .before .before .equal2 .ensures) (c .before .before .before .before .before .before .before .before .before .before .before .before .before .before .closing-of-ballots .ensures)) (c .before .before .before .before .before .before .before .before .before .before .if3 .left) (holds 16 0 _ _ (told _ (c .before .before .before .before .before .before .equal3 .ensures) (c .before .before .before .before .before .before .before .before .before .claim-digest .ensures)) (c .before .before .before .before .before .if4 .left) (fails 16 0 _ _ (told _ (c .before .equal4 .ensures) (c .before .before .before .before .round-digest .ensures)) (c .if5 .taken)))))
+returns-5 c = passed-by 16 0 _ _ (told _ (c .before .before .before .before .before .before .before .before .before .before .before .before .before .before .before .before .before .before .equal .ensures) (c .before .before .before .before .before .before .before .before .before .before .before .before .before .before .before .before .before .before .before .before .before .hash .ensures)) (c .before .before .before .before .before .before .before .before .before .before .before .before .before .before .before .before .before .if1 .left) (passed-by 16 0 _ _ (numbers-told _ (c .before .before .before .before .before .before .before .before .before .before .before .before .before .before .before .before .same-numbers .ensures) (c .before .before .before .before .before .before .before .before .before .before .before .before .before .before .before .before .before .before .before .before .before .before .before .before .before .before .before .before .pre .2)) (c .before .before .before .before .before .before .before .before .before .before .before .before .before .before .before .if2 .left) (passed-by 16 0 _ _ (told _ (c .before .before .before .before .before .before .before .before .before .before .before .equal2 .ensures) (c .before .before .before .before .before .before .before .before .before .before .before .before .before .before .closing-of-ballots .ensures)) (c .before .before .before .before .before .before .before .before .before .before .if3 .left) (passed-by 16 0 _ _ (told _ (c .before .before .before .before .before .before .equal3 .ensures) (c .before .before .before .before .before .before .before .before .before .claim-digest .ensures)) (c .before .before .before .before .before .if4 .left) (refused-by 16 0 _ _ (told _ (c .before .equal4 .ensures) (c .before .before .before .before .round-digest .ensures)) (c .if5 .taken)))))
 
 returns-6 : tie.Need-returns-6
 unfolding storedTests
-returns-6 c = holds 16 0 _ _ (told _ (c .before .before .before .before .before .before .before .before .before .before .before .before .before .before .before .before .before .before .equal .ensures) (c .before .before .before .before .before .before .before .before .before .before .before .before .before .before .before .before .before .before .before .before .before .hash .ensures)) (c .before .before .before .before .before .before .before .before .before .before .before .before .before .before .before .before .before .if1 .left) (holds 16 0 _ _ (numbers-told _ (c .before .before .before .before .before .before .before .before .before .before .before .before .before .before .before .before .same-numbers .ensures) (c .before .before .before .before .before .before .before .before .before .before .before .before .before .before .before .before .before .before .before .before .before .before .before .before .before .before .before .before .pre .2)) (c .before .before .before .before .before .before .before .before .before .before .before .before .before .before .before .if2 .left) (holds 16 0 _ _ (told _ (c .before .before .before .before .before .before .before .before .before .before .before .equal2 .ensures) (c .before .before .before .before .before .before .before .before .before .before .before .before .before .before .closing-of-ballots .ensures)) (c .before .before .before .before .before .before .before .before .before .before .if3 .left) (holds 16 0 _ _ (told _ (c .before .before .before .before .before .before .equal3 .ensures) (c .before .before .before .before .before .before .before .before .before .claim-digest .ensures)) (c .before .before .before .before .before .if4 .left) (holds 16 0 _ _ (told _ (c .before .equal4 .ensures) (c .before .before .before .before .round-digest .ensures)) (c .if5 .left) none-left))))
+returns-6 c = passed-by 16 0 _ _ (told _ (c .before .before .before .before .before .before .before .before .before .before .before .before .before .before .before .before .before .before .equal .ensures) (c .before .before .before .before .before .before .before .before .before .before .before .before .before .before .before .before .before .before .before .before .before .hash .ensures)) (c .before .before .before .before .before .before .before .before .before .before .before .before .before .before .before .before .before .if1 .left) (passed-by 16 0 _ _ (numbers-told _ (c .before .before .before .before .before .before .before .before .before .before .before .before .before .before .before .before .same-numbers .ensures) (c .before .before .before .before .before .before .before .before .before .before .before .before .before .before .before .before .before .before .before .before .before .before .before .before .before .before .before .before .pre .2)) (c .before .before .before .before .before .before .before .before .before .before .before .before .before .before .before .if2 .left) (passed-by 16 0 _ _ (told _ (c .before .before .before .before .before .before .before .before .before .before .before .equal2 .ensures) (c .before .before .before .before .before .before .before .before .before .before .before .before .before .before .closing-of-ballots .ensures)) (c .before .before .before .before .before .before .before .before .before .before .if3 .left) (passed-by 16 0 _ _ (told _ (c .before .before .before .before .before .before .equal3 .ensures) (c .before .before .before .before .before .before .before .before .before .claim-digest .ensures)) (c .before .before .before .before .before .if4 .left) (passed-by 16 0 _ _ (told _ (c .before .equal4 .ensures) (c .before .before .before .before .round-digest .ensures)) (c .if5 .left) none-left))))
 
 mul-size : tie.Need-mul-size
 mul-size c = let r = in-range _ (c .before .before .before .before .before .before .before .before .before .before .before .before .before .pre .0) .ring-high in omega (arith, r)

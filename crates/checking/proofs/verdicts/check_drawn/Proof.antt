@@ -2,8 +2,6 @@
 use mathlib.Core.Path.{refl, sym, _∙_}
 use mathlib.Core.List.{[]}
 use borrow.Author.Needs.{needs}
-use Rattle.codec.specs.Reply.{first}
-use Rattle.transcript.specs.Round.{roundTests}
 use Rattle.checker.specs.Orders.{roundOf}
 use Rattle.rounds.specs.Sheets.{given}
 use Rattle.checking.specs.Check.{storedOf, inputsOf}
