@@ -8,6 +8,7 @@ mod ring;
 mod round;
 mod scheme;
 mod scratch;
+mod session;
 mod sha3;
 mod sheet;
 mod sheets;
@@ -24,5 +25,6 @@ fn main() {
     scheme::run(&mut tally);
     stern::run(&mut tally);
     round::run(&mut tally);
+    session::run(&mut tally);
     std::process::exit(tally.finish());
 }

@@ -1,23 +1,23 @@
 //! One round over the C interface, against an independent producer, checker and extractor.
 mod answer_faults;
-mod calls;
-mod check_faults;
-mod checker;
+pub mod calls;
+pub mod check_faults;
+pub mod checker;
 mod damage;
 mod extract_faults;
 mod extractor;
-mod faults;
+pub mod faults;
 mod forged;
-mod lent;
-mod material;
+pub mod lent;
+pub mod material;
 mod opened;
 mod producer;
 mod producer_faults;
 mod refusals;
 mod rounds;
-mod setting;
-mod source;
-mod whole;
+pub mod setting;
+pub mod source;
+pub mod whole;
 
 use crate::random::Random;
 use crate::tally::Tally;

@@ -15,7 +15,7 @@ pub enum Scratch {
 impl Scratch {
     /// What document 01 asks for after a refusal with this number (0: none). Of an empty one nothing can be said, and it counts as kept.
     pub fn after(number: u64, length: usize) -> Scratch {
-        if number == 1 || length == 0 { Scratch::Kept } else { Scratch::Zeroed }
+        if number == 1 || number == 31 || length == 0 { Scratch::Kept } else { Scratch::Zeroed }
     }
 }
 

@@ -2,6 +2,7 @@
 //! the constants from the shift register of 3.2.5, the sponge of section 4 with pad10*1.
 use crate::random::Random;
 use crate::tally::{Comparison, Tally};
+use std::sync::OnceLock;
 
 type Bits = [[[bool; 64]; 5]; 5];
 
@@ -108,18 +109,24 @@ pub fn sha3_256(message: &[u8]) -> [u8; 32] {
     digest
 }
 
+/// By how many places rho moves each lane.
+const OFFSETS: [[u32; 5]; 5] = {
+    let mut offsets = [[0; 5]; 5];
+    let (mut x, mut y, mut t) = (1, 0, 0);
+    while t < 24 {
+        offsets[x][y] = (t + 1) * (t + 2) / 2 % 64;
+        (x, y) = (y, (2 * x + 3 * y) % 5);
+        t += 1;
+    }
+    offsets
+};
+
 /// One round on lanes of 64 bits: bit z of a lane is A[x][y][z].
 fn round_on_lanes(a: &mut [[u64; 5]; 5], constant: u64) {
     let parity: [u64; 5] = std::array::from_fn(|x| a[x].iter().fold(0, |p, lane| p ^ lane));
-    for x in 0..5 {
-        a[x].iter_mut().for_each(|lane| *lane ^= parity[(x + 4) % 5] ^ parity[(x + 1) % 5].rotate_left(1));
-    }
-    let (mut x, mut y) = (1, 0);
-    for t in 0..24 {
-        a[x][y] = a[x][y].rotate_left((t + 1) * (t + 2) / 2 % 64);
-        (x, y) = (y, (2 * x + 3 * y) % 5);
-    }
-    let moved: [[u64; 5]; 5] = std::array::from_fn(|x| std::array::from_fn(|y| a[(x + 3 * y) % 5][x]));
+    let mixed: [u64; 5] = std::array::from_fn(|x| parity[(x + 4) % 5] ^ parity[(x + 1) % 5].rotate_left(1));
+    let turned: [[u64; 5]; 5] = std::array::from_fn(|x| std::array::from_fn(|y| (a[x][y] ^ mixed[x]).rotate_left(OFFSETS[x][y])));
+    let moved: [[u64; 5]; 5] = std::array::from_fn(|x| std::array::from_fn(|y| turned[(x + 3 * y) % 5][x]));
     *a = std::array::from_fn(|x| std::array::from_fn(|y| moved[x][y] ^ !moved[(x + 1) % 5][y] & moved[(x + 2) % 5][y]));
     a[0][0] ^= constant;
 }
@@ -127,8 +134,9 @@ fn round_on_lanes(a: &mut [[u64; 5]; 5], constant: u64) {
 /// The same digest a hundred times as fast, for what is hashed a thousand times: it is tested against the one on single bits.
 pub fn sha3_256_on_lanes(message: &[u8]) -> [u8; 32] {
     const RATE: usize = 136;
+    static CONSTANTS: OnceLock<[u64; 24]> = OnceLock::new();
     let constant = |round: usize| (0..=6).fold(0, |lane, j| lane | u64::from(rc(j + 7 * round)) << ((1 << j) - 1));
-    let constants: [u64; 24] = std::array::from_fn(constant);
+    let constants = *CONSTANTS.get_or_init(|| std::array::from_fn(constant));
     let mut padded = message.to_vec();
     padded.push(6);
     padded.resize(padded.len().next_multiple_of(RATE), 0);

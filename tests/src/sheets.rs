@@ -76,27 +76,33 @@ pub fn noise(n: u64) -> u128 {
     2 * (2 * u128::from(n) + 1) + 1
 }
 
-/// The sheet and its N, D, B, L; or the number of the refusal.
-pub fn read(text: &[u8]) -> Result<(Sheet, [u64; 4]), u64> {
-    if text.is_empty() || text.len() > 262_144 {
-        return Err(1);
-    }
-    let sheet = form(text).ok_or(2_u64)?;
-    let [n, q, d, rounds, repeats] = sheet.numbers;
+/// What the numbers before a are refused for, 3 before 4.
+pub fn judged(numbers: &[u64; 5]) -> Result<(), u64> {
+    let [n, q, d, rounds, repeats] = *numbers;
     let ring = (4..=2048).contains(&n) && n.is_power_of_two();
     let modulus = (3..1 << 56).contains(&q);
     let count = (1..=128).contains(&rounds) && repeats <= 256 && least_repeats(rounds) <= repeats;
     if !(ring && modulus && d <= 40 && count) {
         return Err(3);
     }
-    let power = 1_u128 << d;
-    if (q - 1) % (2 * n) != 0 || (1 + power) * noise(n) >= u128::from((q - 1) / 2) {
+    if (q - 1) % (2 * n) != 0 || (1 + (1_u128 << d)) * noise(n) >= u128::from((q - 1) / 2) {
         return Err(4);
     }
+    Ok(())
+}
+
+/// The sheet and its N, D, B, L; or the number of the refusal.
+pub fn read(text: &[u8]) -> Result<(Sheet, [u64; 4]), u64> {
+    if text.is_empty() || text.len() > 262_144 {
+        return Err(1);
+    }
+    let sheet = form(text).ok_or(2_u64)?;
+    judged(&sheet.numbers)?;
+    let [n, q, d, ..] = sheet.numbers;
     if sheet.lists.iter().any(|l| l.len() as u64 != n || l.iter().any(|x| *x >= q)) {
         return Err(5);
     }
-    Ok((sheet, [n, noise(n) as u64, (power * noise(n) / 4) as u64, 14 * n]))
+    Ok((sheet, [n, noise(n) as u64, ((1_u128 << d) * noise(n) / 4) as u64, 14 * n]))
 }
 
 // ---- sheets

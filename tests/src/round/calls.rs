@@ -5,11 +5,11 @@ use crate::scratch::with_scratch;
 use std::ptr;
 
 /// A slice's first byte, or null where it has none.
-fn first(slice: &[u8]) -> *const u8 {
+pub fn first(slice: &[u8]) -> *const u8 {
     if slice.is_empty() { ptr::null() } else { slice.as_ptr() }
 }
 
-fn first_mut(slice: &mut [u8]) -> *mut u8 {
+pub fn first_mut(slice: &mut [u8]) -> *mut u8 {
     if slice.is_empty() { ptr::null_mut() } else { slice.as_mut_ptr() }
 }
 

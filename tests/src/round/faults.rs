@@ -46,20 +46,9 @@ impl Faults {
 
     /// Sheets that are refused, by each number of the sheet's order.
     pub fn sheets(&mut self, lent: &Lent) {
-        let (right, _) = sheets::read(&lent["sheet"]).unwrap_or_else(|number| panic!("the sheet is refused {number}"));
-        let mut sheet = |number: u64, name: &str, text: Vec<u8>| self.add(SHEET, number, 0, name, move |lent| lent["sheet"] = text.clone());
-        sheet(1, "an empty sheet", Vec::new());
-        sheet(1, "a sheet above 262,144 bytes", vec![b'\n'; 262_145]);
-        sheet(2, "a sheet without its last line feed", right.text().trim_end().into());
-        let mut other = |number: u64, name: &str, change: &dyn Fn(&mut sheets::Sheet)| {
-            let mut changed = right.clone();
-            change(&mut changed);
-            sheet(number, name, changed.text().into_bytes());
-        };
-        other(3, "a sheet of no rounds", &|s| s.numbers[3] = 0);
-        other(4, "a sheet whose 2N does not divide q - 1", &|s| s.numbers[1] += 2);
-        other(5, "a sheet with a coefficient too many", &|s| s.lists[4].push(0));
-        other(5, "a sheet with q for a coefficient", &|s| s.lists[0][0] = s.numbers[1]);
+        for (number, name, text) in refused_sheets(&lent["sheet"]) {
+            self.add(SHEET, number, 0, name, move |lent| lent["sheet"] = text.clone());
+        }
     }
 
     /// Every slice but the sheet a byte longer, a byte shorter and empty; scratch likewise; a ballot too many.
@@ -103,6 +92,25 @@ impl Faults {
             }
         }
     }
+}
+
+/// A sheet with one thing wrong, for each number of the sheet's order: the number, what is wrong, and the text.
+pub fn refused_sheets(text: &[u8]) -> Vec<(u64, &'static str, Vec<u8>)> {
+    let (right, _) = sheets::read(text).unwrap_or_else(|number| panic!("the sheet is refused {number}"));
+    let other = |change: &dyn Fn(&mut sheets::Sheet)| {
+        let mut changed = right.clone();
+        change(&mut changed);
+        changed.text().into_bytes()
+    };
+    vec![
+        (1, "an empty sheet", Vec::new()),
+        (1, "a sheet above 262,144 bytes", vec![b'\n'; 262_145]),
+        (2, "a sheet without its last line feed", right.text().trim_end().into()),
+        (3, "a sheet of no rounds", other(&|s| s.numbers[3] = 0)),
+        (4, "a sheet whose 2N does not divide q - 1", other(&|s| s.numbers[1] += 2)),
+        (5, "a sheet with a coefficient too many", other(&|s| s.lists[4].push(0))),
+        (5, "a sheet with q for a coefficient", other(&|s| s.lists[0][0] = s.numbers[1])),
+    ]
 }
 
 pub fn number(slice: &[u8], at: usize) -> u64 {

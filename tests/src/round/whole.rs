@@ -10,9 +10,9 @@ use crate::scratch::SCRATCH;
 pub struct Whole {
     pub source: Source,
     text: Vec<u8>,
-    head: Vec<u8>,
-    shares: [Vec<u8>; 2],
-    claims: Vec<u8>,
+    pub head: Vec<u8>,
+    pub shares: [Vec<u8>; 2],
+    pub claims: Vec<u8>,
 }
 
 impl Whole {

@@ -1,0 +1,39 @@
+//! The calls of a session over the C interface, against an independent session.
+mod damaged;
+mod election;
+mod faults;
+mod full;
+mod hostile;
+mod image;
+mod images;
+mod library;
+mod lists;
+mod model;
+mod refusals;
+mod steps;
+mod walk;
+mod whole;
+
+use crate::random::Random;
+use crate::scratch::SCRATCH;
+use crate::tally::{Comparison, Tally};
+use image::{IMAGE, REGISTER};
+use steps::Trial;
+
+fn lengths(tally: &mut Tally) {
+    let mut c = Comparison::default();
+    c.same(|| "image, scratch and register".into(), library::lengths(), [IMAGE, SCRATCH, REGISTER].map(|length| length as u64));
+    c.claim(tally, "session: the lengths of image, scratch and register");
+}
+
+pub fn run(tally: &mut Tally) {
+    let mut random = Random(31);
+    let mut trial = Trial::default();
+    lengths(tally);
+    whole::run(tally, &mut trial, &mut random);
+    damaged::run(tally, &mut trial, &mut random);
+    full::run(tally, &mut trial, &mut random);
+    lists::run(tally, &mut trial, &mut random);
+    images::run(tally, &mut trial, &mut random);
+    refusals::run(tally, &mut trial, &mut random);
+}

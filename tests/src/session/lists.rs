@@ -1,0 +1,121 @@
+//! Lists of steps, each given what the last one left or what a host wrote in between: after every step reply, image, register, output and scratch are the same.
+use super::election::small;
+use super::hostile;
+use super::image::{ACCEPTED, IMAGE, REFUSED};
+use super::steps::Trial;
+use super::walk::{Kind, Walk, KINDS};
+use crate::random::Random;
+use crate::tally::Tally;
+use std::collections::BTreeSet;
+
+/// How often in a thousand steps something is other than in an election.
+struct Hostility {
+    /// a step of any kind
+    order: u64,
+    /// a slice or number of the step
+    steps: u64,
+    /// the register, from then on
+    registers: u64,
+    /// image or register, for a step that is not kept
+    asides: u64,
+    /// the image, from then on
+    images: u64,
+}
+
+fn one(random: &mut Random, kinds: &[Kind]) -> Kind {
+    kinds[random.below(kinds.len() as u64) as usize]
+}
+
+fn happens(random: &mut Random, in_a_thousand: u64) -> bool {
+    random.below(1000) < in_a_thousand
+}
+
+/// One step of a list, and what comes before it.
+fn advance(trial: &mut Trial, random: &mut Random, walk: &mut Walk, hostility: &Hostility, what: &str) {
+    if happens(random, hostility.registers) {
+        hostile::register(random, &mut walk.host);
+    }
+    if happens(random, hostility.images) {
+        hostile::image(random, &mut walk.host.image);
+    }
+    let stuck = !walk.session().valid() && random.below(2) == 0;
+    let any = happens(random, hostility.order);
+    let kind = if stuck { Kind::Clear } else { one(random, if any { &KINDS } else { walk.due() }) };
+    let mut step = walk.step(random, kind);
+    if happens(random, hostility.asides) {
+        let mut lent = walk.host.clone();
+        hostile::host(random, &mut lent);
+        trial.step(&mut lent, &step, || format!("{what}, with an image or a register of another's"));
+    }
+    if happens(random, hostility.steps) {
+        hostile::step(random, &mut step);
+    }
+    walk.take(trial, &step, || what.into());
+}
+
+/// A list of 60 steps over an election of its own, from any session. Says in which phases it stood.
+fn list(trial: &mut Trial, random: &mut Random, number: usize, hostility: &Hostility) -> BTreeSet<u8> {
+    let plan = small(random, [4, 4, 8, 16][number % 4]);
+    let mut walk = Walk::new(random, plan);
+    let clear = walk.step(random, Kind::Clear);
+    walk.take(trial, &clear, || format!("list {number}, from any session"));
+    let mut phases = BTreeSet::new();
+    for i in 0..60 {
+        advance(trial, random, &mut walk, hostility, &format!("list {number}, step {i}"));
+        phases.insert(walk.session().phase);
+    }
+    phases
+}
+
+fn lists(trial: &mut Trial, random: &mut Random, count: usize, hostility: &Hostility) -> BTreeSet<u8> {
+    (0..count).flat_map(|number| list(trial, random, number, hostility)).collect()
+}
+
+/// The phases of a list that goes through an election to either end.
+fn ends(trial: &mut Trial, phases: &BTreeSet<u8>) {
+    for phase in 0..=ACCEPTED {
+        trial.comparison.same(|| format!("phase {phase} was reached"), phases.contains(&phase), true);
+    }
+}
+
+fn walks(tally: &mut Tally, trial: &mut Trial, random: &mut Random) {
+    let mut phases = lists(trial, random, 80, &Hostility { order: 0, steps: 0, registers: 0, asides: 0, images: 0 });
+    trial.comparison.same(|| "no honest list is refused".into(), phases.contains(&REFUSED), false);
+    phases.insert(REFUSED);
+    ends(trial, &phases);
+    trial.claim(tally, "session: lists of steps through elections, one step as due after another");
+
+    let phases = lists(trial, random, 160, &Hostility { order: 150, steps: 80, registers: 0, asides: 0, images: 0 });
+    ends(trial, &phases);
+    trial.claim(tally, "session: lists with steps out of turn and steps that are wrong in a slice or a number");
+
+    let phases = lists(trial, random, 160, &Hostility { order: 60, steps: 20, registers: 150, asides: 100, images: 0 });
+    ends(trial, &phases);
+    trial.claim(tally, "session: lists with registers that the host wrote");
+
+    let phases = lists(trial, random, 160, &Hostility { order: 100, steps: 50, registers: 50, asides: 200, images: 60 });
+    trial.comparison.same(|| "a phase that is unknown".into(), phases.iter().any(|phase| *phase > ACCEPTED), true);
+    ends(trial, &phases);
+    trial.claim(tally, "session: lists with images that the host wrote");
+}
+
+/// Images that hold anything, and any with a known phase.
+fn anything(tally: &mut Tally, trial: &mut Trial, random: &mut Random) {
+    let plan = small(random, 4);
+    let mut walk = Walk::drawn(trial, random, plan);
+    for i in 0..300 {
+        let step = walk.step(random, KINDS[i % 10]);
+        let mut lent = walk.host.clone();
+        lent.image = random.bytes(IMAGE);
+        if i % 3 > 0 {
+            lent.image[0] %= 6;
+        }
+        trial.step(&mut lent, &step, || "an image that holds anything".into());
+    }
+    trial.claim(tally, "session: every call with images that hold anything");
+}
+
+pub fn run(tally: &mut Tally, trial: &mut Trial, random: &mut Random) {
+    walks(tally, trial, random);
+    anything(tally, trial, random);
+}
