@@ -68,10 +68,10 @@ pub fn count_standing(reg: &[u8], n: usize) -> usize
 }
 
 // The standing ones of the first n entries in thousandths of the enrolled, half up.
-pub fn turnout(reg: &[u8], n: usize, enrolled: u64) -> u64
+pub fn turnout(reg: &[u8], n: usize, enrolled: u64) -> u32
     requires { ⌜ (40 * n ≤ length (now reg)) × (n ≤ 4096) × (1 ≤ enrolled) × (enrolled ≤ 1000000) ⌝ }
-    ensures { λ r. ⌜ (r ≡ def.turnout (now (reg .entry)) n enrolled) × (r ≤ 4096000) ⌝ }
+    ensures { λ r. ⌜ r ≡ def.turnout (now (reg .entry)) n enrolled ⌝ }
 {
     let count = count_standing(reg, n) as u64;
-    (2000 * count + enrolled) / (2 * enrolled)
+    ((2000 * count + enrolled) / (2 * enrolled)) as u32
 }

@@ -14,12 +14,18 @@ unfolding def.thousandths
 bounded n enrolled h k =
     omega (arith, div-lt-iff-lt-mul {k = 2 * enrolled} {x = 2000 * n + enrolled} {y = 4096001} (omega arith) .1 (omega arith))
 
+cast-result : tie.Need-cast-result
+unfolding def.thousandths
+cast-result c =
+    let b = bounded (c .count-standing .result) (c .before .before .args .enrolled) (omega arith) (omega arith) in
+    omega arith
+
 returns : tie.Need-returns
 unfolding def.turnout def.thousandths
 returns c =
     let a = c .before .before .args in
     let r = c .count-standing in
-    (ap (λ (n : ℕ). def.thousandths n (a .enrolled)) (r .ensures .0), bounded (r .result) (a .enrolled) (omega arith) (omega arith))
+    ap (λ (n : ℕ). def.thousandths n (a .enrolled)) (r .ensures .0)
 
 pub turnout-spec : {M : Type 1} → statement M
-turnout-spec = tie.close (tie.spec (λ c κs. search needs) (λ c. search needs) (λ c. search needs) (λ c. search needs) (λ c. search needs) returns)
+turnout-spec = tie.close (tie.spec (λ c κs. search needs) (λ c. search needs) (λ c. search needs) (λ c. search needs) (λ c. search needs) cast-result returns)
