@@ -6,7 +6,7 @@ use Prim.Native.Nat.{ℕ, _*_}
 use borrow.Author.Tests.{not-false}
 use lib.ListN.{length}
 use Rattle.codec.specs.Bytes.{Bytes, same}
-use Rattle.codec.specs.Reply.{Test, test, first}
+use Rattle.codec.specs.Reply.{Test, test, first, None}
 use Rattle.codec.specs.declared.Reply.{Reply}
 use Rattle.codec.specs.declared.Reply.the-variants.{Taken, Refused}
 use Rattle.codec.proofs.Laws.{both}
@@ -46,19 +46,22 @@ pub numbers-told : (m : Numbers) {k n : Numbers} {x : Bool} → x ≡ sameNumber
 numbers-told m f g = f ∙ ap (λ (n : Numbers). sameNumbers n m) (sym g)
 
 -- the lengths are right: that of the ballots
-pub ballots-sized : (k : Numbers) (m : ℕ) (challenges : Bytes) (x : Inputs) → lentSized k m challenges x ≡ true → length (x .ballots) ≡ ballotLength (k .ring) * m
-ballots-sized k m challenges x e =
-    let h = both (messageSized (k .ring) (k .repeats) m (x .head) (x .shares0) (x .shares1) (x .ballots) (x .claims)) (secondSized (k .ring) (k .repeats) challenges (x .opening) (x .answers) (x .scratch)) e in
+pub ballots-sized : (k : Numbers) (m : ℕ) (challenges : Bytes) (x : Inputs) {b : Bool} → b ≡ lentSized k m challenges x → not b ≡ false → length (x .ballots) ≡ ballotLength (k .ring) * m
+ballots-sized k m challenges x {b} e f =
+    let h = both (messageSized (k .ring) (k .repeats) m (x .head) (x .shares0) (x .shares1) (x .ballots) (x .claims)) (secondSized (k .ring) (k .repeats) challenges (x .opening) (x .answers) (x .scratch)) (sym e ∙ not-false b f) in
     message-sizes (k .ring) (k .repeats) m (x .head) (x .shares0) (x .shares1) (x .ballots) (x .claims) (h .0) .3
 
 -- none of the tests holds: the sheet's numbers are the session's, and the lengths are those of a round with them
-module _ (s : Stored) (challenges : Bytes) (x : Inputs) {k : Numbers} (read : sheetOf (x .sheet) .numbers ≡ k) (taken : first (lentTests s challenges x) ≡ Taken) where
+module _ (s : Stored) (challenges : Bytes) (x : Inputs) {k : Numbers} (read : sheetOf (x .sheet) .numbers ≡ k) {r : Reply} (said : r ≡ first (lentTests s challenges x)) (taken : r ≡ Taken) where
+  none : None (lentTests s challenges x)
+  none = taken-exactly (lentTests s challenges x) .0 (sym said ∙ taken)
+
   numbers-are : s .numbers ≡ k
   unfolding storedTests
-  numbers-are = sym (same-numbers (sheetOf (x .sheet) .numbers) (s .numbers) .0 (not-false _ (taken-exactly (lentTests s challenges x) .0 taken .1 .1 .0))) ∙ read
+  numbers-are = sym (same-numbers (sheetOf (x .sheet) .numbers) (s .numbers) .0 (not-false _ (none .1 .1 .0))) ∙ read
 
   sized : lentSized k (s .closed) challenges x ≡ true
-  sized = subst (λ (n : Numbers). lentSized n (s .closed) challenges x ≡ true) numbers-are (not-false _ (taken-exactly (lentTests s challenges x) .0 taken .0))
+  sized = subst (λ (n : Numbers). lentSized n (s .closed) challenges x ≡ true) numbers-are (not-false _ (none .0))
 
   pub round-lengths : (public : Bytes) (side : ℕ)
       → Lengths (given 2 k public) (s .closed) (roundOf side challenges (x .ballots) (x .claims) (x .head) (x .shares0) (x .shares1) (x .opening) (x .answers)) × (length (x .scratch) ≡ scratchLength)

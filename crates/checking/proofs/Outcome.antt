@@ -31,8 +31,8 @@ use Rattle.checking.specs.Parts.{Loaded, lentTests}
 
 -- ---- from the two replies
 
-pub stopped : (late : Reply) {early : Reply} {number place : ℕ} → early ≡ reply.Refused number place → Stopped number place ≡ verdict early late
-stopped late e = sym (ap (λ (r : Reply). verdict r late) e)
+pub stopped : (late : Reply) {early r : Reply} {number place : ℕ} → r ≡ early → r ≡ reply.Refused number place → Stopped number place ≡ verdict early late
+stopped late e f = sym (ap (λ (r : Reply). verdict r late) (sym e ∙ f))
 
 -- the reply of a round that was looked at is that of the verdict
 reply-late : (r : Reply) → replyOf (verdict reply.Taken r) ≡ r
@@ -40,8 +40,8 @@ reply-late reply.Taken = refl
 reply-late (reply.Refused number place) = refl
 
 module _ (P : Parameters) (m : ℕ) (r : Round) {v : Verdict} {late : Reply} (is : v ≡ verdict reply.Taken late) (said : late ≡ first (roundTests P m r)) where
-  pub judged : {early : Reply} → early ≡ reply.Taken → v ≡ verdict early (first (roundTests P m r))
-  judged e = is ∙ ap₂ verdict (sym e) said
+  pub judged : {early said : Reply} → said ≡ early → said ≡ reply.Taken → v ≡ verdict early (first (roundTests P m r))
+  judged e f = is ∙ ap₂ verdict (sym f ∙ e) said
 
   -- and scratch, which the round was lent, is zeroed
   pub judged-swept : (w w' : Bytes) → length w' ≡ length w → swept (replyOf v) w' ≡ swept (replyOf v) w
@@ -97,4 +97,4 @@ module _ (s : Stored) (x : Inputs) where
 
   pub checked-refused : {read : Reading} {i : ℕ} {w'' : Bytes} → read ≡ reading 2 (x .sheet) → read ≡ Refused i → w'' ≡ swept (reply.Refused i 0) (x .scratch) → Checked (Stopped i 0) w''
   unfolding earlyTests lateTests
-  checked-refused f e z = (stopped (first (lateTests s 2 x)) (sym (refused-over 2 (x .sheet) (test 1 0 (not (inputsSized s x)) ∷ storedTests s x) f e)), z)
+  checked-refused f e z = (stopped (first (lateTests s 2 x)) (refused-over 2 (x .sheet) (test 1 0 (not (inputsSized s x)) ∷ storedTests s x) f e) refl, z)

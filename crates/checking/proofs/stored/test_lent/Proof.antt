@@ -1,8 +1,6 @@
 -- `stored::test_lent` meets its contract. Assumes nothing.
-use mathlib.Core.Path.{sym, _∙_}
 use mathlib.Core.List.{[]}
 use borrow.Author.Needs.{needs}
-use borrow.Author.Tests.{not-false}
 use Rattle.checking.specs.Check.{inputsOf, storedTests}
 use Rattle.checking.proofs.Held.{refused-by, passed-by, ballots-sized}
 use Rattle.checking.proofs.stored.test_lent.Statement.{statement}
@@ -17,7 +15,7 @@ test-stored-requires c κs =
     let p = c .before .before .before .before .before .before .before .before .before .before .before .before .pre in
     let t = c .before .inputs-sized in
     let x = inputsOf [] (a .ballots .now) (a .claims .now) (a .head .now) (a .shares0 .now) (a .shares1 .now) (a .opening .now) (a .answers .now) (a .scratch .now) in
-    (p .0, p .1, p .2, ballots-sized (a .numbers) (a .closed) (a .challenges .now) x (sym (t .ensures) ∙ not-false (t .result) (c .if1 .left)))
+    (p .0, p .1, p .2, ballots-sized (a .numbers) (a .closed) (a .challenges .now) x (t .ensures) (c .if1 .left))
 
 returns-2 : tie.Need-returns-2
 unfolding storedTests

@@ -38,7 +38,7 @@ add-size : tie.Need-add-size
 add-size c = let r = in-range _ (c .before .before .before .before .before .before .before .before .before .before .before .before .before .pre .0) .ring-high in omega (arith, r)
 
 closing-of-ballots-requires : tie.Need-closing-of-ballots-requires
-closing-of-ballots-requires c κs = let p = c .before .before .before .before .before .before .before .before .before .before .before .before .before .pre in let r = in-range _ (p .0) .ring-high in (omega (arith, p .3), omega (arith, r), p .1)
+closing-of-ballots-requires c κs = let p = c .before .before .before .before .before .before .before .before .before .before .before .before .before .pre in let r = in-range _ (p .0) .ring-high in (omega (arith, p .3), omega (arith, r), omega (arith, p .1))
 
 pub test-stored-spec : {M : Type 1} → statement M
 test-stored-spec = tie.close (tie.spec (λ c κs. search needs) (λ c. search needs) (λ c κs. search needs) returns (λ c κs. search needs) returns-2 mul-size add-size closing-of-ballots-requires (λ c. search needs) (λ c κs. search needs) returns-3 (λ c κs. search needs) (λ c. search needs) (λ c κs. search needs) returns-4 (λ c κs. search needs) (λ c. search needs) (λ c κs. search needs) returns-5 returns-6)

@@ -1,5 +1,5 @@
 -- `verdicts::check_drawn` meets its contract. Assumes nothing.
-use mathlib.Core.Path.{refl, sym, _∙_}
+use mathlib.Core.Path.{refl}
 use mathlib.Core.List.{[]}
 use borrow.Author.Needs.{needs}
 use Rattle.checker.specs.Orders.{roundOf}
@@ -16,11 +16,11 @@ test-round-requires c κs =
     let p = c .before .before .before .before .before .before .before .before .before .before .before .before .before .before .before .before .pre in
     let s = storedOf (a .numbers) (a .closed) (a .digest .now) (a .closing .now) (a .claim .now) (a .message .now) [] (a .round) in
     let x = inputsOf (a .sheet .now) (a .ballots .now) (a .claims .now) (a .head .now) (a .shares0 .now) (a .shares1 .now) (a .opening .now) (a .answers .now) (a .scratch .now) in
-    let l = round-lengths s (a .challenges .now) x (p .2) (sym (c .before .before .before .test-lent .ensures) ∙ c .before .enum-told .given .1) (a .public .now) (a .side) in
+    let l = round-lengths s (a .challenges .now) x (p .2) (c .before .before .before .test-lent .ensures) (c .before .enum-told .given .1) (a .public .now) (a .side) in
     (p .3, p .1, l .1, l .0)
 
 returns : tie.Need-returns
-returns c = (stopped _ (sym (c .before .before .before .test-lent .ensures) ∙ c .before .early .given .1), refl)
+returns c = (stopped _ (c .before .before .before .test-lent .ensures) (c .before .early .given .1), refl)
 
 returns-2 : tie.Need-returns-2
 returns-2 c =
@@ -29,7 +29,7 @@ returns-2 c =
     let r = roundOf (a .side) (a .challenges .now) (a .ballots .now) (a .claims .now) (a .head .now) (a .shares0 .now) (a .shares1 .now) (a .opening .now) (a .answers .now) in
     let e = c .before .before .before .test-round .ensures in
     let v = c .verdict-of .ensures in
-    (judged P (a .closed) r v (e .0) (sym (c .before .before .before .before .before .before .before .test-lent .ensures) ∙ c .before .before .before .before .before .enum-told .given .1), judged-swept P (a .closed) r v (e .0) (a .scratch .now) _ (e .1))
+    (judged P (a .closed) r v (e .0) (c .before .before .before .before .before .before .before .test-lent .ensures) (c .before .before .before .before .before .enum-told .given .1), judged-swept P (a .closed) r v (e .0) (a .scratch .now) _ (e .1))
 
 pub check-drawn-spec : {M : Type 1} → statement M
 check-drawn-spec = tie.close (tie.spec (λ c κs. search needs) (λ c. search needs) (λ c. search needs) test-round-requires (λ c κs. search needs) (λ c. search needs) returns (λ c. search needs) returns-2)
