@@ -167,13 +167,14 @@ impl Faults {
         faults
     }
 
-    pub fn claim(length: usize) -> Faults {
+    pub fn claim() -> Faults {
         let mut faults = Faults::default();
         faults.image();
         faults.state(&[1]);
         faults.slices(1);
-        for (at, claim) in [(0, 2), (length - 1, 255), (length / 2, 128)] {
-            faults.add(AFTER, 5, &format!("claim {claim} at byte {at}"), move |case| slice(case, 0)[at] = claim);
+        for claim in [2, 128, 255] {
+            faults.add(AFTER, 5, &format!("a first claim {claim}"), move |case| slice(case, 0).iter_mut().take(1).for_each(|byte| *byte = claim));
+            faults.add(AFTER, 5, &format!("a last claim {claim}"), move |case| slice(case, 0).iter_mut().rev().take(1).for_each(|byte| *byte = claim));
         }
         faults
     }

@@ -71,7 +71,7 @@ fn before_draw(trial: &mut Trial, random: &mut Random, n: usize) {
     all(trial, random, &case(&walk, Step::Close), &Faults::close());
     walk.go(trial, random, Kind::Close);
     let claim = walk.step(random, Kind::Claim);
-    all(trial, random, &case(&walk, claim), &Faults::claim(2 * n));
+    all(trial, random, &case(&walk, claim), &Faults::claim());
     walk.go(trial, random, Kind::Claim);
     for round in 0..2 {
         all(trial, random, &case(&walk, walk.commit(round)), &Faults::commit(round));
