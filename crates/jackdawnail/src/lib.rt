@@ -1,5 +1,6 @@
 // The calls of the C interface, include/jackdawnail.h: no call asks anything of its caller, and each contract gives the reply and every lent byte.
 pub mod round;
+pub mod steps;
 
 ghost use mathlib.Core.Path.{_≡_};
 ghost use Rattle.codec.specs.Reply.{packed, leaves};

@@ -8,6 +8,7 @@ use lib.ListN.{length, drop}
 use Rattle.codec.specs.Bytes.{Bytes, put, zeros, same}
 use Rattle.codec.specs.Reply.{Test, test, first, leaves}
 use Rattle.codec.specs.declared.Reply.{Reply}
+use Rattle.codec.specs.declared.Reply.the-variants as reply
 use Rattle.sha3.specs.Sponge.{sha3}
 use Rattle.ring.specs.Slots.{allBelow}
 use Rattle.sheet.specs.Reader.{sheetOf}
@@ -19,6 +20,8 @@ use Rattle.digests.specs.Digests.{closingDigest, claimDigest, roundDigest}
 use Rattle.drawing.specs.Draw.{drawnSide, drawnChallenges}
 use Rattle.checking.specs.Check.{Stored, Inputs, earlyTests, lateTests}
 use Rattle.session.specs.declared.Session.{Session}
+use Rattle.session.specs.declared.Turnout.{Turnout}
+use Rattle.session.specs.declared.Turnout.the-variants.{Counted, Refused}
 use Rattle.session.specs.Session.{gathering, closed, claimed, drawn, ended-refused, ended-accepted, valid, trailAt, changed}
 
 -- 31: not valid, or not due
@@ -183,3 +186,12 @@ turnoutTests p s reg enrolled =
     ∷ test 1 0 (not (eqb (length reg) registerLength))
     ∷ test 3 0 (ltb enrolled 1 || ltb 1000000 enrolled)
     ∷ []
+
+-- the reply of its tests
+unfoldable pub turnoutReply : (p : ℕ) → Session → (reg : Bytes) (enrolled : ℕ) → Reply
+turnoutReply p s reg enrolled = first (turnoutTests p s reg enrolled)
+
+-- what turnout answers, by the reply of its tests and the thousandths where they are taken; a refusal of turnout has no place
+abbrev pub turnoutBy : Reply → (thousandths : ℕ) → Turnout
+turnoutBy reply.Taken thousandths = Counted thousandths
+turnoutBy (reply.Refused number place) thousandths = Refused number

@@ -1,7 +1,7 @@
 -- The steps of a session over its lent image (document 01, "Register and session"): their replies and what they leave, for the plaintext modulus p. An image of another length
 -- is refused 1 before all else. Assumes nothing.
 use mathlib.Core.Bool.{cond}
-use Prim.Native.Nat.{ℕ}
+use Prim.Native.Nat.{ℕ, _*_}
 use lib.Dec.{eqb}
 use lib.ListN.{length}
 use Rattle.codec.specs.Bytes.{Bytes}
@@ -11,12 +11,20 @@ use Rattle.codec.specs.declared.Reply.the-variants.{Refused}
 use Rattle.register.specs.Register as entries
 use Rattle.checking.specs.Check.{Inputs}
 use Rattle.session.specs.declared.Session.{Session}
-use Rattle.session.specs.Steps.{clearTests, cleared, admitTests, admittedBy, withdrawTests, closeTests, closedBy, claimTests, claimedBy, commitTests, committedBy, drawTests, drawnBy, checkTests, checkedBy, challengesTests, challengesOut, turnoutTests}
+use Rattle.session.specs.declared.Turnout.{Turnout}
+use Rattle.session.specs.declared.Turnout.the-variants as turnout
+use Rattle.session.specs.declared.Turnout.the-variants.{Counted}
+use Rattle.session.specs.Steps.{clearTests, cleared, admitTests, admittedBy, withdrawTests, closeTests, closedBy, claimTests, claimedBy, commitTests, committedBy, drawTests, drawnBy, checkTests, checkedBy, challengesTests, challengesOut, turnoutTests, turnoutBy}
 use Rattle.image.specs.Image.{imageLength, encode, decode}
 
 -- the reply of a call that is lent an image
 abbrev pub lentReply : (image : Bytes) → (Session → Reply) → Reply
 lentReply image step = cond (eqb (length image) imageLength) (step (decode image)) (Refused 1 0)
+
+-- the number for the C host of a turnout: the thousandths are the value
+abbrev pub countedAnswer : Turnout → ℕ
+countedAnswer (Counted thousandths) = 256 * thousandths
+countedAnswer (turnout.Refused number) = number
 
 -- the image after a step that leaves this session if it is taken, and else everything
 abbrev pub imageLeft : Reply → (image : Bytes) → Session → Bytes

@@ -9,7 +9,7 @@ ghost use Rattle.checking.specs.Check.{inputsOf};
 ghost use Rattle.register.specs.Register as entries;
 ghost use Rattle.session.specs.Steps.{challengesOut, turnoutBy};
 ghost use Rattle.image.specs.Image.{decode};
-ghost use Rattle.session_calls.specs.Images.{checkReply, checkImage, challengesReply, turnoutReply};
+ghost use Rattle.session_calls.specs.Images.{checkReply, checkImage, challengesReply, turnoutReply, countedAnswer};
 
 // Checks a round.
 pub fn check(
@@ -34,7 +34,16 @@ pub fn check(
     }
     let session = image::load(image);
     let stepped = session.check(
-        sheet, ballots, claims, round, head, shares0, shares1, opening, answers, scratch,
+        sheet,
+        ballots,
+        claims,
+        round,
+        head,
+        shares0,
+        shares1,
+        opening,
+        answers,
+        scratch,
     );
     let left = stepped.session;
     image::store(left, image);
@@ -62,4 +71,14 @@ pub fn turnout(image: &[u8], reg: &[u8], enrolled: u64) -> Turnout
     }
     let session = image::load(image);
     session.turnout(reg, enrolled)
+}
+
+// The answer as the one number that the C host is answered.
+pub fn pack(answer: Turnout) -> u64
+    ensures { λ r. ⌜ r ≡ countedAnswer answer ⌝ }
+{
+    match answer {
+        Turnout::Counted(thousandths) => 256 * (thousandths as u64),
+        Turnout::Refused { number } => number as u64,
+    }
 }

@@ -82,7 +82,13 @@ pub extern "C" fn jdn_claim(image: &mut [u8], claims: &[u8]) -> u64
 
 // Commits the first message of a round.
 #[no_mangle]
-pub extern "C" fn jdn_commit(image: &mut [u8], round: u64, head: &[u8], shares0: &[u8], shares1: &[u8]) -> u64
+pub extern "C" fn jdn_commit(
+    image: &mut [u8],
+    round: u64,
+    head: &[u8],
+    shares0: &[u8],
+    shares1: &[u8],
+) -> u64
     ensures reply { λ answer. ⌜ answer ≡ packed (commitReply 2 (now (image .entry)) round (now (head .entry)) (now (shares0 .entry)) (now (shares1 .entry))) ⌝ }
     ensures image { λ _. ⌜ now (image .exit) ≡ imageLeft (commitReply 2 (now (image .entry)) round (now (head .entry)) (now (shares0 .entry)) (now (shares1 .entry))) (now (image .entry)) (committedBy (decode (now (image .entry))) round (now (head .entry)) (now (shares0 .entry)) (now (shares1 .entry))) ⌝ }
 {
@@ -118,7 +124,17 @@ pub extern "C" fn jdn_check(
     ensures swept { λ _. ⌜ now (scratch .exit) ≡ swept (checkReply 2 (now (image .entry)) round (inputsOf (now (sheet .entry)) (now (ballots .entry)) (now (claims .entry)) (now (head .entry)) (now (shares0 .entry)) (now (shares1 .entry)) (now (opening .entry)) (now (answers .entry)) (now (scratch .entry)))) (now (scratch .entry)) ⌝ }
 {
     codec::pack(session_calls::checks::check(
-        image, sheet, ballots, claims, round, head, shares0, shares1, opening, answers, scratch,
+        image,
+        sheet,
+        ballots,
+        claims,
+        round,
+        head,
+        shares0,
+        shares1,
+        opening,
+        answers,
+        scratch,
     ))
 }
 

@@ -1,0 +1,119 @@
+-- The orders of check and challenges, what a verdict comes to, and the bytes that challenges writes. Assumes nothing.
+use mathlib.Core.Path.{_≡_, refl, sym, ap, _∙_}
+use mathlib.Core.Logic.{_≢_}
+use mathlib.Core.Bool.{Bool, true, false, _&&_, and-false}
+use mathlib.Core.List.{List, [], _∷_, _++_, append-nil}
+use Prim.Native.Nat.{ℕ, _+_, _-_, _≤_, _<_}
+use native.Mathlib.Omega.{arith}
+use lib.Dec.{eqb, leb, ltb}
+use lib.ListN.{length, take, drop, set, length-take, length-drop, length-set, drop-of-length-le}
+use borrow.Author.Tests.{eq-eqb, ne-eqb, lt-ltb, le-ltb, le-leb, lt-leb}
+use Rattle.codec.specs.Bytes.{Bytes}
+use Rattle.codec.specs.Reply.{Test, first, leaves}
+use Rattle.codec.specs.declared.Reply.{Reply}
+use Rattle.codec.specs.declared.Reply.the-variants.{Taken, Refused}
+use Rattle.call.specs.Call.{swept}
+use Rattle.checking.specs.Check.{Inputs, earlyTests, lateTests, verdict, replyOf}
+use Rattle.checking.specs.declared.Verdict.{Verdict}
+use Rattle.session.specs.Parts.{judgedBy}
+use Rattle.session.specs.Session.{drawn, valid}
+use Rattle.session.specs.Steps.{storedFor, checkEarly, checkLate, checkTests, checkedBy, acceptedBy, refusedBy, challengesTests}
+use Rattle.session.specs.declared.Session.{Session}
+use Rattle.session.specs.declared.Stepped.{Stepped}
+use Rattle.session.proofs.Stepping.{wrong-phase, wrong-turn, due}
+
+-- ---- a verdict
+
+-- its reply is that of the two orders, one after the other
+pub verdict-first : (early late : List Test) → replyOf (verdict (first early) (first late)) ≡ first (early ++ late)
+unfolding first
+verdict-first [] late = alone (first late)
+  where
+    alone : (r : Reply) → replyOf (verdict Taken r) ≡ r
+    alone Taken = refl
+    alone (Refused n p) = refl
+verdict-first (t ∷ early) late = go (t .holds) refl (verdict-first early late)
+  where
+    go : (b : Bool) → t .holds ≡ b → replyOf (verdict (first early) (first late)) ≡ first (early ++ late) → replyOf (verdict (first (t ∷ early)) (first late)) ≡ first ((t ∷ early) ++ late)
+    go true e rest = rw e
+    go false e rest = rw e rest
+
+-- and what it leaves of the session
+verdict-leaves : (early late : Reply) (s : Session) → judgedBy (verdict early late) s ≡ leaves early (leaves late (acceptedBy s) (refusedBy s)) s
+unfolding leaves
+verdict-leaves (Refused n p) late s = refl
+verdict-leaves Taken (Refused n p) s = refl
+verdict-leaves Taken Taken s = refl
+
+-- ---- check
+
+module _ (p : ℕ) (s : Session) (round : ℕ) (x : Inputs) where
+  abbrev turn : Bool
+  turn = eqb round (s .checked) && ltb round (s .numbers .rounds)
+
+  -- what a check promises, of what it hands back and of scratch
+  abbrev pub Promised : Stepped → Bytes → Type 0
+  Promised r scratch = (r .reply ≡ first (checkTests p s round x)) × ((r .session ≡ checkedBy p s round x) × (scratch ≡ swept (first (checkTests p s round x)) (x .scratch)))
+
+  -- 31: nothing is touched
+  undue : {r : Stepped} → (valid p s && (eqb (s .phase) drawn && turn)) ≡ false → (r .session ≡ s) × (r .reply ≡ Refused 31 0) → Promised r (x .scratch)
+  unfolding checkTests checkEarly checkedBy first leaves swept
+  undue e h = (rw e (h .1), (rw e (h .0), rw e))
+
+  pub check-phase : {r : Stepped} → (valid p s && eqb (s .phase) drawn) ≡ false → (r .session ≡ s) × (r .reply ≡ Refused 31 0) → Promised r (x .scratch)
+  check-phase e h = undue (wrong-phase (valid p s) (eqb (s .phase) drawn) turn e) h
+
+  pub check-other : {r : Stepped} → round ≢ s .checked → (r .session ≡ s) × (r .reply ≡ Refused 31 0) → Promised r (x .scratch)
+  check-other e h = undue (wrong-turn (valid p s) (eqb (s .phase) drawn) turn (rw (ne-eqb round (s .checked) e))) h
+
+  pub check-past : {r : Stepped} → s .numbers .rounds ≤ round → (r .session ≡ s) × (r .reply ≡ Refused 31 0) → Promised r (x .scratch)
+  check-past e h = undue (wrong-turn (valid p s) (eqb (s .phase) drawn) turn (rw (le-ltb round (s .numbers .rounds) e, and-false (eqb round (s .checked))))) h
+
+  -- the round is due, and the verdict decides
+  module _ (i : (valid p s && eqb (s .phase) drawn) ≡ true) (e : round ≡ s .checked) (h : round < s .numbers .rounds) where
+    on : first (checkEarly p s round x) ≡ first (earlyTests (storedFor s round) p x)
+    unfolding checkEarly first
+    on = rw (due (valid p s) (eqb (s .phase) drawn) turn i (rw (eq-eqb round (s .checked) e, lt-ltb round (s .numbers .rounds) h)))
+
+    pub check-judged : {r : Stepped} {v : Verdict} {scratch : Bytes} → v ≡ verdict (first (earlyTests (storedFor s round) p x)) (first (lateTests (storedFor s round) p x))
+        → (r .reply ≡ replyOf v) × (r .session ≡ judgedBy v s) → scratch ≡ swept (replyOf v) (x .scratch) → Promised r scratch
+    unfolding checkTests checkLate checkedBy
+    check-judged {r} {v} f g w =
+        let d : v ≡ verdict (first (checkEarly p s round x)) (first (checkLate p s round x)) = f ∙ ap (λ (y : Reply). verdict y (first (checkLate p s round x))) (sym on) in
+        let said : replyOf v ≡ first (checkTests p s round x) = ap replyOf d ∙ verdict-first (checkEarly p s round x) (checkLate p s round x) in
+        (g .0 ∙ said, (g .1 ∙ ap (λ (y : Verdict). judgedBy y s) d ∙ verdict-leaves (first (checkEarly p s round x)) (first (checkLate p s round x)) s, w ∙ ap (λ (y : Reply). swept y (x .scratch)) said))
+
+-- ---- challenges
+
+module _ (p : ℕ) (s : Session) (round : ℕ) (out : Bytes) where
+  pub challenges-invalid : valid p s ≡ false → first (challengesTests p s round out) ≡ Refused 31 0
+  unfolding challengesTests first
+  challenges-invalid e = rw e
+
+  pub challenges-early : s .phase < drawn → first (challengesTests p s round out) ≡ Refused 31 0
+  unfolding challengesTests first
+  challenges-early e = rw (lt-leb drawn (s .phase) e, and-false (valid p s))
+
+  pub challenges-past : s .numbers .rounds ≤ round → first (challengesTests p s round out) ≡ Refused 31 0
+  unfolding challengesTests first
+  challenges-past e = rw (wrong-turn (valid p s) (leb drawn (s .phase)) (ltb round (s .numbers .rounds)) (le-ltb round (s .numbers .rounds) e))
+
+  module _ (e : valid p s ≡ true) (h : drawn ≤ s .phase) (l : round < s .numbers .rounds) where
+    pub challenges-length : length out ≢ 1 + s .numbers .repeats → first (challengesTests p s round out) ≡ Refused 1 0
+    unfolding challengesTests first
+    challenges-length n = rw (e, le-leb drawn (s .phase) h, lt-ltb round (s .numbers .rounds) l, ne-eqb (length out) (1 + s .numbers .repeats) n)
+
+    pub challenges-taken : length out ≡ 1 + s .numbers .repeats → first (challengesTests p s round out) ≡ Taken
+    unfolding challengesTests first
+    challenges-taken n = rw (e, le-leb drawn (s .phase) h, lt-ltb round (s .numbers .rounds) l, eq-eqb (length out) (1 + s .numbers .repeats) n)
+
+-- a byte, and the rest behind it
+pub laid : (out : Bytes) (side n : ℕ) (rest : Bytes) → length out ≡ 1 + n
+    → take 1 (set out 0 side) ++ (rest ++ drop (length (set out 0 side) - 1) (drop 1 (set out 0 side))) ≡ side ∷ rest
+laid [] side n rest e = absurd (omega arith)
+laid (b ∷ out) side n rest e =
+    ap (λ (t : Bytes). side ∷ (rest ++ t)) (drop-of-length-le out {i = length (side ∷ out) - 1} (omega arith)) ∙ ap (λ (t : Bytes). side ∷ t) (append-nil rest)
+
+-- the room for the rest
+pub room : (out : Bytes) (side n : ℕ) → length out ≡ 1 + n → length (take (length (set out 0 side) - 1) (drop 1 (set out 0 side))) ≡ n
+room out side n e = simp (length-take, length-drop, length-set) (omega arith)

@@ -1,0 +1,5 @@
+pub mod Validity
+pub mod Stepping
+pub mod GatheringTests
+pub mod CountingTests
+pub mod CheckTests

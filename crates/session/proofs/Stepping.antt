@@ -1,0 +1,62 @@
+-- What a step answers and leaves, by its tests. Assumes nothing.
+use mathlib.Core.Path.{_≡_, sym, _∙_}
+use mathlib.Core.Bool.{Bool, true, false, _&&_, and-assoc, and-false}
+use mathlib.Core.List.{List}
+use Prim.Native.Nat.{ℕ}
+use Rattle.codec.specs.Bytes.{Bytes}
+use Rattle.codec.specs.Reply.{Test, first, leaves}
+use Rattle.codec.specs.declared.Reply.the-variants.{Taken, Refused}
+use Rattle.session.specs.declared.Session.{Session}
+use Rattle.session.specs.declared.Stepped.{Stepped}
+
+-- ---- the test of 31: valid, in the phase, and one thing more
+
+module _ (valid phase more : Bool) where
+  pub wrong-phase : (valid && phase) ≡ false → (valid && (phase && more)) ≡ false
+  wrong-phase e = sym (and-assoc valid phase more) ∙ rw e
+
+  pub wrong-turn : more ≡ false → (valid && (phase && more)) ≡ false
+  wrong-turn e = rw (e, and-false phase, and-false valid)
+
+  pub due : (valid && phase) ≡ true → more ≡ true → (valid && (phase && more)) ≡ true
+  due e f = sym (and-assoc valid phase more) ∙ rw (e, f)
+
+-- ---- what a step leaves
+
+module _ (ts : List Test) (next s : Session) where
+  -- a step that is refused leaves the session
+  pub stays : {n : ℕ} {r : Stepped} → first ts ≡ Refused n 0 → (r .session ≡ s) × (r .reply ≡ Refused n 0) → (r .reply ≡ first ts) × (r .session ≡ leaves (first ts) next s)
+  unfolding leaves
+  stays e h = (h .1 ∙ sym e, rw e (h .0))
+
+  -- a step that is taken
+  pub moves : {r : Session} → first ts ≡ Taken → r ≡ next → (Taken ≡ first ts) × (r ≡ leaves (first ts) next s)
+  unfolding leaves
+  moves e h = (sym e, rw e h)
+
+  -- the same with lent bytes
+  module _ (written kept : Bytes) where
+    pub stays-with : {n : ℕ} {r : Stepped} → first ts ≡ Refused n 0 → (r .session ≡ s) × (r .reply ≡ Refused n 0)
+        → (r .reply ≡ first ts) × ((r .session ≡ leaves (first ts) next s) × (kept ≡ leaves (first ts) written kept))
+    unfolding leaves
+    stays-with e h = (h .1 ∙ sym e, (rw e (h .0), rw e))
+
+    pub moves-with : {r : Session} {x : Bytes} → first ts ≡ Taken → r ≡ next → x ≡ written → (Taken ≡ first ts) × ((r ≡ leaves (first ts) next s) × (x ≡ leaves (first ts) written kept))
+    unfolding leaves
+    moves-with e h g = (sym e, (rw e h, rw e g))
+
+-- a step that leaves the session in any case
+pub keeps-with : (ts : List Test) (s : Session) (written kept : Bytes) {n : ℕ} {r : Stepped} → first ts ≡ Refused n 0 → (r .session ≡ s) × (r .reply ≡ Refused n 0)
+    → (r .reply ≡ first ts) × ((r .session ≡ s) × (kept ≡ leaves (first ts) written kept))
+unfolding leaves
+keeps-with ts s written kept e h = (h .1 ∙ sym e, (h .0, rw e))
+
+-- a call that leaves lent bytes only
+module _ (ts : List Test) (written kept : Bytes) where
+  pub silent : {n : ℕ} → first ts ≡ Refused n 0 → (Refused n 0 ≡ first ts) × (kept ≡ leaves (first ts) written kept)
+  unfolding leaves
+  silent e = (sym e, rw e)
+
+  pub writes : {x : Bytes} → first ts ≡ Taken → x ≡ written → (Taken ≡ first ts) × (x ≡ leaves (first ts) written kept)
+  unfolding leaves
+  writes e h = (sym e, rw e h)

@@ -1,0 +1,117 @@
+// The steps of the count: claim, commit, draw.
+use crate::Session;
+use crate::Stepped;
+use crate::trail;
+use codec::Reply;
+ghost use mathlib.Core.Path.{_≡_};
+ghost use mathlib.Core.Bool.{true};
+ghost use mathlib.Core.List.{[], _∷_};
+ghost use Prim.Native.Nat.{_*_, _≤_};
+ghost use lib.ListN.{length};
+ghost use Rattle.codec.specs.Bytes.{same};
+ghost use Rattle.codec.specs.Reply.{first, leaves};
+ghost use Rattle.transcript.specs.Layout.{headLength};
+ghost use Rattle.session.specs.Session.{valid};
+ghost use Rattle.session.specs.Steps.{claimTests, claimedBy, commitTests, committedBy, drawTests, drawnBy};
+
+// The bytes of all ballots, from those of one.
+fn times(bytes: u64, ballots: u64) -> usize
+    requires { ⌜ (bytes ≤ 16384) × (ballots ≤ 4096) ⌝ }
+    ensures { λ r. ⌜ r ≡ bytes * ballots ⌝ }
+{
+    (bytes * ballots) as usize
+}
+
+impl Session {
+    // Takes the claims.
+    pub fn claim(self, claims: &[u8]) -> Stepped
+        ensures reply { λ r. ⌜ r .reply ≡ first (claimTests 2 self (now (claims .entry))) ⌝ }
+        ensures session { λ r. ⌜ r .session ≡ leaves (first (claimTests 2 self (now (claims .entry)))) (claimedBy self (now (claims .entry))) self ⌝ }
+    {
+        if !self.is_in(1) {
+            return self.refused(31);
+        }
+        if claims.len() != times(self.numbers.ring, self.closed) {
+            return self.refused(1);
+        }
+        if !bgv::is_message(claims, 2) {
+            return self.refused(5);
+        }
+        let claim = digests::claim_digest(&self.closing, claims);
+        let mut session = self;
+        session.phase = 2;
+        session.claim = claim;
+        Stepped {
+            session,
+            reply: Reply::Taken,
+        }
+    }
+
+    // Whether a first message has its lengths.
+    fn message_sized(self, head: &[u8], shares0: &[u8], shares1: &[u8]) -> bool
+        requires { ⌜ valid 2 self ≡ true ⌝ }
+        ensures { λ r. ⌜ r ≡ same (length (now (head .entry)) ∷ length (now (shares0 .entry)) ∷ length (now (shares1 .entry)) ∷ []) (headLength (self .numbers .ring) (self .numbers .repeats) ∷ 8 * self .numbers .ring * self .closed ∷ 8 * self .numbers .ring * self .closed ∷ []) ⌝ }
+    {
+        let n = self.numbers.ring;
+        let share = times(8 * n, self.closed);
+        let front = (80 * n + 96 * self.numbers.repeats) as usize;
+        call::sized(
+            [head.len(), shares0.len(), shares1.len(), 0, 0, 0],
+            [front, share, share, 0, 0, 0],
+        )
+    }
+
+    // Takes the first message of the next round.
+    pub fn commit(self, round: u64, head: &[u8], shares0: &[u8], shares1: &[u8]) -> Stepped
+        ensures reply { λ r. ⌜ r .reply ≡ first (commitTests 2 self round (now (head .entry)) (now (shares0 .entry)) (now (shares1 .entry))) ⌝ }
+        ensures session { λ r. ⌜ r .session ≡ leaves (first (commitTests 2 self round (now (head .entry)) (now (shares0 .entry)) (now (shares1 .entry)))) (committedBy self round (now (head .entry)) (now (shares0 .entry)) (now (shares1 .entry))) self ⌝ }
+    {
+        if !self.is_in(2) {
+            return self.refused(31);
+        }
+        if round != self.committed {
+            return self.refused(31);
+        }
+        if round >= self.numbers.rounds {
+            return self.refused(31);
+        }
+        if !self.message_sized(head, shares0, shares1) {
+            return self.refused(1);
+        }
+        let digest = digests::round_digest(&self.claim, round as u16, head, shares0, shares1);
+        let mut trail = self.trail;
+        trail::write(&mut trail, round as usize, &digest);
+        let mut session = self;
+        session.committed = self.committed + 1;
+        session.trail = trail;
+        Stepped {
+            session,
+            reply: Reply::Taken,
+        }
+    }
+
+    // Takes the seed, once all rounds are committed.
+    pub fn draw(self, seed: &[u8]) -> Stepped
+        ensures reply { λ r. ⌜ r .reply ≡ first (drawTests 2 self (now (seed .entry))) ⌝ }
+        ensures session { λ r. ⌜ r .session ≡ leaves (first (drawTests 2 self (now (seed .entry)))) (drawnBy self (now (seed .entry))) self ⌝ }
+    {
+        if !self.is_in(2) {
+            return self.refused(31);
+        }
+        if self.committed != self.numbers.rounds {
+            return self.refused(31);
+        }
+        if seed.len() != 32 {
+            return self.refused(1);
+        }
+        let mut bytes = [0u8; 32];
+        codec::copy(&mut bytes, 0, seed);
+        let mut session = self;
+        session.phase = 3;
+        session.seed = bytes;
+        Stepped {
+            session,
+            reply: Reply::Taken,
+        }
+    }
+}

@@ -1,0 +1,160 @@
+// The steps up to closing: clear, admit, withdraw, close; and turnout.
+use crate::Session;
+use crate::Stepped;
+use crate::Turnout;
+use codec::Reply;
+ghost use mathlib.Core.Path.{_≡_};
+ghost use Rattle.codec.specs.Bytes.{zeros};
+ghost use Rattle.codec.specs.Reply.{first, leaves};
+ghost use Rattle.register.specs.Register.{registerLength, find, admitted, withdrawn, turnout};
+ghost use Rattle.session.specs.Steps.{clearTests, cleared, admitTests, admittedBy, withdrawTests, closeTests, closedBy, turnoutTests, turnoutBy};
+
+impl Session {
+    // Starts anew, on a sheet and with an empty register, from any session.
+    pub fn clear(self, reg: &mut [u8], text: &[u8]) -> Stepped
+        ensures reply { λ r. ⌜ r .reply ≡ first (clearTests 2 (now (reg .entry)) (now (text .entry))) ⌝ }
+        ensures session { λ r. ⌜ r .session ≡ leaves (first (clearTests 2 (now (reg .entry)) (now (text .entry)))) (cleared (now (text .entry))) self ⌝ }
+        ensures register { λ _. ⌜ now (reg .exit) ≡ leaves (first (clearTests 2 (now (reg .entry)) (now (text .entry)))) (zeros registerLength) (now (reg .entry)) ⌝ }
+    {
+        if reg.len() != register::REGISTER {
+            return self.refused(1);
+        }
+        match sheet::read(text) {
+            sheet::Reading::Taken(numbers) => {
+                codec::wipe(reg);
+                let sheet = sha3::hash(text);
+                let none = [0u8; 32];
+                let trail = [0u8; 4096];
+                let session = Session {
+                    phase: 0,
+                    numbers,
+                    sheet,
+                    used: 0,
+                    closed: 0,
+                    closing: none,
+                    claim: none,
+                    committed: 0,
+                    seed: none,
+                    checked: 0,
+                    trail,
+                };
+                Stepped {
+                    session,
+                    reply: Reply::Taken,
+                }
+            }
+            sheet::Reading::Refused { number } => self.refused(number),
+        }
+    }
+
+    // Admits a ballot.
+    pub fn admit(self, reg: &mut [u8], ballot: &[u8]) -> Stepped
+        ensures reply { λ r. ⌜ r .reply ≡ first (admitTests 2 self (now (reg .entry)) (now (ballot .entry))) ⌝ }
+        ensures session { λ r. ⌜ r .session ≡ leaves (first (admitTests 2 self (now (reg .entry)) (now (ballot .entry)))) (admittedBy self) self ⌝ }
+        ensures register { λ _. ⌜ now (reg .exit) ≡ leaves (first (admitTests 2 self (now (reg .entry)) (now (ballot .entry)))) (admitted (now (reg .entry)) (self .used) (now (ballot .entry))) (now (reg .entry)) ⌝ }
+    {
+        if !self.is_in(0) {
+            return self.refused(31);
+        }
+        if reg.len() != register::REGISTER {
+            return self.refused(1);
+        }
+        if ballot.len() != 4 + 16 * (self.numbers.ring as usize) {
+            return self.refused(1);
+        }
+        if !ring::in_range(&ballot[4..], self.numbers.modulus) {
+            return self.refused(5);
+        }
+        let used = self.used as usize;
+        let i = register::find(reg, codec::read32(ballot, 0), used);
+        if i < used {
+            if register::is_standing(reg, i) {
+                return self.refused(32);
+            }
+            return self.refused(33);
+        }
+        if used == 4096 {
+            return self.refused(35);
+        }
+        register::admit(reg, used, ballot);
+        let mut session = self;
+        session.used = self.used + 1;
+        Stepped {
+            session,
+            reply: Reply::Taken,
+        }
+    }
+
+    // Withdraws the ballot with a mark.
+    pub fn withdraw(self, reg: &mut [u8], mark: u32) -> Stepped
+        ensures reply { λ r. ⌜ r .reply ≡ first (withdrawTests 2 self (now (reg .entry)) mark) ⌝ }
+        ensures session { λ r. ⌜ r .session ≡ self ⌝ }
+        ensures register { λ _. ⌜ now (reg .exit) ≡ leaves (first (withdrawTests 2 self (now (reg .entry)) mark)) (withdrawn (now (reg .entry)) (find (now (reg .entry)) mark (self .used))) (now (reg .entry)) ⌝ }
+    {
+        if !self.is_in(0) {
+            return self.refused(31);
+        }
+        if reg.len() != register::REGISTER {
+            return self.refused(1);
+        }
+        let used = self.used as usize;
+        let i = register::find(reg, mark, used);
+        if i == used {
+            return self.refused(34);
+        }
+        if !register::is_standing(reg, i) {
+            return self.refused(33);
+        }
+        register::withdraw(reg, i);
+        Stepped {
+            session: self,
+            reply: Reply::Taken,
+        }
+    }
+
+    // Closes the batch of the standing entries.
+    pub fn close(self, reg: &[u8]) -> Stepped
+        ensures reply { λ r. ⌜ r .reply ≡ first (closeTests 2 self (now (reg .entry))) ⌝ }
+        ensures session { λ r. ⌜ r .session ≡ leaves (first (closeTests 2 self (now (reg .entry)))) (closedBy self (now (reg .entry))) self ⌝ }
+    {
+        if !self.is_in(0) {
+            return self.refused(31);
+        }
+        if reg.len() != register::REGISTER {
+            return self.refused(1);
+        }
+        let used = self.used as usize;
+        let count = register::count_standing(reg, used);
+        if count == 0 {
+            return self.refused(36);
+        }
+        let closing = digests::closing_of_register(&self.sheet, reg, used);
+        let mut session = self;
+        session.phase = 1;
+        session.closed = count as u64;
+        session.closing = closing;
+        Stepped {
+            session,
+            reply: Reply::Taken,
+        }
+    }
+
+    // The standing entries in thousandths of the enrolled.
+    pub fn turnout(self, reg: &[u8], enrolled: u64) -> Turnout
+        ensures { λ r. ⌜ r ≡ turnoutBy (first (turnoutTests 2 self (now (reg .entry)) enrolled)) (turnout (now (reg .entry)) (self .used) enrolled) ⌝ }
+    {
+        if !self.is_valid() {
+            return Turnout::Refused { number: 31 };
+        }
+        if reg.len() != register::REGISTER {
+            return Turnout::Refused { number: 1 };
+        }
+        if enrolled < 1 {
+            return Turnout::Refused { number: 3 };
+        }
+        if enrolled > 1000000 {
+            return Turnout::Refused { number: 3 };
+        }
+        Turnout::Counted(register::turnout(reg, self.used as usize, enrolled))
+    }
+}
