@@ -1,4 +1,4 @@
--- `writing::write_answer1` meets its contract. Assumes nothing.
+-- `write_answer1` meets its contract. Assumes nothing.
 use mathlib.Core.Path.{_≡_, sym, ap, _∙_}
 use mathlib.Core.List.{_++_}
 use Prim.Native.Nat.{ℕ, _+_, _*_}
@@ -14,9 +14,9 @@ use Rattle.vector.specs.Permutation.{entries, apply, extend}
 use Rattle.vector.proofs.Vectors.{length-apply, length-entries}
 use Rattle.vector.proofs.Counts.{permutes-below}
 use Rattle.stern.proofs.Gathered.{permuted-length}
-use Rattle.answers.proofs.WrittenParts.{three-parts}
-use Rattle.answers.proofs.writing.write_answer1.Statement.{statement}
-use Rattle.answers.proofs.writing.write_answer1.Tie as tie
+use Rattle.answer_writing.proofs.WrittenParts.{three-parts}
+use Rattle.answer_writing.proofs.write_answer1.Statement.{statement}
+use Rattle.answer_writing.proofs.write_answer1.Tie as tie
 
 sub-minus : tie.Need-sub-minus
 sub-minus c = let a = c .before .before .before .before .before .before .args in let l = c .before .before .before .before .before .before .pre .2 .size-x in omega (arith, c .count-of .ensures, count-le 2 (a .x .now))

@@ -1,4 +1,4 @@
--- `writing::write_answer` meets its contract. Assumes nothing.
+-- `write_answer` meets its contract. Assumes nothing.
 use mathlib.Core.Path.{sym, _∙_}
 use Prim.Native.Nat.{_*_}
 use borrow.Author.Needs.{needs}
@@ -6,8 +6,8 @@ use Rattle.codec.specs.Bytes.{Bytes}
 use Rattle.stern.specs.Argument.{answer1, answer2, answer3}
 use Rattle.stern.specs.Shortness.{drawnOf, answer1Bytes, answer2Bytes, answer3Bytes}
 use Rattle.stern.proofs.Answered.{chosen1, chosen2, chosen3, answer-long, answer-longer}
-use Rattle.answers.proofs.writing.write_answer.Statement.{statement}
-use Rattle.answers.proofs.writing.write_answer.Tie as tie
+use Rattle.answer_writing.proofs.write_answer.Statement.{statement}
+use Rattle.answer_writing.proofs.write_answer.Tie as tie
 
 write-answer1-requires : tie.Need-write-answer1-requires
 write-answer1-requires c κs = let a = c .before .before .before .before .before .before .before .args in let p = c .before .before .before .before .before .before .before .pre in (p .0, p .3 ∙ answer-long (a .n) (a .challenge) (c .before .if1 .taken), p .4)

@@ -1,4 +1,4 @@
--- `writing::write_digests` meets its contract. Assumes nothing.
+-- `write_digests` meets its contract. Assumes nothing.
 use mathlib.Core.Path.{_≡_, sym, ap, ap₂, _∙_}
 use mathlib.Core.List.{_++_}
 use Prim.Native.Nat.{ℕ, _+_, _*_}
@@ -12,9 +12,9 @@ use Rattle.call.proofs.Writing.{written-length}
 use Rattle.vector.specs.Permutation.{entries}
 use Rattle.vector.proofs.Counts.{permutes-below}
 use Rattle.stern.proofs.Written.{vector-below}
-use Rattle.answers.proofs.WrittenParts.{three-at}
-use Rattle.answers.proofs.writing.write_digests.Statement.{statement}
-use Rattle.answers.proofs.writing.write_digests.Tie as tie
+use Rattle.answer_writing.proofs.WrittenParts.{three-at}
+use Rattle.answer_writing.proofs.write_digests.Statement.{statement}
+use Rattle.answer_writing.proofs.write_digests.Tie as tie
 
 equations-digest-requires : tie.Need-equations-digest-requires
 equations-digest-requires c κs =

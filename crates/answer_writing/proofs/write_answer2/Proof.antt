@@ -1,4 +1,4 @@
--- `writing::write_answer2` meets its contract. Assumes nothing.
+-- `write_answer2` meets its contract. Assumes nothing.
 use mathlib.Core.Path.{_≡_, sym, ap, _∙_}
 use mathlib.Core.List.{_++_}
 use Prim.Native.Nat.{ℕ, _+_, _*_}
@@ -16,9 +16,9 @@ use Rattle.vector.proofs.Vectors.{length-add, length-vector, length-ternaries}
 use Rattle.vector.proofs.Balance.{length-extend-le}
 use Rattle.stern.specs.Argument.{masked}
 use Rattle.stern.specs.Shortness.{drawnOf}
-use Rattle.answers.proofs.WrittenParts.{four-parts}
-use Rattle.answers.proofs.writing.write_answer2.Statement.{statement}
-use Rattle.answers.proofs.writing.write_answer2.Tie as tie
+use Rattle.answer_writing.proofs.WrittenParts.{four-parts}
+use Rattle.answer_writing.proofs.write_answer2.Statement.{statement}
+use Rattle.answer_writing.proofs.write_answer2.Tie as tie
 
 sub-minus : tie.Need-sub-minus
 sub-minus c = let a = c .before .before .before .before .before .before .args in let l = c .before .before .before .before .before .before .pre .4 .size-x in omega (arith, c .count-of .ensures, count-le 2 (a .x .now))

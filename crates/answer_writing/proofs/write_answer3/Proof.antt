@@ -1,4 +1,4 @@
--- `writing::write_answer3` meets its contract. Assumes nothing.
+-- `write_answer3` meets its contract. Assumes nothing.
 use mathlib.Core.Path.{ap, _∙_}
 use mathlib.Core.List.{_++_}
 use Prim.Native.Nat.{_*_}
@@ -7,9 +7,9 @@ use borrow.Author.Needs.{needs}
 use lib.ListN.{length-append}
 use Rattle.codec.specs.Bytes.{part, put}
 use Rattle.codec.proofs.Laws.{length-part, part-append}
-use Rattle.answers.proofs.WrittenParts.{three-parts}
-use Rattle.answers.proofs.writing.write_answer3.Statement.{statement}
-use Rattle.answers.proofs.writing.write_answer3.Tie as tie
+use Rattle.answer_writing.proofs.WrittenParts.{three-parts}
+use Rattle.answer_writing.proofs.write_answer3.Statement.{statement}
+use Rattle.answer_writing.proofs.write_answer3.Tie as tie
 
 returns : tie.Need-returns
 returns c =
