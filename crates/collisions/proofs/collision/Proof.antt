@@ -1,4 +1,4 @@
--- `strings::collision` meets its contract. Assumes nothing.
+-- `collision` meets its contract. Assumes nothing.
 use mathlib.Core.Path.{_∙_}
 use Prim.Native.Nat.{_*_}
 use native.Mathlib.Omega.{arith}
@@ -11,9 +11,9 @@ use Rattle.vector.specs.Vector.{vector}
 use Rattle.vector.specs.Permutation.{entries}
 use Rattle.vector.proofs.Counts.{permutes-below}
 use Rattle.stern.specs.Shortness.{setting, answer1Of, answer2Of, answer3Of}
-use Rattle.extractor.proofs.Outcome.{first-differs, second-differs, third-differs, none-differs}
-use Rattle.extractor.proofs.strings.collision.Statement.{statement}
-use Rattle.extractor.proofs.strings.collision.Tie as tie
+use Rattle.collisions.proofs.Order.{first-differs, second-differs, third-differs, none-differs}
+use Rattle.collisions.proofs.collision.Statement.{statement}
+use Rattle.collisions.proofs.collision.Tie as tie
 
 first-agrees-requires : tie.Need-first-agrees-requires
 first-agrees-requires c κs =

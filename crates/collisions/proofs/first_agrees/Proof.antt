@@ -1,4 +1,4 @@
--- `strings::first_agrees` meets its contract. Assumes nothing.
+-- `first_agrees` meets its contract. Assumes nothing.
 use mathlib.Core.Path.{_≡_, refl, sym, _∙_}
 use mathlib.Core.List.{_++_}
 use Prim.Native.Nat.{_+_, _-_, _*_}
@@ -10,9 +10,9 @@ use Rattle.commitment.specs.Commitment.{keysOf}
 use Rattle.vector.specs.Vector.{vector, subtract}
 use Rattle.stern.specs.Shortness.{equations, sides, answer2Of, answer3Of}
 use Rattle.stern.proofs.Answered.{lent-range, lent-length}
-use Rattle.extractor.proofs.Agreement.{by-first, by-rest, string1-parts, start-length, lent-equations}
-use Rattle.extractor.proofs.strings.first_agrees.Statement.{statement}
-use Rattle.extractor.proofs.strings.first_agrees.Tie as tie
+use Rattle.collisions.proofs.Agreement.{by-first, by-rest, string1-parts, start-length, lent-equations}
+use Rattle.collisions.proofs.first_agrees.Statement.{statement}
+use Rattle.collisions.proofs.first_agrees.Tie as tie
 
 returns : tie.Need-returns
 returns c =

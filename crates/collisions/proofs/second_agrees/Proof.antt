@@ -1,4 +1,4 @@
--- `strings::second_agrees` meets its contract. Assumes nothing.
+-- `second_agrees` meets its contract. Assumes nothing.
 use mathlib.Core.Path.{refl, sym, _∙_}
 use mathlib.Core.List.{[], _∷_, _++_}
 use Prim.Native.Nat.{_+_, _-_, _*_}
@@ -10,9 +10,9 @@ use Rattle.vector.specs.Vector.{vector}
 use Rattle.vector.specs.Permutation.{entries, apply}
 use Rattle.stern.specs.Shortness.{answer1Of, answer3Of}
 use Rattle.stern.proofs.Answered.{lent-length}
-use Rattle.extractor.proofs.Agreement.{same-behind, by-first, by-rest, lent-same, lent-entries, lent-gathered}
-use Rattle.extractor.proofs.strings.second_agrees.Statement.{statement}
-use Rattle.extractor.proofs.strings.second_agrees.Tie as tie
+use Rattle.collisions.proofs.Agreement.{same-behind, by-first, by-rest, lent-same, lent-entries, lent-gathered}
+use Rattle.collisions.proofs.second_agrees.Statement.{statement}
+use Rattle.collisions.proofs.second_agrees.Tie as tie
 
 returns : tie.Need-returns
 returns c =

@@ -1,4 +1,4 @@
--- `strings::sums_agree` meets its contract. Assumes nothing.
+-- `sums_agree` meets its contract. Assumes nothing.
 use mathlib.Core.Path.{_≡_, sym, _∙_}
 use Prim.Native.Nat.{ℕ, _-_, _<_, _≤_}
 use native.Mathlib.Omega.{arith}
@@ -11,9 +11,9 @@ use Rattle.vector.specs.Vector.{vector, ternaries, add}
 use Rattle.vector.specs.Permutation.{entries, apply}
 use Rattle.vector.proofs.Vectors.{length-entries}
 use Rattle.vector.proofs.Gathers.{entry-lt, component-lt, gathered, sum-at}
-use Rattle.extractor.proofs.Agreement.{other-number, same-numbers, sum-vector, permuted-vector}
-use Rattle.extractor.proofs.strings.sums_agree.Statement.{statement}
-use Rattle.extractor.proofs.strings.sums_agree.Tie as tie
+use Rattle.collisions.proofs.Agreement.{other-number, same-numbers, sum-vector, permuted-vector}
+use Rattle.collisions.proofs.sums_agree.Statement.{statement}
+use Rattle.collisions.proofs.sums_agree.Tie as tie
 
 abbrev Inv-loop : tie.InvT-loop
 Inv-loop w t p u n q i₀ i = (i ≤ n) × ((k : ℕ) → k < i → getD (add q (ternaries q w) (vector t)) k 0 ≡ getD (apply (entries p) (vector u)) k 0)

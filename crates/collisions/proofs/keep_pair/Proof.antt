@@ -1,4 +1,4 @@
--- `strings::keep_pair` meets its contract. Assumes nothing.
+-- `keep_pair` meets its contract. Assumes nothing.
 use mathlib.Core.Path.{_≡_, ap₂, _∙_}
 use mathlib.Core.List.{_++_}
 use Prim.Native.Nat.{ℕ, _+_, _-_, _*_}
@@ -8,8 +8,8 @@ use lib.ListN.{take, drop}
 use Rattle.codec.specs.Bytes.{put}
 use Rattle.call.proofs.Writing.{written-behind}
 use Rattle.stern.proofs.Answered.{lent-length}
-use Rattle.extractor.proofs.strings.keep_pair.Statement.{statement}
-use Rattle.extractor.proofs.strings.keep_pair.Tie as tie
+use Rattle.collisions.proofs.keep_pair.Statement.{statement}
+use Rattle.collisions.proofs.keep_pair.Tie as tie
 
 returns : tie.Need-returns
 returns c =

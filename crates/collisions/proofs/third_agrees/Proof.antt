@@ -1,4 +1,4 @@
--- `strings::third_agrees` meets its contract. Assumes nothing.
+-- `third_agrees` meets its contract. Assumes nothing.
 use mathlib.Core.Path.{sym, _∙_}
 use mathlib.Core.List.{[], _∷_, _++_}
 use Prim.Native.Nat.{_+_, _-_, _*_}
@@ -10,9 +10,9 @@ use Rattle.vector.specs.Vector.{vector, ternaries, add}
 use Rattle.vector.specs.Permutation.{entries, apply}
 use Rattle.stern.specs.Shortness.{answer1Of, answer2Of}
 use Rattle.stern.proofs.Answered.{lent-range, lent-length}
-use Rattle.extractor.proofs.Agreement.{same-behind, by-first, by-rest, lent-same, lent-entries, lent-sums}
-use Rattle.extractor.proofs.strings.third_agrees.Statement.{statement}
-use Rattle.extractor.proofs.strings.third_agrees.Tie as tie
+use Rattle.collisions.proofs.Agreement.{same-behind, by-first, by-rest, lent-same, lent-entries, lent-sums}
+use Rattle.collisions.proofs.third_agrees.Statement.{statement}
+use Rattle.collisions.proofs.third_agrees.Tie as tie
 
 returns : tie.Need-returns
 returns c =

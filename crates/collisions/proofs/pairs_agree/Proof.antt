@@ -1,4 +1,4 @@
--- `strings::pairs_agree` meets its contract. Assumes nothing.
+-- `pairs_agree` meets its contract. Assumes nothing.
 use mathlib.Core.Path.{ap₂, _∙_}
 use mathlib.Core.Bool.{true, false}
 use native.Mathlib.Omega.{arith}
@@ -8,9 +8,9 @@ use Rattle.commitment.specs.Commitment.{keysOf}
 use Rattle.stern.specs.Method.{equationPair}
 use Rattle.stern.proofs.Written.{vector-below}
 use Rattle.stern.proofs.Strings.{stands-bytes}
-use Rattle.extractor.proofs.Agreement.{kept-pair, kept-length}
-use Rattle.extractor.proofs.strings.pairs_agree.Statement.{statement}
-use Rattle.extractor.proofs.strings.pairs_agree.Tie as tie
+use Rattle.collisions.proofs.Agreement.{kept-pair, kept-length}
+use Rattle.collisions.proofs.pairs_agree.Statement.{statement}
+use Rattle.collisions.proofs.pairs_agree.Tie as tie
 
 equation-pair-requires : tie.Need-equation-pair-requires
 equation-pair-requires c κs =

@@ -1,4 +1,5 @@
-// Whether the two strings that answers open for one digest differ, part by part: salts, permutations, equations and vectors. Nothing is hashed.
+// The lowest digest for which answers open two different strings (document 01, the extractor's paragraph). The strings are compared part by part: salts, permutations,
+// equations and vectors. Nothing is hashed.
 use stern::equations::equation_pair;
 ghost use mathlib.Core.Path.{_≡_};
 ghost use mathlib.Core.Bool.{true, false};
@@ -14,8 +15,7 @@ ghost use Rattle.vector.specs.Permutation.{entries, apply};
 ghost use Rattle.stern.specs.Argument.{string2, string3, one-by2, one-by3};
 ghost use Rattle.stern.specs.Shortness.{equations, sides, setting, answer1Of, answer2Of, answer3Of};
 ghost use Rattle.stern.specs.Method.{equationPair};
-ghost use Rattle.extractor.specs.Lent.{Answers};
-ghost use Rattle.extractor.specs.Method.{differing};
+ghost use Rattle.collisions.specs.Collision.{Answers, differing};
 
 // ---- string 1: P and the equations
 

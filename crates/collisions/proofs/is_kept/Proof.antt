@@ -1,4 +1,4 @@
--- `strings::is_kept` meets its contract. Assumes nothing.
+-- `is_kept` meets its contract. Assumes nothing.
 use mathlib.Core.Path.{sym, ap, _∙_}
 use mathlib.Core.List.{_++_}
 use Prim.Native.Nat.{_+_, _-_, _*_}
@@ -6,9 +6,9 @@ use native.Mathlib.Omega.{arith}
 use borrow.Author.Needs.{needs}
 use Rattle.codec.specs.Bytes.{Bytes, part, same}
 use Rattle.codec.proofs.Laws.{length-part}
-use Rattle.extractor.proofs.Agreement.{by-first, by-rest, lent-same, halved}
-use Rattle.extractor.proofs.strings.is_kept.Statement.{statement}
-use Rattle.extractor.proofs.strings.is_kept.Tie as tie
+use Rattle.collisions.proofs.Agreement.{by-first, by-rest, lent-same, halved}
+use Rattle.collisions.proofs.is_kept.Statement.{statement}
+use Rattle.collisions.proofs.is_kept.Tie as tie
 
 returns : tie.Need-returns
 returns c =

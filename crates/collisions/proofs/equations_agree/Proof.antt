@@ -1,4 +1,4 @@
--- `strings::equations_agree` meets its contract. Assumes nothing.
+-- `equations_agree` meets its contract. Assumes nothing.
 use mathlib.Core.Path.{sym, ap₂, _∙_}
 use mathlib.Core.Bool.{true, false}
 use Prim.Native.Nat.{_*_, _<_}
@@ -9,9 +9,9 @@ use Rattle.commitment.specs.Commitment.{keysOf, pairBytes}
 use Rattle.stern.specs.Method.{equationPair}
 use Rattle.stern.proofs.Honest.{length-pairBytes}
 use Rattle.stern.proofs.Strings.{covered}
-use Rattle.extractor.proofs.Agreement.{by-first, by-rest}
-use Rattle.extractor.proofs.strings.equations_agree.Statement.{statement}
-use Rattle.extractor.proofs.strings.equations_agree.Tie as tie
+use Rattle.collisions.proofs.Agreement.{by-first, by-rest}
+use Rattle.collisions.proofs.equations_agree.Statement.{statement}
+use Rattle.collisions.proofs.equations_agree.Tie as tie
 
 pairs-agree-requires : tie.Need-pairs-agree-requires
 pairs-agree-requires c κs =

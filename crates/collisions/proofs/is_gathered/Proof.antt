@@ -1,12 +1,12 @@
--- `strings::is_gathered` meets its contract. Assumes nothing.
+-- `is_gathered` meets its contract. Assumes nothing.
 use mathlib.Core.Path.{ap, _∙_}
 use Prim.Native.Nat.{_*_}
 use native.Mathlib.Omega.{arith}
 use borrow.Author.Needs.{needs}
 use Rattle.codec.specs.Bytes.{same}
 use Rattle.stern.proofs.Gathered.{head-lent, head-length, permuted-length}
-use Rattle.extractor.proofs.strings.is_gathered.Statement.{statement}
-use Rattle.extractor.proofs.strings.is_gathered.Tie as tie
+use Rattle.collisions.proofs.is_gathered.Statement.{statement}
+use Rattle.collisions.proofs.is_gathered.Tie as tie
 
 returns : tie.Need-returns
 returns c =

@@ -1,13 +1,13 @@
--- `strings::starts_agree` meets its contract. Assumes nothing.
+-- `starts_agree` meets its contract. Assumes nothing.
 use mathlib.Core.Path.{sym, _∙_}
 use Prim.Native.Nat.{_+_, _-_, _*_}
 use native.Mathlib.Omega.{arith}
 use borrow.Author.Needs.{needs}
 use Rattle.codec.specs.Bytes.{part}
 use Rattle.codec.proofs.Laws.{length-part}
-use Rattle.extractor.proofs.Agreement.{by-first, by-rest, lent-same}
-use Rattle.extractor.proofs.strings.starts_agree.Statement.{statement}
-use Rattle.extractor.proofs.strings.starts_agree.Tie as tie
+use Rattle.collisions.proofs.Agreement.{by-first, by-rest, lent-same}
+use Rattle.collisions.proofs.starts_agree.Statement.{statement}
+use Rattle.collisions.proofs.starts_agree.Tie as tie
 
 returns : tie.Need-returns
 returns c =
