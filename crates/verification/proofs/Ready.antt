@@ -18,7 +18,7 @@ use Rattle.transcript.specs.Layout.{pairsOf}
 use Rattle.transcript.specs.Round.{Parameters}
 use Rattle.transcript.specs.Extractor.{Openings, Lent, open0, open1, lentRanged, sideTests, extractTests}
 use Rattle.transcript.proofs.Many.{append-none}
-use Rattle.checker.proofs.Passed.{openings-passed}
+use Rattle.openings_checker.proofs.Passed.{openings-passed}
 use Rattle.collisions.specs.Collision.{Answers}
 use Rattle.rounds.specs.Calls.{countOf, openingsTests}
 use Rattle.rounds.proofs.Sizes.{all-right}

@@ -11,7 +11,7 @@ ghost use Rattle.codec.specs.Reply.{first};
 ghost use Rattle.call.specs.Call.{Public, swept};
 ghost use Rattle.commitment.specs.Commitment.{PublicKeys};
 ghost use Rattle.transcript.specs.Method.{parameters};
-ghost use Rattle.checker.specs.Orders.{openingsOf};
+ghost use Rattle.openings_checker.specs.Orders.{openingsOf};
 ghost use Rattle.rounds.specs.Calls.{openingsTests};
 
 // 1, and then both openings and the three answers in the extractor's order.
@@ -60,7 +60,7 @@ pub fn openings_tests(
     ) {
         return refused();
     }
-    checker::both_sides::check_openings(
+    openings_checker::both_sides::check_openings(
         scratch,
         a,
         b,

@@ -1,11 +1,11 @@
 // The tests of the extractor: 5, 6; for side 0 and then side 1 7, 8 and by ballot 12, 13; then for the three answers of a repetition 9, 10, 11.
-use crate::openings::refused;
-use crate::openings::splits;
-use crate::openings::test_side;
-use crate::ranges::message_ranged;
-use crate::ranges::opening_ranged;
+use crate::sides::test_sides;
 use crate::three_answers::answers_ranged;
 use crate::three_answers::test_answers;
+use checker::openings::refused;
+use checker::openings::splits;
+use checker::ranges::message_ranged;
+use checker::ranges::opening_ranged;
 use codec::Reply;
 ghost use mathlib.Core.Path.{_≡_};
 ghost use mathlib.Core.List.{_∷_, _++_};
@@ -18,9 +18,10 @@ ghost use Rattle.commitment.specs.Commitment.{keysOf, PublicKeys};
 ghost use Rattle.stern.specs.Shortness.{answerLength};
 ghost use Rattle.transcript.specs.Layout.{ballotLength};
 ghost use Rattle.transcript.specs.Extractor.{Lent, lentRanged, extractTests};
-ghost use Rattle.transcript.specs.Method.{parameters, Batch, Shares};
-ghost use Rattle.checker.specs.Lent.{Opened, OpeningsInRange};
-ghost use Rattle.checker.specs.Orders.{openingsOf, rangeParameters, splitTest, bothTests, threeTests};
+ghost use Rattle.transcript.specs.Method.{parameters};
+ghost use Rattle.checker.specs.Orders.{rangeParameters, splitTest};
+ghost use Rattle.openings_checker.specs.Lent.{OpeningsInRange};
+ghost use Rattle.openings_checker.specs.Orders.{openingsOf, bothTests, threeTests};
 
 // 5: whether all that is lent is in range. The bound and the polynomials of the sheet do not enter.
 fn openings_ranged(
@@ -56,66 +57,6 @@ fn openings_ranged(
         return false;
     }
     answers_ranged(answer1, answer2, answer3, n, q)
-}
-
-// Each side's opening.
-fn test_sides(
-    work: &mut [u8],
-    a: &[u8],
-    k: &[u8],
-    head: &[u8],
-    shares0: &[u8],
-    shares1: &[u8],
-    ballots: &[u8],
-    claims: &[u8],
-    opening0: &[u8],
-    opening1: &[u8],
-    count: usize,
-    bound: u64,
-    n: usize,
-    q: u64,
-) -> Reply
-    requires { ⌜ Public n q (now a) × PublicKeys n q (now k) × (q % 2 ≡ 1) × (length (now work) ≡ scratchLength) × (count ≤ 4096) × (80 * n ≤ length (now head)) × Batch q n count (now ballots) (now claims) × Shares q n count (now shares0) × Shares q n count (now shares1) × Opened q n (now opening0) × Opened q n (now opening1) ⌝ }
-    ensures { λ reply. ⌜ reply ≡ first (bothTests q n bound count (poly (now (a .entry))) (keysOf n (now (k .entry))) (now (head .entry)) (now (shares0 .entry)) (now (shares1 .entry)) (now (ballots .entry)) (now (claims .entry)) (now (opening0 .entry)) (now (opening1 .entry))) ⌝ }
-    ensures { λ _. ⌜ length (now (work .exit)) ≡ length (now (work .entry)) ⌝ }
-{
-    let reply = test_side(
-        work,
-        a,
-        k,
-        head,
-        0,
-        opening0,
-        ballots,
-        claims,
-        shares0,
-        shares1,
-        shares0,
-        count,
-        bound,
-        n,
-        q,
-    );
-    let Reply::Taken = reply else {
-        return reply;
-    };
-    test_side(
-        work,
-        a,
-        k,
-        head,
-        1,
-        opening1,
-        ballots,
-        claims,
-        shares0,
-        shares1,
-        shares1,
-        count,
-        bound,
-        n,
-        q,
-    )
 }
 
 // 6, both sides, then the answers, of what is in range.

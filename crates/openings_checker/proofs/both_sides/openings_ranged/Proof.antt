@@ -8,10 +8,10 @@ use Rattle.call.proofs.Order.{fails, goes-on}
 use Rattle.stern.specs.Shortness.{inRange}
 use Rattle.transcript.specs.Round.{ballotsRanged, headRanged, openingRanged}
 use Rattle.transcript.specs.Extractor.{lentRanged}
 use Rattle.checker.specs.Orders.{rangeParameters}
 use Rattle.checker.proofs.Ranged.{message-fails, message-passes}
-use Rattle.checker.proofs.both_sides.openings_ranged.Statement.{statement}
-use Rattle.checker.proofs.both_sides.openings_ranged.Tie as tie
+use Rattle.openings_checker.proofs.both_sides.openings_ranged.Statement.{statement}
+use Rattle.openings_checker.proofs.both_sides.openings_ranged.Tie as tie
 
 returns : tie.Need-returns
 unfolding lentRanged

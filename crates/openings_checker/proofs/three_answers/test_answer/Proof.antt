@@ -8,8 +8,8 @@ use Rattle.codec.proofs.Laws.{part-whole}
 use Rattle.commitment.specs.Commitment.{keysOf}
 use Rattle.stern.specs.Shortness.{inRange, answerTests}
 use Rattle.transcript.specs.Layout.{pairsOf}
-use Rattle.checker.proofs.three_answers.test_answer.Statement.{statement}
-use Rattle.checker.proofs.three_answers.test_answer.Tie as tie
+use Rattle.openings_checker.proofs.three_answers.test_answer.Statement.{statement}
+use Rattle.openings_checker.proofs.three_answers.test_answer.Tie as tie
 
 test-at-requires : tie.Need-test-at-requires
 test-at-requires c κs =

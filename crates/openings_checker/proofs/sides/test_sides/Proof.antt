@@ -1,10 +1,10 @@
--- `both_sides::test_sides` meets its contract. Assumes nothing.
+-- `sides::test_sides` meets its contract. Assumes nothing.
 use mathlib.Core.Path.{_∙_}
 use native.Mathlib.Omega.{arith}
 use borrow.Author.Needs.{needs}
 use Rattle.checker.proofs.InOrder.{stopped, continued}
-use Rattle.checker.proofs.both_sides.test_sides.Statement.{statement}
-use Rattle.checker.proofs.both_sides.test_sides.Tie as tie
+use Rattle.openings_checker.proofs.sides.test_sides.Statement.{statement}
+use Rattle.openings_checker.proofs.sides.test_sides.Tie as tie
 
 test-side-requires : tie.Need-test-side-requires
 test-side-requires c κs = let p = c .before .before .before .before .before .before .before .before .before .before .before .pre in (p .0, p .1, p .9, p .2, p .3, p .5, omega arith, p .4, p .6, p .7, p .8, p .7)

@@ -11,8 +11,9 @@ ghost use Rattle.call.specs.Call.{scratchLength};
 ghost use Rattle.commitment.specs.Commitment.{keysOf, PublicKeys};
 ghost use Rattle.stern.specs.Shortness.{answerLength, inRange, answerTests};
 ghost use Rattle.transcript.specs.Layout.{pairsOf};
-ghost use Rattle.checker.specs.Lent.{Head, Answered};
-ghost use Rattle.checker.specs.Orders.{threeTests};
+ghost use Rattle.checker.specs.Lent.{Head};
+ghost use Rattle.openings_checker.specs.Lent.{Answered};
+ghost use Rattle.openings_checker.specs.Orders.{threeTests};
 
 // Whether the numbers of the three answers are in range.
 pub fn answers_ranged(answer1: &[u8], answer2: &[u8], answer3: &[u8], n: usize, q: u64) -> bool

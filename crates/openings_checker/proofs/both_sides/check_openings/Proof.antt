@@ -7,11 +7,11 @@ use borrow.Author.Tests.{not-true, not-false}
 use Rattle.codec.specs.Reply.{first}
 use Rattle.call.proofs.Order.{refuses, passes}
 use Rattle.transcript.specs.Method.{parameters}
-use Rattle.checker.specs.Orders.{openingsOf}
-use Rattle.checker.proofs.InOrder.{same-lent-range, extract-order}
-use Rattle.checker.proofs.Passed.{openings-passed}
-use Rattle.checker.proofs.both_sides.check_openings.Statement.{statement}
-use Rattle.checker.proofs.both_sides.check_openings.Tie as tie
+use Rattle.openings_checker.specs.Orders.{openingsOf}
+use Rattle.openings_checker.proofs.InOrder.{same-lent-range, extract-order}
+use Rattle.openings_checker.proofs.Passed.{openings-passed}
+use Rattle.openings_checker.proofs.both_sides.check_openings.Statement.{statement}
+use Rattle.openings_checker.proofs.both_sides.check_openings.Tie as tie
 
 openings-ranged-requires : tie.Need-openings-ranged-requires
 openings-ranged-requires c κs =

@@ -5,9 +5,9 @@ use native.Mathlib.Omega.{arith}
 use borrow.Author.Needs.{needs}
 use borrow.Author.Tests.{not-true, not-false}
 use Rattle.call.proofs.Order.{refuses, passes}
 use Rattle.checker.proofs.InOrder.{stopped, continued}
-use Rattle.checker.proofs.both_sides.test_ranged.Statement.{statement}
-use Rattle.checker.proofs.both_sides.test_ranged.Tie as tie
+use Rattle.openings_checker.proofs.both_sides.test_ranged.Statement.{statement}
+use Rattle.openings_checker.proofs.both_sides.test_ranged.Tie as tie
 
 splits-requires : tie.Need-splits-requires
 splits-requires c κs = let p = c .before .before .before .before .before .before .before .before .before .before .before .before .before .before .before .pre in (p .1, p .7 .head, p .4)

@@ -3,8 +3,8 @@ use borrow.Author.Needs.{needs}
 use borrow.Author.Tests.{not-true, not-false}
 use Rattle.call.proofs.Order.{fails, goes-on}
 use Rattle.stern.specs.Shortness.{inRange}
-use Rattle.checker.proofs.three_answers.answers_ranged.Statement.{statement}
-use Rattle.checker.proofs.three_answers.answers_ranged.Tie as tie
+use Rattle.openings_checker.proofs.three_answers.answers_ranged.Statement.{statement}
+use Rattle.openings_checker.proofs.three_answers.answers_ranged.Tie as tie
 
 returns : tie.Need-returns
 returns c = let a = c .before .before .before .before .before .args in fails (inRange (a .q) (a .n) 1 (a .answer1 .now)) _ (c .before .answer-ranged .ensures) (not-true (c .before .answer-ranged .result) (c .if1 .taken))

@@ -1,9 +1,9 @@
--- `openings::test_side` meets its contract. Assumes nothing.
+-- `sides::test_side` meets its contract. Assumes nothing.
 use mathlib.Core.Path.{_∙_}
 use borrow.Author.Needs.{needs}
 use Rattle.checker.proofs.InOrder.{stopped, continued}
-use Rattle.checker.proofs.openings.test_side.Statement.{statement}
-use Rattle.checker.proofs.openings.test_side.Tie as tie
+use Rattle.openings_checker.proofs.sides.test_side.Statement.{statement}
+use Rattle.openings_checker.proofs.sides.test_side.Tie as tie
 
 test-opening-requires : tie.Need-test-opening-requires
 test-opening-requires c κs = let p = c .before .before .before .before .before .before .before .before .before .before .before .pre in (p .0, p .1, p .2, p .4, p .5, p .6)
