@@ -13,14 +13,13 @@ use Rattle.sheet.specs.declared.Reading.the-variants.{Taken, Refused}
 use Rattle.call.specs.Call.{swept}
 use Rattle.transcript.specs.Round.{Parameters, Round}
 use Rattle.transcript.specs.Extractor.{Openings, kind, extracted}
-use Rattle.rounds.specs.Calls.{countOf, checkTests, openingsTests}
-use Rattle.rounds.specs.Sheets.{parametersOf}
+use Rattle.lengths.specs.Calls.{countOf, checkTests, openingsTests}
+use Rattle.lengths.specs.Sheets.{parametersOf, ballotsIn}
 use Rattle.verification.specs.Extraction.{extraction, replyOf}
 use Rattle.verification.specs.declared.Extraction.{Extraction}
 use Rattle.verification.specs.declared.Extraction.the-variants as found
 use Rattle.verification.proofs.Extracted.{reply-of}
-use Rattle.round_calls.specs.Replies.{ballotsIn}
-use Rattle.round_calls.proofs.Promises.{over, refused-over}
+use Rattle.lengths.proofs.OverSheet.{over, refused-over}
 use Rattle.verification_calls.specs.Replies.{checkReply, extractReply}
 
 -- ---- the check

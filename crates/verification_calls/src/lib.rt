@@ -9,9 +9,8 @@ ghost use Rattle.call.specs.Call.{swept};
 ghost use Rattle.transcript.specs.Extractor.{kind, extracted};
 ghost use Rattle.checker.specs.Orders.{roundOf};
 ghost use Rattle.openings_checker.specs.Orders.{openingsOf};
-ghost use Rattle.rounds.specs.Sheets.{parametersOf};
+ghost use Rattle.lengths.specs.Sheets.{parametersOf, ballotsIn};
 ghost use Rattle.verification.specs.Extraction.{extraction};
-ghost use Rattle.round_calls.specs.Replies.{ballotsIn};
 ghost use Rattle.verification_calls.specs.Replies.{checkReply, extractReply};
 
 // Checks one round with the side and the challenges that are lent.

@@ -1,8 +1,8 @@
 -- What is known of the lent slices where a call's lengths are right, and its order after them. Assumes nothing.
 use mathlib.Core.Path.{_≡_, refl, sym, ap, _∙_}
-use mathlib.Core.Bool.{Bool, true, false, not, _&&_}
+use mathlib.Core.Bool.{Bool, true, false, _&&_}
 use mathlib.Core.List.{List, [], _∷_}
-use Prim.Native.Nat.{ℕ, _+_, _*_, _≤_, _<_}
+use Prim.Native.Nat.{ℕ, _*_, _≤_, _<_}
 use native.Mathlib.Omega.{arith}
 use borrow.Author.Tests.{le-leb, lt-leb, leb-true, not-false}
 use lib.Dec.{leb}
@@ -19,7 +19,7 @@ use Rattle.stern.specs.Shortness.{answerLength}
 use Rattle.transcript.specs.Layout.{ballotLength, headLength, answersLength}
 use Rattle.transcript.specs.Round.{Parameters}
 use Rattle.transcript.specs.Producer.{Material, Sized}
-use Rattle.rounds.specs.Calls.{lengthsTest, materialSized, firstSized, secondSized, messageSized, openingsSized}
+use Rattle.lengths.specs.Calls.{lengthsTest, materialSized, firstSized, secondSized, messageSized, openingsSized}
 
 -- ---- the order: two groups of lengths and then the rest, by the number of ballots
 

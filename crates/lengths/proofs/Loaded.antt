@@ -1,26 +1,19 @@
 -- A sheet that is taken, by the bytes that its polynomials were put into: what a round's calls are given of it. Assumes nothing.
-use mathlib.Core.Path.{_≡_, refl, sym, ap, ap₂, _∙_}
+use mathlib.Core.Path.{_≡_, sym, ap, ap₂, _∙_}
 use mathlib.Core.List.{List}
-use Prim.Native.Nat.{ℕ, zero, _+_, _*_, _≤_, _<_}
+use Prim.Native.Nat.{ℕ, _+_, _*_, _≤_}
 use native.Mathlib.Nat.{zero-add}
 use native.Mathlib.Omega.{arith}
 use lib.ListN.{length, take, drop, replicate, length-append, length-replicate}
 use Rattle.codec.specs.Bytes.{Bytes, part, put, words}
 use Rattle.codec.proofs.Numbers.{length-words}
-use Rattle.codec.proofs.Laws.{length-part, part-part, part-put}
+use Rattle.codec.proofs.Laws.{part-part, part-put}
 use Rattle.sheet.specs.Reader.{sheetOf}
-use Rattle.sheet.specs.Sheet.{reading, loaded, filled, polynomials, lists, joined}
-use Rattle.sheet.specs.Bounds.{mask}
+use Rattle.sheet.specs.Sheet.{reading, loaded, filled, polynomials, joined}
 use Rattle.sheet.specs.declared.Numbers.{Numbers}
 use Rattle.sheet.specs.declared.Reading.{Reading}
 use Rattle.sheet.specs.declared.Reading.the-variants.{Taken}
 use Rattle.sheet.proofs.Taken.{taken, lists-taken}
-use Rattle.call.specs.Call.{Public}
-use Rattle.call.proofs.Lent.{Lent, lent}
-use Rattle.commitment.specs.Commitment.{PublicKeys}
-use Rattle.transcript.specs.Round.{Parameters}
-use Rattle.transcript.specs.Method.{parameters}
-use Rattle.rounds.specs.Sheets.{given, parametersOf}
 
 module _ (p : ℕ) (text : Bytes) {public : Bytes} {r : Reading} {k : Numbers} (load : (r ≡ reading p text) × (public ≡ loaded p text (replicate 81920 0))) (e : r ≡ Taken k) where
   abbrev n : ℕ

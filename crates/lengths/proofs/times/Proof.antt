@@ -1,9 +1,9 @@
--- `lengths::times` meets its contract. Assumes nothing.
+-- `times` meets its contract. Assumes nothing.
 use native.Mathlib.Nat.{mul-le-mul}
 use native.Mathlib.Omega.{arith}
 use borrow.Author.Needs.{needs}
-use Rattle.rounds.proofs.lengths.times.Statement.{statement}
-use Rattle.rounds.proofs.lengths.times.Tie as tie
+use Rattle.lengths.proofs.times.Statement.{statement}
+use Rattle.lengths.proofs.times.Tie as tie
 
 mul-result : tie.Need-mul-result
 mul-result c = let p = c .pre in omega (arith, mul-le-mul {n₁ = c .args .a} {m₁ = c .args .b} {n₂ = 1048576} {m₂ = 4096} (p .0) (p .1))

@@ -1,4 +1,4 @@
--- `lengths::answers_length` meets its contract. Assumes nothing.
+-- `answers_length` meets its contract. Assumes nothing.
 use mathlib.Core.Path.{_≡_, refl, sym, ap, ap₂, _∙_}
 use Prim.Native.Nat.{ℕ, _-_, _*_, _+_, _≤_, _<_}
 use native.Mathlib.Numerals.{add-one}
@@ -11,8 +11,8 @@ use Rattle.stern.specs.Shortness.{answerLength}
 use Rattle.transcript.specs.Layout.{answersLength}
 use Rattle.transcript.proofs.Answers.{answersLength-more}
 use Rattle.transcript.proofs.RepetitionLoop.{one-le}
-use Rattle.rounds.proofs.lengths.answers_length.Statement.{statement}
-use Rattle.rounds.proofs.lengths.answers_length.Tie as tie
+use Rattle.lengths.proofs.answers_length.Statement.{statement}
+use Rattle.lengths.proofs.answers_length.Tie as tie
 
 abbrev Inv-loop : tie.InvT-loop
 Inv-loop challenges n i₀ sum₀ i sum = (i ≤ length challenges) × (sum ≡ answersLength n (take i challenges)) × (sum ≤ 1032256 * i)

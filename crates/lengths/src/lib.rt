@@ -1,12 +1,22 @@
-// Whether the slices that are lent to a call have their lengths: specs/Calls.antt.
+// Whether the slices that are lent to the calls of a round have their lengths: specs/Calls.antt. The producer, the check and the extractor share them.
+use codec::Reply;
 ghost use mathlib.Core.Path.{_≡_};
 ghost use Prim.Native.Nat.{_+_, _*_, _/_, _≤_};
-ghost use mathlib.Core.Bool.{_&&_};
-ghost use lib.Dec.{leb};
 ghost use lib.ListN.{length};
-ghost use Rattle.transcript.specs.Layout.{ballotLength, answersLength};
+ghost use Rattle.codec.specs.declared.Reply.the-variants.{Refused};
+ghost use Rattle.transcript.specs.Layout.{answersLength};
 ghost use Rattle.transcript.specs.Producer.{materialOf};
-ghost use Rattle.rounds.specs.Calls.{countOf, materialSized, firstSized, secondSized, messageSized, openingsSized};
+ghost use Rattle.lengths.specs.Calls.{countOf, materialSized, firstSized, secondSized, messageSized, openingsSized};
+
+// 1: a slice of wrong length.
+pub fn refused() -> Reply
+    ensures { λ reply. ⌜ reply ≡ Refused 1 0 ⌝ }
+{
+    Reply::Refused {
+        number: 1,
+        place: 0,
+    }
+}
 
 // The product of two small numbers.
 fn times(a: usize, b: usize) -> usize

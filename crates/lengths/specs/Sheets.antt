@@ -1,5 +1,5 @@
 -- The parameters of a round that a sheet gives (document 01, "Sheet"): its numbers, the bounds made from them, and its polynomials, which stand as a, b, k1, k2, k3
--- in 40N bytes. Assumes nothing.
+-- in 40N bytes; and how many ballots are lent, by its ring size. Assumes nothing.
 use Prim.Native.Nat.{ℕ, _*_}
 use Rattle.codec.specs.Bytes.{Bytes, part}
 use Rattle.sheet.specs.Reader.{sheetOf}
@@ -8,6 +8,7 @@ use Rattle.sheet.specs.Bounds.{mask}
 use Rattle.sheet.specs.declared.Numbers.{Numbers}
 use Rattle.transcript.specs.Round.{Parameters}
 use Rattle.transcript.specs.Method.{parameters}
+use Rattle.lengths.specs.Calls.{countOf}
 
 -- from the numbers and the polynomials
 abbrev pub given : (p : ℕ) → Numbers → (polynomials : Bytes) → Parameters
@@ -17,3 +18,7 @@ given p k s =
 
 abbrev pub parametersOf : (p : ℕ) (text : Bytes) → Parameters
 parametersOf p text = given p (sheetOf text .numbers) (polynomials text)
+
+-- how many ballots are lent, by the sheet's ring size
+abbrev pub ballotsIn : (text ballots : Bytes) → ℕ
+ballotsIn text ballots = countOf (sheetOf text .numbers .ring) ballots

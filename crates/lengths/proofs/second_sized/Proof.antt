@@ -1,4 +1,4 @@
--- `lengths::second_sized` meets its contract. Assumes nothing.
+-- `second_sized` meets its contract. Assumes nothing.
 use mathlib.Core.Path.{_≡_, ap, _∙_}
 use mathlib.Core.List.{[], _∷_}
 use Prim.Native.Nat.{ℕ, _*_}
@@ -7,9 +7,9 @@ use borrow.Author.Needs.{needs}
 use borrow.Author.Tests.{eq-eqb, ne-eqb}
 use lib.ListN.{length}
 use Rattle.codec.specs.Bytes.{same}
-use Rattle.rounds.specs.Calls.{secondSized}
-use Rattle.rounds.proofs.lengths.second_sized.Statement.{statement}
-use Rattle.rounds.proofs.lengths.second_sized.Tie as tie
+use Rattle.lengths.specs.Calls.{secondSized}
+use Rattle.lengths.proofs.second_sized.Statement.{statement}
+use Rattle.lengths.proofs.second_sized.Tie as tie
 
 returns : tie.Need-returns
 unfolding same secondSized

@@ -1,14 +1,14 @@
--- `lengths::first_sized` meets its contract. Assumes nothing.
+-- `first_sized` meets its contract. Assumes nothing.
 use mathlib.Core.Path.{_≡_, ap, ap₂, _∙_}
 use mathlib.Core.Bool.{_&&_}
 use mathlib.Core.List.{[], _∷_}
 use Prim.Native.Nat.{ℕ, _+_, _*_}
 use lib.ListN.{length}
 use Rattle.codec.specs.Bytes.{same}
-use Rattle.rounds.specs.Calls.{firstSized}
+use Rattle.lengths.specs.Calls.{firstSized}
 use borrow.Author.Needs.{needs}
-use Rattle.rounds.proofs.lengths.first_sized.Statement.{statement}
-use Rattle.rounds.proofs.lengths.first_sized.Tie as tie
+use Rattle.lengths.proofs.first_sized.Statement.{statement}
+use Rattle.lengths.proofs.first_sized.Tie as tie
 
 returns : tie.Need-returns
 unfolding same firstSized

@@ -1,5 +1,5 @@
 -- A call after its lengths: none of its tests refuses 1 or 31, so scratch is zeroed whatever it answers. Assumes nothing.
-use mathlib.Core.Path.{_≡_, refl, ap, sym, _∙_}
+use mathlib.Core.Path.{_≡_, ap, sym, _∙_}
 use mathlib.Core.Bool.{Bool, true, false, cond}
 use mathlib.Core.Logic.{_≢_}
 use mathlib.Core.List.{List, [], _∷_, _++_}
@@ -10,7 +10,7 @@ use lib.ListN.{length}
 use Rattle.codec.specs.Bytes.{Bytes, zeros}
 use Rattle.codec.specs.Reply.{Test, test, first}
 use Rattle.codec.specs.declared.Reply.{Reply}
-use Rattle.codec.specs.declared.Reply.the-variants.{Taken, Refused}
+use Rattle.codec.specs.declared.Reply.the-variants.{Refused}
 use Rattle.call.specs.Call.{swept}
 use Rattle.call.proofs.Sweeping.{swept-taken, swept-refused}
 use Rattle.commitment.specs.Commitment.{Keys}
