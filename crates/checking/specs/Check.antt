@@ -11,7 +11,7 @@ use Rattle.codec.specs.declared.Reply.the-variants as reply
 use Rattle.sha3.specs.Sponge.{sha3}
 use Rattle.sheet.specs.Reader.{sheetOf}
 use Rattle.sheet.specs.Sheet.{order}
-use Rattle.sheet.specs.declared.Numbers.{Numbers}
+use Rattle.sheet_numbers.specs.declared.Numbers.{Numbers}
 use Rattle.transcript.specs.Layout.{ballotLength}
 use Rattle.transcript.specs.Round.{Round, roundTests}
 use Rattle.lengths.specs.Calls.{messageSized, secondSized}

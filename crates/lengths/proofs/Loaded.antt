@@ -10,7 +10,7 @@ use Rattle.codec.proofs.Numbers.{length-words}
 use Rattle.codec.proofs.Laws.{part-part, part-put}
 use Rattle.sheet.specs.Reader.{sheetOf}
 use Rattle.sheet.specs.Sheet.{reading, loaded, filled, polynomials, joined}
-use Rattle.sheet.specs.declared.Numbers.{Numbers}
+use Rattle.sheet_numbers.specs.declared.Numbers.{Numbers}
 use Rattle.sheet.specs.declared.Reading.{Reading}
 use Rattle.sheet.specs.declared.Reading.the-variants.{Taken}
 use Rattle.sheet.proofs.Taken.{taken, lists-taken}

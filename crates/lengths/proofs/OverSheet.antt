@@ -10,8 +10,8 @@ use Rattle.codec.specs.Reply.{Test, first}
 use Rattle.codec.specs.declared.Reply.{Reply}
 use Rattle.codec.specs.declared.Reply.the-variants as reply
 use Rattle.sheet.specs.Sheet.{order, reading, loaded, polynomials}
-use Rattle.sheet.specs.Bounds.{mask}
-use Rattle.sheet.specs.declared.Numbers.{Numbers}
+use Rattle.sheet_numbers.specs.Bounds.{mask}
+use Rattle.sheet_numbers.specs.declared.Numbers.{Numbers}
 use Rattle.sheet.specs.declared.Reading.{Reading}
 use Rattle.sheet.specs.declared.Reading.the-variants.{Taken, Refused}
 use Rattle.sheet.proofs.Taken.{onwards, order-first}

@@ -4,8 +4,8 @@ use Prim.Native.Nat.{ℕ, _*_}
 use Rattle.codec.specs.Bytes.{Bytes, part}
 use Rattle.sheet.specs.Reader.{sheetOf}
 use Rattle.sheet.specs.Sheet.{polynomials}
-use Rattle.sheet.specs.Bounds.{mask}
-use Rattle.sheet.specs.declared.Numbers.{Numbers}
+use Rattle.sheet_numbers.specs.Bounds.{mask}
+use Rattle.sheet_numbers.specs.declared.Numbers.{Numbers}
 use Rattle.transcript.specs.Round.{Parameters}
 use Rattle.transcript.specs.Method.{parameters}
 use Rattle.lengths.specs.Calls.{countOf}

@@ -39,7 +39,7 @@ pub fn produce_first(
         sheet::Reading::Taken(k) => {
             let n = k.ring as usize;
             let repeats = k.repeats as usize;
-            let bound = sheet::mask_bound(k.ring, k.drown);
+            let bound = sheet_numbers::mask_bound(k.ring, k.drown);
             let reply = parted::first(
                 &public,
                 secrets,
@@ -101,7 +101,7 @@ pub fn produce_second(
         sheet::Reading::Taken(k) => {
             let n = k.ring as usize;
             let repeats = k.repeats as usize;
-            let bound = sheet::mask_bound(k.ring, k.drown);
+            let bound = sheet_numbers::mask_bound(k.ring, k.drown);
             let reply = parted::second(
                 &public,
                 secrets,

@@ -1,6 +1,6 @@
 // The session of a count (document 01, "Register and session"): a value that each step takes and hands back with its answer. p is 2.
 use codec::Reply;
-use sheet::Numbers;
+use sheet_numbers::Numbers;
 
 // A session. The phase is 0 gathering, 1 closed, 2 claimed, 3 drawn, 4 ended refused, 5 ended accepted. It keeps the sheet's numbers before a and the sheet's digest; how many
 // entries of the register are used and how many ballots were closed; the closing and the claim digest; how many rounds are committed; the seed; how many rounds are

@@ -36,7 +36,7 @@ pub fn check(
         sheet::Reading::Taken(k) => {
             let n = k.ring as usize;
             let repeats = k.repeats as usize;
-            let bound = sheet::mask_bound(k.ring, k.drown);
+            let bound = sheet_numbers::mask_bound(k.ring, k.drown);
             let reply = parted::check(
                 &public,
                 side,
@@ -92,7 +92,7 @@ pub fn extract(
         sheet::Reading::Taken(k) => {
             let n = k.ring as usize;
             let repeats = k.repeats as usize;
-            let bound = sheet::mask_bound(k.ring, k.drown);
+            let bound = sheet_numbers::mask_bound(k.ring, k.drown);
             let answer = parted::extract(
                 &public,
                 head,

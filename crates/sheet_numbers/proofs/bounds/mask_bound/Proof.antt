@@ -1,9 +1,9 @@
 -- `bounds::mask_bound` meets its contract. Assumes nothing.
 use native.Mathlib.Omega.{arith}
 use borrow.Author.Needs.{needs}
-use Rattle.sheet.proofs.Ranges.{times}
-use Rattle.sheet.proofs.bounds.mask_bound.Statement.{statement}
-use Rattle.sheet.proofs.bounds.mask_bound.Tie as tie
+use Rattle.sheet_numbers.proofs.Ranges.{times}
+use Rattle.sheet_numbers.proofs.bounds.mask_bound.Statement.{statement}
+use Rattle.sheet_numbers.proofs.bounds.mask_bound.Tie as tie
 
 mul-result : tie.Need-mul-result
 mul-result c = omega (arith, times (c .before .power .result) (c .noise-bound .result) (omega arith) (omega arith))

@@ -9,9 +9,9 @@ use native.Mathlib.Omega.{arith}
 use borrow.Author.Tests.{le-leb, lt-leb, leb-true}
 use lib.Dec.{leb}
 use lib.ListN.{getD}
-use Rattle.sheet.specs.Bounds.{most, least}
+use Rattle.sheet_numbers.specs.Bounds.{most, least}
 use Rattle.codec.proofs.Laws.{both}
-use Rattle.sheet.proofs.Each.{below, holds}
+use Rattle.sheet_numbers.proofs.Below.{below, holds}
 
 -- for the rounds k + 1: met at m, missed at m + 1; and m is at most 256
 abbrev met : ℕ → ℕ → Bool

@@ -1,7 +1,7 @@
 // The least repeats for 1 to 128 rounds (document 000, table 1).
 ghost use mathlib.Core.Path.{_≡_};
 ghost use Prim.Native.Nat.{_≤_};
-ghost use Rattle.sheet.specs.Bounds.{least};
+ghost use Rattle.sheet_numbers.specs.Bounds.{least};
 
 const LEAST: [u64; 128] = [
     1,

@@ -4,8 +4,8 @@ use crate::repeats::least_repeats;
 ghost use mathlib.Core.Path.{_≡_};
 ghost use Prim.Native.Nat.{_^_, _≤_};
 ghost use mathlib.Core.Bool.{false};
-ghost use Rattle.sheet.specs.Bounds as def;
-ghost use Rattle.sheet.specs.Sheet as rule;
+ghost use Rattle.sheet_numbers.specs.Bounds as def;
+ghost use Rattle.sheet_numbers.specs.Rules as rule;
 
 // The plaintext modulus p.
 const P: u64 = 2;

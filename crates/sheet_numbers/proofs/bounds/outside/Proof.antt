@@ -2,10 +2,10 @@
 use native.Mathlib.Omega.{arith}
 use borrow.Author.Needs.{needs}
 use borrow.Author.Tests.{le-ltb, lt-ltb, le-leb, lt-leb, eq-eqb, ne-eqb}
-use Rattle.sheet.specs.Sheet.{any, outside}
-use Rattle.sheet.proofs.Ranges.{divides}
-use Rattle.sheet.proofs.bounds.outside.Statement.{statement}
-use Rattle.sheet.proofs.bounds.outside.Tie as tie
+use Rattle.sheet_numbers.specs.Rules.{any, outside}
+use Rattle.sheet_numbers.proofs.Ranges.{divides}
+use Rattle.sheet_numbers.proofs.bounds.outside.Statement.{statement}
+use Rattle.sheet_numbers.proofs.bounds.outside.Tie as tie
 
 returns : tie.Need-returns
 unfolding outside any

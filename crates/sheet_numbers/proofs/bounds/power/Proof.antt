@@ -5,8 +5,8 @@ use native.Mathlib.Nat.{one-mul}
 use native.Mathlib.Omega.{arith}
 use borrow.Author.Needs.{needs}
 use lib.Pow.{shl-exact, pow-mono}
-use Rattle.sheet.proofs.bounds.power.Statement.{statement}
-use Rattle.sheet.proofs.bounds.power.Tie as tie
+use Rattle.sheet_numbers.proofs.bounds.power.Statement.{statement}
+use Rattle.sheet_numbers.proofs.bounds.power.Tie as tie
 
 returns : tie.Need-returns
 returns c =

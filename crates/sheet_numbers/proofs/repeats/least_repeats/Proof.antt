@@ -3,10 +3,10 @@ use mathlib.Core.Path.{_≡_, ap, _∙_}
 use Prim.Native.Nat.{_+_, _-_}
 use native.Mathlib.Omega.{arith}
 use borrow.Author.Needs.{needs}
-use Rattle.sheet.specs.Bounds.{least}
-use Rattle.sheet.proofs.Least.{table, entry}
-use Rattle.sheet.proofs.repeats.least_repeats.Statement.{statement}
-use Rattle.sheet.proofs.repeats.least_repeats.Tie as tie
+use Rattle.sheet_numbers.specs.Bounds.{least}
+use Rattle.sheet_numbers.proofs.Least.{table, entry}
+use Rattle.sheet_numbers.proofs.repeats.least_repeats.Statement.{statement}
+use Rattle.sheet_numbers.proofs.repeats.least_repeats.Tie as tie
 
 returns : tie.Need-returns
 unfolding table

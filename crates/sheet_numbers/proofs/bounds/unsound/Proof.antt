@@ -3,10 +3,10 @@ use Prim.Native.Nat.{_+_}
 use native.Mathlib.Omega.{arith}
 use borrow.Author.Needs.{needs}
 use borrow.Author.Tests.{le-ltb, lt-ltb, le-leb, lt-leb, eq-eqb, ne-eqb}
-use Rattle.sheet.specs.Sheet.{any, unsound}
-use Rattle.sheet.proofs.Ranges.{in-range, times}
-use Rattle.sheet.proofs.bounds.unsound.Statement.{statement}
-use Rattle.sheet.proofs.bounds.unsound.Tie as tie
+use Rattle.sheet_numbers.specs.Rules.{any, unsound}
+use Rattle.sheet_numbers.proofs.Ranges.{in-range, times}
+use Rattle.sheet_numbers.proofs.bounds.unsound.Statement.{statement}
+use Rattle.sheet_numbers.proofs.bounds.unsound.Tie as tie
 
 sub-if1 : tie.Need-sub-if1
 sub-if1 c = let i = in-range (c .before .args .k) (c .before .pre) in omega arith
