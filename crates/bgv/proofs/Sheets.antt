@@ -6,9 +6,9 @@ use native.Mathlib.Omega.{arith}
 use Rattle.codec.specs.Bytes.{Bytes}
 use Rattle.modular.specs.Division.{Coprime}
 use Rattle.modular.proofs.Division.{odd-coprime}
-use Rattle.sheet.specs.Bounds.{noise, mask}
+use Rattle.sheet_numbers.specs.Bounds.{noise, mask}
 use Rattle.sheet.specs.Sheet.{reading}
-use Rattle.sheet.specs.declared.Numbers.{Numbers}
+use Rattle.sheet_numbers.specs.declared.Numbers.{Numbers}
 use Rattle.sheet.specs.declared.Reading.the-variants.{Taken}
 use Rattle.sheet.proofs.Taken.{taken}
 use Rattle.bgv.specs.Scheme.{Sound}

@@ -10,8 +10,8 @@ use Rattle.modular.specs.Modulo.{centre, remainder}
 use Rattle.modular.specs.Division.{multiplier, inverse, divide}
 use Rattle.ring.specs.Poly.{Poly, sum, turn, coefficient, mul, plus, scale}
 use Rattle.ring.specs.Ternary.{meaning, ternary}
-use Rattle.sheet.specs.Bounds.{noise, mask}
-use Rattle.sheet.specs.Sheet.{any, unsound}
+use Rattle.sheet_numbers.specs.Bounds.{noise, mask}
+use Rattle.sheet_numbers.specs.Rules.{any, unsound}
 use Rattle.bgv.specs.Scheme.{Wholes, noisy, centred, key, cipher-u, cipher-v, opened, plain, decrypted, other, share, worked, rebuilt, reconstructed}
 
 -- ---- the paper's polynomials and numbers

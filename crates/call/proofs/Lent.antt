@@ -12,10 +12,10 @@ use Rattle.ring.specs.Poly.{Alike}
 use Rattle.ring.specs.Slots.{poly}
 use Rattle.sheet.specs.Reader.{sheetOf}
 use Rattle.sheet.specs.Sheet.{order, reading, lists, filled, loaded, polynomials}
-use Rattle.sheet.specs.declared.Numbers.{Numbers}
+use Rattle.sheet_numbers.specs.declared.Numbers.{Numbers}
 use Rattle.sheet.specs.declared.Reading.{Reading}
 use Rattle.sheet.specs.declared.Reading.the-variants.{Taken, Refused}
-use Rattle.sheet.proofs.Ranges.{InRange}
+use Rattle.sheet_numbers.proofs.Ranges.{InRange}
 use Rattle.sheet.proofs.Taken.{onwards, order-first, taken}
 use Rattle.call.specs.Call.{coefficients, swept, Public, Used}
 use Rattle.call.proofs.Sheets.{put-room, lent-public, lent-alike}

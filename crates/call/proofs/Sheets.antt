@@ -14,7 +14,7 @@ use Rattle.ring.specs.Slots.{poly, encode}
 use Rattle.ring.proofs.Bridge.{length-encode, list-getD, poly-encode}
 use Rattle.sheet.specs.Reader.{sheetOf}
 use Rattle.sheet.specs.Sheet.{reading, lists, joined, polynomials}
-use Rattle.sheet.specs.declared.Numbers.{Numbers}
+use Rattle.sheet_numbers.specs.declared.Numbers.{Numbers}
 use Rattle.sheet.specs.declared.Reading.the-variants.{Taken}
 use Rattle.sheet.proofs.Taken.{Polynomial, AllPolynomials, taken, lists-taken}
 use Rattle.call.specs.Call.{coefficients, Public}

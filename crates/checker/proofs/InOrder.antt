@@ -1,8 +1,8 @@
--- One order after another: the first that refuses decides; and the two orders in the stretches that the code goes through. Assumes nothing.
+-- One order after another: the first that refuses decides; and the order of a check in the stretches that the code goes through. Assumes nothing.
 use mathlib.Core.Path.{_≡_, refl, sym, ap, ap₂, _∙_}
 use mathlib.Core.Logic.{_≢_}
 use mathlib.Core.Bool.{not}
-use mathlib.Core.List.{List, _∷_, _++_, append-assoc}
+use mathlib.Core.List.{List, _∷_, _++_}
 use Prim.Native.Nat.{ℕ, zero, suc, _<_}
 use native.Mathlib.Omega.{arith}
 use Rattle.codec.specs.Bytes.{Bytes}
@@ -14,10 +14,9 @@ use Rattle.ring.specs.Slots.{poly, slot}
 use Rattle.commitment.specs.Commitment.{keysOf}
 use Rattle.transcript.specs.Layout.{each, openingOf}
 use Rattle.transcript.specs.Round.{Round, sharesOf, ranged, answersRanged, ballotsRanged, headRanged, openingRanged, splits, opensKey, opensPairs, roundTests}
-use Rattle.transcript.specs.Extractor.{Openings, lentRanged, extractTests}
 use Rattle.transcript.specs.Method.{parameters}
 use Rattle.transcript.proofs.Many.{first-refused}
-use Rattle.checker.specs.Orders.{rangeParameters, ofSide, splitTest, openingTests, voteTests, sideTests, answersTests, laterTests, bothTests, threeTests}
+use Rattle.checker.specs.Orders.{rangeParameters, ofSide, splitTest, openingTests, voteTests, answersTests, laterTests}
 
 module _ (rs ts : List Test) {z : Reply} (e : z ≡ first rs) where
   pub stopped : (number place : ℕ) → z ≡ Refused number place → z ≡ first (rs ++ ts)
@@ -46,17 +45,13 @@ shares-of : (r : Round) (side : ℕ) → ofSide side (r .shares0) (r .shares1) �
 shares-of r zero = refl
 shares-of r (suc i) = refl
 
--- ---- the orders of a check and of the extractor
+-- ---- the order of a check
 
 module _ (n q bound repeats : ℕ) (a b k : Bytes) (m : ℕ) where
   -- the range tests read neither the bound nor the sheet's polynomials
   pub same-range : (r : Round) → ranged (rangeParameters n q repeats) m r ≡ ranged (parameters 2 n q bound repeats a b k) m r
   unfolding ranged answersRanged ballotsRanged headRanged openingRanged
   same-range r = refl
-
-  pub same-lent-range : (x : Openings) → lentRanged (rangeParameters n q repeats) m x ≡ lentRanged (parameters 2 n q bound repeats a b k) m x
-  unfolding lentRanged ballotsRanged headRanged openingRanged
-  same-lent-range x = refl
 
   -- with the shares of the opened side as they are lent
   abbrev later : Round → (opened : Bytes) → List Test
@@ -70,17 +65,3 @@ module _ (n q bound repeats : ℕ) (a b k : Bytes) (m : ℕ) where
       ≡ roundTests (parameters 2 n q bound repeats a b k) m r
   unfolding roundTests splits opensKey opensPairs
   round-order r = ap (λ (s : Bytes). test 5 0 (not (ranged (parameters 2 n q bound repeats a b k) m r)) ∷ later r s) (shares-of r (r .side))
-
-  abbrev side : Openings → (i : ℕ) (opening opened : Bytes) → List Test
-  side x i opening opened = sideTests q n bound m (poly a) (keysOf n k) (x .head) i opening (x .ballots) (x .claims) (x .shares0) (x .shares1) opened
-
-  pub extract-order : (x : Openings)
-      → test 5 0 (not (lentRanged (parameters 2 n q bound repeats a b k) m x))
-      ∷ splitTest q n (poly b) (x .head)
-      ∷ (bothTests q n bound m (poly a) (keysOf n k) (x .head) (x .shares0) (x .shares1) (x .ballots) (x .claims) (x .opening0) (x .opening1)
-      ++ threeTests q n (keysOf n k) (x .head) (x .repetition) (x .answer1) (x .answer2) (x .answer3))
-      ≡ extractTests (parameters 2 n q bound repeats a b k) m x
-  unfolding extractTests splits opensKey opensPairs
-  extract-order x =
-      ap (λ (l : List Test). test 5 0 (not (lentRanged (parameters 2 n q bound repeats a b k) m x)) ∷ splitTest q n (poly b) (x .head) ∷ l)
-      (append-assoc (side x 0 (x .opening0) (x .shares0)) (side x 1 (x .opening1) (x .shares1)) (threeTests q n (keysOf n k) (x .head) (x .repetition) (x .answer1) (x .answer2) (x .answer3)))

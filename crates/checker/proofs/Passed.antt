@@ -1,4 +1,4 @@
--- What is known of the lent parts of a round, and of what the extractor is lent, once the tests of lengths and ranges are passed. Assumes nothing.
+-- What is known of the lent parts of a round once the tests of lengths and ranges are passed. Assumes nothing.
 use mathlib.Core.Path.{_≡_, ap, _∙_}
 use mathlib.Core.Bool.{true, _&&_}
 use Prim.Native.Nat.{ℕ, _+_, _*_, _/_, _≤_, _<_}
@@ -19,12 +19,11 @@ use Rattle.stern.specs.Shortness.{inRange}
 use Rattle.stern.proofs.Written.{vector-below}
 use Rattle.transcript.specs.Layout.{ballotLength, headLength, uAt, pairsOf, answerAt}
 use Rattle.transcript.specs.Round.{Parameters, Round, Lengths, challengeAt, isChallenge, ballotsRanged, openingRanged, headRanged, answersRanged, ranged}
-use Rattle.transcript.specs.Extractor.{Openings, lentRanged}
 use Rattle.transcript.specs.Method.{Batch, Shares}
 use Rattle.transcript.proofs.Many.{all-sound, stretch}
 use Rattle.transcript.proofs.Written.{below-slot, coefficients-vector}
 use Rattle.transcript.proofs.Compared.{lent-public}
-use Rattle.checker.specs.Lent.{Opened, Head, RoundInRange, OpeningsInRange}
+use Rattle.checker.specs.Lent.{Opened, Head, RoundInRange}
 
 -- for a ring size and a modulus that some polynomial of the sheet has
 module _ (P : Parameters) (m : ℕ) {a : Bytes} (p : Public (P .N) (P .q) a) where
@@ -108,32 +107,4 @@ module _ (P : Parameters) (m : ℕ) {a : Bytes} (p : Public (P .N) (P .q) a) whe
         shares0 = shares-passed (r .shares0) (l .shares0) (a6 .0);
         shares1 = shares-passed (r .shares1) (l .shares1) (a7 .0);
         opening = opening-passed (r .opening) (l .opening) (a7 .1);
-      }
-
-  -- ---- the extractor
-
-  pub openings-passed : (x : Openings) → Rattle.transcript.specs.Extractor.Lent P m x → lentRanged P m x ≡ true → OpeningsInRange q N m repeats x
-  unfolding lentRanged
-  openings-passed x l t =
-      let a1 = both (ltb (x .repetition) repeats) _ t in
-      let a2 = both (ballotsRanged P m (x .ballots)) _ (a1 .1) in
-      let a3 = both (allBelow (P .p) (x .claims)) _ (a2 .1) in
-      let a4 = both (headRanged P m (x .head)) _ (a3 .1) in
-      let a5 = both (allBelow q (vector (x .shares0))) _ (a4 .1) in
-      let a6 = both (allBelow q (vector (x .shares1))) _ (a5 .1) in
-      let a7 = both (openingRanged P m (x .opening0)) _ (a6 .1) in
-      let a8 = both (openingRanged P m (x .opening1)) _ (a7 .1) in
-      let a9 = both (inRange q N 1 (x .answer1)) _ (a8 .1) in
-      let a10 = both (inRange q N 2 (x .answer2)) (inRange q N 3 (x .answer3)) (a9 .1) in
-      record {
-        repetition = ltb-true (x .repetition) repeats (a1 .0);
-        batch = batch-passed (x .ballots) (x .claims) (l .ballots) (l .claims) (a2 .0);
-        head = head-passed (x .head) (l .head) (a4 .0);
-        shares0 = shares-passed (x .shares0) (l .shares0) (a5 .0);
-        shares1 = shares-passed (x .shares1) (l .shares1) (a6 .0);
-        opening0 = opening-passed (x .opening0) (l .opening0) (a7 .0);
-        opening1 = opening-passed (x .opening1) (l .opening1) (a8 .0);
-        answer1 = record { sized = l .answer1; ranged = a9 .0 };
-        answer2 = record { sized = l .answer2; ranged = a10 .0 };
-        answer3 = record { sized = l .answer3; ranged = a10 .1 };
       }

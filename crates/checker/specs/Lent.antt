@@ -1,4 +1,4 @@
--- What the inner functions of a check are given: parts of a round that passed the tests of lengths and ranges. The contracts of the two whole orders do not cite this file. Assumes nothing.
+-- What the inner functions of a check are given: parts of a round that passed the tests of lengths and ranges. The contracts of the whole orders do not cite this file. Assumes nothing.
 use mathlib.Core.Path.{_≡_}
 use mathlib.Core.Bool.{true}
 use Prim.Native.Nat.{ℕ, _*_, _<_}
@@ -7,10 +7,8 @@ use Rattle.codec.specs.Bytes.{Bytes, part}
 use Rattle.ring.specs.Slots.{allBelow}
 use Rattle.call.specs.Call.{Public}
 use Rattle.vector.specs.Vector.{vector}
-use Rattle.stern.specs.Shortness.{answerLength, inRange}
 use Rattle.transcript.specs.Layout.{headLength, pairsOf}
 use Rattle.transcript.specs.Round.{Round}
-use Rattle.transcript.specs.Extractor.{Openings}
 use Rattle.transcript.specs.Method.{Batch, Shares, Answers}
 
 -- an opening
@@ -26,11 +24,6 @@ pub record Head (q n repeats : ℕ) (head : Bytes) : Type 0 where
   pub b1 : Public n q (part head (8 * n) (8 * n))
   pub pairs : allBelow q (vector (pairsOf n head)) ≡ true
 
--- the answer to a challenge
-pub record Answered (q n challenge : ℕ) (answer : Bytes) : Type 0 where
-  pub sized : length answer ≡ answerLength n challenge
-  pub ranged : inRange q n challenge answer ≡ true
-
 -- all that is lent to a check
 pub record RoundInRange (q n count repeats : ℕ) (r : Round) : Type 0 where
   pub side : r .side < 2
@@ -40,16 +33,3 @@ pub record RoundInRange (q n count repeats : ℕ) (r : Round) : Type 0 where
   pub shares0 : Shares q n count (r .shares0)
   pub shares1 : Shares q n count (r .shares1)
   pub opening : Opened q n (r .opening)
-
--- all that is lent to the extractor
-pub record OpeningsInRange (q n count repeats : ℕ) (x : Openings) : Type 0 where
-  pub repetition : x .repetition < repeats
-  pub batch : Batch q n count (x .ballots) (x .claims)
-  pub head : Head q n repeats (x .head)
-  pub shares0 : Shares q n count (x .shares0)
-  pub shares1 : Shares q n count (x .shares1)
-  pub opening0 : Opened q n (x .opening0)
-  pub opening1 : Opened q n (x .opening1)
-  pub answer1 : Answered q n 1 (x .answer1)
-  pub answer2 : Answered q n 2 (x .answer2)
-  pub answer3 : Answered q n 3 (x .answer3)

@@ -1,5 +1,5 @@
--- The parts of the two orders that inner functions go through, each a stretch of the list that the order spells (transcript: specs/Round.antt, specs/Extractor.antt),
--- and what is lent to a check and to the extractor, in one record each. Assumes nothing.
+-- The parts of the order that the inner functions of a check go through, each a stretch of the list that the order spells (transcript: specs/Round.antt), and what is
+-- lent to a check, in one record. Assumes nothing.
 use mathlib.Core.Bool.{not, _&&_}
 use mathlib.Core.List.{List, [], _∷_, _++_}
 use Prim.Native.Nat.{ℕ, zero, suc, _+_, _*_}
@@ -13,7 +13,6 @@ use Rattle.commitment.specs.Commitment.{Keys, threeOf, opens}
 use Rattle.stern.specs.Shortness.{answerTests}
 use Rattle.transcript.specs.Layout.{Opening, each, uAt, vAt, shareAt, claimAt, keyAt, pairsOf, pairAt, digestsAt, openingOf, answerAt}
 use Rattle.transcript.specs.Round.{Parameters, Round}
-use Rattle.transcript.specs.Extractor.{Openings}
 use Rattle.transcript.specs.Method.{parameters}
 
 -- what is lent to a check
@@ -28,22 +27,6 @@ roundOf side challenges ballots claims head shares0 shares1 opening answers = re
   shares1 = shares1;
   opening = opening;
   answers = answers;
-}
-
--- what is lent to the extractor
-abbrev pub openingsOf : (head shares0 shares1 ballots claims opening0 opening1 : Bytes) (repetition : ℕ) (answer1 answer2 answer3 : Bytes) → Openings
-openingsOf head shares0 shares1 ballots claims opening0 opening1 repetition answer1 answer2 answer3 = record {
-  head = head;
-  shares0 = shares0;
-  shares1 = shares1;
-  ballots = ballots;
-  claims = claims;
-  opening0 = opening0;
-  opening1 = opening1;
-  repetition = repetition;
-  answer1 = answer1;
-  answer2 = answer2;
-  answer3 = answer3;
 }
 
 -- what the range tests read of the parameters: ring size, modulus and repetitions
@@ -74,11 +57,6 @@ voteTests q n bound count s ballots claims shares0 shares1 opened =
     ∷ test 13 j (not (same (claimAt n claims j) (list n (reconstructed q 2 (vAt n ballots j) (shareAt n shares0 j) (shareAt n shares1 j)))))
     ∷ [])
 
--- a side's opening: 7, 8, then by ballot 12, 13
-abbrev pub sideTests : (q n bound count : ℕ) (a : Poly) → Keys → (head : Bytes) (side : ℕ) (opening ballots claims shares0 shares1 opened : Bytes) → List Test
-sideTests q n bound count a k head side opening ballots claims shares0 shares1 opened =
-    openingTests q n a k head side (openingOf n opening) ++ voteTests q n bound count (slot opening 0) ballots claims shares0 shares1 opened
-
 -- by repetition 9, 10, 11
 abbrev pub answersTests : (q n : ℕ) → Keys → (repeats : ℕ) (head challenges answers : Bytes) → List Test
 answersTests q n k repeats head challenges answers =
@@ -91,16 +69,3 @@ laterTests q n bound count repeats a b k r =
     ∷ (openingTests q n a k (r .head) (r .side) (openingOf n (r .opening))
     ++ (answersTests q n k repeats (r .head) (r .challenges) (r .answers)
     ++ voteTests q n bound count (slot (r .opening) 0) (r .ballots) (r .claims) (r .shares0) (r .shares1) (ofSide (r .side) (r .shares0) (r .shares1))))
-
--- the extractor's side 0, then side 1
-abbrev pub bothTests : (q n bound count : ℕ) (a : Poly) → Keys → (head shares0 shares1 ballots claims opening0 opening1 : Bytes) → List Test
-bothTests q n bound count a k head shares0 shares1 ballots claims opening0 opening1 =
-    sideTests q n bound count a k head 0 opening0 ballots claims shares0 shares1 shares0
-    ++ sideTests q n bound count a k head 1 opening1 ballots claims shares0 shares1 shares1
-
--- the three answers of a repetition, by answer 9, 10, 11
-abbrev pub threeTests : (q n : ℕ) → Keys → (head : Bytes) (repetition : ℕ) (answer1 answer2 answer3 : Bytes) → List Test
-threeTests q n k head i answer1 answer2 answer3 =
-    answerTests q n k (pairsOf n head) (digestsAt n head i) i 1 answer1
-    ++ (answerTests q n k (pairsOf n head) (digestsAt n head i) i 2 answer2
-    ++ answerTests q n k (pairsOf n head) (digestsAt n head i) i 3 answer3)

@@ -15,7 +15,7 @@ ghost use Rattle.commitment.specs.Commitment.{keysOf, threeOf, opens, PublicKey
 ghost use Rattle.transcript.specs.Layout.{keyAt, openingOf};
 ghost use Rattle.transcript.specs.Method.{Batch, Shares};
 ghost use Rattle.checker.specs.Lent.{Opened, Head};
-ghost use Rattle.checker.specs.Orders.{openingTests, voteTests, sideTests};
+ghost use Rattle.checker.specs.Orders.{openingTests, voteTests};
 
 // A refusal that names no place.
 pub fn refused(number: u8) -> Reply
@@ -133,47 +133,6 @@ pub fn test_votes(
     transcript::ballots::test_ballots(
         work,
         &opening[0..8 * n],
-        ballots,
-        claims,
-        shares0,
-        shares1,
-        opened,
-        count,
-        bound,
-        n,
-        q,
-    )
-}
-
-// All that a side's opening is tested by: 7, 8, then by ballot 12, 13.
-pub fn test_side(
-    work: &mut [u8],
-    a: &[u8],
-    k: &[u8],
-    head: &[u8],
-    side: usize,
-    opening: &[u8],
-    ballots: &[u8],
-    claims: &[u8],
-    shares0: &[u8],
-    shares1: &[u8],
-    opened: &[u8],
-    count: usize,
-    bound: u64,
-    n: usize,
-    q: u64,
-) -> Reply
-    requires { ⌜ Public n q (now a) × PublicKeys n q (now k) × Opened q n (now opening) × (q % 2 ≡ 1) × (length (now work) ≡ scratchLength) × (80 * n ≤ length (now head)) × (side < 2) × (count ≤ 4096) × Batch q n count (now ballots) (now claims) × Shares q n count (now shares0) × Shares q n count (now shares1) × Shares q n count (now opened) ⌝ }
-    ensures { λ reply. ⌜ reply ≡ first (sideTests q n bound count (poly (now (a .entry))) (keysOf n (now (k .entry))) (now (head .entry)) side (now (opening .entry)) (now (ballots .entry)) (now (claims .entry)) (now (shares0 .entry)) (now (shares1 .entry)) (now (opened .entry))) ⌝ }
-    ensures { λ _. ⌜ length (now (work .exit)) ≡ length (now (work .entry)) ⌝ }
-{
-    let reply = test_opening(work, a, k, head, side, opening, n, q);
-    let Reply::Taken = reply else {
-        return reply;
-    };
-    test_votes(
-        work,
-        opening,
         ballots,
         claims,
         shares0,

@@ -12,15 +12,15 @@ use Rattle.codec.specs.declared.Reply.the-variants.{Taken, Refused}
 use Rattle.codec.proofs.Laws.{both}
 use Rattle.codec.proofs.Replies.{taken-exactly}
 use Rattle.sheet.specs.Reader.{sheetOf}
-use Rattle.sheet.specs.declared.Numbers.{Numbers}
+use Rattle.sheet_numbers.specs.declared.Numbers.{Numbers}
 use Rattle.call.specs.Call.{scratchLength}
 use Rattle.call.proofs.Order.{refuses, passes}
 use Rattle.transcript.specs.Layout.{ballotLength}
 use Rattle.transcript.specs.Round.{Lengths}
 use Rattle.checker.specs.Orders.{roundOf}
-use Rattle.rounds.specs.Calls.{messageSized, secondSized}
-use Rattle.rounds.specs.Sheets.{given}
-use Rattle.rounds.proofs.Sizes.{message-sizes}
+use Rattle.lengths.specs.Calls.{messageSized, secondSized}
+use Rattle.lengths.specs.Sheets.{given}
+use Rattle.lengths.proofs.Sizes.{message-sizes}
 use Rattle.verification.proofs.Tested.{check-lengths}
 use Rattle.checking.specs.Check.{Stored, Inputs, sameNumbers, storedTests}
 use Rattle.checking.specs.Parts.{lentSized, lentTests}

@@ -17,8 +17,8 @@ use Rattle.sheet.specs.Sheet.{order}
 use Rattle.call.specs.Call.{scratchLength}
 use Rattle.transcript.specs.Round.{Parameters, Lengths}
 use Rattle.transcript.proofs.Many.{none-append, append-none}
-use Rattle.rounds.specs.Calls.{messageSized, secondSized}
-use Rattle.rounds.proofs.Sizes.{message-sizes, second-sizes}
+use Rattle.lengths.specs.Calls.{messageSized, secondSized}
+use Rattle.lengths.proofs.Sizes.{message-sizes, second-sizes}
 use Rattle.drawing.proofs.Range.{length-challenges}
 use Rattle.checking.specs.Check.{Stored, Inputs, challengesOf, drawnRound, inputsSized, storedTests, earlyTests, verdict}
 use Rattle.checking.specs.Equations.{Sized, Held}

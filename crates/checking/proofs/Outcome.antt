@@ -9,9 +9,9 @@ use Rattle.codec.specs.Bytes.{Bytes, part}
 use Rattle.codec.specs.Reply.{test, first}
 use Rattle.codec.specs.declared.Reply.{Reply}
 use Rattle.codec.specs.declared.Reply.the-variants as reply
-use Rattle.sheet.specs.Bounds.{mask}
+use Rattle.sheet_numbers.specs.Bounds.{mask}
 use Rattle.sheet.specs.Sheet.{reading}
-use Rattle.sheet.specs.declared.Numbers.{Numbers}
+use Rattle.sheet_numbers.specs.declared.Numbers.{Numbers}
 use Rattle.sheet.specs.declared.Reading.{Reading}
 use Rattle.sheet.specs.declared.Reading.the-variants.{Taken, Refused}
 use Rattle.call.specs.Call.{swept}
@@ -21,9 +21,9 @@ use Rattle.scheme_calls.proofs.Keys.{lent-keys}
 use Rattle.transcript.specs.Method.{parameters}
 use Rattle.transcript.specs.Round.{Parameters, Round, roundTests}
 use Rattle.checker.specs.Orders.{roundOf}
-use Rattle.rounds.specs.Sheets.{given, parametersOf}
-use Rattle.rounds.proofs.Swept.{later-round, swept-alike}
-use Rattle.round_calls.proofs.Promises.{lent-keyed, over, refused-over}
+use Rattle.lengths.specs.Sheets.{given, parametersOf}
+use Rattle.lengths.proofs.Swept.{later-round, swept-alike}
+use Rattle.lengths.proofs.OverSheet.{lent-keyed, over, refused-over}
 use Rattle.checking.specs.Check.{Stored, Inputs, storedOf, sideOf, challengesOf, inputsSized, storedTests, drawnRound, earlyTests, lateTests, verdict, replyOf}
 use Rattle.checking.specs.declared.Verdict.{Verdict}
 use Rattle.checking.specs.declared.Verdict.the-variants.{Stopped}

@@ -6,10 +6,10 @@ use Prim.Native.Nat.{ℕ, _*_, _%_, _≤_}
 use lib.ListN.{length}
 use Rattle.codec.specs.Bytes.{Bytes, part}
 use Rattle.codec.specs.Reply.{Test, test}
-use Rattle.sheet.specs.declared.Numbers.{Numbers}
+use Rattle.sheet_numbers.specs.declared.Numbers.{Numbers}
 use Rattle.call.specs.Call.{Public}
 use Rattle.commitment.specs.Commitment.{PublicKeys}
-use Rattle.rounds.specs.Calls.{messageSized, secondSized}
+use Rattle.lengths.specs.Calls.{messageSized, secondSized}
 use Rattle.checking.specs.Check.{Stored, Inputs, storedTests}
 
 -- a sheet that was taken with the numbers k, and the bytes that its polynomials were put into

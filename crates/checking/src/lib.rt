@@ -3,13 +3,13 @@ mod stored;
 mod verdicts;
 
 use codec::Reply;
-use sheet::Numbers;
+use sheet_numbers::Numbers;
 ghost use mathlib.Core.Path.{_≡_};
 ghost use mathlib.Core.Bool.{false};
 ghost use Prim.Native.Nat.{_≤_};
 ghost use Rattle.codec.specs.Reply.{first};
 ghost use Rattle.call.specs.Call.{swept};
-ghost use Rattle.sheet.specs.Sheet.{outside};
+ghost use Rattle.sheet_numbers.specs.Rules.{outside};
 ghost use Rattle.checking.specs.Check.{storedOf, inputsOf, earlyTests, lateTests, verdict, replyOf};
 
 // What a check comes to: stopped before the round was looked at, failed by the round itself, or passed.

@@ -1,8 +1,8 @@
 // Before the round itself is looked at, once the sheet is taken: 1 by the session's numbers and closed count, then 16. The sheet's own numbers are k.
 use codec::Reply;
-use rounds::lengths::message_sized;
-use rounds::lengths::second_sized;
-use sheet::Numbers;
+use lengths::message_sized;
+use lengths::second_sized;
+use sheet_numbers::Numbers;
 ghost use mathlib.Core.Path.{_≡_};
 ghost use mathlib.Core.Bool.{false};
 ghost use mathlib.Core.List.{[]};
@@ -10,7 +10,7 @@ ghost use Prim.Native.Nat.{_*_, _≤_};
 ghost use lib.ListN.{length};
 ghost use Rattle.codec.specs.Reply.{first};
 ghost use Rattle.sheet.specs.Reader.{sheetOf};
-ghost use Rattle.sheet.specs.Sheet.{outside};
+ghost use Rattle.sheet_numbers.specs.Rules.{outside};
 ghost use Rattle.transcript.specs.Layout.{ballotLength};
 ghost use Rattle.checking.specs.Check.{storedOf, inputsOf, sameNumbers, storedTests};
 ghost use Rattle.checking.specs.Parts.{lentSized, lentTests};

@@ -2,7 +2,7 @@
 use crate::Verdict;
 use crate::stored::test_lent;
 use codec::Reply;
-use sheet::Numbers;
+use sheet_numbers::Numbers;
 ghost use mathlib.Core.Path.{_≡_};
 ghost use mathlib.Core.Bool.{false, not};
 ghost use mathlib.Core.List.{[], _∷_};
@@ -11,11 +11,11 @@ ghost use lib.ListN.{length, take};
 ghost use Rattle.codec.specs.Reply.{first, test};
 ghost use Rattle.codec.specs.declared.Reply.the-variants.{Taken};
 ghost use Rattle.sheet.specs.Reader.{sheetOf};
-ghost use Rattle.sheet.specs.Sheet.{outside};
+ghost use Rattle.sheet_numbers.specs.Rules.{outside};
 ghost use Rattle.call.specs.Call.{scratchLength, swept};
 ghost use Rattle.transcript.specs.Round.{Lengths, roundTests};
 ghost use Rattle.checker.specs.Orders.{roundOf};
-ghost use Rattle.rounds.specs.Sheets.{given};
+ghost use Rattle.lengths.specs.Sheets.{given};
 ghost use Rattle.drawing.specs.Draw.{drawnChallenges};
 ghost use Rattle.checking.specs.Check.{storedOf, inputsOf, inputsSized, storedTests, drawnRound, verdict, replyOf};
 ghost use Rattle.checking.specs.Parts.{Loaded, lentTests};
@@ -62,7 +62,7 @@ fn test_round(
 {
     let n = k.ring as usize;
     let repeats = k.repeats as usize;
-    let bound = sheet::mask_bound(k.ring, k.drown);
+    let bound = sheet_numbers::mask_bound(k.ring, k.drown);
     checker::round::check_round(
         scratch,
         &public[0..8 * n],

@@ -9,7 +9,7 @@ use native.Mathlib.Numerals.{add-one}
 use lib.Dec.{eqb}
 use lib.ListN.{length}
 use Rattle.codec.specs.Bytes.{Bytes, part}
-use Rattle.keccak.specs.Keccak.{State}
+use Rattle.keccak_steps.specs.Steps.{State}
 use Rattle.sha3.specs.Sponge.{absorb, padding, squeeze, zeroState, sha3}
 use Rattle.sha3.proofs.Parts.{Absorbed, start, more, done}
 use Rattle.register.specs.Register.{stateAt, digestAt, standing, standingDigests}

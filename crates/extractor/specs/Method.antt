@@ -1,28 +1,17 @@
--- What inner functions work out: the lowest digest whose strings differ, the unknowns, and what they leave of two openings. No public contract cites this file. Assumes
--- nothing.
+-- What inner functions work out: the unknowns, and what they leave of two openings. No public contract cites this file. Assumes nothing.
 use mathlib.Core.Path.{_≡_}
 use mathlib.Core.Bool.{true, cond, not}
 use mathlib.Core.List.{List}
 use Prim.Native.Nat.{ℕ, _+_, _*_}
 use lib.ListN.{length, getD, take}
-use Rattle.codec.specs.Bytes.{Bytes, same}
+use Rattle.codec.specs.Bytes.{Bytes}
 use Rattle.ring.specs.Poly.{Poly, plus, minus}
 use Rattle.ring.specs.Slots.{allBelow}
 use Rattle.ring.specs.Ternary.{ternary}
 use Rattle.commitment.specs.Commitment.{Three, threeOf, plus3, minus3}
 use Rattle.vector.specs.Vector.{vector, subtract}
-use Rattle.stern.specs.Argument.{Setting, Answer1, Answer2, Answer3, one-by2, one-by3, two-by1, two-by3, three-by1, three-by2}
 use Rattle.stern.specs.Shortness.{threeFrom}
 use Rattle.transcript.specs.Extractor.{threeBytes, isZero}
-
--- ---- collisions
-
--- the lowest digest whose two strings differ, 0 if there is none
-unfoldable pub differing : Setting → Answer1 → Answer2 → Answer3 → ℕ
-differing s a b c =
-    cond (not (same (one-by2 s b) (one-by3 s c))) 1
-    (cond (not (same (two-by1 s a) (two-by3 s c))) 2
-    (cond (not (same (three-by1 s a) (three-by2 s b))) 3 0))
 
 -- ---- the unknowns
 

@@ -1,10 +1,9 @@
 // What two openings and three answers to one first message give away (document 01, the extractor's paragraph): a collision of the digest, a short vector on which the
 // commitment row is zero, or the key. specs/Extractor.antt of `transcript` says what is found.
-mod strings;
 mod vectors;
 
-use crate::strings::collision;
 use crate::vectors::solve;
+use collisions::collision;
 ghost use mathlib.Core.Path.{_≡_};
 ghost use mathlib.Core.Bool.{true};
 ghost use mathlib.Core.List.{[]};
@@ -17,7 +16,8 @@ ghost use Rattle.vector.specs.Vector.{vector};
 ghost use Rattle.transcript.specs.Layout.{pairsOf};
 ghost use Rattle.transcript.specs.Method.{parameters};
 ghost use Rattle.transcript.specs.Extractor.{kind, extracted};
-ghost use Rattle.extractor.specs.Lent.{openingsOf, Answers};
+ghost use Rattle.collisions.specs.Collision.{Answers};
+ghost use Rattle.extractor.specs.Lent.{openingsOf};
 
 // 1, 2, 3: the lowest digest whose two strings differ, with zeros in the output; else 4, 5: the nonzero vector for s, for e; else 6: the key. It is called once every
 // test is passed, so nothing is refused any more and the output is used on the way.

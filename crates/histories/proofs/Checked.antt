@@ -12,14 +12,14 @@ use Rattle.codec.proofs.Laws.{both}
 use Rattle.codec.proofs.Replies.{taken-exactly}
 use Rattle.sheet.specs.Reader.{sheetOf}
 use Rattle.sheet.specs.Sheet.{order}
-use Rattle.sheet.proofs.Ranges.{in-range}
+use Rattle.sheet_numbers.proofs.Ranges.{in-range}
 use Rattle.transcript.specs.Accepted.{Accepted}
 use Rattle.transcript.proofs.Many.{none-append, append-none}
 use Rattle.transcript.proofs.Tests.{equal-same}
 use Rattle.transcript.proofs.Accepted.{none-exactly}
-use Rattle.rounds.specs.Calls.{messageSized, secondSized}
-use Rattle.rounds.specs.Sheets.{parametersOf}
-use Rattle.rounds.proofs.Sizes.{message-sizes, second-sizes}
+use Rattle.lengths.specs.Calls.{messageSized, secondSized}
+use Rattle.lengths.specs.Sheets.{parametersOf}
+use Rattle.lengths.proofs.Sizes.{message-sizes, second-sizes}
 use Rattle.drawing.specs.Draw.{drawnChallenges}
 use Rattle.drawing.proofs.Range.{length-challenges}
 use Rattle.checking.specs.Check.{Inputs, inputsSized, storedTests, earlyTests, lateTests, drawnRound}

@@ -11,11 +11,11 @@ use Rattle.codec.proofs.Replies.{taken-exactly}
 use Rattle.modular.specs.Division.{Coprime}
 use Rattle.sha3.specs.Sponge.{sha3}
 use Rattle.sheet.specs.Reader.{sheetOf}
-use Rattle.sheet.specs.Bounds.{noise, mask}
+use Rattle.sheet_numbers.specs.Bounds.{noise, mask}
 use Rattle.sheet.specs.Sheet.{order, readingBy, reading}
-use Rattle.sheet.specs.declared.Numbers.{Numbers}
+use Rattle.sheet_numbers.specs.declared.Numbers.{Numbers}
 use Rattle.sheet.specs.declared.Reading.the-variants as reading
-use Rattle.sheet.proofs.Ranges.{in-range}
+use Rattle.sheet_numbers.proofs.Ranges.{in-range}
 use Rattle.bgv.specs.Scheme.{Sound}
 use Rattle.bgv.proofs.Sheets.{sheet-sound, two-sound}
 use Rattle.transcript.specs.Layout.{ballotLength}
@@ -24,7 +24,7 @@ use Rattle.transcript.specs.Producer.{Material, producedRound}
 use Rattle.transcript.proofs.Many.{none-append}
 use Rattle.transcript.proofs.Produced.{length-producedHead, length-producedShares, length-producedClaims, length-producedOpening, length-producedAnswers}
 use Rattle.transcript.proofs.Honest.{honest-round}
-use Rattle.rounds.specs.Sheets.{parametersOf}
+use Rattle.lengths.specs.Sheets.{parametersOf}
 use Rattle.digests.specs.Digests.{ballotDigests, closingDigest, claimDigest}
 use Rattle.drawing.specs.Draw.{drawnSide, drawnChallenges}
 use Rattle.drawing.proofs.Range.{side-range, length-challenges, challenge-range}

@@ -16,7 +16,7 @@ use Rattle.codec.proofs.Replies.{taken-exactly}
 use Rattle.sha3.specs.Sponge.{sha3}
 use Rattle.sheet.specs.Reader.{sheetOf}
 use Rattle.sheet.specs.Sheet.{order}
-use Rattle.sheet.proofs.Ranges.{in-range}
+use Rattle.sheet_numbers.proofs.Ranges.{in-range}
 use Rattle.register.specs.Register.{digestAt, standing, standingDigests}
 use Rattle.register.proofs.Entries.{standing-few}
 use Rattle.digests.specs.Digests.{closingDigest, claimDigest, roundDigest}

@@ -11,8 +11,8 @@ use Rattle.codec.specs.declared.Reply.the-variants.{Refused}
 use Rattle.codec.proofs.Replies.{taken-exactly}
 use Rattle.call.proofs.Sweeping.{leaves-taken}
 use Rattle.sheet.specs.Sheet.{order}
-use Rattle.rounds.specs.Sheets.{parametersOf}
-use Rattle.rounds.proofs.Swept.{later-round}
+use Rattle.lengths.specs.Sheets.{parametersOf}
+use Rattle.lengths.proofs.Swept.{later-round}
 use Rattle.checking.specs.Check.{Inputs, inputsSized, storedTests, earlyTests, lateTests, drawnRound}
 use Rattle.session.specs.declared.Session.{Session}
 use Rattle.session.specs.Session.{valid}

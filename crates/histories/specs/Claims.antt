@@ -16,7 +16,7 @@ use Rattle.call.specs.Call.{scratchLength}
 use Rattle.transcript.specs.Layout.{ballotLength}
 use Rattle.transcript.specs.Round.{Parameters}
 use Rattle.transcript.specs.Producer.{Material, Sized, producerTests, producedHead, producedShares, producedClaims, producedOpening, producedAnswers}
-use Rattle.rounds.specs.Sheets.{parametersOf}
+use Rattle.lengths.specs.Sheets.{parametersOf}
 use Rattle.register.specs.Register.{markAt, standing}
 use Rattle.digests.specs.Digests.{concatenated, ballotDigests}
 use Rattle.drawing.specs.Draw.{drawnSide, drawnChallenges}

@@ -8,12 +8,13 @@ use lib.ListN.{length, drop}
 use Rattle.codec.specs.Bytes.{Bytes}
 use Rattle.sha3.specs.Sponge.{sha3}
 use Rattle.sheet.specs.Reader.{formed, sheetOf}
-use Rattle.sheet.specs.Sheet.{outside, unsound, unfit}
+use Rattle.sheet_numbers.specs.Rules.{outside, unsound}
+use Rattle.sheet.specs.Sheet.{unfit}
 use Rattle.call.specs.Call.{scratchLength}
 use Rattle.vector.specs.Vector.{vector}
 use Rattle.transcript.specs.Layout.{ballotLength, headLength, answersLength}
 use Rattle.transcript.specs.Accepted.{EachBelow, Accepted}
-use Rattle.rounds.specs.Sheets.{parametersOf}
+use Rattle.lengths.specs.Sheets.{parametersOf}
 use Rattle.register.specs.Register.{markAt, stateAt, markOf}
 use Rattle.digests.specs.Digests.{ballotDigests, closingDigest, claimDigest, roundDigest}
 use Rattle.drawing.specs.Draw.{drawnChallenges}

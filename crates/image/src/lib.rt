@@ -1,6 +1,6 @@
 // The byte image of a session (document 01, "Register and session"): 4,297 bytes, the fields one after the other, little-endian.
 use session::Session;
-use sheet::Numbers;
+use sheet_numbers::Numbers;
 ghost use mathlib.Core.Path.{_≡_};
 ghost use Prim.Native.Nat.{_+_, _≤_};
 ghost use lib.ListN.{length};

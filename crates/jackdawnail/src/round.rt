@@ -5,10 +5,10 @@ ghost use Rattle.codec.specs.Reply.{packed, leaves};
 ghost use Rattle.call.specs.Call.{swept};
 ghost use Rattle.transcript.specs.Producer.{materialOf, producedHead, producedShares, producedClaims, producedOpening, producedAnswers};
 ghost use Rattle.transcript.specs.Extractor.{kind, extracted};
-ghost use Rattle.checker.specs.Orders.{openingsOf};
-ghost use Rattle.rounds.specs.Sheets.{parametersOf};
+ghost use Rattle.openings_checker.specs.Orders.{openingsOf};
+ghost use Rattle.lengths.specs.Sheets.{parametersOf, ballotsIn};
 ghost use Rattle.verification.specs.Extraction.{extraction, answered};
-ghost use Rattle.round_calls.specs.Replies.{ballotsIn, firstReply, secondReply};
+ghost use Rattle.round_calls.specs.Replies.{firstReply, secondReply};
 ghost use Rattle.verification_calls.specs.Replies.{extractReply};
 ghost use Rattle.jackdawnail.specs.Opened.{openedReply};
 

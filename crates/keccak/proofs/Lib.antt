@@ -2,6 +2,4 @@ pub mod Bits
 pub mod Complement
 pub mod Flips
 pub mod Lanes
-pub mod Rotation
-pub mod Rows
 pub mod Shape

@@ -1,20 +1,9 @@
--- FIPS 202's own rules for the two tables of `Keccak.antt`, and that the tables are what they give: both sides are computed. Assumes nothing.
+-- FIPS 202's own rule for the table of constants in `Keccak.antt`, and that the table is what it gives: both sides are computed. Assumes nothing.
 use mathlib.Core.Path.{_≡_, refl}
 use mathlib.Core.List.{List, [], _∷_, _++_}
 use Prim.Native.Nat.{ℕ, zero, suc, _+_, _*_, _/_, _%_, _^_}
 use lib.Bits.{bitXor}
-use lib.ListN.{getD, set}
-use Rattle.keccak.specs.Keccak.{State, lanes, offsets, constants}
-
--- ---- 3.2.2, the offsets: from (x, y) = (1, 0), step t gives the offset (t + 1)(t + 2)/2 and goes on to (y, 2x + 3y)
-
-unfoldable pub walk : ℕ → ℕ → ℕ → ℕ → State → State
-walk zero t x y o = o
-walk (suc n) t x y o = walk n (t + 1) y ((2 * x + 3 * y) % 5) (set o y (set (getD o y []) x ((t + 1) * (t + 2) / 2 % 64)))
-
-pub offsets-rule : walk 24 0 1 0 (lanes (λ x y. 0)) ≡ offsets
-unfolding walk
-offsets-rule = refl
+use Rattle.keccak.specs.Keccak.{constants}
 
 -- ---- 3.2.5, algorithm 5: a register of eight bits, R[0] lowest, that is shifted up; where R[8] is set, R[0], R[4], R[5] and R[6] change
 

@@ -12,7 +12,7 @@ ghost use mathlib.Core.List.{[], _++_};
 ghost use Prim.Native.Nat.{_*_, _≤_, _<_, _^_};
 ghost use lib.ListN.{length};
 ghost use Rattle.codec.specs.Reply.{first, leaves};
-ghost use Rattle.sheet.specs.Bounds.{noise};
+ghost use Rattle.sheet_numbers.specs.Bounds.{noise};
 ghost use Rattle.call.specs.Call.{scratchLength, Public};
 ghost use Rattle.transcript.specs.Layout.{ballotLength};
 ghost use Rattle.transcript.specs.Method.{parameters};
@@ -88,7 +88,7 @@ fn test_each(
     ensures { λ reply. ⌜ reply ≡ first (maskTests n bound count (now (masks0 .entry)) (now (masks1 .entry)) ++ (permutationTests n repeats (now (permutations .entry)) ++ noiseTests q n (noise 2 n) count (now (secrets .entry)) (now (ballots .entry)))) ⌝ }
     ensures { λ _. ⌜ length (now (work .exit)) ≡ length (now (work .entry)) ⌝ }
 {
-    let limit = sheet::noise_bound(n as u64);
+    let limit = sheet_numbers::noise_bound(n as u64);
     let masked = masks::test_masks(masks0, masks1, count, bound, n);
     let permuting = permutations::test_permutations(work, permutations, repeats, n);
     let quiet = noise::test_noise(work, secrets, ballots, count, limit, n, q);

@@ -30,7 +30,7 @@ fn digests_at(
     ensures { λ _. ⌜ now (out .exit) ≡ put (now (out .entry)) at (honestDigests q n (keysOf n (now (k .entry))) (now (secrets .entry)) (drawnOf (part (now (permutations .entry)) permutation (168 * n)) (part (now (vectors .entry)) vector (336 * n)) (part (now (salts .entry)) salt 96))) ⌝ }
     ensures { λ _. ⌜ length (now (work .exit)) ≡ length (now (work .entry)) ⌝ }
 {
-    answers::writing::write_digests(
+    answer_writing::write_digests(
         out,
         at,
         work,

@@ -30,7 +30,7 @@ fn answer_at(
     requires { ⌜ Material q n (now secrets) (part (now vectors) vector (336 * n)) (part (now permutations) permutation (168 * n)) (part (now salts) salt 96) ⌝ }
     ensures { λ _. ⌜ now (answers .exit) ≡ put (now (answers .entry)) at (honestAnswer q n (now (secrets .entry)) (drawnOf (part (now (permutations .entry)) permutation (168 * n)) (part (now (vectors .entry)) vector (336 * n)) (part (now (salts .entry)) salt 96)) challenge) ⌝ }
 {
-    answers::writing::write_answer(
+    answer_writing::write_answer(
         &mut answers[at..at + size],
         challenge,
         secrets,

@@ -5,15 +5,10 @@ use Prim.Native.Nat.{ℕ}
 use Rattle.codec.specs.Bytes.{Bytes}
 use Rattle.codec.specs.Reply.{first}
 use Rattle.codec.specs.declared.Reply.{Reply}
-use Rattle.sheet.specs.Reader.{sheetOf}
 use Rattle.sheet.specs.Sheet.{order}
 use Rattle.transcript.specs.Producer.{Material}
-use Rattle.rounds.specs.Calls.{countOf, firstTests, secondTests}
-use Rattle.rounds.specs.Sheets.{parametersOf}
-
--- how many ballots are lent, by the sheet's ring size
-abbrev pub ballotsIn : (text ballots : Bytes) → ℕ
-ballotsIn text ballots = countOf (sheetOf text .numbers .ring) ballots
+use Rattle.lengths.specs.Calls.{firstTests, secondTests}
+use Rattle.lengths.specs.Sheets.{parametersOf}
 
 unfoldable pub firstReply : (p : ℕ) (text : Bytes) → Material → (head shares0 shares1 claims scratch : Bytes) → Reply
 firstReply p text x head shares0 shares1 claims scratch = first (order p text ++ firstTests (parametersOf p text) x head shares0 shares1 claims scratch)

@@ -5,8 +5,8 @@ ghost use mathlib.Core.Path.{_≡_};
 ghost use Rattle.codec.specs.Reply.{leaves};
 ghost use Rattle.call.specs.Call.{swept};
 ghost use Rattle.transcript.specs.Producer.{materialOf, producedHead, producedShares, producedClaims, producedOpening, producedAnswers};
-ghost use Rattle.rounds.specs.Sheets.{parametersOf};
-ghost use Rattle.round_calls.specs.Replies.{ballotsIn, firstReply, secondReply};
+ghost use Rattle.lengths.specs.Sheets.{parametersOf, ballotsIn};
+ghost use Rattle.round_calls.specs.Replies.{firstReply, secondReply};
 
 // Writes the first message and the claims.
 pub fn produce_first(
@@ -39,7 +39,7 @@ pub fn produce_first(
         sheet::Reading::Taken(k) => {
             let n = k.ring as usize;
             let repeats = k.repeats as usize;
-            let bound = sheet::mask_bound(k.ring, k.drown);
+            let bound = sheet_numbers::mask_bound(k.ring, k.drown);
             let reply = parted::first(
                 &public,
                 secrets,
@@ -101,7 +101,7 @@ pub fn produce_second(
         sheet::Reading::Taken(k) => {
             let n = k.ring as usize;
             let repeats = k.repeats as usize;
-            let bound = sheet::mask_bound(k.ring, k.drown);
+            let bound = sheet_numbers::mask_bound(k.ring, k.drown);
             let reply = parted::second(
                 &public,
                 secrets,

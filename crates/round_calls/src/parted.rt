@@ -9,7 +9,7 @@ ghost use Rattle.call.specs.Call.{Public, swept};
 ghost use Rattle.commitment.specs.Commitment.{PublicKeys};
 ghost use Rattle.transcript.specs.Method.{parameters};
 ghost use Rattle.transcript.specs.Producer.{materialOf, producedHead, producedShares, producedClaims, producedOpening, producedAnswers};
-ghost use Rattle.rounds.specs.Calls.{countOf, firstTests, secondTests};
+ghost use Rattle.lengths.specs.Calls.{countOf, firstTests, secondTests};
 
 // The first call.
 pub fn first(

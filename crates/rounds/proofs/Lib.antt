@@ -1,5 +1,2 @@
-pub mod Loaded
-pub mod Swept
-pub mod Sizes
 pub mod Passing
 pub mod Unkeyed

@@ -19,8 +19,8 @@ use Rattle.material.proofs.Unread.{lengths-lent}
 use Rattle.material.proofs.Usable.{Usable, usable, none-refused}
 use Rattle.message_head.specs.Method.{Drawings}
 use Rattle.message_shares.specs.Method.{Masked}
-use Rattle.rounds.specs.Calls.{countOf, materialSized, firstSized, firstTests, secondSized, secondTests}
-use Rattle.rounds.proofs.Sizes.{all-right, material-sizes, first-sizes, second-sizes}
+use Rattle.lengths.specs.Calls.{countOf, materialSized, firstSized, firstTests, secondSized, secondTests}
+use Rattle.lengths.proofs.Sizes.{all-right, material-sizes, first-sizes, second-sizes}
 
 module _ (n q bound repeats : ℕ) (a b : Bytes) (x : Material) where
   abbrev P : Parameters

@@ -8,7 +8,7 @@ use Rattle.codec.specs.Reply.{first}
 use Rattle.transcript.specs.Round.{ballotsRanged}
 use Rattle.transcript.specs.Method.{parameters}
 use Rattle.transcript.specs.Producer.{Material, askedRanged, materialRanged, producerTests, producedPairs, producedHead, producedShares, producedClaims, producedOpening, producedAnswers, materialOf}
-use Rattle.rounds.specs.Calls.{firstTests, secondTests}
+use Rattle.lengths.specs.Calls.{firstTests, secondTests}
 
 module _ (n q bound repeats : ℕ) (a b k : Bytes) (x : Material) where
   pub first-unkeyed : (head shares0 shares1 claims w : Bytes) → first (firstTests (parameters 2 n q bound repeats a b []) x head shares0 shares1 claims w) ≡ first (firstTests (parameters 2 n q bound repeats a b k) x head shares0 shares1 claims w)

@@ -1,10 +1,11 @@
 // What the producer's two calls refuse, in their order, once the sheet is taken.
 use crate::asked::asked_ranged;
-use crate::lengths::count_of;
-use crate::lengths::first_sized;
-use crate::lengths::material_sized;
-use crate::lengths::second_sized;
 use codec::Reply;
+use lengths::count_of;
+use lengths::first_sized;
+use lengths::material_sized;
+use lengths::refused;
+use lengths::second_sized;
 ghost use mathlib.Core.Path.{_≡_};
 ghost use mathlib.Core.List.{[]};
 ghost use Prim.Native.Nat.{_≤_};
@@ -13,7 +14,7 @@ ghost use Rattle.codec.specs.Reply.{first};
 ghost use Rattle.call.specs.Call.{Public, swept};
 ghost use Rattle.transcript.specs.Method.{parameters};
 ghost use Rattle.transcript.specs.Producer.{materialOf};
-ghost use Rattle.rounds.specs.Calls.{firstTests, secondTests};
+ghost use Rattle.lengths.specs.Calls.{firstTests, secondTests};
 
 // What the first call refuses: 1, and then what the material is refused for.
 pub fn first_tests(
@@ -44,7 +45,7 @@ pub fn first_tests(
 {
     let count = count_of(ballots, n);
     if count > 4096 {
-        return crate::refused();
+        return refused();
     }
     if !material_sized(
         secrets,
@@ -60,10 +61,10 @@ pub fn first_tests(
         repeats,
         n,
     ) {
-        return crate::refused();
+        return refused();
     }
     if !first_sized(head, shares0, shares1, claims, scratch, count, repeats, n) {
-        return crate::refused();
+        return refused();
     }
     material::test_material(
         scratch,
@@ -115,7 +116,7 @@ pub fn second_tests(
 {
     let count = count_of(ballots, n);
     if count > 4096 {
-        return crate::refused();
+        return refused();
     }
     if !material_sized(
         secrets,
@@ -131,10 +132,10 @@ pub fn second_tests(
         repeats,
         n,
     ) {
-        return crate::refused();
+        return refused();
     }
     if !second_sized(challenges, opening, answers, scratch, repeats, n) {
-        return crate::refused();
+        return refused();
     }
     let asked = asked_ranged(side, challenges);
     material::test_material(

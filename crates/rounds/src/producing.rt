@@ -1,8 +1,8 @@
 // The producer's two calls once the sheet is taken: the tests of the lent slices, and then the work.
-use crate::lengths::count_of;
 use crate::orders::first_tests;
 use crate::orders::second_tests;
 use codec::Reply;
+use lengths::count_of;
 ghost use mathlib.Core.Path.{_≡_};
 ghost use mathlib.Core.List.{[]};
 ghost use Prim.Native.Nat.{_≤_};
@@ -11,7 +11,7 @@ ghost use Rattle.call.specs.Call.{Public, swept};
 ghost use Rattle.commitment.specs.Commitment.{PublicKeys};
 ghost use Rattle.transcript.specs.Method.{parameters};
 ghost use Rattle.transcript.specs.Producer.{materialOf, producedHead, producedShares, producedClaims, producedOpening, producedAnswers};
-ghost use Rattle.rounds.specs.Calls.{countOf, firstTests, secondTests};
+ghost use Rattle.lengths.specs.Calls.{countOf, firstTests, secondTests};
 
 // The first call: the first message and the claims.
 pub fn produce_first(

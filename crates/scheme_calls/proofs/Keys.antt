@@ -10,7 +10,7 @@ use Rattle.ring.specs.Poly.{Poly, Alike}
 use Rattle.ring.specs.Slots.{poly, slot}
 use Rattle.ring.proofs.Polynomials.{_so_}
 use Rattle.ring.proofs.Bridge.{poly-part}
-use Rattle.sheet.specs.declared.Numbers.{Numbers}
+use Rattle.sheet_numbers.specs.declared.Numbers.{Numbers}
 use Rattle.call.specs.Call.{Public}
 use Rattle.call.proofs.Lent.{Lent}
 use Rattle.commitment.specs.Commitment.{keysOf, PublicKeys}

@@ -8,7 +8,7 @@ use Rattle.codec.specs.declared.Reply.{Reply}
 use Rattle.ring.specs.Poly.{Poly}
 use Rattle.sheet.specs.Reader.{sheetOf}
 use Rattle.sheet.specs.Sheet.{order}
-use Rattle.sheet.specs.Bounds as bounds
+use Rattle.sheet_numbers.specs.Bounds as bounds
 use Rattle.call.specs.Call.{coefficients}
 use Rattle.commitment.specs.Commitment.{Keys}
 use Rattle.scheme.specs.Calls.{keygenTests, encryptTests, decryptTests, splitTests, shareTests, reconstructTests, commitmentTests}

@@ -142,7 +142,7 @@ pub fn share(
         sheet::Reading::Taken(k) => {
             let n = k.ring as usize;
             let q = k.modulus;
-            let bound = sheet::mask_bound(k.ring, k.drown);
+            let bound = sheet_numbers::mask_bound(k.ring, k.drown);
             let reply = scheme::share(half, u, mask, t, scratch, n, q, bound);
             call::sweep(reply, scratch);
             reply

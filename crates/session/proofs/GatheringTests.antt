@@ -13,7 +13,7 @@ use Rattle.codec.specs.Reply.{first}
 use Rattle.codec.specs.declared.Reply.the-variants.{Taken, Refused}
 use Rattle.ring.specs.Slots.{poly, list, allBelow}
 use Rattle.sheet.specs.Sheet.{reading, replyOf}
-use Rattle.sheet.specs.declared.Numbers.{Numbers}
+use Rattle.sheet_numbers.specs.declared.Numbers.{Numbers}
 use Rattle.sheet.specs.declared.Reading.the-variants as reading
 use Rattle.sheet.proofs.Taken.{reply-is}
 use Rattle.vector.specs.Vector.{vector}

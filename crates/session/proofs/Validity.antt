@@ -5,8 +5,8 @@ use Prim.Native.Nat.{ℕ, _≤_}
 use lib.Dec.{eqb, leb}
 use borrow.Author.Tests.{eqb-true, leb-true, le-leb, not-true}
 use Rattle.codec.proofs.Laws.{both}
-use Rattle.sheet.specs.Sheet.{outside, unsound}
-use Rattle.sheet.proofs.Ranges.{InRange, in-range}
+use Rattle.sheet_numbers.specs.Rules.{outside, unsound}
+use Rattle.sheet_numbers.proofs.Ranges.{InRange, in-range}
 use Rattle.session.specs.Session.{valid}
 use Rattle.session.specs.declared.Session.{Session}
 

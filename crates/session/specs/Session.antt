@@ -3,7 +3,7 @@ use mathlib.Core.Bool.{Bool, not, _&&_}
 use Prim.Native.Nat.{ℕ, _*_}
 use lib.Dec.{leb}
 use Rattle.codec.specs.Bytes.{Bytes, part}
-use Rattle.sheet.specs.Sheet.{outside, unsound}
+use Rattle.sheet_numbers.specs.Rules.{outside, unsound}
 use Rattle.register.specs.Register.{capacity}
 use Rattle.session.specs.declared.Session.{Session}
 

@@ -5,7 +5,7 @@ mod gathering;
 mod trail;
 
 use codec::Reply;
-use sheet::Numbers;
+use sheet_numbers::Numbers;
 ghost use mathlib.Core.Path.{_≡_};
 ghost use mathlib.Core.Bool.{_&&_};
 ghost use lib.Dec.{eqb};
@@ -50,10 +50,10 @@ impl Session {
         if self.phase > 5 {
             return false;
         }
-        if sheet::outside(numbers) {
+        if sheet_numbers::outside(numbers) {
             return false;
         }
-        if sheet::unsound(numbers) {
+        if sheet_numbers::unsound(numbers) {
             return false;
         }
         if self.used > 4096 {

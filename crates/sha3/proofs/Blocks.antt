@@ -12,7 +12,7 @@ use lib.Seq.{take-add, drop-drop, length-take-le, getD-set-same, getD-set-other}
 use Rattle.codec.specs.Bytes.{Bytes, Octets, number, part, zeros}
 use Rattle.codec.proofs.Laws.{length-part, part-part, part-none, octets-one, octets-zeros, octets-drop, octets-part, octets-append}
 use Rattle.keccak.specs.Keccak.{Row, State, lane, five, lanes, keccak}
-use Rattle.keccak.proofs.Rows.{row5}
+use Rattle.keccak_steps.proofs.Rows.{row5}
 use Rattle.keccak.proofs.Shape.{Shape, shaped, shape-of, keccak-shape}
 use Rattle.sha3.specs.Fips.{xorBlock, xorRow, absorbBlocks, sponge}
 use Rattle.sha3.specs.Sponge.{xorByte, feed, absorb, padding, squeeze, zeroState, sha3}

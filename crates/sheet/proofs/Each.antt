@@ -1,14 +1,12 @@
--- Tests of each number of a list, found out one number after the other, and of each number below a bound. Assumes nothing.
+-- Tests of each number of a list, found out one number after the other. Assumes nothing.
 use mathlib.Core.Path.{_≡_, refl, sym, ap, _∙_}
-use mathlib.Core.Logic.{⊎-elim}
 use mathlib.Core.Bool.{Bool, true, false, _&&_}
 use mathlib.Core.List.{List, [], _∷_}
 use Prim.Native.Nat.{ℕ, zero, suc, _+_, _≤_, _<_}
-use native.Mathlib.Nat.{eq-or-lt-of-le, le-of-suc-le-suc, not-suc-le-zero}
+use native.Mathlib.Nat.{le-of-suc-le-suc, not-suc-le-zero}
 use native.Mathlib.Numerals.{add-one}
 use lib.ListN.{length, take, getD}
 use lib.Seq.{take-all}
-use Rattle.codec.proofs.Laws.{both}
 use Rattle.sheet.specs.Reader.{every}
 
 -- the rest decides
@@ -36,14 +34,3 @@ module _ (f : ℕ → Bool) where
 
   pub each : (xs : List ℕ) (i : ℕ) → length xs ≤ i → every f (take i xs) ≡ true → true ≡ every f xs
   each xs i h p = sym p ∙ ap (every f) (take-all i xs h)
-
--- a test that holds below n
-abbrev pub below : (ℕ → Bool) → ℕ → Bool
-below f zero = true
-below f (suc n) = f n && below f n
-
-pub holds : (f : ℕ → Bool) (n i : ℕ) → below f n ≡ true → i < n → f i ≡ true
-holds f zero i t h = absurd (not-suc-le-zero h)
-holds f (suc n) i t h =
-    let p = both (f n) (below f n) t in
-    ⊎-elim (λ e. rw e (p .0)) (λ l. holds f n i (p .1) l) (eq-or-lt-of-le (le-of-suc-le-suc h))

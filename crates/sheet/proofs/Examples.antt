@@ -6,9 +6,10 @@ use Rattle.codec.specs.Bytes.{Bytes}
 use Rattle.codec.specs.Reply.{first}
 use Rattle.sheet.specs.Form.{Sheet, decimal, listed, lines, written}
 use Rattle.sheet.specs.Reader.{digit, step, values, line, rows, formed, sheetOf}
-use Rattle.sheet.specs.Bounds.{noise, mask, unknowns, most, least, power}
-use Rattle.sheet.specs.Sheet.{any, outside, unsound, unfit, reading}
-use Rattle.sheet.specs.declared.Numbers.{Numbers}
+use Rattle.sheet_numbers.specs.Bounds.{noise, mask, unknowns, most, least, power}
+use Rattle.sheet_numbers.specs.Rules.{any, outside, unsound}
+use Rattle.sheet.specs.Sheet.{unfit, reading}
+use Rattle.sheet_numbers.specs.declared.Numbers.{Numbers}
 use Rattle.sheet.specs.declared.Reading.the-variants.{Taken, Refused}
 
 abbrev numbers : ℕ → Numbers

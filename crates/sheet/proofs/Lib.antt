@@ -3,8 +3,7 @@ pub mod Each
 pub mod Form
 pub mod Scanning
 pub mod Blocks
-pub mod Least
-pub mod Ranges
+pub mod Fits
 pub mod Writing
 pub mod Order
 pub mod Filling

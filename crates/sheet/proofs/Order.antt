@@ -15,16 +15,18 @@ use Rattle.codec.specs.declared.Reply.the-variants as reply
 use Rattle.sheet.specs.Form.{Sheet, numberKeys, listKeys}
 use Rattle.sheet.specs.Reader.{block, after, rows, every, whole, formed, sheetFrom, sheetOf}
 use Rattle.sheet.specs.Seen.{largest, outlined, seen, judged}
-use Rattle.sheet.specs.Sheet.{outside, unsound, fits, lists, unfit, readingBy, reading}
+use Rattle.sheet_numbers.specs.Rules.{outside, unsound}
+use Rattle.sheet.specs.Sheet.{fits, lists, unfit, readingBy, reading}
 use Rattle.sheet.specs.declared.Lines.{Lines}
-use Rattle.sheet.specs.declared.Numbers.{Numbers}
+use Rattle.sheet_numbers.specs.declared.Numbers.{Numbers}
 use Rattle.sheet.specs.declared.Reading.{Reading}
 use Rattle.sheet.specs.declared.Reading.the-variants.{Taken, Refused}
 use Rattle.sheet.proofs.Steps.{unroll}
 use Rattle.codec.proofs.Laws.{both}
 use Rattle.sheet.proofs.Form.{single, one, lined}
 use Rattle.sheet.proofs.Blocks.{rows-append, rows-broken, Five, five, not-five}
-use Rattle.sheet.proofs.Ranges.{in-range, fits-all}
+use Rattle.sheet_numbers.proofs.Ranges.{in-range}
+use Rattle.sheet.proofs.Fits.{fits-all}
 
 -- ---- lists of five
 

@@ -14,13 +14,14 @@ use Rattle.codec.specs.declared.Reply.the-variants as reply
 use Rattle.codec.proofs.Replies.{taken-exactly}
 use Rattle.sheet.specs.Form.{Sheet, written}
 use Rattle.sheet.specs.Reader.{every, formed, sheetOf}
-use Rattle.sheet.specs.Sheet.{outside, fits, lists, unfit, order, replyOf, readingBy, reading, polynomials}
-use Rattle.sheet.specs.declared.Numbers.{Numbers}
+use Rattle.sheet_numbers.specs.Rules.{outside}
+use Rattle.sheet.specs.Sheet.{fits, lists, unfit, order, replyOf, readingBy, reading, polynomials}
+use Rattle.sheet_numbers.specs.declared.Numbers.{Numbers}
 use Rattle.sheet.specs.declared.Reading.{Reading}
 use Rattle.sheet.specs.declared.Reading.the-variants.{Taken, Refused}
 use Rattle.codec.proofs.Laws.{both}
 use Rattle.sheet.proofs.Form.{written-is}
-use Rattle.sheet.proofs.Ranges.{InRange, in-range, Sound, is-sound}
+use Rattle.sheet_numbers.proofs.Ranges.{InRange, in-range, Sound, is-sound}
 use Rattle.sheet.proofs.Filling.{all-size}
 
 -- ---- the order of a call that is lent the sheet

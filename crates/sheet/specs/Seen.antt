@@ -8,11 +8,12 @@ use lib.Dec.{ltb, eqb}
 use lib.ListN.{length, drop}
 use Rattle.codec.specs.Bytes.{Bytes, words, put}
 use Rattle.sheet.specs.Reader.{Found, missing, found, Block, broken, block, every, formed, sheetOf}
-use Rattle.sheet.specs.Sheet.{outside, unsound, unfit}
+use Rattle.sheet_numbers.specs.Rules.{outside, unsound}
+use Rattle.sheet.specs.Sheet.{unfit}
 use Rattle.sheet.specs.declared.Scan.{Scan}
 use Rattle.sheet.specs.declared.Scan.the-variants as scan
 use Rattle.sheet.specs.declared.Lines.{Lines}
-use Rattle.sheet.specs.declared.Numbers.{Numbers}
+use Rattle.sheet_numbers.specs.declared.Numbers.{Numbers}
 use Rattle.sheet.specs.declared.Reading.{Reading}
 use Rattle.sheet.specs.declared.Reading.the-variants.{Taken, Refused}
 

@@ -1,27 +1,13 @@
-// The parameter sheet (document 01, "Sheet"): its reader, its numbers with their bounds, and its polynomials.
-mod bounds;
+// The parameter sheet (document 01, "Sheet"): its reader, and its polynomials.
 mod reader;
-mod repeats;
 mod writer;
 
+use sheet_numbers::Numbers;
+use sheet_numbers::outside;
+use sheet_numbers::unsound;
 ghost use mathlib.Core.Path.{_≡_};
 ghost use Rattle.sheet.specs.Seen.{judged};
 ghost use Rattle.sheet.specs.Sheet.{reading, loaded};
-pub use bounds::mask_bound;
-pub use bounds::noise_bound;
-pub use bounds::outside;
-pub use bounds::unknowns;
-pub use bounds::unsound;
-pub use repeats::least_repeats;
-
-// The sheet's numbers before a.
-pub struct Numbers {
-    pub ring: u64,
-    pub modulus: u64,
-    pub drown: u64,
-    pub rounds: u64,
-    pub repeats: u64,
-}
 
 // What is said of a text: its numbers, or document 01's number of the refusal.
 pub enum Reading {
@@ -51,10 +37,10 @@ struct Lines {
 fn judge(k: Numbers, counts: [u64; 5], largest: [u64; 5]) -> Reading
     ensures { λ r. ⌜ r ≡ judged 2 k counts largest ⌝ }
 {
-    if bounds::outside(k) {
+    if outside(k) {
         return Reading::Refused { number: 3 };
     }
-    if bounds::unsound(k) {
+    if unsound(k) {
         return Reading::Refused { number: 4 };
     }
     if !reader::all_are(counts, k.ring) {

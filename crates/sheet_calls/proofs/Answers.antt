@@ -13,7 +13,7 @@ use Rattle.codec.specs.declared.Reply.{Reply}
 use Rattle.codec.specs.declared.Reply.the-variants as reply
 use Rattle.codec.proofs.Laws.{length-put, part-put, put-append, put-whole}
 use Rattle.sheet.specs.Sheet.{reading, polynomials, loaded}
-use Rattle.sheet.specs.declared.Numbers.{Numbers}
+use Rattle.sheet_numbers.specs.declared.Numbers.{Numbers}
 use Rattle.sheet.specs.declared.Reading.{Reading}
 use Rattle.sheet.specs.declared.Reading.the-variants.{Taken, Refused}
 use Rattle.sheet.proofs.Taken.{onwards, order-first, taken, length-polynomials}

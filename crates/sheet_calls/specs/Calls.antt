@@ -7,10 +7,10 @@ use lib.ListN.{length}
 use Rattle.codec.specs.Bytes.{Bytes, bytes}
 use Rattle.codec.specs.Reply.{test, first, leaves}
 use Rattle.codec.specs.declared.Reply.{Reply}
-use Rattle.sheet.specs.Bounds.{noise, mask, unknowns}
+use Rattle.sheet_numbers.specs.Bounds.{noise, mask, unknowns}
 use Rattle.sheet.specs.Reader.{sheetOf}
 use Rattle.sheet.specs.Sheet.{order, polynomials}
-use Rattle.sheet.specs.declared.Numbers.{Numbers}
+use Rattle.sheet_numbers.specs.declared.Numbers.{Numbers}
 
 -- N, D, B and L, 8 bytes each
 unfoldable pub description : ℕ → Numbers → Bytes

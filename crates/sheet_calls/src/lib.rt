@@ -1,12 +1,12 @@
 // The sheet as a call: N, D, B and L in 32 bytes, or its five polynomials in 40N. No call asks anything of its caller.
 use codec::Reply;
-use sheet::Numbers;
 use sheet::Reading;
+use sheet_numbers::Numbers;
 ghost use mathlib.Core.Path.{_≡_};
 ghost use mathlib.Core.Bool.{false};
 ghost use lib.ListN.{length};
 ghost use Rattle.codec.specs.Reply.{packed};
-ghost use Rattle.sheet.specs.Sheet.{outside};
+ghost use Rattle.sheet_numbers.specs.Rules.{outside};
 ghost use Rattle.sheet_calls.specs.Calls.{description, describeReply, describeOut, polynomialsReply, polynomialsOut};
 
 // Writes N, D, B and L.
@@ -15,9 +15,9 @@ fn write_description(k: Numbers, out: &mut [u8])
     ensures { λ _. ⌜ now (out .exit) ≡ description 2 k ⌝ }
 {
     codec::write64(out, 0, k.ring);
-    codec::write64(out, 8, sheet::noise_bound(k.ring));
-    codec::write64(out, 16, sheet::mask_bound(k.ring, k.drown));
-    codec::write64(out, 24, sheet::unknowns(k.ring));
+    codec::write64(out, 8, sheet_numbers::noise_bound(k.ring));
+    codec::write64(out, 16, sheet_numbers::mask_bound(k.ring, k.drown));
+    codec::write64(out, 24, sheet_numbers::unknowns(k.ring));
 }
 
 // Reads a sheet, and writes N, D, B and L into 32 lent bytes.

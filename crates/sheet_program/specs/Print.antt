@@ -7,7 +7,7 @@ use lib.Dec.{ltb}
 use lib.ListN.{length}
 use Rattle.codec.specs.Bytes.{Bytes, put}
 use Rattle.sheet.specs.Form.{decimal}
-use Rattle.sheet.specs.Bounds.{noise, mask, unknowns}
+use Rattle.sheet_numbers.specs.Bounds.{noise, mask, unknowns}
 use Rattle.sheet.specs.Sheet.{reading}
 use Rattle.sheet.specs.declared.Reading.{Reading}
 use Rattle.sheet.specs.declared.Reading.the-variants.{Taken, Refused}

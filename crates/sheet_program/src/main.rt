@@ -1,14 +1,14 @@
 // The sheet program (document 01, "Sheet"): reads a sheet from standard input and prints the verdict, and of a sheet that is taken N, D, B and L.
 use libc::STDIN_FILENO;
 use libc::STDOUT_FILENO;
-use sheet::Numbers;
 use sheet::Reading;
+use sheet_numbers::Numbers;
 ghost use mathlib.Core.Path.{_≡_};
 ghost use mathlib.Core.Bool.{false};
 ghost use Prim.Native.Nat.{_+_, _≤_};
 ghost use lib.ListN.{length, take};
 ghost use Rattle.io.specs.Counts.{Counts};
-ghost use Rattle.sheet.specs.Sheet.{outside};
+ghost use Rattle.sheet_numbers.specs.Rules.{outside};
 ghost use Rattle.sheet.specs.declared.Reading.the-variants.{Taken};
 ghost use Rattle.sheet_program.specs.Print.{line, printedBy, printed, Puts};
 
@@ -33,9 +33,14 @@ fn show(k: Numbers, out: &mut [u8]) -> usize
 {
     let a1 = put_line(out, 0, b"verdict=", 0);
     let a2 = put_line(out, a1, b"ring=", k.ring);
-    let a3 = put_line(out, a2, b"noise=", sheet::noise_bound(k.ring));
-    let a4 = put_line(out, a3, b"mask=", sheet::mask_bound(k.ring, k.drown));
-    put_line(out, a4, b"unknowns=", sheet::unknowns(k.ring))
+    let a3 = put_line(out, a2, b"noise=", sheet_numbers::noise_bound(k.ring));
+    let a4 = put_line(
+        out,
+        a3,
+        b"mask=",
+        sheet_numbers::mask_bound(k.ring, k.drown),
+    );
+    put_line(out, a4, b"unknowns=", sheet_numbers::unknowns(k.ring))
 }
 
 // Puts what the program prints at the head of out, and answers how many bytes that is.

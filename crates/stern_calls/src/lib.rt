@@ -32,7 +32,7 @@ fn digests(
     let reply = orders::digests_tests(keys, x, r, p, salts, out, scratch, n, q);
     match reply {
         Reply::Taken => {
-            answers::writing::write_digests(out, 0, scratch, keys, x, r, p, salts, n, q);
+            answer_writing::write_digests(out, 0, scratch, keys, x, r, p, salts, n, q);
         }
         Reply::Refused {
             number: _,
@@ -85,7 +85,7 @@ fn answer(
     let reply = orders::answer_tests(challenge, x, r, p, salts, out, scratch, n, q);
     match reply {
         Reply::Taken => {
-            answers::writing::write_answer(out, challenge, x, r, p, salts, n, q);
+            answer_writing::write_answer(out, challenge, x, r, p, salts, n, q);
         }
         Reply::Refused {
             number: _,

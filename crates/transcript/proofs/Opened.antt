@@ -11,7 +11,7 @@ use lib.Dec.{leb, ltb, eqb}
 use lib.ListN.{length}
 use Rattle.codec.specs.Bytes.{Bytes, part}
 use Rattle.codec.proofs.Laws.{both}
-use Rattle.sheet.specs.Bounds.{power}
+use Rattle.sheet_numbers.specs.Bounds.{power}
 use Rattle.transcript.specs.Opened.{isOpened, sliceOf, openedShare, openedPlace}
 use Rattle.transcript.proofs.Many.{stretch}
 

@@ -6,7 +6,7 @@ use lib.ListN.{length, getD}
 use Rattle.codec.specs.Bytes.{Bytes}
 use Rattle.ring.specs.Poly.{Below}
 use Rattle.ring.specs.Slots.{poly}
-use Rattle.sheet.specs.Bounds.{noise}
+use Rattle.sheet_numbers.specs.Bounds.{noise}
 use Rattle.commitment.specs.Commitment.{keysOf}
 use Rattle.stern.specs.Shortness.{inRange}
 use Rattle.transcript.specs.Layout.{ballotLength, uAt, shareAt, answersLength, answerAt}

@@ -5,7 +5,7 @@ use Prim.Native.Nat.{ℕ, zero, suc, _+_, _*_, _/_, _%_}
 use lib.Dec.{ltb, leb, eqb}
 use lib.ListN.{length}
 use Rattle.codec.specs.Bytes.{Bytes, part}
-use Rattle.sheet.specs.Bounds.{power}
+use Rattle.sheet_numbers.specs.Bounds.{power}
 
 -- whether there is one: side is 0 or 1, N a ring size, the slices are equal and whole ballots, and j is not past them
 unfoldable pub isOpened : (side N length0 length1 j : ℕ) → Bool

@@ -18,10 +18,10 @@ use Rattle.transcript.specs.Layout.{pairsOf}
 use Rattle.transcript.specs.Round.{Parameters}
 use Rattle.transcript.specs.Extractor.{Openings, Lent, open0, open1, lentRanged, sideTests, extractTests}
 use Rattle.transcript.proofs.Many.{append-none}
-use Rattle.checker.proofs.Passed.{openings-passed}
-use Rattle.extractor.specs.Lent.{Answers}
-use Rattle.rounds.specs.Calls.{countOf, openingsTests}
-use Rattle.rounds.proofs.Sizes.{all-right}
+use Rattle.openings_checker.proofs.Passed.{openings-passed}
+use Rattle.collisions.specs.Collision.{Answers}
+use Rattle.lengths.specs.Calls.{countOf, openingsTests}
+use Rattle.lengths.proofs.Sizes.{all-right}
 use Rattle.verification.proofs.Tested.{lent-message, lent-openings, extract-lengths}
 
 -- the ranges, and the permutations of answers 2 and 3: of each answer's two tests the first

@@ -10,8 +10,8 @@ use Rattle.codec.specs.declared.Reply.the-variants.{Refused}
 use Rattle.call.specs.Call.{scratchLength}
 use Rattle.transcript.specs.Round.{Parameters, Round, Lengths, roundTests}
 use Rattle.transcript.specs.Extractor.{Openings, Lent, extractTests}
-use Rattle.rounds.specs.Calls.{countOf, messageSized, secondSized, openingsSized, checkTests, openingsTests}
-use Rattle.rounds.proofs.Sizes.{too-many, wrong-first, wrong-second, right, message-sizes, second-sizes, openings-sizes}
+use Rattle.lengths.specs.Calls.{countOf, messageSized, secondSized, openingsSized, checkTests, openingsTests}
+use Rattle.lengths.proofs.Sizes.{too-many, wrong-first, wrong-second, right, message-sizes, second-sizes, openings-sizes}
 
 -- ---- a check
 

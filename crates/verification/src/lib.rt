@@ -3,10 +3,10 @@ mod openings;
 
 use crate::openings::openings_tests;
 use codec::Reply;
-use rounds::lengths::count_of;
-use rounds::lengths::message_sized;
-use rounds::lengths::second_sized;
-use rounds::refused;
+use lengths::count_of;
+use lengths::message_sized;
+use lengths::refused;
+use lengths::second_sized;
 ghost use mathlib.Core.Path.{_≡_};
 ghost use Prim.Native.Nat.{_%_, _≤_};
 ghost use lib.ListN.{length};
@@ -15,8 +15,9 @@ ghost use Rattle.call.specs.Call.{Public, swept};
 ghost use Rattle.commitment.specs.Commitment.{PublicKeys};
 ghost use Rattle.transcript.specs.Method.{parameters};
 ghost use Rattle.transcript.specs.Extractor.{kind, extracted};
-ghost use Rattle.checker.specs.Orders.{roundOf, openingsOf};
-ghost use Rattle.rounds.specs.Calls.{countOf, checkTests, openingsTests};
+ghost use Rattle.checker.specs.Orders.{roundOf};
+ghost use Rattle.openings_checker.specs.Orders.{openingsOf};
+ghost use Rattle.lengths.specs.Calls.{countOf, checkTests, openingsTests};
 ghost use Rattle.verification.specs.Extraction.{extraction, replyOf, answered};
 
 // What the extractor's call answers: the kind of what it found, or refused with document 01's number and place.

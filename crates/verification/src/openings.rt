@@ -1,9 +1,9 @@
 // What the extractor's call refuses, before anything is looked for.
 use codec::Reply;
-use rounds::lengths::count_of;
-use rounds::lengths::message_sized;
-use rounds::lengths::openings_sized;
-use rounds::refused;
+use lengths::count_of;
+use lengths::message_sized;
+use lengths::openings_sized;
+use lengths::refused;
 ghost use mathlib.Core.Path.{_≡_};
 ghost use Prim.Native.Nat.{_%_, _≤_};
 ghost use lib.ListN.{length};
@@ -11,8 +11,8 @@ ghost use Rattle.codec.specs.Reply.{first};
 ghost use Rattle.call.specs.Call.{Public, swept};
 ghost use Rattle.commitment.specs.Commitment.{PublicKeys};
 ghost use Rattle.transcript.specs.Method.{parameters};
-ghost use Rattle.checker.specs.Orders.{openingsOf};
-ghost use Rattle.rounds.specs.Calls.{openingsTests};
+ghost use Rattle.openings_checker.specs.Orders.{openingsOf};
+ghost use Rattle.lengths.specs.Calls.{openingsTests};
 
 // 1, and then both openings and the three answers in the extractor's order.
 pub fn openings_tests(
@@ -60,7 +60,7 @@ pub fn openings_tests(
     ) {
         return refused();
     }
-    checker::both_sides::check_openings(
+    openings_checker::both_sides::check_openings(
         scratch,
         a,
         b,

@@ -7,20 +7,19 @@ use Rattle.codec.specs.Reply.{first, leaves}
 use Rattle.codec.specs.declared.Reply.{Reply}
 use Rattle.codec.specs.declared.Reply.the-variants as reply
 use Rattle.sheet.specs.Sheet.{order, reading}
-use Rattle.sheet.specs.declared.Numbers.{Numbers}
+use Rattle.sheet_numbers.specs.declared.Numbers.{Numbers}
 use Rattle.sheet.specs.declared.Reading.{Reading}
 use Rattle.sheet.specs.declared.Reading.the-variants.{Taken, Refused}
 use Rattle.call.specs.Call.{swept}
 use Rattle.transcript.specs.Round.{Parameters, Round}
 use Rattle.transcript.specs.Extractor.{Openings, kind, extracted}
-use Rattle.rounds.specs.Calls.{countOf, checkTests, openingsTests}
-use Rattle.rounds.specs.Sheets.{parametersOf}
+use Rattle.lengths.specs.Calls.{countOf, checkTests, openingsTests}
+use Rattle.lengths.specs.Sheets.{parametersOf, ballotsIn}
 use Rattle.verification.specs.Extraction.{extraction, replyOf}
 use Rattle.verification.specs.declared.Extraction.{Extraction}
 use Rattle.verification.specs.declared.Extraction.the-variants as found
 use Rattle.verification.proofs.Extracted.{reply-of}
-use Rattle.round_calls.specs.Replies.{ballotsIn}
-use Rattle.round_calls.proofs.Promises.{over, refused-over}
+use Rattle.lengths.proofs.OverSheet.{over, refused-over}
 use Rattle.verification_calls.specs.Replies.{checkReply, extractReply}
 
 -- ---- the check

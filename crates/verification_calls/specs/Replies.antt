@@ -8,8 +8,8 @@ use Rattle.codec.specs.declared.Reply.{Reply}
 use Rattle.sheet.specs.Sheet.{order}
 use Rattle.transcript.specs.Round.{Round}
 use Rattle.transcript.specs.Extractor.{Openings}
-use Rattle.rounds.specs.Calls.{checkTests, openingsTests}
-use Rattle.rounds.specs.Sheets.{parametersOf}
+use Rattle.lengths.specs.Calls.{checkTests, openingsTests}
+use Rattle.lengths.specs.Sheets.{parametersOf}
 
 unfoldable pub checkReply : (p : ℕ) (text : Bytes) → Round → (scratch : Bytes) → Reply
 checkReply p text r scratch = first (order p text ++ checkTests (parametersOf p text) r scratch)

@@ -7,10 +7,10 @@ ghost use mathlib.Core.Path.{_≡_};
 ghost use Rattle.codec.specs.Reply.{leaves};
 ghost use Rattle.call.specs.Call.{swept};
 ghost use Rattle.transcript.specs.Extractor.{kind, extracted};
-ghost use Rattle.checker.specs.Orders.{roundOf, openingsOf};
-ghost use Rattle.rounds.specs.Sheets.{parametersOf};
+ghost use Rattle.checker.specs.Orders.{roundOf};
+ghost use Rattle.openings_checker.specs.Orders.{openingsOf};
+ghost use Rattle.lengths.specs.Sheets.{parametersOf, ballotsIn};
 ghost use Rattle.verification.specs.Extraction.{extraction};
-ghost use Rattle.round_calls.specs.Replies.{ballotsIn};
 ghost use Rattle.verification_calls.specs.Replies.{checkReply, extractReply};
 
 // Checks one round with the side and the challenges that are lent.
@@ -36,7 +36,7 @@ pub fn check(
         sheet::Reading::Taken(k) => {
             let n = k.ring as usize;
             let repeats = k.repeats as usize;
-            let bound = sheet::mask_bound(k.ring, k.drown);
+            let bound = sheet_numbers::mask_bound(k.ring, k.drown);
             let reply = parted::check(
                 &public,
                 side,
@@ -92,7 +92,7 @@ pub fn extract(
         sheet::Reading::Taken(k) => {
             let n = k.ring as usize;
             let repeats = k.repeats as usize;
-            let bound = sheet::mask_bound(k.ring, k.drown);
+            let bound = sheet_numbers::mask_bound(k.ring, k.drown);
             let answer = parted::extract(
                 &public,
                 head,

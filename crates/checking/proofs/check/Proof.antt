@@ -1,9 +1,9 @@
 -- `check` meets its contract. Assumes nothing.
 use mathlib.Core.Path.{refl, sym}
 use borrow.Author.Needs.{needs}
-use Rattle.sheet.specs.Bounds.{mask}
+use Rattle.sheet_numbers.specs.Bounds.{mask}
 use Rattle.call.proofs.Lent.{lent}
-use Rattle.round_calls.proofs.Promises.{parameters-are}
+use Rattle.lengths.proofs.OverSheet.{parameters-are}
 use Rattle.checking.specs.Check.{storedOf, inputsOf}
 use Rattle.checking.proofs.Outcome.{sheet-loaded, checked-over, checked-refused}
 use Rattle.checking.proofs.check.Statement.{statement}

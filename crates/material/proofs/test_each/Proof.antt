@@ -4,7 +4,7 @@ use mathlib.Core.List.{_++_}
 use Prim.Native.Nat.{ℕ}
 use borrow.Author.Needs.{needs}
 use Rattle.codec.specs.Reply.{first}
-use Rattle.sheet.specs.Bounds.{noise}
+use Rattle.sheet_numbers.specs.Bounds.{noise}
 use Rattle.material.specs.Parts.{maskTests, permutationTests, noiseTests}
 use Rattle.material.proofs.Sequence.{both-decided}
 use Rattle.material.proofs.test_each.Statement.{statement}

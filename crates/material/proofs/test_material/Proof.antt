@@ -3,7 +3,7 @@ use mathlib.Core.Path.{sym, ap, _∙_}
 use mathlib.Core.List.{[], _++_}
 use borrow.Author.Needs.{needs}
 use Rattle.codec.specs.Reply.{first}
-use Rattle.sheet.specs.Bounds.{noise}
+use Rattle.sheet_numbers.specs.Bounds.{noise}
 use Rattle.material.specs.Lent.{lent}
 use Rattle.material.specs.Parts.{secretTests, maskTests, permutationTests, noiseTests}
 use Rattle.material.proofs.Sequence.{then-refused, then-goes-on, in-parts, ballots-passed}

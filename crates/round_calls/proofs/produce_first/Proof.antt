@@ -6,7 +6,8 @@ use borrow.Author.Needs.{needs}
 use Rattle.call.proofs.Lent.{lent}
 use Rattle.scheme_calls.proofs.Keys.{lent-keys}
 use Rattle.transcript.specs.Producer.{Material, materialOf}
-use Rattle.round_calls.proofs.Promises.{parameters-are, first-restated, first-over, first-refused}
+use Rattle.lengths.proofs.OverSheet.{parameters-are}
+use Rattle.round_calls.proofs.Promises.{first-restated, first-over, first-refused}
 use Rattle.round_calls.proofs.produce_first.Statement.{statement}
 use Rattle.round_calls.proofs.produce_first.Tie as tie
 

@@ -5,7 +5,8 @@ use native.Mathlib.Omega.{arith}
 use borrow.Author.Needs.{needs}
 use Rattle.call.proofs.Lent.{lent}
 use Rattle.transcript.specs.Producer.{Material, materialOf}
-use Rattle.round_calls.proofs.Promises.{parameters-are, second-restated, second-over, second-refused}
+use Rattle.lengths.proofs.OverSheet.{parameters-are}
+use Rattle.round_calls.proofs.Promises.{second-restated, second-over, second-refused}
 use Rattle.round_calls.proofs.produce_second.Statement.{statement}
 use Rattle.round_calls.proofs.produce_second.Tie as tie
 

@@ -4,7 +4,7 @@ use borrow.Author.Needs.{needs}
 use Rattle.call.proofs.Lent.{lent, call-taken, call-refused}
 use Prim.Native.Nat.{ℕ}
 use Rattle.codec.specs.Reply.{first}
-use Rattle.sheet.specs.Bounds as bounds
+use Rattle.sheet_numbers.specs.Bounds as bounds
 use Rattle.scheme.specs.Calls.{shareTests, shareWrites}
 use Rattle.scheme_calls.specs.Replies.{shareReply}
 use Rattle.scheme_calls.proofs.share.Statement.{statement}

@@ -9,7 +9,7 @@ use lib.ListN.{length, getD}
 use Rattle.codec.specs.Bytes.{number, part}
 use Rattle.codec.proofs.Laws.{length-part, part-part}
 use Rattle.keccak.specs.Keccak.{lane}
-use Rattle.keccak.proofs.Rows.{row5}
+use Rattle.keccak_steps.proofs.Rows.{row5}
 use Rattle.keccak.proofs.Shape.{five-of, array-shape}
 use Rattle.sha3.specs.Fips.{xorRow, xorBlock}
 use Rattle.sha3.proofs.Blocks.{past, row-in}

@@ -6,7 +6,7 @@ use borrow.Author.Needs.{needs}
 use lib.Bits.{bitXor}
 use lib.ListN.{getD}
 use Rattle.codec.specs.Bytes.{number, part}
-use Rattle.keccak.proofs.Rows.{row5}
+use Rattle.keccak_steps.proofs.Rows.{row5}
 use Rattle.sha3.specs.Fips.{xorRow}
 use Rattle.sha3.proofs.xor_row.Statement.{statement}
 use Rattle.sha3.proofs.xor_row.Tie as tie

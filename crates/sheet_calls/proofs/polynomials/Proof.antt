@@ -5,7 +5,7 @@ use native.Mathlib.Omega.{arith}
 use borrow.Author.Needs.{needs}
 use Rattle.codec.specs.Reply.{leaves}
 use Rattle.codec.proofs.Laws.{put-whole}
-use Rattle.sheet.specs.declared.Numbers.{Numbers}
+use Rattle.sheet_numbers.specs.declared.Numbers.{Numbers}
 use Rattle.sheet.proofs.Taken.{taken}
 use Rattle.sheet_calls.specs.Calls.{polynomialsReply, polynomialsOut}
 use Rattle.sheet_calls.proofs.Answers.{refused, wrong-length, is-taken, load-taken}

@@ -2,7 +2,7 @@
 use native.Mathlib.Omega.{arith}
 use borrow.Author.Needs.{needs}
 use Rattle.codec.proofs.Numbers.{length-bytes}
-use Rattle.sheet.proofs.Ranges.{in-range}
+use Rattle.sheet_numbers.proofs.Ranges.{in-range}
 use Rattle.sheet_calls.specs.Calls.{description}
 use Rattle.sheet_calls.proofs.Answers.{four-words}
 use Rattle.sheet_calls.proofs.write_description.Statement.{statement}

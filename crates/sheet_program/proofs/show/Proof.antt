@@ -1,7 +1,7 @@
 -- `sheet_program::show` meets its contract. Assumes nothing.
 use native.Mathlib.Omega.{arith}
 use borrow.Author.Needs.{needs}
-use Rattle.sheet.proofs.Ranges.{in-range}
+use Rattle.sheet_numbers.proofs.Ranges.{in-range}
 use Rattle.sheet_program.specs.Print.{printedBy}
 use Rattle.sheet_program.proofs.Print.{puts-more}
 use Rattle.sheet_program.proofs.show.Statement.{statement}

@@ -5,7 +5,7 @@ use borrow.Author.Needs.{needs}
 use borrow.Author.Tests.{not-true, not-false}
 use Rattle.transcript.specs.Method.{parameters}
 use Rattle.checker.specs.Orders.{roundOf}
-use Rattle.rounds.proofs.Swept.{later-round, swept-alike}
+use Rattle.lengths.proofs.Swept.{later-round, swept-alike}
 use Rattle.verification.proofs.Tested.{check-many, check-message, check-second, check-rest, check-lengths}
 use Rattle.verification.proofs.check.Statement.{statement}
 use Rattle.verification.proofs.check.Tie as tie

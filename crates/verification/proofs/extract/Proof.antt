@@ -4,7 +4,7 @@ use native.Mathlib.Omega.{arith}
 use borrow.Author.Needs.{needs}
 use Rattle.codec.specs.Bytes.{Octets}
 use Rattle.transcript.specs.Method.{parameters}
-use Rattle.checker.specs.Orders.{openingsOf}
+use Rattle.openings_checker.specs.Orders.{openingsOf}
 use Rattle.call.proofs.Sweeping.{spent, swept-used, leaves-taken, leaves-refused}
 use Rattle.extractor.proofs.Outcome.{kind-alike, extracted-alike}
 use Rattle.verification.proofs.Ready.{search-ready}

@@ -7,7 +7,7 @@ use Rattle.call.proofs.Lent.{lent}
 use Rattle.bgv.proofs.Sheets.{two-sound}
 use Rattle.scheme_calls.proofs.Keys.{lent-keys}
 use Rattle.checker.specs.Orders.{roundOf}
-use Rattle.round_calls.proofs.Promises.{parameters-are}
+use Rattle.lengths.proofs.OverSheet.{parameters-are}
 use Rattle.verification_calls.proofs.Given.{check-restated, check-over, check-refused}
 use Rattle.verification_calls.proofs.check.Statement.{statement}
 use Rattle.verification_calls.proofs.check.Tie as tie

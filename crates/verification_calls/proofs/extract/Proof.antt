@@ -6,8 +6,8 @@ use borrow.Author.Needs.{needs}
 use Rattle.call.proofs.Lent.{lent}
 use Rattle.bgv.proofs.Sheets.{two-sound}
 use Rattle.scheme_calls.proofs.Keys.{lent-keys}
-use Rattle.checker.specs.Orders.{openingsOf}
-use Rattle.round_calls.proofs.Promises.{parameters-are}
+use Rattle.openings_checker.specs.Orders.{openingsOf}
+use Rattle.lengths.proofs.OverSheet.{parameters-are}
 use Rattle.verification_calls.proofs.Given.{extract-restated, extract-over, extract-refused}
 use Rattle.verification_calls.proofs.extract.Statement.{statement}
 use Rattle.verification_calls.proofs.extract.Tie as tie

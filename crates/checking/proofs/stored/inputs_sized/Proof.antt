@@ -1,6 +1,6 @@
 -- `stored::inputs_sized` meets its contract. Assumes nothing.
 use borrow.Author.Tests.{not-true, not-false}
-use Rattle.sheet.proofs.Ranges.{in-range}
+use Rattle.sheet_numbers.proofs.Ranges.{in-range}
 use Rattle.call.proofs.Order.{fails, goes-on}
 use Rattle.checking.proofs.stored.inputs_sized.Statement.{statement}
 use Rattle.checking.proofs.stored.inputs_sized.Tie as tie

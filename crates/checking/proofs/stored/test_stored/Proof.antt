@@ -1,7 +1,7 @@
 -- `stored::test_stored` meets its contract. Assumes nothing.
 use native.Mathlib.Omega.{arith}
 use borrow.Author.Needs.{needs}
-use Rattle.sheet.proofs.Ranges.{in-range}
+use Rattle.sheet_numbers.proofs.Ranges.{in-range}
 use Rattle.checking.specs.Check.{storedTests}
 use Rattle.checking.proofs.Held.{refused-by, passed-by, none-left, told, numbers-told}
 use Rattle.checking.proofs.stored.test_stored.Statement.{statement}

@@ -3,7 +3,7 @@ use mathlib.Core.Path.{refl}
 use mathlib.Core.List.{[]}
 use borrow.Author.Needs.{needs}
 use Rattle.checker.specs.Orders.{roundOf}
-use Rattle.rounds.specs.Sheets.{given}
+use Rattle.lengths.specs.Sheets.{given}
 use Rattle.checking.specs.Check.{storedOf, inputsOf}
 use Rattle.checking.proofs.Held.{round-lengths}
 use Rattle.checking.proofs.Outcome.{stopped, judged, judged-swept}

@@ -4,8 +4,8 @@ use Prim.Native.Nat.{ℕ, _-_, min}
 use native.Mathlib.Omega.{arith}
 use borrow.Author.Needs.{needs}
 use lib.ListN.{length, take, length-take}
-use Rattle.sheet.proofs.Ranges.{in-range}
-use Rattle.rounds.specs.Sheets.{given}
+use Rattle.sheet_numbers.proofs.Ranges.{in-range}
+use Rattle.lengths.specs.Sheets.{given}
 use Rattle.drawing.proofs.Range.{length-challenges}
 use Rattle.checking.specs.Check.{inputsOf}
 use Rattle.checking.proofs.Outcome.{drawn-are}

@@ -8,7 +8,7 @@ use Rattle.call.specs.Call.{Public}
 use Rattle.commitment.specs.Commitment.{PublicKeys}
 use Rattle.transcript.specs.Round.{Parameters, Lengths, roundTests}
 use Rattle.checker.specs.Orders.{roundOf}
-use Rattle.round_calls.proofs.Promises.{cut}
+use Rattle.lengths.proofs.OverSheet.{cut}
 use Rattle.checking.proofs.Outcome.{parted}
 use Rattle.checking.proofs.verdicts.test_round.Statement.{statement}
 use Rattle.checking.proofs.verdicts.test_round.Tie as tie

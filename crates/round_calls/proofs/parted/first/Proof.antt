@@ -5,7 +5,8 @@ use borrow.Author.Needs.{needs}
 use Rattle.call.specs.Call.{Public}
 use Rattle.commitment.specs.Commitment.{PublicKeys}
 use Rattle.transcript.specs.Producer.{Material, materialOf}
-use Rattle.round_calls.proofs.Promises.{cut, lent-keyed, first-restated}
+use Rattle.lengths.proofs.OverSheet.{cut, lent-keyed}
+use Rattle.round_calls.proofs.Promises.{first-restated}
 use Rattle.round_calls.proofs.parted.first.Statement.{statement}
 use Rattle.round_calls.proofs.parted.first.Tie as tie
 

@@ -6,7 +6,8 @@ use borrow.Author.Needs.{needs}
 use Rattle.codec.specs.Bytes.{part}
 use Rattle.call.specs.Call.{Public}
 use Rattle.transcript.specs.Producer.{Material, materialOf}
-use Rattle.round_calls.proofs.Promises.{cut, lent-parameters, second-restated, second-keyed}
+use Rattle.lengths.proofs.OverSheet.{cut, lent-parameters}
+use Rattle.round_calls.proofs.Promises.{second-restated, second-keyed}
 use Rattle.round_calls.proofs.parted.second.Statement.{statement}
 use Rattle.round_calls.proofs.parted.second.Tie as tie
 

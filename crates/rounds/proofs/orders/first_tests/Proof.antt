@@ -11,9 +11,9 @@ use Rattle.transcript.specs.Round.{Parameters}
 use Rattle.transcript.specs.Producer.{Material, producerTests, materialOf}
 use Rattle.transcript.specs.Method.{parameters}
 use Rattle.material.proofs.Unread.{tests-lent, lengths-lent}
-use Rattle.rounds.specs.Calls.{materialSized, firstSized, firstTests}
-use Rattle.rounds.proofs.Sizes.{too-many, wrong-first, wrong-second, right, material-sizes, first-sizes}
-use Rattle.rounds.proofs.Swept.{later-material, swept-alike}
+use Rattle.lengths.specs.Calls.{materialSized, firstSized, firstTests}
+use Rattle.lengths.proofs.Sizes.{too-many, wrong-first, wrong-second, right, material-sizes, first-sizes}
+use Rattle.lengths.proofs.Swept.{later-material, swept-alike}
 use Rattle.rounds.proofs.orders.first_tests.Statement.{statement}
 use Rattle.rounds.proofs.orders.first_tests.Tie as tie
 

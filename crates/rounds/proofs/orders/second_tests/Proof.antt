@@ -14,9 +14,9 @@ use Rattle.transcript.specs.Round.{Parameters, isChallenge}
 use Rattle.transcript.specs.Producer.{Material, askedRanged, producerTests, materialOf}
 use Rattle.transcript.specs.Method.{parameters}
 use Rattle.material.proofs.Unread.{tests-lent, lengths-lent}
-use Rattle.rounds.specs.Calls.{materialSized, secondSized, secondTests}
-use Rattle.rounds.proofs.Sizes.{too-many, wrong-first, wrong-second, right, material-sizes, second-sizes}
-use Rattle.rounds.proofs.Swept.{later-material, swept-alike}
+use Rattle.lengths.specs.Calls.{materialSized, secondSized, secondTests}
+use Rattle.lengths.proofs.Sizes.{too-many, wrong-first, wrong-second, right, material-sizes, second-sizes}
+use Rattle.lengths.proofs.Swept.{later-material, swept-alike}
 use Rattle.rounds.proofs.orders.second_tests.Statement.{statement}
 use Rattle.rounds.proofs.orders.second_tests.Tie as tie
 

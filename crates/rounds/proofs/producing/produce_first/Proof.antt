@@ -8,7 +8,7 @@ use Rattle.call.proofs.Sweeping.{swept-taken, leaves-taken, leaves-refused}
 use Rattle.transcript.specs.Round.{Parameters}
 use Rattle.transcript.specs.Method.{parameters}
 use Rattle.transcript.specs.Producer.{Material, materialOf, producedHead, producedShares, producedClaims}
-use Rattle.rounds.specs.Calls.{countOf}
+use Rattle.lengths.specs.Calls.{countOf}
 use Rattle.rounds.proofs.Passing.{first-asks}
 use Rattle.rounds.proofs.Unkeyed.{first-unkeyed, head-unbound, shares-unbound, claims-unbound}
 use Rattle.rounds.proofs.producing.produce_first.Statement.{statement}

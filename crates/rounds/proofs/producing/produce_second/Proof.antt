@@ -6,7 +6,7 @@ use borrow.Author.Needs.{needs}
 use Rattle.codec.specs.Bytes.{zeros}
 use Rattle.call.proofs.Sweeping.{swept-taken, leaves-taken, leaves-refused}
 use Rattle.transcript.specs.Producer.{Material, materialOf}
-use Rattle.rounds.specs.Calls.{countOf}
+use Rattle.lengths.specs.Calls.{countOf}
 use Rattle.rounds.proofs.Passing.{second-asks}
 use Rattle.rounds.proofs.Unkeyed.{opening-unbound, answers-unbound}
 use Rattle.rounds.proofs.producing.produce_second.Statement.{statement}

@@ -3,7 +3,7 @@ use native.Mathlib.Omega.{arith}
 use borrow.Author.Needs.{needs}
 use borrow.Author.Tests.{le-ltb, lt-ltb, le-leb, lt-leb, eq-eqb, ne-eqb}
 use Prim.Native.Nat.{_*_}
-use Rattle.sheet.proofs.Ranges.{divides}
+use Rattle.sheet_numbers.proofs.Ranges.{divides}
 use Rattle.transcript.specs.Opened.{isOpened, openedPlace}
 use Rattle.transcript.proofs.Opened.{whole-stretch}
 use Rattle.transcript.proofs.shares.opened_place.Statement.{statement}

@@ -5,8 +5,8 @@ use borrow.Author.Needs.{needs}
 use borrow.Author.Tests.{not-true, not-false}
 use Rattle.codec.specs.Bytes.{Octets}
 use Rattle.transcript.specs.Method.{parameters}
-use Rattle.checker.specs.Orders.{openingsOf}
-use Rattle.rounds.proofs.Swept.{later-openings, swept-alike}
+use Rattle.openings_checker.specs.Orders.{openingsOf}
+use Rattle.lengths.proofs.Swept.{later-openings, swept-alike}
 use Rattle.verification.proofs.Tested.{extract-many, extract-message, extract-openings, extract-rest, extract-lengths}
 use Rattle.verification.proofs.openings.openings_tests.Statement.{statement}
 use Rattle.verification.proofs.openings.openings_tests.Tie as tie

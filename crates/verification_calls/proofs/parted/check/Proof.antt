@@ -5,7 +5,7 @@ use borrow.Author.Needs.{needs}
 use Rattle.call.specs.Call.{Public}
 use Rattle.commitment.specs.Commitment.{PublicKeys}
 use Rattle.checker.specs.Orders.{roundOf}
-use Rattle.round_calls.proofs.Promises.{cut, lent-keyed}
+use Rattle.lengths.proofs.OverSheet.{cut, lent-keyed}
 use Rattle.verification_calls.proofs.Given.{check-restated}
 use Rattle.verification_calls.proofs.parted.check.Statement.{statement}
 use Rattle.verification_calls.proofs.parted.check.Tie as tie

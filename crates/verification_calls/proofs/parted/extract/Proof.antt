@@ -4,8 +4,8 @@ use native.Mathlib.Omega.{arith}
 use borrow.Author.Needs.{needs}
 use Rattle.call.specs.Call.{Public}
 use Rattle.commitment.specs.Commitment.{PublicKeys}
-use Rattle.checker.specs.Orders.{openingsOf}
-use Rattle.round_calls.proofs.Promises.{cut, lent-keyed}
+use Rattle.openings_checker.specs.Orders.{openingsOf}
+use Rattle.lengths.proofs.OverSheet.{cut, lent-keyed}
 use Rattle.verification_calls.proofs.Given.{extract-restated}
 use Rattle.verification_calls.proofs.parted.extract.Statement.{statement}
 use Rattle.verification_calls.proofs.parted.extract.Tie as tie

@@ -1,0 +1,3 @@
+pub mod Chi
+pub mod Steps
+pub mod Table

@@ -1,0 +1,4 @@
+pub mod Loaded
+pub mod OverSheet
+pub mod Swept
+pub mod Sizes

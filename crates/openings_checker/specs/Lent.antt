@@ -1,0 +1,29 @@
+-- What the inner functions of the extractor's tests are given: two openings and three answers that passed the tests of lengths and ranges. The contract of the whole order does not cite
+-- this file. Assumes nothing.
+use mathlib.Core.Path.{_≡_}
+use mathlib.Core.Bool.{true}
+use Prim.Native.Nat.{ℕ, _<_}
+use lib.ListN.{length}
+use Rattle.codec.specs.Bytes.{Bytes}
+use Rattle.stern.specs.Shortness.{answerLength, inRange}
+use Rattle.transcript.specs.Extractor.{Openings}
+use Rattle.transcript.specs.Method.{Batch, Shares}
+use Rattle.checker.specs.Lent.{Opened, Head}
+
+-- the answer to a challenge
+pub record Answered (q n challenge : ℕ) (answer : Bytes) : Type 0 where
+  pub sized : length answer ≡ answerLength n challenge
+  pub ranged : inRange q n challenge answer ≡ true
+
+-- all that is lent to the extractor
+pub record OpeningsInRange (q n count repeats : ℕ) (x : Openings) : Type 0 where
+  pub repetition : x .repetition < repeats
+  pub batch : Batch q n count (x .ballots) (x .claims)
+  pub head : Head q n repeats (x .head)
+  pub shares0 : Shares q n count (x .shares0)
+  pub shares1 : Shares q n count (x .shares1)
+  pub opening0 : Opened q n (x .opening0)
+  pub opening1 : Opened q n (x .opening1)
+  pub answer1 : Answered q n 1 (x .answer1)
+  pub answer2 : Answered q n 2 (x .answer2)
+  pub answer3 : Answered q n 3 (x .answer3)

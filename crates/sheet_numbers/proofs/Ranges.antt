@@ -1,0 +1,95 @@
+-- What the conditions on a sheet's numbers say in plain terms, and the bounds of what is computed from them. Assumes nothing.
+use mathlib.Core.Path.{_≡_, refl, sym}
+use mathlib.Core.Bool.{Bool, true, false, cond, not, _||_}
+use mathlib.Core.List.{List, [], _∷_}
+use Prim.Native.Nat.{ℕ, zero, suc, _+_, _*_, _-_, _/_, _%_, _≤_, _<_, _^_}
+use native.Mathlib.Nat.{mul-le-mul}
+use native.Mathlib.Omega.{arith}
+use borrow.Author.Tests.{eqb-true, le-ltb, ltb-true, ltb-false, leb-false, not-false}
+use lib.Dec.{ltb, eqb}
+use lib.ListN.{getD}
+use Rattle.sheet_numbers.specs.Bounds.{noise, least, power}
+use Rattle.sheet_numbers.specs.Rules.{any, ranges, outside, conditions, unsound}
+use Rattle.sheet_numbers.specs.declared.Numbers.{Numbers}
+use Rattle.sheet_numbers.proofs.Below.{below, holds}
+
+-- (1 + 2^d) D at its largest
+pub times : (x y : ℕ) → x ≤ 1099511627777 → y ≤ 8195 → x * y ≤ 1099511627777 * 8195
+times x y h k = mul-le-mul h k
+
+-- ---- a ring is a power of two
+
+-- from 4 to 2048, a power of two and a divisor of 2048 are the same
+alike : ℕ → Bool
+alike n = ltb n 4 || cond (eqb (2048 % n) 0) (power 12 n) (not (power 12 n))
+
+alike-below : below alike 2049 ≡ true
+unfolding alike power
+alike-below = refl
+
+pub divides : (n : ℕ) → 4 ≤ n → n ≤ 2048 → power 12 n ≡ eqb (2048 % n) 0
+unfolding alike
+divides n low high = go (eqb (2048 % n) 0) (power 12 n) (rw (le-ltb n 4 low) at (holds alike 2049 n alike-below (omega arith)))
+  where
+    go : (d p : Bool) → cond d p (not p) ≡ true → p ≡ d
+    go true p e = e
+    go false true e = sym e
+    go false false e = refl
+
+pub power-of : (k n : ℕ) → power k n ≡ true → (j : ℕ) × (n ≡ 2 ^ j)
+unfolding power
+power-of zero n e = absurd (let z : _≡_ {A = ℕ} 0 1 = cc in omega arith)
+power-of (suc k) n e = go (eqb n (2 ^ k)) refl e (power-of k n)
+  where
+    go : (b : Bool) → eqb n (2 ^ k) ≡ b → cond b true (power k n) ≡ true → (power k n ≡ true → (j : ℕ) × (n ≡ 2 ^ j)) → (j : ℕ) × (n ≡ 2 ^ j)
+    go true q e f = (k, eqb-true n (2 ^ k) q)
+    go false q e f = f e
+
+-- ---- numbers in their ranges
+
+pub record InRange (k : Numbers) : Type 0 where
+  pub ring-low : 4 ≤ k .ring
+  pub ring-high : k .ring ≤ 2048
+  pub ring-power : (j : ℕ) × (k .ring ≡ 2 ^ j)
+  pub modulus-low : 3 ≤ k .modulus
+  pub modulus-high : k .modulus < 2 ^ 56
+  pub drown-high : k .drown ≤ 40
+  pub rounds-low : 1 ≤ k .rounds
+  pub rounds-high : k .rounds ≤ 128
+  pub repeats-low : least (k .rounds) ≤ k .repeats
+  pub repeats-high : k .repeats ≤ 256
+
+none-at : (ts : List Bool) (i : ℕ) → any ts ≡ false → getD ts i false ≡ false
+unfolding any
+none-at [] i e = refl
+none-at (true ∷ ts) i e = let z : _≡_ {A = ℕ} 0 1 = cc in absurd (omega arith)
+none-at (false ∷ ts) zero e = refl
+none-at (false ∷ ts) (suc i) e = none-at ts i e
+
+pub in-range : (k : Numbers) → outside k ≡ false → InRange k
+unfolding outside
+in-range k e = record {
+  ring-low = ltb-false _ _ (none-at (ranges k) 0 e);
+  ring-high = ltb-false _ _ (none-at (ranges k) 1 e);
+  ring-power = power-of 12 (k .ring) (not-false _ (none-at (ranges k) 2 e));
+  modulus-low = ltb-false _ _ (none-at (ranges k) 3 e);
+  modulus-high = leb-false _ _ (none-at (ranges k) 4 e);
+  drown-high = ltb-false _ _ (none-at (ranges k) 5 e);
+  rounds-low = ltb-false _ _ (none-at (ranges k) 6 e);
+  rounds-high = ltb-false _ _ (none-at (ranges k) 7 e);
+  repeats-low = ltb-false _ _ (none-at (ranges k) 8 e);
+  repeats-high = ltb-false _ _ (none-at (ranges k) 9 e);
+}
+
+-- ---- the conditions
+
+pub record Sound (p : ℕ) (k : Numbers) : Type 0 where
+  pub divided : (k .modulus - 1) % (2 * k .ring) ≡ 0
+  pub noise-fits : (1 + 2 ^ k .drown) * noise p (k .ring) < (k .modulus - 1) / 2
+
+pub is-sound : (p : ℕ) (k : Numbers) → unsound p k ≡ false → Sound p k
+unfolding unsound
+is-sound p k e = record {
+  divided = eqb-true _ _ (not-false _ (none-at (conditions p k) 0 e));
+  noise-fits = ltb-true _ _ (not-false _ (none-at (conditions p k) 1 e));
+}
