@@ -20,8 +20,7 @@ use Rattle.transcript.specs.Round.{Lengths}
 use Rattle.checker.specs.Orders.{roundOf}
 use Rattle.lengths.specs.Calls.{messageSized, secondSized}
 use Rattle.lengths.specs.Sheets.{given}
-use Rattle.lengths.proofs.Sizes.{message-sizes}
-use Rattle.verification.proofs.Tested.{check-lengths}
+use Rattle.lengths.proofs.Sizes.{message-sizes, check-lengths}
 use Rattle.checking.specs.Check.{Stored, Inputs, sameNumbers, storedTests}
 use Rattle.checking.specs.Parts.{lentSized, lentTests}
 use Rattle.checking.proofs.Numbers.{same-numbers}

@@ -17,7 +17,7 @@ use Rattle.call.specs.Call.{scratchLength}
 use Rattle.call.proofs.Order.{length-at, refuses, passes}
 use Rattle.stern.specs.Shortness.{answerLength}
 use Rattle.transcript.specs.Layout.{ballotLength, headLength, answersLength}
-use Rattle.transcript.specs.Round.{Parameters}
+use Rattle.transcript.specs.Round.{Parameters, Round, Lengths}
 use Rattle.transcript.specs.Producer.{Material, Sized}
 use Rattle.lengths.specs.Calls.{lengthsTest, materialSized, firstSized, secondSized, messageSized, openingsSized}
 
@@ -126,3 +126,11 @@ openings-sizes N opening0 opening1 answer1 answer2 answer3 out scratch e =
       (length-at xs ys 0 (h .0), length-at xs ys 1 (h .0), length-at xs ys 2 (h .0), length-at xs ys 3 (h .0)),
       (length-at us vs 0 (h .1), length-at us vs 1 (h .1), length-at us vs 2 (h .1)),
     )
+
+-- the lengths of a round that is checked
+pub check-lengths : (P : Parameters) (r : Round) (scratch : Bytes) (m : ℕ) → messageSized (P .N) (P .repeats) m (r .head) (r .shares0) (r .shares1) (r .ballots) (r .claims) ≡ true
+    → secondSized (P .N) (P .repeats) (r .challenges) (r .opening) (r .answers) scratch ≡ true → Lengths P m r × (length scratch ≡ scratchLength)
+check-lengths P r scratch m e f =
+    let s = message-sizes (P .N) (P .repeats) m (r .head) (r .shares0) (r .shares1) (r .ballots) (r .claims) e in
+    let t = second-sizes (P .N) (P .repeats) (r .challenges) (r .opening) (r .answers) scratch f in
+    (record { challenges = t .0; ballots = s .3; claims = s .4; head = s .0; shares0 = s .1; shares1 = s .2; opening = t .1; answers = t .2 }, t .3)

@@ -8,10 +8,10 @@ use Rattle.codec.specs.Reply.{first}
 use Rattle.codec.specs.declared.Reply.{Reply}
 use Rattle.codec.specs.declared.Reply.the-variants.{Refused}
 use Rattle.call.specs.Call.{scratchLength}
-use Rattle.transcript.specs.Round.{Parameters, Round, Lengths, roundTests}
+use Rattle.transcript.specs.Round.{Parameters, Round, roundTests}
 use Rattle.transcript.specs.Extractor.{Openings, Lent, extractTests}
 use Rattle.lengths.specs.Calls.{countOf, messageSized, secondSized, openingsSized, checkTests, openingsTests}
-use Rattle.lengths.proofs.Sizes.{too-many, wrong-first, wrong-second, right, message-sizes, second-sizes, openings-sizes}
+use Rattle.lengths.proofs.Sizes.{too-many, wrong-first, wrong-second, right, message-sizes, openings-sizes}
 
 -- ---- a check
 
@@ -42,12 +42,6 @@ module _ (P : Parameters) (r : Round) (scratch : Bytes) where
         → reply ≡ first (checkTests P r scratch)
     unfolding checkTests
     check-rest = right message second (λ m. roundTests P m r) is
-
-  pub check-lengths : (m : ℕ) → message m ≡ true → second m ≡ true → Lengths P m r × (length scratch ≡ scratchLength)
-  check-lengths m e f =
-      let s = message-sizes N repeats m (r .head) (r .shares0) (r .shares1) (r .ballots) (r .claims) e in
-      let t = second-sizes N repeats (r .challenges) (r .opening) (r .answers) scratch f in
-      (record { challenges = t .0; ballots = s .3; claims = s .4; head = s .0; shares0 = s .1; shares1 = s .2; opening = t .1; answers = t .2 }, t .3)
 
 -- ---- the extractor
 

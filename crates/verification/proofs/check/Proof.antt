@@ -6,7 +6,8 @@ use borrow.Author.Tests.{not-true, not-false}
 use Rattle.transcript.specs.Method.{parameters}
 use Rattle.checker.specs.Orders.{roundOf}
 use Rattle.lengths.proofs.Swept.{later-round, swept-alike}
-use Rattle.verification.proofs.Tested.{check-many, check-message, check-second, check-rest, check-lengths}
+use Rattle.lengths.proofs.Sizes.{check-lengths}
+use Rattle.verification.proofs.Tested.{check-many, check-message, check-second, check-rest}
 use Rattle.verification.proofs.check.Statement.{statement}
 use Rattle.verification.proofs.check.Tie as tie
 
