@@ -106,7 +106,7 @@ int main(int count, char **words) {
         if (!read_option(&options, words[next], words[next + 1])) return wrong_usage();
         next += 2;
     }
-    if (next >= count) return wrong_usage();
+    if (next >= count || !strncmp(words[next], "--", 2) || !options.ballots) return wrong_usage();
     enum status status = command(words[1], &options, words + next, (size_t)(count - next));
     explicit_bzero(&options, sizeof options);
     return status;
