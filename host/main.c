@@ -94,20 +94,24 @@ static enum status command(const char *name, struct options *options, char **wor
     return wrong_usage();
 }
 
-int main(int count, char **words) {
+static enum status read_command(size_t count, char **words) {
     struct options options = {.numbers = {.modulus = MODULUS, .drown = DROWN}};
     if (count < 3) return wrong_usage();
     bool small = !strcmp(words[1], "sample");
     options.numbers.ring = small ? 64 : 2048;
     options.numbers.rounds = small ? 2 : 40;
     options.ballots = 12;
-    int next = 2;
+    size_t next = 2;
     while (next + 1 < count && !strncmp(words[next], "--", 2)) {
         if (!read_option(&options, words[next], words[next + 1])) return wrong_usage();
         next += 2;
     }
     if (next >= count || !strncmp(words[next], "--", 2) || !options.ballots) return wrong_usage();
-    enum status status = command(words[1], &options, words + next, (size_t)(count - next));
+    enum status status = command(words[1], &options, words + next, count - next);
     explicit_bzero(&options, sizeof options);
     return status;
+}
+
+int main(int count, char **words) {
+    return (int)read_command((size_t)count, words);
 }

@@ -2,7 +2,7 @@
 passed=0 failed=0
 # for runs that have to come out the same twice
 seed=000102030405060708090a0b0c0d0e0f101112131415161718191a1b1c1d1e1f
-unsafe="--unsafe-test-seed $seed"
+unsafe=(--unsafe-test-seed "$seed")
 
 # One test more: STATUS 0 is passed.
 tally() { # STATUS NAME

@@ -22,19 +22,18 @@ clean() { # FOLDER
     find "$1" -depth \( -name '*.new' -o -name '*.kept' \) -exec rm -r {} +
 }
 
-# shellcheck disable=SC2086
 every_cut_of_a_run() {
     local folder=$room/cut count k
-    expect 0 "" "$program" sample $unsafe --ring 4 --ballots 2 "$room/cut_ready"
+    expect 0 "" "$program" sample "${unsafe[@]}" --ring 4 --ballots 2 "$room/cut_ready"
     cp -r "$room/cut_ready" "$room/cut_done"
-    count=$(operations run $unsafe "$room/cut_done")
+    count=$(operations run "${unsafe[@]}" "$room/cut_done")
     succeed "a run has operations" test "$count" -gt 50
     for ((k = 1; k <= count; k++)); do
         rm -rf "$folder"
         cp -r "$room/cut_ready" "$folder"
-        cut_at "$k" run $unsafe "$folder"
+        cut_at "$k" run "${unsafe[@]}" "$folder"
         succeed "cut $k cuts" test $? -eq 137
-        expect 0 "All rounds accepted yes" "$program" run $unsafe "$folder"
+        expect 0 "All rounds accepted yes" "$program" run "${unsafe[@]}" "$folder"
         clean "$folder"
         succeed "cut $k of $count" diff -r "$folder" "$room/cut_done"
     done
@@ -42,22 +41,20 @@ every_cut_of_a_run() {
 }
 
 # A second cut while the run goes on after the first.
-# shellcheck disable=SC2086
 two_cuts() {
     local folder=$room/cut count=$(($(cat "$room/count"))) k
     for ((k = 1; k <= count; k += 7)); do
         rm -rf "$folder"
         cp -r "$room/cut_ready" "$folder"
-        cut_at "$k" run $unsafe "$folder"
-        cut_at $((1 + RANDOM % (count - k + 1))) run $unsafe "$folder"
-        expect 0 "All rounds accepted yes" "$program" run $unsafe "$folder"
+        cut_at "$k" run "${unsafe[@]}" "$folder"
+        cut_at $((1 + RANDOM % (count - k + 1))) run "${unsafe[@]}" "$folder"
+        expect 0 "All rounds accepted yes" "$program" run "${unsafe[@]}" "$folder"
         clean "$folder"
         succeed "cuts at $k and later" diff -r "$folder" "$room/cut_done"
     done
 }
 
 # What a command called done is on disk: all that is not is lost at its end.
-# shellcheck disable=SC2086
 done_is_on_disk() {
     local folder=$room/cut
     rm -rf "$folder"
@@ -73,7 +70,7 @@ done_is_on_disk() {
     # the register stands behind the title and the image; entry 3 is 77's, and its state byte is 2, withdrawn
     succeed "its mark" test "$(byte_at "$folder/state.bin" $((16 + 4297 + 3 * 40)))" -eq 77
     succeed "its withdrawal in the register" test "$(byte_at "$folder/state.bin" $((16 + 4297 + 3 * 40 + 4)))" -eq 2
-    cut_at 0 run $unsafe "$folder"
+    cut_at 0 run "${unsafe[@]}" "$folder"
     expect 0 "accepted" "$program" check "$folder"
 }
 

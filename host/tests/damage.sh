@@ -1,20 +1,19 @@
 # A published transcript, damaged in each file in turn: the check says what is wrong, in words, and its exit status is not 0.
 # N = 16, 2 rounds of 3 repetitions; the batch has the marks 1001, 1003, 1004, .. The seed is 32 times B, which draws
 #   for round 0 side 1 and the challenges 1, 2, 3; for round 1 side 0 and the challenges 3, 1, 2.
-coefficient=8 polynomial=128 ballot=260
+coefficient=8 polynomial=128
 # where parts of a head begin: b0, the pairs of s0 and s1, the digests
 pair0=$((2 * polynomial)) pair1=$((4 * polynomial)) digests=$((10 * polynomial))
 # where the answers of round 0 begin, and the vector in that to challenge 2 or 3
 answer2=$((378 * 16 + 64)) answer3=$((378 * 16 + 64 + 504 * 16 + 64)) vector=$((168 * 16))
 
 # An accepted election and what is published of it.
-# shellcheck disable=SC2086
 damage_base() {
     rm -rf "$room/base" "$room/base_ready"
-    expect 0 "" "$program" sample $unsafe --ring 16 "$room/base_ready"
+    expect 0 "" "$program" sample "${unsafe[@]}" --ring 16 "$room/base_ready"
     cp -r "$room/base_ready" "$room/base_run"
     head -c 32 /dev/zero | tr '\0' 'B' >"$room/base_run/seed.bin"
-    expect 0 "it convinces only those" "$program" run $unsafe "$room/base_run"
+    expect 0 "it convinces only those" "$program" run "${unsafe[@]}" "$room/base_run"
     publish "$room/base_run" "$room/base"
     expect 0 "accepted" "$program" check "$room/base"
 }

@@ -53,8 +53,7 @@ one_file() {
     cp -r "$room/ready" "$folder"
     cat $(ls -r "$folder"/ballots/*.ballot) >"$folder/ballots.bin"
     rm -r "$folder/ballots"
-    # shellcheck disable=SC2086
-    expect 0 "" "$program" run $unsafe "$folder"
+    expect 0 "" "$program" run "${unsafe[@]}" "$folder"
     succeed "the result with one file of ballots" cmp "$folder/result.txt" "$room/done/result.txt"
     accepted "$folder"
     expect 1 "takes no single one" "$program" vote "$folder" 5 Rook
@@ -105,18 +104,28 @@ full() {
     accepted "$folder"
 }
 
+# Progress is shown to a person, and to nobody else.
+watched() {
+    local folder=$room/watched_run
+    cp -r "$room/ready" "$folder"
+    expect 0 "" "$program" run "$folder"
+    succeed "no progress in a file" test "$(grep -c 'First messages' "$room/said")" -eq 0
+    rm "$folder/state.bin"
+    command -v script >"$room/answer" || return
+    expect 0 "First messages: 2 of 2" script -qec "'$program' run '$folder'" /dev/null
+    said "Second messages and checks: 1 of 2"
+}
+
 elections() {
-    # shellcheck disable=SC2086
-    {
-        expect 0 "UNSAFE" "$program" sample $unsafe --ring 16 "$room/ready"
-        cp -r "$room/ready" "$room/done"
-        expect 0 "All rounds accepted yes" "$program" run $unsafe "$room/done"
-    }
+    expect 0 "UNSAFE" "$program" sample "${unsafe[@]}" --ring 16 "$room/ready"
+    cp -r "$room/ready" "$room/done"
+    expect 0 "All rounds accepted yes" "$program" run "${unsafe[@]}" "$room/done"
     accepted "$room/done"
     by_hand
     sizes
     one_file
     in_parts
     fresh
+    watched
     full
 }

@@ -1,11 +1,10 @@
 # Faults on the counting side: its key, its state, and files that change while an election is under way. The base of damage.sh is used.
 
-# Readies a folder: a copy of a base after the commands of the election that are named, with their last word left out.
+# Readies a folder: a copy of a base, after a command where one is named.
 readied() { # FROM COMMAND
     rm -rf "$room/fault"
     cp -r "$room/$1" "$room/fault"
-    # shellcheck disable=SC2086
-    [ -z "$2" ] || "$program" "$2" $unsafe "$room/fault" >"$room/said" 2>&1 || tally 1 "$2: $(cat "$room/said")"
+    [ -z "$2" ] || "$program" "$2" "${unsafe[@]}" "$room/fault" >"$room/said" 2>&1 || tally 1 "$2: $(cat "$room/said")"
 }
 
 # Damages a folder that stands after a command, and runs the election on.
@@ -14,8 +13,7 @@ fault() { # STATUS TEXT AFTER COMMAND..
     shift 3
     readied base_ready "$after"
     (cd "$room/fault" && "$@")
-    # shellcheck disable=SC2086
-    expect "$due" "$text" "$program" run $unsafe "$room/fault"
+    expect "$due" "$text" "$program" run "${unsafe[@]}" "$room/fault"
 }
 
 keys() {
@@ -101,7 +99,6 @@ commands() {
     local words
     for words in "" "run" "run a b" "check" "count x" "vote x" "vote x 4294967296" "vote x -1" "withdraw x 1 2" "sample --ring" "sample --ring x y" \
         "sample --size 4 y" "sample --ballots 4096 y" "sample --ballots 0 y" "run --unsafe-test-seed 00 y"; do
-        # shellcheck disable=SC2086
         expect 2 "usage: election" "$program" $words
     done
     expect 1 "sheet.txt is there already and is not written over" eval 'rm -r "$room/fault/key"; "$program" keygen "$room/fault"'
