@@ -48,6 +48,22 @@ states() {
     fault 3 "log.txt is missing" commit rm log.txt
 }
 
+# Puts a phase into the session of a state, and the digest at its end right, so that only the library can tell.
+set_phase() { # PHASE
+    poke state.bin 16 "$1"
+    local kept=$(($(size state.bin) - 32)) digest
+    digest=$(head -c "$kept" state.bin | "$room/digest" - | cut -d' ' -f1)
+    truncate -s "$kept" state.bin
+    printf "$(echo "$digest" | sed 's/../\\x&/g')" >>state.bin
+}
+
+phases() {
+    gcc -O2 -Iinclude -o "$room/digest" host/digest.c "$archive" || tally 1 "building digest.c"
+    fault 0 "All rounds accepted yes" commit set_phase 2
+    fault 1 "state.bin: refused 31: this step is not due now, or the session is damaged" commit set_phase 6
+    fault 1 "the session did not end accepted, and has no result" commit set_phase 4
+}
+
 # Files that the session holds by their digests.
 held() {
     fault 1 "the ballot with the mark 1004 is not the one that was admitted" gather flip ballots/1004.ballot 4
@@ -115,6 +131,7 @@ faults() {
     keys
     noisy
     states
+    phases
     held
     refused_lines
     disk
