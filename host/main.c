@@ -112,6 +112,13 @@ static enum status read_command(size_t count, char **words) {
     return status;
 }
 
+/* Whether the header that this was compiled with and the library that it was linked with agree on the fixed lengths. */
+static bool library_fits(void) {
+    return jdn_image_length() == JDN_IMAGE && jdn_register_length() == JDN_REGISTER && jdn_scratch_length() == JDN_SCRATCH;
+}
+
 int main(int count, char **words) {
-    return (int)read_command((size_t)count, words);
+    if (library_fits()) return (int)read_command((size_t)count, words);
+    say("the library is another one than its header");
+    return TROUBLE;
 }

@@ -13,7 +13,7 @@ static const char head[] =
     "table { border-collapse: collapse; width: 100%; margin: 1.5rem 0; }\n"
     "caption { text-align: left; font-weight: bold; font-size: 1.2rem; padding-bottom: .3rem; }\n"
     "th, td { text-align: left; vertical-align: top; padding: .4rem .6rem .4rem 0; border-bottom: 1px solid GrayText; }\n"
-    "th[scope=row] { font-weight: normal; overflow-wrap: anywhere; }\n"
+    "th[scope=row] { font-weight: normal; overflow-wrap: anywhere; min-width: 6rem; }\n"
     ".number { text-align: right; font-variant-numeric: tabular-nums; padding-right: 0; }\n"
     "code { overflow-wrap: anywhere; }\n"
     "</style>\n</head>\n<body>\n<main>\n<h1>Result of the election</h1>\n";
