@@ -51,6 +51,11 @@ publish() { # FROM TO
     done
 }
 
+# A result without the digests, which differ from one transcript to the next.
+votes() { # FOLDER
+    sed '/^What names/,$d' "$1/result.txt"
+}
+
 # The byte at a place of a file.
 byte_at() { # FILE PLACE
     od -An -tu1 -j "$2" -N 1 "$1" | tr -d ' '

@@ -40,6 +40,20 @@ every_cut_of_a_run() {
     echo "power cut before each of the $count operations of a run"
 }
 
+# With fresh random numbers after the cut: what an unfinished round left is written over, and no half of it is used.
+cuts_with_fresh_numbers() {
+    local folder=$room/cut count=$(($(cat "$room/count"))) k
+    for ((k = 1; k <= count; k += 2)); do
+        rm -rf "$folder"
+        cp -r "$room/cut_ready" "$folder"
+        cut_at "$k" run "$folder"
+        expect 0 "All rounds accepted yes" "$program" run "$folder"
+        succeed "the votes after cut $k" diff <(votes "$folder") <(votes "$room/cut_done")
+        publish "$folder" "$room/other"
+        expect 0 "accepted" "$program" check "$room/other"
+    done
+}
+
 # A second cut while the run goes on after the first.
 two_cuts() {
     local folder=$room/cut count=$(($(cat "$room/count"))) k
@@ -100,6 +114,7 @@ crashes() {
         return
     }
     every_cut_of_a_run
+    cuts_with_fresh_numbers
     two_cuts
     done_is_on_disk
     every_cut_of_a_vote

@@ -84,7 +84,7 @@ fresh() {
     local folder=$room/fresh
     cp -r "$room/ready" "$folder"
     expect 0 "" "$program" run "$folder"
-    succeed "the same votes" diff <(sed '/^What names/,$d' "$folder/result.txt") <(sed '/^What names/,$d' "$room/done/result.txt")
+    succeed "the same votes" diff <(votes "$folder") <(votes "$room/done")
     expect 1 "" cmp -s "$folder/rounds/000/head.bin" "$room/done/rounds/000/head.bin"
     accepted "$folder"
 }
