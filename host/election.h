@@ -12,7 +12,7 @@
  *   result.txt, result.html  the result
  * and two that are never given away:
  *   key/s, key/e             the secret key
- *   state.bin                the session where it stands, and the seeds of rounds that are not answered yet
+ *   state.bin                the session where it stands, and the seeds of rounds that are not answered yet. An old one is never put back
  */
 #ifndef ELECTION_H
 #define ELECTION_H

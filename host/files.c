@@ -161,3 +161,8 @@ enum status file_write_new(const struct folder *folder, const char *name, enum r
     }
     return sync_names(folder, name) ? trouble(folder, name) : DONE;
 }
+
+enum status file_remove(const struct folder *folder, const char *name) {
+    if (unlinkat(folder->handle, name, 0)) return errno == ENOENT ? DONE : trouble(folder, name);
+    return sync_names(folder, name) ? trouble(folder, name) : DONE;
+}

@@ -35,5 +35,7 @@ enum status file_read(const struct folder *folder, const char *name, size_t leas
 enum status file_write(const struct folder *folder, const char *name, enum readers readers, const void *at, size_t length);
 /* The same, but REFUSED where the file is there already. */
 enum status file_write_new(const struct folder *folder, const char *name, enum readers readers, const void *at, size_t length);
+/* Removes a file where it is there. */
+enum status file_remove(const struct folder *folder, const char *name);
 
 #endif

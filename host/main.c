@@ -27,7 +27,7 @@ static const char usage[] =
     "--unsafe-test-seed HEX      for tests only: all random numbers follow from these 64 digits, and so does the key\n"
     "\n"
     "FOLDER has sheet.txt, lists.txt, enrolled.txt, log.txt (admit MARK, withdraw MARK), ballots/MARK.ballot or ballots.bin,\n"
-    "claims.bin, seed.bin, rounds/ and the result. key/ and state.bin are never given away.\n"
+    "claims.bin, seed.bin, rounds/ and the result. key/ and state.bin are never given away, and an old state.bin is never put back.\n"
     "exit status: 0 done or accepted, 1 refused, 2 usage, 3 a file is missing or cannot be read or written\n";
 
 struct options {

@@ -23,11 +23,19 @@ static enum status part_read(const struct election *election, size_t round, cons
     return file_read(&election->folder, name, length, length, bytes);
 }
 
+static enum status part_remove(const struct election *election, size_t round, const char *part) {
+    char name[NAME_ROOM];
+    part_name(name, round, part);
+    return file_remove(&election->folder, name);
+}
+
 enum status first_write(const struct election *election, size_t round, const struct first *first) {
     char name[NAME_ROOM];
     snprintf(name, sizeof name, "rounds/%03zu", round % 1000);
     enum status status = folder_add(&election->folder, "rounds", FOR_ALL);
     if (!status) status = folder_add(&election->folder, name, FOR_ALL);
+    if (!status) status = part_remove(election, round, "opening");
+    if (!status) status = part_remove(election, round, "answers");
     if (!status) status = part_write(election, round, "head", &first->head);
     if (!status) status = part_write(election, round, "shares0", &first->shares0);
     if (!status) status = part_write(election, round, "shares1", &first->shares1);
@@ -37,6 +45,12 @@ enum status first_write(const struct election *election, size_t round, const str
 enum status second_write(const struct election *election, size_t round, const struct second *second) {
     enum status status = part_write(election, round, "opening", &second->opening);
     return status ? status : part_write(election, round, "answers", &second->answers);
+}
+
+enum status round_answered(const struct election *election, size_t round, bool *answered) {
+    char name[NAME_ROOM];
+    part_name(name, round, "opening");
+    return file_find(&election->folder, name, answered);
 }
 
 enum status first_read(const struct election *election, size_t round, struct first *first) {

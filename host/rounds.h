@@ -20,11 +20,14 @@ enum status first_produce(struct election *election, const struct key *key, cons
 /* Produces the second message for what was drawn. */
 enum status second_produce(struct election *election, const struct key *key, const struct batch *batch, size_t round, struct second *second);
 
+/* A first message takes the place of all that stood in the round's folder. */
 enum status first_write(const struct election *election, size_t round, const struct first *first);
 enum status second_write(const struct election *election, size_t round, const struct second *second);
 /* Claims are no part of the folder of a round, and are not read. */
 enum status first_read(const struct election *election, size_t round, struct first *first);
 enum status second_read(const struct election *election, size_t round, struct second *second);
+/* Whether a second message was written for the first message that stands in the folder of a round. */
+enum status round_answered(const struct election *election, size_t round, bool *answered);
 void first_free(struct first *first);
 void second_free(struct second *second);
 

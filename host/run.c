@@ -41,8 +41,8 @@ static enum status take_claims(struct counting *counting, struct first *first) {
     return DONE;
 }
 
-/* Produces, writes and commits the first message of the round that is due. Its seed is fresh, and is saved with the commitment and not before: so no
- * seed is ever used for two different draws. */
+/* Produces, writes and commits the first message of the round that is due. Its seed is fresh, and is saved with the commitment and not before: a round
+ * that a crash cut short is made anew from another seed. */
 static enum status commit_round(struct counting *counting) {
     struct election *election = counting->election;
     struct first first = {0};
@@ -70,13 +70,30 @@ static enum status commit_rounds(struct counting *counting) {
     return status;
 }
 
+/* Two answers to one first message give the key away. A session that is drawn once answers once; but an old state.bin that is put back could be drawn
+ * anew. So nothing is drawn where second messages are there already. */
+static enum status not_answered(const struct election *election) {
+    for (size_t round = 0; round < election->numbers.rounds; round++) {
+        bool answered = false;
+        enum status status = round_answered(election, round, &answered);
+        if (status) return status;
+        if (!answered) continue;
+        say("%s: round %zu was answered before it is drawn. An old state.bin is never put back: that can give the key away. "
+            "To start anew, remove state.bin and seed.bin",
+            election->folder.name, round);
+        return REFUSED;
+    }
+    return DONE;
+}
+
 /* The seed from seed.bin; where the society gave none, one that is drawn here and written there first. */
 static enum status draw(struct counting *counting) {
     struct election *election = counting->election;
     struct bytes seed = {0};
     uint8_t fresh[SEED];
     bool there = false;
-    enum status status = file_find(&election->folder, "seed.bin", &there);
+    enum status status = not_answered(election);
+    if (!status) status = file_find(&election->folder, "seed.bin", &there);
     if (!status && !there) {
         say("there is no seed.bin: this machine draws the seed, which convinces nobody who does not trust it");
         status = origin_seed(counting->origin, FOR_DRAW, 0, fresh);

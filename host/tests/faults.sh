@@ -64,6 +64,21 @@ phases() {
     fault 1 "the session did not end accepted, and has no result" commit set_phase 4
 }
 
+# An old state is not drawn again: not after all first messages, and not after some of them.
+rolled_back() {
+    readied base_ready commit
+    cp "$room/fault/state.bin" "$room/old_state.bin"
+    expect 0 "All rounds accepted yes" "$program" run "$room/fault"
+    cp "$room/old_state.bin" "$room/fault/state.bin"
+    expect 1 "round 0 was answered before it is drawn" "$program" run "$room/fault"
+    rm "$room/fault/seed.bin"
+    expect 1 "An old state.bin is never put back: that can give the key away" "$program" run "$room/fault"
+    succeed "nothing is drawn" test ! -e "$room/fault/seed.bin"
+    rm "$room/fault/state.bin"
+    expect 0 "All rounds accepted yes" "$program" run "$room/fault"
+    expect 0 "accepted" "$program" check "$room/fault"
+}
+
 # Files that the session holds by their digests.
 held() {
     fault 1 "the ballot with the mark 1004 is not the one that was admitted" gather flip ballots/1004.ballot 4
@@ -132,6 +147,7 @@ faults() {
     noisy
     states
     phases
+    rolled_back
     held
     refused_lines
     disk
