@@ -11,14 +11,13 @@ DESTDIR ?=
 version = 0.8
 
 ARCHIVE ?=
-built = target/staticlib/libjackdawnail.a
-library = $(if $(ARCHIVE),$(ARCHIVE),$(built))
+library = $(if $(ARCHIVE),$(ARCHIVE),target/staticlib/libjackdawnail.a)
 
 host_flags = -std=c11 -D_GNU_SOURCE -O2 -Wall -Wextra -Wconversion -Iinclude
 election_sources = $(filter-out host/digest.c,$(wildcard host/*.c))
 host_headers = $(wildcard host/*.h) include/jackdawnail.h
 
-.PHONY: try test host-test install bench layout $(built)
+.PHONY: try test host-test install bench layout
 
 try: target/digest target/election
 	host/try
@@ -42,8 +41,11 @@ bench:
 layout:
 	rt fmt
 
-$(built):
+ifeq ($(ARCHIVE),)
+.PHONY: $(library)
+$(library):
 	rt staticlib jackdawnail
+endif
 
 target/digest: host/digest.c include/jackdawnail.h $(library)
 	@mkdir -p target

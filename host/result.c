@@ -114,7 +114,7 @@ static enum status each(const struct result *result, const char *name, void (*fo
     if (!status && !compare) status = file_write(folder, name, FOR_ALL, text.at, text.length);
     if (!status && compare) status = file_read(folder, name, ANY_LENGTH, text.length + 65536, &file);
     if (!status && compare && (file.length != text.length || memcmp(file.at, text.at, text.length))) {
-        say("%s/%s is not the result of this transcript", folder->name, name);
+        say("%s/%s is not the result of this transcript%s", folder->name, name, form == result_page ? "; without the page the rest can be checked" : "");
         status = REFUSED;
     }
     bytes_free(&file);
