@@ -48,7 +48,7 @@ enum status ballots_open(const struct election *election, struct ballots *ballot
     enum status status = file_find(&election->folder, "ballots.bin", &ballots->whole);
     if (!status) status = file_find(&election->folder, "ballots", &single);
     if (!status && ballots->whole == single) {
-        say("%s has %s ballots/ and ballots.bin: one of the two is due", election->folder.name, single ? "both" : "neither");
+        say("%s has %s ballots.bin: one of the two is due", election->folder.name, single ? "both ballots/ and" : "neither ballots/ nor");
         return TROUBLE;
     }
     return !status && ballots->whole ? read_whole(election, ballots) : status;

@@ -112,7 +112,7 @@ one_file_of_ballots() {
     damaged 1 "ballots.bin: refused 1: it has 0 bytes" eval "$together; truncate -s 0 ballots.bin"
     damaged 1 "ballots.bin: refused 1: it has 1065220 bytes where 260 to 1064960 are due" eval "$together; truncate -s 1065220 ballots.bin"
     damaged 3 "has both ballots/ and ballots.bin" eval 'cat ballots/*.ballot > ballots.bin'
-    damaged 3 "has neither ballots/ and ballots.bin" rm -r ballots
+    damaged 3 "has neither ballots/ nor ballots.bin" rm -r ballots
 }
 
 claimed() {
