@@ -1,17 +1,39 @@
-# make try     builds the proved library and runs what it offers today on small inputs, against published results
-# make test    the gate: every proof from nothing, the must-fail edits, and the tests outside the proof
-# make bench   the hot paths beside other libraries
-# make layout  lays out the Rattle files
+# make try        builds the proved library and the host program, runs a whole small election from nothing and checks it on another case
+# make test       the gate: every proof from nothing, the must-fail edits, and the tests outside the proof
+# make host-test  the tests of the host program: elections, damaged files, crashes
+# make install    header, library, pkg-config file and host program, to DESTDIR/PREFIX
+# make bench      the hot paths beside other libraries
+# make layout     lays out the Rattle files
+# try, host-test and install build the library first; with ARCHIVE=PATH they take one that is built.
 
-library = target/staticlib/libjackdawnail.a
+PREFIX ?= /usr/local
+DESTDIR ?=
+version = 0.8
 
-.PHONY: try test bench layout $(library)
+ARCHIVE ?=
+library = $(if $(ARCHIVE),$(ARCHIVE),target/staticlib/libjackdawnail.a)
 
-try: target/digest
+host_flags = -std=c11 -D_GNU_SOURCE -O2 -Wall -Wextra -Wconversion -Iinclude
+election_sources = $(filter-out host/digest.c,$(wildcard host/*.c))
+host_headers = $(wildcard host/*.h) include/jackdawnail.h
+
+.PHONY: try test host-test install bench layout
+
+try: target/digest target/election
 	host/try
 
 test:
 	.ci/run
+
+host-test: target/election
+	host/tests/run "$(abspath $(library))"
+
+install: target/election target/jackdawnail.pc
+	install -d $(DESTDIR)$(PREFIX)/bin $(DESTDIR)$(PREFIX)/include $(DESTDIR)$(PREFIX)/lib/pkgconfig
+	install -m 755 target/election $(DESTDIR)$(PREFIX)/bin/election
+	install -m 644 include/jackdawnail.h $(DESTDIR)$(PREFIX)/include/jackdawnail.h
+	install -m 644 $(library) $(DESTDIR)$(PREFIX)/lib/libjackdawnail.a
+	install -m 644 target/jackdawnail.pc $(DESTDIR)$(PREFIX)/lib/pkgconfig/jackdawnail.pc
 
 bench:
 	bench/run
@@ -19,8 +41,22 @@ bench:
 layout:
 	rt fmt
 
+ifeq ($(ARCHIVE),)
+.PHONY: $(library)
 $(library):
 	rt staticlib jackdawnail
+endif
 
 target/digest: host/digest.c include/jackdawnail.h $(library)
-	$(CC) -O2 -Wall -Wextra -Iinclude -o $@ host/digest.c $(library)
+	@mkdir -p target
+	$(CC) $(host_flags) -o $@ host/digest.c $(library)
+
+target/election: $(election_sources) $(host_headers) $(library)
+	@mkdir -p target
+	$(CC) $(host_flags) -o $@ $(election_sources) $(library)
+
+# written anew each time, since PREFIX may be another one
+.PHONY: target/jackdawnail.pc
+target/jackdawnail.pc: host/jackdawnail.pc.in
+	@mkdir -p target
+	sed -e 's|@PREFIX@|$(PREFIX)|' -e 's|@VERSION@|$(version)|' host/jackdawnail.pc.in > $@

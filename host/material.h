@@ -1,0 +1,26 @@
+/* What the producer of a round is lent beside sheet and ballots: the key, and the round's random numbers (document 01, "One round"). */
+#ifndef MATERIAL_H
+#define MATERIAL_H
+#include "election.h"
+
+/* The secret key, ternary bytes. */
+struct key {
+    struct bytes s, e;
+};
+
+enum status key_read(const struct election *election, struct key *key);
+void key_free(struct key *key);
+
+struct material {
+    struct bytes secrets, s0, e0, masks0, masks1, vectors, permutations, salts;
+};
+
+/* The material as the producer's calls are lent it. */
+#define LENT_MATERIAL(m) \
+    LENT((m).secrets), LENT((m).s0), LENT((m).e0), LENT((m).masks0), LENT((m).masks1), LENT((m).vectors), LENT((m).permutations), LENT((m).salts)
+
+/* All of a round's random numbers from its seed: the same seed gives the same ones, for the first and the second message. */
+enum status material_make(struct material *material, const struct numbers *numbers, const struct key *key, size_t ballots, const uint8_t *seed);
+void material_free(struct material *material);
+
+#endif

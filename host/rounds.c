@@ -1,0 +1,103 @@
+/* The messages of a round: their files, and the two steps that take them. Producing them is in produce.c. */
+#include "rounds.h"
+
+#include <stdio.h>
+
+#include "say.h"
+
+#define NAME_ROOM 40
+
+static void part_name(char *name, size_t round, const char *part) {
+    snprintf(name, NAME_ROOM, "rounds/%03zu/%s.bin", round % 1000, part);
+}
+
+static enum status part_write(const struct election *election, size_t round, const char *part, const struct bytes *bytes) {
+    char name[NAME_ROOM];
+    part_name(name, round, part);
+    return file_write(&election->folder, name, FOR_ALL, LENT(*bytes));
+}
+
+static enum status part_read(const struct election *election, size_t round, const char *part, size_t length, struct bytes *bytes) {
+    char name[NAME_ROOM];
+    part_name(name, round, part);
+    return file_read(&election->folder, name, length, length, bytes);
+}
+
+static enum status part_remove(const struct election *election, size_t round, const char *part) {
+    char name[NAME_ROOM];
+    part_name(name, round, part);
+    return file_remove(&election->folder, name);
+}
+
+enum status first_write(const struct election *election, size_t round, const struct first *first) {
+    char name[NAME_ROOM];
+    snprintf(name, sizeof name, "rounds/%03zu", round % 1000);
+    enum status status = folder_add(&election->folder, "rounds", FOR_ALL);
+    if (!status) status = folder_add(&election->folder, name, FOR_ALL);
+    if (!status) status = part_remove(election, round, "opening");
+    if (!status) status = part_remove(election, round, "answers");
+    if (!status) status = part_write(election, round, "head", &first->head);
+    if (!status) status = part_write(election, round, "shares0", &first->shares0);
+    if (!status) status = part_write(election, round, "shares1", &first->shares1);
+    return status;
+}
+
+enum status second_write(const struct election *election, size_t round, const struct second *second) {
+    enum status status = part_write(election, round, "opening", &second->opening);
+    return status ? status : part_write(election, round, "answers", &second->answers);
+}
+
+enum status round_answered(const struct election *election, size_t round, bool *answered) {
+    char name[NAME_ROOM];
+    part_name(name, round, "opening");
+    return file_find(&election->folder, name, answered);
+}
+
+enum status first_read(const struct election *election, size_t round, struct first *first) {
+    size_t shares = 8 * election->numbers.ring * election_closed(election);
+    enum status status = part_read(election, round, "head", head_length(&election->numbers), &first->head);
+    if (!status) status = part_read(election, round, "shares0", shares, &first->shares0);
+    if (!status) status = part_read(election, round, "shares1", shares, &first->shares1);
+    return status;
+}
+
+enum status second_read(const struct election *election, size_t round, struct second *second) {
+    uint8_t drawn[1 + MOST_REPEATS];
+    uint64_t reply = jdn_challenges(election->image, JDN_IMAGE, round, drawn, 1 + election->numbers.repeats);
+    if (reply) return say_refused(reply, "the challenges of round %zu", round);
+    enum status status = part_read(election, round, "opening", opening_length(&election->numbers), &second->opening);
+    if (!status) status = part_read(election, round, "answers", answers_length(&election->numbers, drawn + 1), &second->answers);
+    return status;
+}
+
+void first_free(struct first *first) {
+    bytes_free(&first->head);
+    bytes_free(&first->shares0);
+    bytes_free(&first->shares1);
+    bytes_free(&first->claims);
+}
+
+void second_free(struct second *second) {
+    bytes_free(&second->opening);
+    bytes_free(&second->answers);
+}
+
+enum status claims_read(const struct election *election, struct bytes *claims) {
+    size_t length = election->numbers.ring * election_closed(election);
+    return file_read(&election->folder, "claims.bin", length, length, claims);
+}
+
+enum status round_commit(struct election *election, size_t round, const struct first *first) {
+    uint64_t reply = jdn_commit(election->image, JDN_IMAGE, round, LENT(first->head), LENT(first->shares0), LENT(first->shares1));
+    return reply ? say_refused(reply, "the first message of round %zu", round) : DONE;
+}
+
+enum status round_check(struct election *election, size_t round, const struct batch *batch, const struct bytes *claims, const struct first *first,
+                        const struct second *second) {
+    uint64_t reply =
+        jdn_check(election->image, JDN_IMAGE, LENT(election->sheet), LENT(batch->all), LENT(*claims), round, LENT(first->head), LENT(first->shares0),
+                  LENT(first->shares1), LENT(second->opening), LENT(second->answers), LENT(election->scratch));
+    if (!reply) return DONE;
+    batch_say_mark(batch, reply);
+    return say_refused(reply, "round %zu", round);
+}

@@ -1,0 +1,41 @@
+/* The messages of a round, on disk and as the library is lent them. */
+#ifndef ROUNDS_H
+#define ROUNDS_H
+#include "ballots.h"
+#include "election.h"
+#include "material.h"
+
+/* The first message, and the claims that the producer writes with it. */
+struct first {
+    struct bytes head, shares0, shares1, claims;
+};
+
+/* The second message. */
+struct second {
+    struct bytes opening, answers;
+};
+
+/* Produces the first message of a round from its seed. */
+enum status first_produce(struct election *election, const struct key *key, const struct batch *batch, size_t round, struct first *first);
+/* Produces the second message for what was drawn. */
+enum status second_produce(struct election *election, const struct key *key, const struct batch *batch, size_t round, struct second *second);
+
+/* A first message takes the place of all that stood in the round's folder. */
+enum status first_write(const struct election *election, size_t round, const struct first *first);
+enum status second_write(const struct election *election, size_t round, const struct second *second);
+/* Claims are no part of the folder of a round, and are not read. */
+enum status first_read(const struct election *election, size_t round, struct first *first);
+enum status second_read(const struct election *election, size_t round, struct second *second);
+/* Whether a second message was written for the first message that stands in the folder of a round. */
+enum status round_answered(const struct election *election, size_t round, bool *answered);
+void first_free(struct first *first);
+void second_free(struct second *second);
+
+enum status claims_read(const struct election *election, struct bytes *claims);
+
+/* The steps of a session with the messages of a round. */
+enum status round_commit(struct election *election, size_t round, const struct first *first);
+enum status round_check(struct election *election, size_t round, const struct batch *batch, const struct bytes *claims, const struct first *first,
+                        const struct second *second);
+
+#endif

@@ -1,0 +1,89 @@
+/* Complaints, refusals in words, progress. */
+#include "say.h"
+
+#include <stdarg.h>
+#include <stdio.h>
+#include <unistd.h>
+
+#include "jackdawnail.h"
+
+/* What the place of a refusal counts. */
+enum place { NOWHERE, REPETITION, BALLOT };
+
+struct refusal {
+    unsigned number;
+    enum place place;
+    const char *sentence;
+};
+
+/* The numbers of document 01 ("Refused because of the input", "Refused because of the state"). */
+static const struct refusal refusals[] = {
+    {1, NOWHERE, "something has the wrong length"},
+    {2, NOWHERE, "the sheet does not have the form of ten lines, from ring= to k3="},
+    {3, NOWHERE, "a number of the sheet, or the number enrolled, is outside its range"},
+    {4, NOWHERE, "the modulus does not fit the ring (2N must divide q - 1), or leaves no room for noise and masks"},
+    {5, NOWHERE, "a number is out of range: a coefficient, a vote, a ternary byte, or how many a list of the sheet has"},
+    {6, NOWHERE, "the halves of the public key do not add up to the public key of the sheet"},
+    {7, NOWHERE, "the opened half of the key does not give its half of the public key"},
+    {8, NOWHERE, "an opened commitment does not open to what was committed"},
+    {9, REPETITION, "the answer's permutation is no permutation"},
+    {10, REPETITION, "the answer does not hold as many of each of -1, 0 and 1"},
+    {11, REPETITION, "the answer does not give the digests of the first message"},
+    {12, BALLOT, "a mask is larger than the sheet allows"},
+    {13, BALLOT, "the claimed vote is not what the shares decrypt to"},
+    {14, NOWHERE, "the secret key does not match the public key of the sheet"},
+    {15, BALLOT, "the noise is larger than that of any honestly made ballot"},
+    {16, NOWHERE, "the sheet, the ballots, the claims or the first message are not those that the session holds by digest"},
+    {31, NOWHERE, "this step is not due now, or the session is damaged"},
+    {32, NOWHERE, "a ballot with this mark stands already"},
+    {33, NOWHERE, "the ballot with this mark was withdrawn"},
+    {34, NOWHERE, "no ballot with this mark was admitted"},
+    {35, NOWHERE, "the register is full: 4,096 entries are used"},
+    {36, NOWHERE, "no ballot stands"},
+};
+
+void say(const char *form, ...) {
+    va_list values;
+    progress_end();
+    va_start(values, form);
+    fputs("election: ", stderr);
+    vfprintf(stderr, form, values);
+    fputc('\n', stderr);
+    va_end(values);
+}
+
+static const struct refusal *find(unsigned number) {
+    for (size_t i = 0; i < sizeof refusals / sizeof *refusals; i++)
+        if (refusals[i].number == number) return &refusals[i];
+    return NULL;
+}
+
+enum status say_refused(uint64_t reply, const char *what, ...) {
+    const struct refusal *refusal = find(JDN_NUMBER(reply));
+    va_list values;
+    progress_end();
+    va_start(values, what);
+    fputs("election: ", stderr);
+    vfprintf(stderr, what, values);
+    va_end(values);
+    fprintf(stderr, ": refused %u: %s", JDN_NUMBER(reply), refusal ? refusal->sentence : "a number that no paper has");
+    if (refusal && refusal->place == REPETITION) fprintf(stderr, " (repetition %llu)", (unsigned long long)JDN_VALUE(reply));
+    if (refusal && refusal->place == BALLOT) fprintf(stderr, " (ballot %llu of the batch)", (unsigned long long)JDN_VALUE(reply));
+    fputc('\n', stderr);
+    return REFUSED;
+}
+
+enum status say_no_memory(void) {
+    say("there is not enough memory");
+    return TROUBLE;
+}
+
+void progress(const char *what, size_t done, size_t all) {
+    if (!isatty(STDERR_FILENO)) return;
+    fprintf(stderr, "\r\033[K%s: %zu of %zu", what, done, all);
+    fflush(stderr);
+}
+
+void progress_end(void) {
+    if (isatty(STDERR_FILENO)) fputs("\r\033[K", stderr);
+}

@@ -1,0 +1,121 @@
+# Crashes: the power is cut before each operation on files in turn (power_cut.c), and the next run goes on from what is on disk.
+
+# The program with the power cut before operation K, or with what was not on disk lost at its end.
+cut_at() { # K COMMAND..
+    local k=$1
+    shift
+    # in a shell of its own, whose remark on the kill is not wanted
+    (
+        POWER_CUT=$k LD_PRELOAD=$room/power_cut.so "$program" "$@" >"$room/said" 2>&1
+        exit $?
+    ) 2>/dev/null
+}
+
+# How many operations a command has.
+operations() { # COMMAND..
+    POWER_COUNT=$room/count LD_PRELOAD=$room/power_cut.so "$program" "$@" >"$room/said" 2>&1 || return 1
+    cat "$room/count"
+}
+
+# A folder as it has to be in the end: with no half-written files, and none of what the cut took away.
+clean() { # FOLDER
+    find "$1" -depth \( -name '*.new' -o -name '*.kept' \) -exec rm -r {} +
+}
+
+every_cut_of_a_run() {
+    local folder=$room/cut count k
+    expect 0 "" "$program" sample "${unsafe[@]}" --ring 4 --ballots 2 "$room/cut_ready"
+    cp -r "$room/cut_ready" "$room/cut_done"
+    count=$(operations run "${unsafe[@]}" "$room/cut_done")
+    succeed "a run has operations" test "$count" -gt 50
+    for ((k = 1; k <= count; k++)); do
+        rm -rf "$folder"
+        cp -r "$room/cut_ready" "$folder"
+        cut_at "$k" run "${unsafe[@]}" "$folder"
+        succeed "cut $k cuts" test $? -eq 137
+        expect 0 "All rounds accepted yes" "$program" run "${unsafe[@]}" "$folder"
+        clean "$folder"
+        succeed "cut $k of $count" diff -r "$folder" "$room/cut_done"
+    done
+    echo "power cut before each of the $count operations of a run"
+}
+
+# With fresh random numbers after the cut: what an unfinished round left is written over, and no half of it is used.
+cuts_with_fresh_numbers() {
+    local folder=$room/cut count=$(($(cat "$room/count"))) k
+    for ((k = 1; k <= count; k += 2)); do
+        rm -rf "$folder"
+        cp -r "$room/cut_ready" "$folder"
+        cut_at "$k" run "$folder"
+        expect 0 "All rounds accepted yes" "$program" run "$folder"
+        succeed "the votes after cut $k" diff <(votes "$folder") <(votes "$room/cut_done")
+        publish "$folder" "$room/other"
+        expect 0 "accepted" "$program" check "$room/other"
+    done
+}
+
+# A second cut while the run goes on after the first.
+two_cuts() {
+    local folder=$room/cut count=$(($(cat "$room/count"))) k
+    for ((k = 1; k <= count; k += 7)); do
+        rm -rf "$folder"
+        cp -r "$room/cut_ready" "$folder"
+        cut_at "$k" run "${unsafe[@]}" "$folder"
+        cut_at $((1 + RANDOM % (count - k + 1))) run "${unsafe[@]}" "$folder"
+        expect 0 "All rounds accepted yes" "$program" run "${unsafe[@]}" "$folder"
+        clean "$folder"
+        succeed "cuts at $k and later" diff -r "$folder" "$room/cut_done"
+    done
+}
+
+# What a command called done is on disk: all that is not is lost at its end.
+done_is_on_disk() {
+    local folder=$room/cut
+    rm -rf "$folder"
+    cp -r "$room/cut_ready" "$folder"
+    cut_at 0 vote "$folder" 77 Rook
+    succeed "a vote" test $? -eq 0
+    succeed "its ballot" test "$(size "$folder/ballots/77.ballot")" -eq 68
+    succeed "its line" test "$(tail -n 1 "$folder/log.txt")" = "admit 77"
+    cut_at 0 withdraw "$folder" 77
+    succeed "its withdrawal" test "$(tail -n 1 "$folder/log.txt")" = "withdraw 77"
+    cut_at 0 gather "$folder"
+    succeed "a gathering" test $? -eq 0
+    # the register stands behind the title and the image; entry 3 is 77's, and its state byte is 2, withdrawn
+    succeed "its mark" test "$(byte_at "$folder/state.bin" $((16 + 4297 + 3 * 40)))" -eq 77
+    succeed "its withdrawal in the register" test "$(byte_at "$folder/state.bin" $((16 + 4297 + 3 * 40 + 4)))" -eq 2
+    cut_at 0 run "${unsafe[@]}" "$folder"
+    expect 0 "accepted" "$program" check "$folder"
+}
+
+# A cut vote leaves no half of a ballot: the mark can be voted with anew, or its ballot is there and whole.
+every_cut_of_a_vote() {
+    local folder=$room/cut count k
+    rm -rf "$folder"
+    cp -r "$room/cut_ready" "$folder"
+    count=$(operations vote "$folder" 77 Rook)
+    for ((k = 1; k <= count; k++)); do
+        rm -rf "$folder"
+        cp -r "$room/cut_ready" "$folder"
+        cut_at "$k" vote "$folder" 77 Rook
+        if [ -e "$folder/ballots/77.ballot" ]; then
+            succeed "cut $k of a vote leaves a whole ballot" test "$(size "$folder/ballots/77.ballot")" -eq 68
+        else
+            expect 0 "" "$program" vote "$folder" 77 Rook
+        fi
+        grep -qx "admit 77" "$folder/log.txt" || echo "admit 77" >>"$folder/log.txt"
+        expect 0 "Ballots counted     3" "$program" run "$folder"
+    done
+}
+
+crashes() {
+    gcc -std=c11 -D_GNU_SOURCE -O2 -Wall -Wextra -shared -fPIC -o "$room/power_cut.so" host/tests/power_cut.c || {
+        tally 1 "building power_cut.c"
+        return
+    }
+    every_cut_of_a_run
+    cuts_with_fresh_numbers
+    two_cuts
+    done_is_on_disk
+    every_cut_of_a_vote
+}
