@@ -1,0 +1,136 @@
+-- The second and the third demand: `demand2` and `demand3` of specs/Demands.antt. Assumes nothing.
+use mathlib.Core.Path.{_≡_, refl, ap, _∙_}
+use mathlib.Core.Logic.{_↔_}
+use mathlib.Core.Bool.{Bool, true, false, cond, _&&_}
+use mathlib.Core.List.{_++_}
+use Prim.Native.Nat.{ℕ}
+use native.Mathlib.Omega.{arith}
+use lib.Dec.{eqb, leb}
+use lib.ListN.{length}
+use borrow.Author.Tests.{eqb-true, eq-eqb, not-false}
+use Rattle.codec.specs.Bytes.{Bytes, Octets}
+use Rattle.codec.specs.Reply.{None, first}
+use Rattle.codec.specs.declared.Reply.{Reply}
+use Rattle.codec.specs.declared.Reply.the-variants.{Taken, Refused}
+use Rattle.codec.proofs.Laws.{both}
+use Rattle.codec.proofs.Replies.{not-taken, taken-exactly}
+use Rattle.sheet.specs.Reader.{sheetOf}
+use Rattle.sheet.specs.Sheet.{order, readingBy, reading}
+use Rattle.sheet.specs.declared.Reading.the-variants as reading
+use Rattle.sheet_numbers.proofs.Ranges.{in-range}
+use Rattle.bgv.proofs.Sheets.{two-sound}
+use Rattle.bgv.proofs.Ballot.{honest-noise, honest-decrypts}
+use Rattle.transcript.specs.Extractor.{Openings}
+use Rattle.transcript.proofs.Many.{append-none}
+use Rattle.transcript.proofs.Honest.{honest-round}
+use Rattle.transcript.proofs.Extraction.{extraction}
+use Rattle.transcript.proofs.Refuses.{refuses-exactly, refuses-alike}
+use Rattle.lengths.specs.Calls.{openingsTests}
+use Rattle.lengths.specs.Sheets.{parametersOf, ballotsIn}
+use Rattle.verification.proofs.Tested.{lent-message, lent-openings, extract-lengths}
+use Rattle.round_calls.specs.Replies.{firstReply}
+use Rattle.verification_calls.specs.Replies.{extractReply}
+use Rattle.session.specs.declared.Session.{Session}
+use Rattle.session.specs.Steps.{admitTests, checkTests}
+use Rattle.image.specs.Image.{imageLength, decode}
+use Rattle.session_calls.specs.Images.{lentReply, admitReply, checkReply}
+use Rattle.histories.specs.Examples.{all-examples}
+use Rattle.histories.proofs.Valid.{sheet-exactly}
+use Rattle.histories.proofs.Exact.{admitted-exactly}
+use Rattle.histories.proofs.Checked.{accepted-exactly}
+use Rattle.histories.proofs.Withdrawn.{withdrawn-stays-out}
+use Rattle.histories.proofs.Reach.{reachable-valid, only-phase-or-round}
+use Rattle.histories.proofs.Honest.{two-accepted}
+use Rattle.histories.proofs.Roll.{roll-is-batch, lodged}
+use Rattle.jackdawnail.specs.Demands.{AcceptedExactly, AdmittedExactly, HonestBallots, Demand2, Extracts, RefusesAsChecks, ProducerWrites, HonestRounds, Demand3}
+
+-- ---- over an image
+
+-- a call that is lent an image is taken exactly if the image has its length and the session in it is taken
+lent-exactly : (image : Bytes) (R : Session → Reply) → (lentReply image R ≡ Taken) ↔ ((length image ≡ imageLength) × (R (decode image) ≡ Taken))
+lent-exactly image R = (says (eqb (length image) imageLength) refl, λ h. rw (eq-eqb (length image) imageLength (h .0)) (h .1))
+  where
+    says : (b : Bool) → eqb (length image) imageLength ≡ b → cond b (R (decode image)) (Refused 1 0) ≡ Taken → (length image ≡ imageLength) × (R (decode image) ≡ Taken)
+    says true e t = (eqb-true (length image) imageLength e, t)
+    says false e t = not-taken 1 0 t
+
+-- and so if what that asks holds
+over-image : (image : Bytes) (R : Session → Reply) {Holds : Type 0} → (R (decode image) ≡ Taken) ↔ Holds → (lentReply image R ≡ Taken) ↔ ((length image ≡ imageLength) × Holds)
+over-image image R exactly =
+    let l = lent-exactly image R in
+    (λ e. let h = l .0 e in (h .0, exactly .0 (h .1)), λ h. l .1 (h .0, exactly .1 (h .1)))
+
+accepted : AcceptedExactly
+unfolding checkReply
+accepted image round x octets = over-image image (λ s. first (checkTests 2 s round x)) (accepted-exactly 2 (decode image) round x octets)
+
+admitted : AdmittedExactly
+unfolding admitReply
+admitted image reg ballot = over-image image (λ s. first (admitTests 2 s reg ballot)) (admitted-exactly 2 (decode image) reg ballot)
+
+-- ---- over a sheet that is taken
+
+module _ (text : Bytes) (sheet : first (order 2 text) ≡ Taken) where
+  read : reading 2 text ≡ reading.Taken (sheetOf text .numbers)
+  unfolding reading
+  read = ap (λ (r : Reply). readingBy r (sheetOf text .numbers)) sheet
+
+honest-ballots : HonestBallots
+honest-ballots text sheet s e r e1 e2 m ss se sr s1 s2 message matches =
+    let P = parametersOf 2 text in
+    let ok = two-sound text (sheetOf text .numbers) (read text sheet) in
+    (
+      honest-noise ok (omega arith) (P .a) (P .b) s e r e1 e2 m ss se sr s1 s2 message matches,
+      honest-decrypts ok (omega arith) (P .a) (P .b) s e r e1 e2 m ss se sr s1 s2 message matches,
+    )
+
+honest-rounds : HonestRounds
+honest-rounds text sheet m x sized none side low challenges size valid =
+    let r = in-range (sheetOf text .numbers) (sheet-exactly 2 text .0 (taken-exactly (order 2 text) .0 sheet) .inside) in
+    honest-round (parametersOf 2 text) m x (two-sound text (sheetOf text .numbers) (read text sheet)) (omega (arith, r .modulus-low)) (omega (arith, r .modulus-high)) sized none side low
+    challenges size valid
+
+producer-writes : ProducerWrites
+unfolding firstReply
+producer-writes text x head shares0 shares1 claims scratch = taken-exactly _
+
+extracts : Extracts
+unfolding extractReply openingsTests
+extracts text x out scratch octets e =
+    let P = parametersOf 2 text in
+    let m = ballotsIn text (x .ballots) in
+    let parts = append-none (order 2 text) (openingsTests P x out scratch) (taken-exactly _ .0 e) in
+    let sheet = taken-exactly (order 2 text) .1 (parts .0) in
+    let r = in-range (sheetOf text .numbers) (sheet-exactly 2 text .0 (parts .0) .inside) in
+    let message = lent-message P x out scratch m in
+    let openings = lent-openings P x out scratch m in
+    let sized = both message openings (both (leb m 4096) (message && openings) (not-false (leb m 4096 && (message && openings)) (parts .1 .0)) .1) in
+    extraction P m x (omega (arith, r .modulus-low)) (omega (arith, r .modulus-high)) (extract-lengths P x out scratch m octets (sized .0) (sized .1) .0) (parts .1 .1)
+    (two-sound text (sheetOf text .numbers) (read text sheet))
+
+refuses-as-checks : RefusesAsChecks
+refuses-as-checks P m x opens answers lending = (refuses-exactly P m x opens answers lending, refuses-alike P m x opens answers lending)
+
+-- ---- the demands
+
+pub demand2 : Demand2
+demand2 = record {
+  accepted-exactly = accepted;
+  admitted-exactly = admitted;
+  withdrawn-stays-out = withdrawn-stays-out 2;
+  honest-ballots = honest-ballots;
+  examples = all-examples;
+}
+
+pub demand3 : Demand3
+demand3 = record {
+  extracts = extracts;
+  refuses-as-checks = refuses-as-checks;
+  honest-accepted = two-accepted;
+  honest-rounds = honest-rounds;
+  producer-writes = producer-writes;
+  stays-valid = reachable-valid 2;
+  only-phase-or-round = only-phase-or-round 2;
+  roll-is-batch = roll-is-batch 2;
+  lodged = lodged 2;
+}

@@ -1,0 +1,104 @@
+-- The three demands, over the definitions that the contracts of the exported calls cite (src/), with p = 2. Proved: proofs/Demands.antt. Assumes nothing.
+--
+-- 1. Any bytes, numbers or session lent to any entry point get an outcome and no fault. No exported call has a `requires`, and each contract gives the reply and every lent byte:
+--    that every contract is proved is this demand.
+use mathlib.Core.Path.{_≡_}
+use mathlib.Core.Logic.{_↔_}
+use mathlib.Core.Bool.{true}
+use mathlib.Core.List.{_++_, map}
+use Prim.Native.Nat.{ℕ, _≤_, _<_}
+use lib.ListN.{length, getD}
+use Rattle.codec.specs.Bytes.{Bytes, Octets}
+use Rattle.codec.specs.Reply.{None, first}
+use Rattle.codec.specs.declared.Reply.the-variants.{Taken, Refused}
+use Rattle.ring.specs.Poly.{Poly, Alike}
+use Rattle.sheet.specs.Sheet.{order}
+use Rattle.bgv.specs.Scheme.{Small, key, cipher-u, cipher-v, opened, decrypted}
+use Rattle.bgv.specs.Examples.{Row}
+use Rattle.transcript.specs.Round.{Parameters, Round, roundTests}
+use Rattle.transcript.specs.Producer.{Material, Sized, producerTests, producedRound}
+use Rattle.transcript.specs.Extractor.{Openings, extractTests, kind, Found}
+use Rattle.transcript.specs.Refuses.{Lending, ChecksTake, ChecksRefuse}
+use Rattle.lengths.specs.Calls.{firstTests}
+use Rattle.lengths.specs.Sheets.{parametersOf, ballotsIn}
+use Rattle.round_calls.specs.Replies.{firstReply}
+use Rattle.verification_calls.specs.Replies.{extractReply}
+use Rattle.checking.specs.Check.{Inputs}
+use Rattle.image.specs.Image.{imageLength, decode}
+use Rattle.session_calls.specs.Images.{admitReply, checkReply}
+use Rattle.histories.specs.Conditions.{Admits, Checks}
+use Rattle.histories.specs.Claims.{StaysOut, StaysValid, OnlyPhaseOrRound, HonestAccepted, RollIsBatch, Lodged}
+use Rattle.histories.specs.Examples.{all-rows}
+
+-- ---- 2. Everything equals the papers, a round is accepted exactly if every listed check holds, and a withdrawn mark is in no closed batch.
+
+-- a check is taken exactly if the image has its length and all of `Checks` holds of the session in it, in every round
+abbrev pub AcceptedExactly : Type 0
+AcceptedExactly = (image : Bytes) (round : ℕ) (x : Inputs) → Octets (x .head)
+    → (checkReply 2 image round x ≡ Taken) ↔ ((length image ≡ imageLength) × Checks 2 (decode image) round x)
+
+-- a ballot is admitted exactly if all of `Admits` holds: "full" means 4,096 entries
+abbrev pub AdmittedExactly : Type 0
+AdmittedExactly = (image reg ballot : Bytes) → (admitReply 2 image reg ballot ≡ Taken) ↔ ((length image ≡ imageLength) × Admits 2 (decode image) reg ballot)
+
+-- a ballot made with short r, e' and e'' under a key that matches the sheet's b has noise within D, and decrypts to its message
+abbrev pub HonestBallots : Type 0
+HonestBallots = (text : Bytes) → first (order 2 text) ≡ Taken
+    → let P = parametersOf 2 text in
+    (s e r e1 e2 m : Poly) → Small (P .q) (P .N) 1 s → Small (P .q) (P .N) 1 e → Small (P .q) (P .N) 1 r → Small (P .q) (P .N) 1 e1 → Small (P .q) (P .N) 1 e2
+    → ((i : ℕ) → i < P .N → m i < 2) → Alike (P .q) (P .N) (key (P .q) (P .N) 2 (P .a) s e) (P .b)
+    → let u = cipher-u (P .q) (P .N) 2 (P .a) r e1 in
+    let v = cipher-v (P .q) (P .N) 2 (P .b) r e2 m in
+    Small (P .q) (P .N) (P .D) (opened (P .q) (P .N) s u v) × ((i : ℕ) → i < P .N → decrypted (P .q) (P .N) 2 s u v i ≡ m i)
+
+-- worked examples A to K
+abbrev pub Examples : Type 0
+Examples = map (λ (x : Row). x .got) all-rows ≡ map (λ (x : Row). x .said) all-rows
+
+pub record Demand2 : Type 0 where
+  pub accepted-exactly : AcceptedExactly
+  pub admitted-exactly : AdmittedExactly
+  pub withdrawn-stays-out : StaysOut 2
+  pub honest-ballots : HonestBallots
+  pub examples : Examples
+
+-- ---- 3. Two accepted openings and three accepted answers yield a hash collision, a short commitment vector or the key, and every honest round is accepted whatever is drawn.
+
+-- where the extractor does not refuse, it finds one of the three, as its kind says
+abbrev pub Extracts : Type 0
+Extracts = (text : Bytes) (x : Openings) (out scratch : Bytes) → Octets (x .head) → extractReply 2 text x out scratch ≡ Taken
+    → let P = parametersOf 2 text in
+    let m = ballotsIn text (x .ballots) in
+    Found P m x (kind P m x)
+
+-- it refuses exactly where the checks of those openings and answers would, and then as one of them does
+abbrev pub RefusesAsChecks : Type 0
+RefusesAsChecks = (P : Parameters) (m : ℕ) (x : Openings) (opens answers : ℕ → Round) → Lending P m x opens answers
+    → (None (extractTests P m x) ↔ ChecksTake P m x opens answers)
+    × ((number place : ℕ) → first (extractTests P m x) ≡ Refused number place → ChecksRefuse P m x opens answers number place)
+
+-- the producer writes a round from all material that meets none of its refusals
+abbrev pub ProducerWrites : Type 0
+ProducerWrites = (text : Bytes) (x : Material) (head shares0 shares1 claims scratch : Bytes)
+    → (firstReply 2 text x head shares0 shares1 claims scratch ≡ Taken) ↔ None (order 2 text ++ firstTests (parametersOf 2 text) x head shares0 shares1 claims scratch)
+
+-- its round meets none of 5 to 13, with any side and challenges in range
+abbrev pub HonestRounds : Type 0
+HonestRounds = (text : Bytes) → first (order 2 text) ≡ Taken
+    → let P = parametersOf 2 text in
+    (m : ℕ) (x : Material) → Sized P m x → None (producerTests P m x true) → (side : ℕ) → side < 2 → (challenges : Bytes) → length challenges ≡ P .repeats
+    → ((i : ℕ) → i < P .repeats → (1 ≤ getD challenges i 0) × (getD challenges i 0 ≤ 3)) → None (roundTests P m (producedRound P m x side challenges))
+
+pub record Demand3 : Type 0 where
+  pub extracts : Extracts
+  pub refuses-as-checks : RefusesAsChecks
+  -- over every list of steps from a newly cleared session, each lent any register: a round of the producer's that is lodged is accepted at its turn
+  pub honest-accepted : HonestAccepted 2
+  pub honest-rounds : HonestRounds
+  pub producer-writes : ProducerWrites
+  -- no step of such a list meets 31 but for wrong phase or round
+  pub stays-valid : StaysValid 2
+  pub only-phase-or-round : OnlyPhaseOrRound 2
+  -- without host writing, the ballots admitted and not withdrawn are the batch
+  pub roll-is-batch : RollIsBatch 2
+  pub lodged : Lodged 2
