@@ -79,7 +79,7 @@ uint64_t jdn_opened_share(uint64_t side, uint64_t n, JDN_IN(shares0), JDN_IN(sha
 #define JDN_IMAGE 4297
 #define JDN_REGISTER 163840
 
-/* The fixed lengths: JDN_IMAGE, JDN_SCRATCH, JDN_REGISTER. */
+/* The fixed lengths: JDN_IMAGE, JDN_SCRATCH, JDN_REGISTER. These three calls answer the bare length, not a reply. */
 uint64_t jdn_image_length(void);
 uint64_t jdn_scratch_length(void);
 uint64_t jdn_register_length(void);
@@ -89,7 +89,7 @@ uint64_t jdn_clear(JDN_OUT(image), JDN_OUT(reg), JDN_IN(sheet));
 /* ballot: mark, u, v, 4 + 16N bytes. Refused 31, 1, 5 a coefficient, 32 the mark stands, 33 it was withdrawn, 35 4,096 entries are used. */
 uint64_t jdn_admit(JDN_OUT(image), JDN_OUT(reg), JDN_IN(ballot));
 /* Refused 31, 1, 34 the mark is unknown, 33 it was withdrawn. The entry keeps its place, and its mark cannot be admitted again before the next clear. */
-uint64_t jdn_withdraw(JDN_IN(image), JDN_OUT(reg), uint32_t mark);
+uint64_t jdn_withdraw(JDN_OUT(image), JDN_OUT(reg), uint32_t mark);
 /* The standing entries are the batch. Refused 31, 1, 36 none stands. */
 uint64_t jdn_close(JDN_OUT(image), JDN_IN(reg));
 /* claims: N bytes 0 or 1 for each ballot closed. Refused 31, 1, 5. */

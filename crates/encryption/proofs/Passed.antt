@@ -2,7 +2,7 @@
 use mathlib.Core.Path.{_≡_, sym, _∙_}
 use mathlib.Core.Bool.{true, _&&_}
 use mathlib.Core.List.{List, [], _∷_}
-use Prim.Native.Nat.{ℕ, _*_, _^_, _≤_, _<_}
+use Prim.Native.Nat.{ℕ, _*_, _≤_}
 use native.Mathlib.Omega.{arith}
 use lib.ListN.{length}
 use Rattle.codec.specs.Bytes.{Bytes}
@@ -13,23 +13,15 @@ use Rattle.codec.proofs.Laws.{both}
 use Rattle.ring.specs.Poly.{Below}
 use Rattle.ring.specs.Slots.{poly, list, allBelow}
 use Rattle.ring.proofs.Ranges.{allBelow-sound}
-use Rattle.call.specs.Call.{bytesBelow, coefficientsBelow, coefficients, Public}
+use Rattle.call.specs.Call.{bytesBelow, coefficientsBelow, coefficients}
 use Rattle.call.proofs.Order.{length-at, passed}
-use Rattle.scheme.specs.Calls.{keygenTests, encryptTests, decryptTests, splitTests}
-use Rattle.scheme.proofs.Passed.{two-ranged}
+use Rattle.scheme.specs.Calls.{encryptTests, decryptTests}
 
 -- a message has coefficients below q
 below-message : (p q n : ℕ) (m : Bytes) → p ≤ q → length m ≡ n → allBelow p m ≡ true → Below q n (coefficients m)
 below-message p q n m h l e = record { at = λ k j. omega (arith, allBelow-sound p m e k (omega arith)) }
 
 module _ (n q : ℕ) where
-  pub keygen-passed : (s e b w : Bytes) → (z : Reply) → z ≡ first (keygenTests n s e b w) → z ≡ Taken → (length w ≡ 1048576) × (length s ≡ n) × (length e ≡ n) × (length b ≡ 8 * n)
-  keygen-passed s e b w z i t =
-      let xs : List ℕ = length s ∷ length e ∷ length b ∷ length w ∷ [] in
-      let ys : List ℕ = n ∷ n ∷ 8 * n ∷ 1048576 ∷ [] in
-      let l = passed xs ys (bytesBelow 3 (s ∷ e ∷ [])) [] (sym i ∙ t) .0 in
-      (length-at xs ys 3 l, length-at xs ys 0 l, length-at xs ys 1 l, length-at xs ys 2 l)
-
   pub encrypt-passed : (r e1 e2 m c w : Bytes) → 3 ≤ q → (z : Reply) → z ≡ first (encryptTests 2 n r e1 e2 m c w) → z ≡ Taken
       → (length r ≡ n) × (length e1 ≡ n) × (length e2 ≡ n) × (length m ≡ n) × Below q n (coefficients m) × (length c ≡ 16 * n) × (length w ≡ 1048576)
   encrypt-passed r e1 e2 m c w some z i t =
@@ -49,14 +41,3 @@ module _ (n q : ℕ) where
       let l = h .0 in
       let c' = both (allBelow q (list (2 * n) (poly c))) true (both (bytesBelow 3 (s ∷ [])) (coefficientsBelow q (2 * n) (c ∷ [])) (h .1) .1) .0 in
       (length-at xs ys 0 l, length-at xs ys 1 l, c', length-at xs ys 2 l, length-at xs ys 3 l)
-
-  module _ (low : 4 ≤ n) (high : n ≤ 2048) (some : 3 ≤ q) (few : q < 2 ^ 56) where
-    pub split-passed : (s e s0 e0 d w : Bytes) → (z : Reply) → z ≡ first (splitTests q n s e s0 e0 d w) → z ≡ Taken
-        → (Public n q s0 × Public n q e0) × (length s ≡ n) × (length e ≡ n) × (length d ≡ 32 * n) × (length w ≡ 1048576)
-    split-passed s e s0 e0 d w z i t =
-        let xs : List ℕ = length s ∷ length e ∷ length s0 ∷ length e0 ∷ length d ∷ length w ∷ [] in
-        let ys : List ℕ = n ∷ n ∷ 8 * n ∷ 8 * n ∷ 32 * n ∷ 1048576 ∷ [] in
-        let h = passed xs ys (bytesBelow 3 (s ∷ e ∷ []) && coefficientsBelow q n (s0 ∷ e0 ∷ [])) [] (sym i ∙ t) in
-        let l = h .0 in
-        let r = two-ranged n q low high some few s0 e0 (length-at xs ys 2 l) (length-at xs ys 3 l) (both (bytesBelow 3 (s ∷ e ∷ [])) (coefficientsBelow q n (s0 ∷ e0 ∷ [])) (h .1) .1) in
-        (r, length-at xs ys 0 l, length-at xs ys 1 l, length-at xs ys 4 l, length-at xs ys 5 l)

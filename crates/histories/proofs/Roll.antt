@@ -1,8 +1,8 @@
 -- Without host writing, the ballots admitted and not withdrawn are the batch that close found standing. Assumes nothing.
 use mathlib.Core.Path.{_≡_, refl, sym, ap, _∙_}
-use mathlib.Core.Logic.{_≢_}
+use mathlib.Core.Logic.{_≢_, _⊎_, inl, inr}
 use mathlib.Core.Bool.{Bool, true, false, cond}
-use mathlib.Core.List.{List, [], _∷_, _++_, map, map-append, append-nil}
+use mathlib.Core.List.{List, [], _∷_, _++_, map, map-append, append-nil, List·Memᴰ, List·Memᴰ·append-cases, List·Memᴰ·eq-of-singleton, List·Memᴰ·not-nil}
 use Prim.Native.Nat.{ℕ, zero, suc, _+_, _≤_, _<_}
 use native.Mathlib.Omega.{arith}
 use native.Mathlib.Numerals.{add-one}
@@ -23,7 +23,7 @@ use Rattle.session.specs.declared.Session.{Session}
 use Rattle.session.specs.Steps.{cleared, admittedBy, closedBy, claimedBy, committedBy, drawnBy, checkEarly, checkLate, checkTests, acceptedBy, refusedBy, checkedBy}
 use Rattle.histories.specs.Runs.{Step, clear, admit, withdraw, close, claim, commit, draw, check, State, state, History, note, without, enrol, Tale, Life, born, begun, reply, after, tell, tells, live, lives, calls}
 use Rattle.histories.specs.Conditions.{Admits, Withdraws, Claims, Draws}
-use Rattle.histories.specs.Claims.{RollIsBatch, Lodged}
+use Rattle.histories.specs.Claims.{RollIsBatch, OwnRegister}
 use Rattle.histories.proofs.Replies.{left, left-all, left-four, left-alone}
 use Rattle.histories.proofs.Exact.{here, admitted-exactly, withdrawn-exactly, claimed-exactly, drawn-exactly}
 use Rattle.histories.proofs.Kept.{drawn-now}
@@ -209,12 +209,21 @@ unfolding tells tell
 own-tells p [] t single o = o
 own-tells p (x ∷ xs) t single o = own-tells p xs (tell p x t) (single-step p (t .now) x single) (own-step p (t .now) (t .history) (t .roll) o single x)
 
+-- each of them has that length
+each-long : (size : ℕ) (bs : List Bytes) → Long size bs → (b : Bytes) → List·Memᴰ b bs → length b ≡ size
+each-long size [] h b m = absurd (List·Memᴰ·not-nil m)
+each-long size (c ∷ cs) h b m = go (List·Memᴰ·append-cases (c ∷ []) m) (each-long size cs (h .1) b)
+  where
+    go : List·Memᴰ b (c ∷ []) ⊎ List·Memᴰ b cs → (List·Memᴰ b cs → length b ≡ size) → length b ≡ size
+    go (inl n) rest = let e = List·Memᴰ·eq-of-singleton n in rw e (h .0)
+    go (inr n) rest = rest n
+
 pub roll-is-batch : (p : ℕ) → RollIsBatch p
 unfolding begun cleared
 roll-is-batch p sheet steps l =
     let t = tells p steps (begun sheet) in
     let o = own-tells p steps (begun sheet) (single-none _) (record { rows = start; long = tt; noted = λ q. absurd (omega arith) }) in
-    rw (o .noted l, length-map (t .roll) sha3) (ballotDigests-concatenated _ (t .roll) (o .long))
+    (o .noted l, each-long _ (t .roll) (o .long), rw (o .noted l, length-map (t .roll) sha3) (ballotDigests-concatenated _ (t .roll) (o .long)))
 
 -- ---- such a list is one of those in which each step is lent any register
 
@@ -224,6 +233,6 @@ unfolding lives live tells tell calls
 same-lives p [] t l es eh = (es, eh)
 same-lives p (x ∷ xs) t l es eh = same-lives p xs (tell p x t) (live p (record { step = x; register = t .now .register }) l) (rw es) (rw (es, eh))
 
-pub lodged : (p : ℕ) → Lodged p
+pub own-register : (p : ℕ) → OwnRegister p
 unfolding begun born
-lodged p sheet steps = same-lives p steps (begun sheet) (born sheet) refl refl
+own-register p sheet steps = same-lives p steps (begun sheet) (born sheet) refl refl

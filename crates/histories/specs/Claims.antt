@@ -3,13 +3,14 @@
 use mathlib.Core.Path.{_≡_}
 use mathlib.Core.Logic.{_↔_, _≢_}
 use mathlib.Core.Bool.{Bool, true, false, _&&_}
-use mathlib.Core.List.{List, List·Memᴰ}
+use mathlib.Core.List.{List, List·Memᴰ, map}
 use Prim.Native.Nat.{ℕ, _<_}
 use lib.Dec.{eqb, ltb}
 use lib.ListN.{length}
 use Rattle.codec.specs.Bytes.{Bytes, Octets}
 use Rattle.codec.specs.Reply.{None, first}
 use Rattle.codec.specs.declared.Reply.the-variants.{Taken, Refused}
+use Rattle.sha3.specs.Sponge.{sha3}
 use Rattle.sheet.specs.Reader.{sheetOf}
 use Rattle.sheet.specs.Sheet.{order}
 use Rattle.call.specs.Call.{scratchLength}
@@ -111,7 +112,7 @@ module _ (p : ℕ) where
       → let s = lives p cs (born sheet) .session in
       reply p x (state s register) ≡ Refused 31 place → due x s ≡ false
 
-  -- a round's turn: the check of the round next due after draw, lent the session's sheet and batch, the claims and the first message that were lodged, all of it
+  -- a round's turn: the check of the round next due after draw, lent the session's sheet and batch, the claims and the first message that were lodged (taken since the last clear), all of it
   -- the producer's, and scratch
   pub record Turn (l : Life) (material : Material) (round : ℕ) (x : Inputs) : Type 0 where
     pub phase : l .session .phase ≡ drawn
@@ -129,16 +130,17 @@ module _ (p : ℕ) where
       → let l = lives p cs (born sheet) in
       (register : Bytes) (material : Material) (round : ℕ) (x : Inputs) → Turn l material round x → reply p (check round x) (state (l .session) register) ≡ Taken
 
-  -- without host writing, the ballots admitted and not withdrawn are a batch, as a turn asks for one
+  -- without host writing, the ballots admitted and not withdrawn are the batch: its digests are theirs, in order, and each has a ballot's length
   abbrev pub RollIsBatch : Type 0
   RollIsBatch = (sheet : Bytes) (steps : List Step)
       → let t = tells p steps (begun sheet) in
       0 < t .now .session .phase
-      → ballotDigests (ballotLength (t .now .session .numbers .ring)) (length (t .history .batch)) (concatenated (t .roll)) ≡ t .history .batch
+      → (t .history .batch ≡ map sha3 (t .roll)) × ((b : Bytes) → List·Memᴰ b (t .roll) → length b ≡ ballotLength (t .now .session .numbers .ring))
+      × (ballotDigests (ballotLength (t .now .session .numbers .ring)) (length (t .history .batch)) (concatenated (t .roll)) ≡ t .history .batch)
 
-  -- and such a list is one of those above, so that a turn's batch can be that roll
-  abbrev pub Lodged : Type 0
-  Lodged = (sheet : Bytes) (steps : List Step)
+  -- and a list in which each step is lent the register that the last one left is one of those above, so that a turn's batch can be that roll
+  abbrev pub OwnRegister : Type 0
+  OwnRegister = (sheet : Bytes) (steps : List Step)
       → let t = tells p steps (begun sheet) in
       let l = lives p (calls p steps (begun sheet .now)) (born sheet) in
       (l .session ≡ t .now .session) × (l .history ≡ t .history)

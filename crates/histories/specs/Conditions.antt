@@ -1,5 +1,5 @@
--- When each step of a session is taken (document 01, the orders under "Refused because of the state"), for the plaintext modulus p, in propositions to hold against the
--- paper and not as its order again; the numbers beside them are those of the refusals that they exclude. Assumes nothing.
+-- When each step of a session is taken (document 01, the orders under "Refused because of the state"), for the plaintext modulus p, in conditions to hold against the
+-- paper and not as its order again (the form, ranges and conditions of a sheet are the sheet's own tests); the numbers beside them are those of the refusals that they exclude. Assumes nothing.
 use mathlib.Core.Path.{_≡_}
 use mathlib.Core.Logic.{_≢_}
 use mathlib.Core.Bool.{true, false}

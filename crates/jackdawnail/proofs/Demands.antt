@@ -28,7 +28,7 @@ use Rattle.transcript.proofs.Refuses.{refuses-exactly, refuses-alike}
 use Rattle.lengths.specs.Calls.{openingsTests}
 use Rattle.lengths.specs.Sheets.{parametersOf, ballotsIn}
 use Rattle.verification.proofs.Tested.{lent-message, lent-openings, extract-lengths}
-use Rattle.round_calls.specs.Replies.{firstReply}
+use Rattle.round_calls.specs.Replies.{firstReply, secondReply}
 use Rattle.verification_calls.specs.Replies.{extractReply}
 use Rattle.session.specs.declared.Session.{Session}
 use Rattle.session.specs.Steps.{admitTests, checkTests}
@@ -39,9 +39,9 @@ use Rattle.histories.proofs.Valid.{sheet-exactly}
 use Rattle.histories.proofs.Exact.{admitted-exactly}
 use Rattle.histories.proofs.Checked.{accepted-exactly}
 use Rattle.histories.proofs.Withdrawn.{withdrawn-stays-out}
-use Rattle.histories.proofs.Reach.{reachable-valid, only-phase-or-round}
+use Rattle.histories.proofs.Reach.{clear-taken, reachable-valid, only-phase-or-round}
 use Rattle.histories.proofs.Honest.{two-accepted}
-use Rattle.histories.proofs.Roll.{roll-is-batch, lodged}
+use Rattle.histories.proofs.Roll.{roll-is-batch, own-register}
 use Rattle.jackdawnail.specs.Demands.{AcceptedExactly, AdmittedExactly, HonestBallots, Demand2, Extracts, RefusesAsChecks, ProducerWrites, HonestRounds, Demand3}
 
 -- ---- over an image
@@ -91,8 +91,8 @@ honest-rounds text sheet m x sized none side low challenges size valid =
     challenges size valid
 
 producer-writes : ProducerWrites
-unfolding firstReply
-producer-writes text x head shares0 shares1 claims scratch = taken-exactly _
+unfolding firstReply secondReply
+producer-writes text x = (λ head shares0 shares1 claims scratch. taken-exactly _, λ side challenges opening answers scratch. taken-exactly _)
 
 extracts : Extracts
 unfolding extractReply openingsTests
@@ -129,8 +129,9 @@ demand3 = record {
   honest-accepted = two-accepted;
   honest-rounds = honest-rounds;
   producer-writes = producer-writes;
+  clear-taken = clear-taken 2;
   stays-valid = reachable-valid 2;
   only-phase-or-round = only-phase-or-round 2;
   roll-is-batch = roll-is-batch 2;
-  lodged = lodged 2;
+  own-register = own-register 2;
 }

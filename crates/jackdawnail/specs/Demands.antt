@@ -19,15 +19,15 @@ use Rattle.transcript.specs.Round.{Parameters, Round, roundTests}
 use Rattle.transcript.specs.Producer.{Material, Sized, producerTests, producedRound}
 use Rattle.transcript.specs.Extractor.{Openings, extractTests, kind, Found}
 use Rattle.transcript.specs.Refuses.{Lending, ChecksTake, ChecksRefuse}
-use Rattle.lengths.specs.Calls.{firstTests}
+use Rattle.lengths.specs.Calls.{firstTests, secondTests}
 use Rattle.lengths.specs.Sheets.{parametersOf, ballotsIn}
-use Rattle.round_calls.specs.Replies.{firstReply}
+use Rattle.round_calls.specs.Replies.{firstReply, secondReply}
 use Rattle.verification_calls.specs.Replies.{extractReply}
 use Rattle.checking.specs.Check.{Inputs}
 use Rattle.image.specs.Image.{imageLength, decode}
 use Rattle.session_calls.specs.Images.{admitReply, checkReply}
 use Rattle.histories.specs.Conditions.{Admits, Checks}
-use Rattle.histories.specs.Claims.{StaysOut, StaysValid, OnlyPhaseOrRound, HonestAccepted, RollIsBatch, Lodged}
+use Rattle.histories.specs.Claims.{StaysOut, ClearTaken, StaysValid, OnlyPhaseOrRound, HonestAccepted, RollIsBatch, OwnRegister}
 use Rattle.histories.specs.Examples.{all-rows}
 
 -- ---- 2. Everything equals the papers, a round is accepted exactly if every listed check holds, and a withdrawn mark is in no closed batch.
@@ -77,10 +77,14 @@ RefusesAsChecks = (P : Parameters) (m : ℕ) (x : Openings) (opens answers : ℕ
     → (None (extractTests P m x) ↔ ChecksTake P m x opens answers)
     × ((number place : ℕ) → first (extractTests P m x) ≡ Refused number place → ChecksRefuse P m x opens answers number place)
 
--- the producer writes a round from all material that meets none of its refusals
+-- the producer writes a round from all material that meets none of its refusals: its first message, and what answers a side and challenges
 abbrev pub ProducerWrites : Type 0
-ProducerWrites = (text : Bytes) (x : Material) (head shares0 shares1 claims scratch : Bytes)
-    → (firstReply 2 text x head shares0 shares1 claims scratch ≡ Taken) ↔ None (order 2 text ++ firstTests (parametersOf 2 text) x head shares0 shares1 claims scratch)
+ProducerWrites = (text : Bytes) (x : Material)
+    → let P = parametersOf 2 text in
+    ((head shares0 shares1 claims scratch : Bytes)
+    → (firstReply 2 text x head shares0 shares1 claims scratch ≡ Taken) ↔ None (order 2 text ++ firstTests P x head shares0 shares1 claims scratch))
+    × ((side : ℕ) (challenges opening answers scratch : Bytes)
+    → (secondReply 2 text x side challenges opening answers scratch ≡ Taken) ↔ None (order 2 text ++ secondTests P x side challenges opening answers scratch))
 
 -- its round meets none of 5 to 13, with any side and challenges in range
 abbrev pub HonestRounds : Type 0
@@ -96,9 +100,11 @@ pub record Demand3 : Type 0 where
   pub honest-accepted : HonestAccepted 2
   pub honest-rounds : HonestRounds
   pub producer-writes : ProducerWrites
+  -- a clear that is taken leaves what such a list starts from
+  pub clear-taken : ClearTaken 2
   -- no step of such a list meets 31 but for wrong phase or round
   pub stays-valid : StaysValid 2
   pub only-phase-or-round : OnlyPhaseOrRound 2
   -- without host writing, the ballots admitted and not withdrawn are the batch
   pub roll-is-batch : RollIsBatch 2
-  pub lodged : Lodged 2
+  pub own-register : OwnRegister 2

@@ -7,7 +7,7 @@ ghost use Rattle.register.specs.Register as entries;
 ghost use Rattle.checking.specs.Check.{inputsOf};
 ghost use Rattle.session.specs.Steps.{cleared, admittedBy, closedBy, claimedBy, committedBy, drawnBy, challengesOut};
 ghost use Rattle.image.specs.Image.{imageLength, decode};
-ghost use Rattle.session_calls.specs.Images.{imageLeft, clearReply, admitReply, withdrawReply, closeReply, claimReply, commitReply, drawReply, checkReply, checkImage, challengesReply, turnoutReply, turnoutAnswer};
+ghost use Rattle.session_calls.specs.Images.{imageLeft, clearReply, admitReply, withdrawReply, closeReply, claimReply, commitReply, drawReply, checkReply, checkImage, challengesReply, turnoutAnswer};
 
 // The length of the image of a session.
 #[no_mangle]
@@ -53,10 +53,11 @@ pub extern "C" fn jdn_admit(image: &mut [u8], reg: &mut [u8], ballot: &[u8]) -> 
     codec::pack(session_calls::admit(image, reg, ballot))
 }
 
-// Withdraws the ballot with a mark.
+// Withdraws the ballot with a mark. The session stays as it is: a withdrawal is in the register.
 #[no_mangle]
-pub extern "C" fn jdn_withdraw(image: &[u8], reg: &mut [u8], mark: u32) -> u64
+pub extern "C" fn jdn_withdraw(image: &mut [u8], reg: &mut [u8], mark: u32) -> u64
     ensures reply { λ answer. ⌜ answer ≡ packed (withdrawReply 2 (now (image .entry)) (now (reg .entry)) mark) ⌝ }
+    ensures image { λ _. ⌜ now (image .exit) ≡ now (image .entry) ⌝ }
     ensures register { λ _. ⌜ now (reg .exit) ≡ leaves (withdrawReply 2 (now (image .entry)) (now (reg .entry)) mark) (entries.withdrawn (now (reg .entry)) (entries.find (now (reg .entry)) mark (decode (now (image .entry)) .used))) (now (reg .entry)) ⌝ }
 {
     codec::pack(session_calls::withdraw(image, reg, mark))

@@ -17,7 +17,7 @@ pub fn keygen(sheet: &[u8], s: &[u8], e: &[u8], b: &mut [u8], scratch: &mut [u8]
         sheet::Reading::Taken(k) => {
             let n = k.ring as usize;
             let q = k.modulus;
-            let reply = encryption::keygen(&public[0..8 * n], s, e, b, scratch, n, q);
+            let reply = keys::keygen(&public[0..8 * n], s, e, b, scratch, n, q);
             call::sweep(reply, scratch);
             reply
         }
@@ -111,7 +111,7 @@ pub fn split(
         sheet::Reading::Taken(k) => {
             let n = k.ring as usize;
             let q = k.modulus;
-            let reply = encryption::split(&public[0..8 * n], s, e, s0, e0, out, scratch, n, q);
+            let reply = keys::split(&public[0..8 * n], s, e, s0, e0, out, scratch, n, q);
             call::sweep(reply, scratch);
             reply
         }

@@ -188,9 +188,6 @@ turnoutTests p s reg enrolled =
     ∷ []
 
 -- the reply of its tests
-unfoldable pub turnoutReply : (p : ℕ) → Session → (reg : Bytes) (enrolled : ℕ) → Reply
-turnoutReply p s reg enrolled = first (turnoutTests p s reg enrolled)
-
 -- what turnout answers, by the reply of its tests and the thousandths where they are taken; a refusal of turnout has no place
 abbrev pub turnoutBy : Reply → (thousandths : ℕ) → Turnout
 turnoutBy reply.Taken thousandths = Counted thousandths

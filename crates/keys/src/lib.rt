@@ -1,4 +1,5 @@
-// The key and its split once the sheet is taken: the tests of the lent slices, and then the work. What is made from secrets is left in scratch, which the caller sweeps.
+// The calls of key generation (document 000, section 5.3) and the key split (6.1) once the sheet is taken: the tests of the lent slices, and then the work. What is made from
+// secrets is left in scratch, which the caller sweeps. p is 2.
 use codec::Reply;
 use scheme::written;
 ghost use mathlib.Core.Path.{_≡_};

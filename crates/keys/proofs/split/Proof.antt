@@ -1,10 +1,10 @@
--- `keys::split` meets its contract. Assumes nothing.
+-- `split` meets its contract. Assumes nothing.
 use mathlib.Core.Path.{_∙_}
 use borrow.Author.Needs.{needs}
 use Rattle.call.proofs.Sweeping.{untouched, spent, leaves-taken, leaves-refused}
-use Rattle.encryption.proofs.Passed.{split-passed}
-use Rattle.encryption.proofs.keys.split.Statement.{statement}
-use Rattle.encryption.proofs.keys.split.Tie as tie
+use Rattle.keys.proofs.Passed.{split-passed}
+use Rattle.keys.proofs.split.Statement.{statement}
+use Rattle.keys.proofs.split.Tie as tie
 
 split-tests-requires : tie.Need-split-tests-requires
 split-tests-requires c κs = c .before .before .before .before .before .before .before .before .before .pre .high

@@ -1,10 +1,10 @@
--- `keys::split_ranged` meets its contract. Assumes nothing.
+-- `split_ranged` meets its contract. Assumes nothing.
 use mathlib.Core.List.{[], _∷_}
 use borrow.Author.Needs.{needs}
 use Rattle.call.specs.Call.{bytesBelow, coefficientsBelow}
 use Rattle.call.proofs.Order.{fails, goes-on}
-use Rattle.encryption.proofs.keys.split_ranged.Statement.{statement}
-use Rattle.encryption.proofs.keys.split_ranged.Tie as tie
+use Rattle.keys.proofs.split_ranged.Statement.{statement}
+use Rattle.keys.proofs.split_ranged.Tie as tie
 
 returns : tie.Need-returns
 returns c =

@@ -1,4 +1,4 @@
--- `keys::split_tests` meets its contract. Assumes nothing.
+-- `split_tests` meets its contract. Assumes nothing.
 use mathlib.Core.Path.{_≡_, sym, _∙_}
 use mathlib.Core.Bool.{true, not, _&&_}
 use mathlib.Core.List.{List, [], _∷_}
@@ -10,8 +10,8 @@ use Rattle.codec.specs.Bytes.{same}
 use Rattle.codec.specs.Reply.{test, first}
 use Rattle.call.specs.Call.{bytesBelow, coefficientsBelow}
 use Rattle.call.proofs.Order.{length-at, wrong-length, out-of-range, in-order}
-use Rattle.encryption.proofs.keys.split_tests.Statement.{statement}
-use Rattle.encryption.proofs.keys.split_tests.Tie as tie
+use Rattle.keys.proofs.split_tests.Statement.{statement}
+use Rattle.keys.proofs.split_tests.Tie as tie
 
 returns : tie.Need-returns
 unfolding same

@@ -1,4 +1,4 @@
--- `keys::write_split` meets its contract. Assumes nothing.
+-- `write_split` meets its contract. Assumes nothing.
 use mathlib.Core.Path.{_∙_}
 use native.Mathlib.Omega.{arith}
 use borrow.Author.Needs.{needs}
@@ -7,8 +7,8 @@ use Rattle.ring.specs.Ternary.{ternary}
 use Rattle.bgv.specs.Scheme.{key, other}
 use Rattle.scheme.specs.Calls.{splitWrites}
 use Rattle.scheme.proofs.Places.{four-written}
-use Rattle.encryption.proofs.keys.write_split.Statement.{statement}
-use Rattle.encryption.proofs.keys.write_split.Tie as tie
+use Rattle.keys.proofs.write_split.Statement.{statement}
+use Rattle.keys.proofs.write_split.Tie as tie
 
 difference-requires : tie.Need-difference-requires
 difference-requires c κs =

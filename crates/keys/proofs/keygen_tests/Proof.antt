@@ -1,4 +1,4 @@
--- `keys::keygen_tests` meets its contract. Assumes nothing.
+-- `keygen_tests` meets its contract. Assumes nothing.
 use mathlib.Core.Path.{sym, _∙_}
 use mathlib.Core.Bool.{not}
 use mathlib.Core.List.{List, [], _∷_}
@@ -10,8 +10,8 @@ use Rattle.codec.specs.Bytes.{same}
 use Rattle.codec.specs.Reply.{test, first}
 use Rattle.call.specs.Call.{bytesBelow}
 use Rattle.call.proofs.Order.{wrong-length, out-of-range, in-order}
-use Rattle.encryption.proofs.keys.keygen_tests.Statement.{statement}
-use Rattle.encryption.proofs.keys.keygen_tests.Tie as tie
+use Rattle.keys.proofs.keygen_tests.Statement.{statement}
+use Rattle.keys.proofs.keygen_tests.Tie as tie
 
 returns : tie.Need-returns
 unfolding same

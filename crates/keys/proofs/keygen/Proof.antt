@@ -1,13 +1,13 @@
--- `keys::keygen` meets its contract. Assumes nothing.
+-- `keygen` meets its contract. Assumes nothing.
 use mathlib.Core.Path.{_∙_}
 use native.Mathlib.Omega.{arith}
 use Rattle.scheme.specs.Calls.{keygenWrites}
 use Rattle.scheme.proofs.Places.{one-written}
 use borrow.Author.Needs.{needs}
 use Rattle.call.proofs.Sweeping.{untouched, spent, leaves-taken, leaves-refused}
-use Rattle.encryption.proofs.Passed.{keygen-passed}
-use Rattle.encryption.proofs.keys.keygen.Statement.{statement}
-use Rattle.encryption.proofs.keys.keygen.Tie as tie
+use Rattle.keys.proofs.Passed.{keygen-passed}
+use Rattle.keys.proofs.keygen.Statement.{statement}
+use Rattle.keys.proofs.keygen.Tie as tie
 
 keygen-tests-requires : tie.Need-keygen-tests-requires
 keygen-tests-requires c κs = c .before .before .before .before .before .before .before .pre .high
