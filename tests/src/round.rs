@@ -10,7 +10,7 @@ pub mod faults;
 mod forged;
 pub mod lent;
 pub mod material;
-mod opened;
+pub mod opened;
 mod producer;
 mod producer_faults;
 mod refusals;
@@ -29,4 +29,9 @@ pub fn run(tally: &mut Tally) {
     refusals::run(tally, &mut random);
     forged::run(tally, &mut random);
     damage::run(tally, &mut random);
+}
+
+/// A few rounds on the smallest ring.
+pub fn small(tally: &mut Tally) {
+    rounds::small(tally, &mut Random(6));
 }

@@ -4,13 +4,13 @@ mod election;
 mod faults;
 mod full;
 mod hostile;
-mod image;
+pub mod image;
 mod images;
 mod library;
 mod lists;
-mod model;
+pub mod model;
 mod refusals;
-mod steps;
+pub mod steps;
 mod walk;
 mod whole;
 
@@ -36,4 +36,10 @@ pub fn run(tally: &mut Tally) {
     lists::run(tally, &mut trial, &mut random);
     images::run(tally, &mut trial, &mut random);
     refusals::run(tally, &mut trial, &mut random);
+}
+
+/// An election on the smallest ring.
+pub fn small(tally: &mut Tally) {
+    lengths(tally);
+    whole::small(tally, &mut Trial::default(), &mut Random(31));
 }

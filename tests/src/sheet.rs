@@ -45,7 +45,7 @@ fn compare(c: &mut Comparison, seen: &mut Seen, random: &mut Random, text: &[u8]
 }
 
 /// Document 01's sheet.
-fn document() -> Sheet {
+pub fn document() -> Sheet {
     Sheet {
         numbers: [4, 97, 0, 1, 1],
         lists: [vec![3, 5, 0, 0], vec![3, 7, 94, 92], vec![10, 0, 0, 0], vec![0, 20, 0, 0], vec![0, 0, 30, 0]],

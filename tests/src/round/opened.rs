@@ -14,7 +14,7 @@ fn ours(side: u64, n: u64, shares: [&[u8]; 2], j: u64) -> u64 {
 }
 
 /// Its first byte's place and one more; 0 where there is none. The slices' bytes do not matter.
-fn theirs(side: u64, n: u64, lengths: [usize; 2], j: u64) -> u64 {
+pub fn theirs(side: u64, n: u64, lengths: [usize; 2], j: u64) -> u64 {
     let sizes = [4, 8, 16, 32, 64, 128, 256, 512, 1024, 2048];
     if side > 1 || !sizes.contains(&n) || lengths[0] != lengths[1] {
         return 0;

@@ -97,3 +97,11 @@ pub fn run(tally: &mut Tally, random: &mut Random) {
     larger.claim(tally, "N of 64 and 2048");
     many(tally, random);
 }
+
+pub fn small(tally: &mut Tally, random: &mut Random) {
+    let mut tried = Tried::default();
+    for ballots in 0..3 {
+        round(&mut tried, random, &Plan { ballots, ..SMALL }, &[&[1, 2, 3], &[2, 3, 1], &[3, 1, 2]]);
+    }
+    tried.claim(tally, "N of 4 alone");
+}

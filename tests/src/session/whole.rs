@@ -1,5 +1,5 @@
 //! Whole elections: every step is taken, the rounds of the library's producer and of the independent one by turns, until the session ends accepted.
-use super::election::{small, Round};
+use super::election::{small as small_plan, Round};
 use super::image::ACCEPTED;
 use super::steps::{Step, Trial};
 use super::walk::{Kind, Walk, KINDS};
@@ -99,7 +99,7 @@ fn ended(trial: &mut Trial, random: &mut Random, walk: &mut Walk) {
 
 pub fn run(tally: &mut Tally, trial: &mut Trial, random: &mut Random) {
     for n in [4, 8, 16].repeat(8) {
-        let plan = small(random, n);
+        let plan = small_plan(random, n);
         let mut walk = count(trial, random, plan);
         ended(trial, random, &mut walk);
     }
@@ -114,4 +114,13 @@ pub fn run(tally: &mut Tally, trial: &mut Trial, random: &mut Random) {
         count(trial, random, Plan { n, ballots: 4, drown: 40, rounds: 2, more: 0, ..most });
     }
     trial.claim(tally, "session: elections of 64 and of 2048 coefficients end accepted");
+}
+
+pub fn small(tally: &mut Tally, trial: &mut Trial, random: &mut Random) {
+    for rounds in 1..3 {
+        let plan = Plan { rounds, ..small_plan(random, 4) };
+        let mut walk = count(trial, random, plan);
+        ended(trial, random, &mut walk);
+    }
+    trial.claim(tally, "session: elections of 4 coefficients end accepted, and after the end only clear, turnout and challenges are taken");
 }
