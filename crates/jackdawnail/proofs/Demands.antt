@@ -78,8 +78,7 @@ module _ (text : Bytes) (sheet : first (order 2 text) ≡ Taken) where
 honest-ballots : HonestBallots
 honest-ballots text sheet s e r e1 e2 m ss se sr s1 s2 message matches =
     let P = parametersOf 2 text in
-    let ok = two-sound text (sheetOf text .numbers) (read text sheet) in
-    (
+    let ok = two-sound text (sheetOf text .numbers) (read text sheet) in (
       honest-noise ok (omega arith) (P .a) (P .b) s e r e1 e2 m ss se sr s1 s2 message matches,
       honest-decrypts ok (omega arith) (P .a) (P .b) s e r e1 e2 m ss se sr s1 s2 message matches,
     )
