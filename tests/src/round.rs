@@ -31,7 +31,9 @@ pub fn run(tally: &mut Tally) {
     damage::run(tally, &mut random);
 }
 
-/// A few rounds on the smallest ring.
+/// Rounds and refusals on the smallest ring.
 pub fn small(tally: &mut Tally) {
-    rounds::small(tally, &mut Random(6));
+    let mut random = Random(6);
+    rounds::small(tally, &mut random);
+    refusals::small(tally, &mut random);
 }

@@ -38,8 +38,11 @@ pub fn run(tally: &mut Tally) {
     refusals::run(tally, &mut trial, &mut random);
 }
 
-/// An election on the smallest ring.
+/// Elections and refusals on the smallest ring.
 pub fn small(tally: &mut Tally) {
+    let mut random = Random(31);
+    let mut trial = Trial::default();
     lengths(tally);
-    whole::small(tally, &mut Trial::default(), &mut Random(31));
+    whole::small(tally, &mut trial, &mut random);
+    refusals::small(tally, &mut trial, &mut random);
 }

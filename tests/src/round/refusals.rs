@@ -6,6 +6,7 @@ use super::{check_faults, extract_faults, producer_faults};
 use crate::random::Random;
 use crate::tally::{Comparison, Tally};
 
+const SIZES: [usize; 3] = [4, 8, 16];
 const CHALLENGES: [[u8; 3]; 3] = [[1, 2, 3], [3, 1, 2], [2, 3, 1]];
 
 /// Rounds with room for masks that are a little too large, so that nothing but the mask is wrong with them.
@@ -13,9 +14,9 @@ fn plan(n: usize) -> Plan {
     Plan { n, modulus: Modulus::Any, ..SMALL }
 }
 
-fn producers(tally: &mut Tally, random: &mut Random) {
+fn producers(tally: &mut Tally, random: &mut Random, sizes: &[usize]) {
     let mut c = Comparison::default();
-    for n in [4, 8, 16] {
+    for n in sizes.iter().copied() {
         let first = plan(n).material(random);
         let whole = Whole::honest(&first);
         producer_faults::faults(&whole, &first).run(&mut c, random, &first);
@@ -27,9 +28,9 @@ fn producers(tally: &mut Tally, random: &mut Random) {
     c.claim(tally, "round: what the producer refuses, by each number at each place, and of two faults the earlier");
 }
 
-fn checks(tally: &mut Tally, random: &mut Random) {
+fn checks(tally: &mut Tally, random: &mut Random, sizes: &[usize]) {
     let mut c = Comparison::default();
-    for n in [4, 8, 16] {
+    for n in sizes.iter().copied() {
         let whole = Whole::honest(&plan(n).material(random));
         for (i, challenges) in CHALLENGES.iter().enumerate() {
             let lent = whole.check((n / 4 + i) % 2, challenges);
@@ -39,9 +40,9 @@ fn checks(tally: &mut Tally, random: &mut Random) {
     c.claim(tally, "round: what a check refuses, by each number at each place, and of two faults the earlier");
 }
 
-fn extractors(tally: &mut Tally, random: &mut Random) {
+fn extractors(tally: &mut Tally, random: &mut Random, sizes: &[usize]) {
     let mut c = Comparison::default();
-    for n in [4, 8, 16] {
+    for n in sizes.iter().copied() {
         let whole = Whole::honest(&plan(n).material(random));
         for repetition in 0..3 {
             let lent = whole.extract(random, repetition);
@@ -99,9 +100,15 @@ fn misplaced(tally: &mut Tally, random: &mut Random) {
 }
 
 pub fn run(tally: &mut Tally, random: &mut Random) {
-    producers(tally, random);
-    checks(tally, random);
-    extractors(tally, random);
+    producers(tally, random, &SIZES);
+    checks(tally, random, &SIZES);
+    extractors(tally, random, &SIZES);
     ignored(tally, random);
     misplaced(tally, random);
+}
+
+pub fn small(tally: &mut Tally, random: &mut Random) {
+    producers(tally, random, &[4]);
+    checks(tally, random, &[4]);
+    extractors(tally, random, &[4]);
 }

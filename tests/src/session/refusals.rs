@@ -137,3 +137,9 @@ pub fn run(tally: &mut Tally, trial: &mut Trial, random: &mut Random) {
     scratches(tally, trial, random);
     table(tally, trial);
 }
+
+pub fn small(tally: &mut Tally, trial: &mut Trial, random: &mut Random) {
+    before_draw(trial, random, 4);
+    after_draw(trial, random, 4);
+    trial.claim(tally, "session: what the calls refuse, N of 4 alone");
+}
