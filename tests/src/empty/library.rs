@@ -81,7 +81,7 @@ calls! {
     jdn_opened_share(number side: u64, number n: u64, read shares0, read shares1, number j: u64);
     jdn_clear(write image, write reg, read sheet);
     jdn_admit(write image, write reg, read ballot);
-    jdn_withdraw(read image, write reg, number mark: u32);
+    jdn_withdraw(write image, write reg, number mark: u32);
     jdn_close(write image, read reg);
     jdn_claim(write image, read claims);
     jdn_commit(write image, number round: u64, read head, read shares0, read shares1);

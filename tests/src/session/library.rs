@@ -13,7 +13,7 @@ extern "C" {
     fn jdn_register_length() -> u64;
     fn jdn_clear(image: Out, _: usize, register: Out, _: usize, sheet: In, _: usize) -> u64;
     fn jdn_admit(image: Out, _: usize, register: Out, _: usize, ballot: In, _: usize) -> u64;
-    fn jdn_withdraw(image: In, _: usize, register: Out, _: usize, mark: u32) -> u64;
+    fn jdn_withdraw(image: Out, _: usize, register: Out, _: usize, mark: u32) -> u64;
     fn jdn_close(image: Out, _: usize, register: In, _: usize) -> u64;
     fn jdn_claim(image: Out, _: usize, claims: In, _: usize) -> u64;
     fn jdn_commit(image: Out, _: usize, round: u64, head: In, _: usize, shares0: In, _: usize, shares1: In, _: usize) -> u64;
