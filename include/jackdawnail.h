@@ -22,8 +22,8 @@ extern "C" {
 uint64_t jdn_digest(JDN_IN(message), JDN_OUT(out));
 
 /* Reads a parameter sheet. out: 32 bytes: N, the noise bound D, the mask bound B and the number of unknowns L, 8 bytes each, the lowest first.
- * Refused, in this order: 1 the sheet is empty or above 262,144 bytes; 2 its form; 3 a number out of range; 4 2N does not divide q - 1, or no room
- * for noise and masks; 5 a list's count or a coefficient; 1 out has not 32 bytes. A refusal leaves out as it was. */
+ * Refused, in this order: 1 the sheet is empty or above 262,144 bytes, or out has not 32; 2 its form; 3 a number out of range; 4 2N does not divide
+ * q - 1, or no room for noise and masks; 5 a list's count or a coefficient. A refusal leaves out as it was. */
 uint64_t jdn_sheet(JDN_IN(sheet), JDN_OUT(out));
 
 /* Each of these is lent the sheet and reads it by its order first, then refuses 1 (a slice of wrong length), then 5 (a ternary byte, message or

@@ -127,11 +127,12 @@ fn outputs(tally: &mut Tally, random: &mut Random) {
         let mut out = kept.clone();
         c.same(|| format!("{length} bytes for polynomials"), (call(sheet_polynomials, &text, &mut out), out), (1, kept));
     }
-    c.same(|| "a refused sheet and no output".into(), call(jdn_sheet, b"x", &mut []), 2);
+    c.same(|| "text of another form and no output".into(), call(jdn_sheet, b"x", &mut []), 1);
+    c.same(|| "text of another form and no room for polynomials".into(), call(sheet_polynomials, b"x", &mut []), 2);
     // A null pointer with the length 0 is an empty slice.
     let reply = unsafe { jdn_sheet(std::ptr::null(), 0, std::ptr::null_mut(), 0) };
     c.same(|| "null".into(), reply, 1);
-    c.claim(tally, "sheet: an output of another length is refused 1, after the sheet's order, and left as it was");
+    c.claim(tally, "sheet: an output of another length is refused 1, before the text is read, and left as it was");
 }
 
 pub fn run(tally: &mut Tally) {

@@ -1,39 +1,63 @@
--- The reply of a call that is lent a sheet and an output, and four words in 32 bytes. Assumes nothing.
-use mathlib.Core.Path.{_≡_, ap, _∙_}
+-- The replies of the two calls, and four words in 32 bytes. Assumes nothing.
+use mathlib.Core.Path.{_≡_, sym, ap, _∙_}
 use mathlib.Core.Bool.{not}
-use mathlib.Core.List.{[], _∷_, _++_}
+use mathlib.Core.List.{List, [], _∷_, _++_}
 use Prim.Native.Nat.{ℕ, _+_, _*_, _≤_}
 use native.Mathlib.Omega.{arith}
 use borrow.Author.Tests.{eq-eqb, ne-eqb}
 use lib.Dec.{eqb}
 use lib.ListN.{length, take, length-append}
 use Rattle.codec.specs.Bytes.{Bytes, put}
-use Rattle.codec.specs.Reply.{test, first}
+use Rattle.codec.specs.Reply.{Test, test, first}
 use Rattle.codec.specs.declared.Reply.{Reply}
 use Rattle.codec.specs.declared.Reply.the-variants as reply
 use Rattle.codec.proofs.Laws.{length-put, part-put, put-append, put-whole}
-use Rattle.sheet.specs.Sheet.{reading, polynomials, loaded}
+use Rattle.sheet.specs.Reader.{sheetOf}
+use Rattle.sheet.specs.Sheet.{reading, replyOf, polynomials, loaded}
 use Rattle.sheet_numbers.specs.declared.Numbers.{Numbers}
 use Rattle.sheet.specs.declared.Reading.{Reading}
 use Rattle.sheet.specs.declared.Reading.the-variants.{Taken, Refused}
-use Rattle.sheet.proofs.Taken.{onwards, order-first, taken, length-polynomials}
-use Rattle.sheet_calls.specs.Calls.{sheetReply}
+use Rattle.sheet.proofs.Taken.{onwards, order-first, reply-is, taken, length-polynomials}
+use Rattle.sheet_calls.specs.Calls.{describeReply, polynomialsReply}
 
-module _ (p : ℕ) (text : Bytes) (n : ℕ) (out : Bytes) where
-  by-reading : {r : Reading} → reading p text ≡ r → sheetReply p text n out ≡ onwards r (first (test 1 0 (not (eqb (length out) n)) ∷ []))
-  unfolding sheetReply
-  by-reading e = order-first p text (test 1 0 (not (eqb (length out) n)) ∷ []) ∙ ap (λ (r : Reading). onwards r (first (test 1 0 (not (eqb (length out) n)) ∷ []))) e
+-- the call that writes N, D, B and L
+module _ (p : ℕ) (text out : Bytes) where
+  pub describe-length : (length out ≡ 32 → ⊥) → describeReply p text out ≡ reply.Refused 1 0
+  unfolding describeReply first
+  describe-length h = rw (ne-eqb (length out) 32 h)
 
-  pub refused : {v : ℕ} → reading p text ≡ Refused v → sheetReply p text n out ≡ reply.Refused v 0
+  module _ (h : length out ≡ 32) where
+    -- as the sheet is read
+    said : describeReply p text out ≡ replyOf (reading p text)
+    unfolding describeReply first
+    said = rw (eq-eqb (length out) 32 h) (sym (reply-is p text))
+
+    pub describe-refused : {v : ℕ} → reading p text ≡ Refused v → describeReply p text out ≡ reply.Refused v 0
+    describe-refused e = said ∙ ap replyOf e
+
+    pub describe-taken : {k : Numbers} → reading p text ≡ Taken k → describeReply p text out ≡ reply.Taken
+    describe-taken e = said ∙ ap replyOf e
+
+-- the call that writes the polynomials
+module _ (p : ℕ) (text out : Bytes) where
+  -- its own test, after the sheet's order
+  abbrev own : List Test
+  own = test 1 0 (not (eqb (length out) (40 * sheetOf text .numbers .ring))) ∷ []
+
+  by-reading : {r : Reading} → reading p text ≡ r → polynomialsReply p text out ≡ onwards r (first own)
+  unfolding polynomialsReply
+  by-reading e = order-first p text own ∙ ap (λ (r : Reading). onwards r (first own)) e
+
+  pub refused : {v : ℕ} → reading p text ≡ Refused v → polynomialsReply p text out ≡ reply.Refused v 0
   refused e = by-reading e
 
-  pub wrong-length : {k : Numbers} → reading p text ≡ Taken k → (length out ≡ n → ⊥) → sheetReply p text n out ≡ reply.Refused 1 0
+  pub wrong-length : {k : Numbers} → reading p text ≡ Taken k → (length out ≡ 40 * k .ring → ⊥) → polynomialsReply p text out ≡ reply.Refused 1 0
   unfolding first
-  wrong-length e h = by-reading e ∙ rw (ne-eqb (length out) n h)
+  wrong-length {k} e h = by-reading e ∙ rw (taken p text e .numbers, ne-eqb (length out) (40 * k .ring) h)
 
-  pub is-taken : {k : Numbers} → reading p text ≡ Taken k → length out ≡ n → sheetReply p text n out ≡ reply.Taken
+  pub is-taken : {k : Numbers} → reading p text ≡ Taken k → length out ≡ 40 * k .ring → polynomialsReply p text out ≡ reply.Taken
   unfolding first
-  is-taken e h = by-reading e ∙ rw (eq-eqb (length out) n h)
+  is-taken {k} e h = by-reading e ∙ rw (taken p text e .numbers, eq-eqb (length out) (40 * k .ring) h)
 
 -- what `load` leaves in a buffer: the polynomials at its head
 pub record Loaded (text : Bytes) (k : Numbers) (b : Bytes) : Type 0 where

@@ -1,4 +1,4 @@
--- The sheet as a call: the sheet's own order, then 1 for an output of another length (document 01, "Refused because of the input"). Assumes nothing.
+-- The sheet as a call (document 01, "Refused because of the state": "Sheet and clear: 1, 2, 3, 4, 5"), and a call for tests that hands its polynomials out. Assumes nothing.
 use mathlib.Core.Bool.{not}
 use mathlib.Core.List.{[], _∷_, _++_}
 use Prim.Native.Nat.{ℕ, _*_}
@@ -17,19 +17,16 @@ unfoldable pub description : ℕ → Numbers → Bytes
 description p k =
     bytes 8 (k .ring) ++ bytes 8 (noise p (k .ring)) ++ bytes 8 (mask p (k .ring) (k .drown)) ++ bytes 8 (unknowns (k .ring))
 
--- the reply of a call that is lent a sheet and an output of n bytes
-unfoldable pub sheetReply : ℕ → Bytes → ℕ → Bytes → Reply
-sheetReply p text n out = first (order p text ++ test 1 0 (not (eqb (length out) n)) ∷ [])
-
+-- 1, 2, 3, 4, 5: an output of another length is 1, as a sheet of wrong length is
 unfoldable pub describeReply : ℕ → Bytes → Bytes → Reply
-describeReply p text out = sheetReply p text 32 out
+describeReply p text out = first (test 1 0 (not (eqb (length out) 32)) ∷ order p text)
 
 unfoldable pub describeOut : ℕ → Bytes → Bytes → Bytes
 describeOut p text out = leaves (describeReply p text out) (description p (sheetOf text .numbers)) out
 
--- the five polynomials, 40N bytes
+-- the five polynomials, 40N bytes: N is known once the sheet is taken, so an output of another length is 1 after its order
 unfoldable pub polynomialsReply : ℕ → Bytes → Bytes → Reply
-polynomialsReply p text out = sheetReply p text (40 * sheetOf text .numbers .ring) out
+polynomialsReply p text out = first (order p text ++ test 1 0 (not (eqb (length out) (40 * sheetOf text .numbers .ring))) ∷ [])
 
 unfoldable pub polynomialsOut : ℕ → Bytes → Bytes → Bytes
 polynomialsOut p text out = leaves (polynomialsReply p text out) (polynomials text) out

@@ -1,4 +1,4 @@
-// The sheet as a call: N, D, B and L in 32 bytes, or its five polynomials in 40N. No call asks anything of its caller.
+// The sheet as a call: N, D, B and L in 32 bytes; for tests, its five polynomials in 40N. No call asks anything of its caller.
 use codec::Reply;
 use sheet::Reading;
 use sheet_numbers::Numbers;
@@ -25,16 +25,16 @@ pub fn describe(text: &[u8], out: &mut [u8]) -> Reply
     ensures reply { λ r. ⌜ r ≡ describeReply 2 (now (text .entry)) (now (out .entry)) ⌝ }
     ensures output { λ _. ⌜ now (out .exit) ≡ describeOut 2 (now (text .entry)) (now (out .entry)) ⌝ }
 {
+    if out.len() != 32 {
+        return Reply::Refused {
+            number: 1,
+            place: 0,
+        };
+    }
     let r = sheet::read(text);
     match r {
         Reading::Refused { number } => Reply::Refused { number, place: 0 },
         Reading::Taken(k) => {
-            if out.len() != 32 {
-                return Reply::Refused {
-                    number: 1,
-                    place: 0,
-                };
-            }
             write_description(k, out);
             Reply::Taken
         }

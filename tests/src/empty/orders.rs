@@ -32,7 +32,7 @@ const IMAGE: Step = Lengths(&["image"]);
 
 pub static ORDERS: [Order; 23] = [
     order("jdn_digest", &[Lengths(&["out"])]),
-    order("jdn_sheet", &[Sheet, Lengths(&["out"])]),
+    order("jdn_sheet", &[Lengths(&["out"]), Sheet]),
     order("jdn_keygen", &[Sheet, Lengths(&["s", "e", "b", "scratch"]), Rest]),
     order("jdn_encrypt", &[Sheet, Lengths(&["r", "e1", "e2", "m", "ciphertext", "scratch"]), Rest]),
     order("jdn_decrypt", &[Sheet, Lengths(&["s", "ciphertext", "vote", "scratch"]), Rest]),

@@ -3,37 +3,37 @@ use mathlib.Core.Path.{sym, ap, _∙_}
 use borrow.Author.Needs.{needs}
 use Rattle.codec.specs.Reply.{leaves}
 use Rattle.sheet.proofs.Taken.{taken}
-use Rattle.sheet_calls.specs.Calls.{description, describeReply, describeOut}
-use Rattle.sheet_calls.proofs.Answers.{refused, wrong-length, is-taken}
+use Rattle.sheet_calls.specs.Calls.{description, describeOut}
+use Rattle.sheet_calls.proofs.Answers.{describe-length, describe-refused, describe-taken}
 use Rattle.sheet_calls.proofs.describe.Statement.{statement}
 use Rattle.sheet_calls.proofs.describe.Tie as tie
 
 returns : tie.Need-returns
-unfolding describeReply describeOut leaves
+unfolding describeOut leaves
 returns c =
-    let a = c .before .before .before .before .before .before .before .args in
-    let e = wrong-length 2 (a .text .now) 32 (a .out .now) (sym (c .before .before .before .before .read .ensures) ∙ c .before .before .r2 .given .1) (c .if1 .taken) in
+    let a = c .before .before .before .args in
+    let e = describe-length 2 (a .text .now) (a .out .now) (c .if1 .taken) in
     (sym e, rw e)
 
 write-description-requires : tie.Need-write-description-requires
 write-description-requires c κs =
-    let t = taken 2 (c .before .before .before .before .before .before .before .before .args .text .now) (sym (c .before .before .before .before .before .read .ensures) ∙ c .before .before .before .r2 .given .1) in
-    (t .inside, c .before .if1 .left)
+    let t = taken 2 (c .before .before .before .before .before .before .before .before .args .text .now) (sym (c .before .before .before .before .read .ensures) ∙ c .before .before .r2 .given .1) in
+    (t .inside, c .before .before .before .before .before .if1 .left)
 
 returns-2 : tie.Need-returns-2
-unfolding describeReply describeOut leaves
+unfolding describeOut leaves
 returns-2 c =
-    let a = c .before .before .before .before .before .before .args in
-    let e = refused 2 (a .text .now) 32 (a .out .now) (sym (c .before .before .before .read .ensures) ∙ c .before .r .given .1) in
+    let a = c .before .before .before .before .before .before .before .args in
+    let e = describe-refused 2 (a .text .now) (a .out .now) (c .before .before .before .before .if1 .left) (sym (c .before .before .before .read .ensures) ∙ c .before .r .given .1) in
     (sym e, rw e)
 
 returns-3 : tie.Need-returns-3
-unfolding describeReply describeOut leaves
+unfolding describeOut leaves
 returns-3 c =
     let a = c .before .before .before .before .before .before .before .before .before .before .before .args in
-    let r = sym (c .before .before .before .before .before .before .before .before .read .ensures) ∙ c .before .before .before .before .before .before .r2 .given .1 in
-    let e = is-taken 2 (a .text .now) 32 (a .out .now) r (c .before .before .before .before .if1 .left) in
+    let r = sym (c .before .before .before .before .before .before .before .read .ensures) ∙ c .before .before .before .before .before .r2 .given .1 in
+    let e = describe-taken 2 (a .text .now) (a .out .now) (c .before .before .before .before .before .before .before .before .if1 .left) r in
     (sym e, rw e (c .before .before .write-description .ensures ∙ ap (description 2) (sym (taken 2 (a .text .now) r .numbers))))
 
 pub describe-spec : {M : Type 1} → statement M
-describe-spec = tie.close (tie.spec (λ c κs. search needs) (λ c. search needs) (λ c. search needs) returns write-description-requires returns-2 (λ c. search needs) returns-3)
+describe-spec = tie.close (tie.spec returns (λ c κs. search needs) (λ c. search needs) (λ c. search needs) write-description-requires returns-2 (λ c. search needs) returns-3)

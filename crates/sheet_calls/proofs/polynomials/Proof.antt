@@ -1,11 +1,9 @@
 -- `sheet_calls::polynomials` meets its contract. Assumes nothing.
-use mathlib.Core.Path.{sym, ap, _∙_}
-use Prim.Native.Nat.{_*_}
+use mathlib.Core.Path.{sym, _∙_}
 use native.Mathlib.Omega.{arith}
 use borrow.Author.Needs.{needs}
 use Rattle.codec.specs.Reply.{leaves}
 use Rattle.codec.proofs.Laws.{put-whole}
-use Rattle.sheet_numbers.specs.declared.Numbers.{Numbers}
 use Rattle.sheet.proofs.Taken.{taken}
 use Rattle.sheet_calls.specs.Calls.{polynomialsReply, polynomialsOut}
 use Rattle.sheet_calls.proofs.Answers.{refused, wrong-length, is-taken, load-taken}
@@ -20,8 +18,7 @@ unfolding polynomialsReply polynomialsOut leaves
 returns c =
     let a = c .before .before .before .before .before .before .before .before .args in
     let r = sym (c .before .before .before .before .load .ensures .0) ∙ c .before .before .r2 .given .1 in
-    let n = taken 2 (a .text .now) r .numbers in
-    let e = wrong-length 2 (a .text .now) _ (a .out .now) r (λ z. c .if1 .taken (z ∙ ap (λ (k : Numbers). 40 * k .ring) n)) in
+    let e = wrong-length 2 (a .text .now) (a .out .now) r (c .if1 .taken) in
     (sym e, rw e)
 
 array-share-prefix-buffer : tie.Need-array-share-prefix-buffer
@@ -44,7 +41,7 @@ returns-2 : tie.Need-returns-2
 unfolding polynomialsReply polynomialsOut leaves
 returns-2 c =
     let a = c .before .before .before .before .before .before .before .args in
-    let e = refused 2 (a .text .now) _ (a .out .now) (sym (c .before .before .before .load .ensures .0) ∙ c .before .r .given .1) in
+    let e = refused 2 (a .text .now) (a .out .now) (sym (c .before .before .before .load .ensures .0) ∙ c .before .r .given .1) in
     (sym e, rw e)
 
 returns-3 : tie.Need-returns-3
@@ -53,9 +50,8 @@ returns-3 c =
     let a = c .before .before .before .before .before .before .before .before .before .before .before .before .before .args in
     let l = c .before .before .before .before .before .before .before .before .before .load in
     let r = sym (l .ensures .0) ∙ c .before .before .before .before .before .before .before .r2 .given .1 in
-    let n = taken 2 (a .text .now) r .numbers in
     let i = c .before .before .before .before .before .if1 .left in
-    let e = is-taken 2 (a .text .now) _ (a .out .now) r (i ∙ sym (ap (λ (k : Numbers). 40 * k .ring) n)) in
+    let e = is-taken 2 (a .text .now) (a .out .now) r i in
     let s = load-taken 2 (a .text .now) _ _ r (l .ensures .1) (omega arith) in
     (sym e, rw e (c .before .before .copy .ensures ∙ put-whole (a .out .now) _ (s .size ∙ sym i) ∙ s .head))
 
