@@ -30,7 +30,7 @@ pub fn splits(work: &mut [u8], head: &[u8], b: &[u8], repeats: usize, n: usize, 
     ensures { λ r. ⌜ r ≡ same (encode n (modulo q (plus (keyAt n (now (head .entry)) 0) (keyAt n (now (head .entry)) 1)))) (encode n (modulo q (poly (now (b .entry))))) ⌝ }
     ensures { λ _. ⌜ length (now (work .exit)) ≡ length (now (work .entry)) ⌝ }
 {
-    transcript::halves::adds(work, &head[0..8 * n], &head[8 * n..16 * n], b, n, q)
+    ballot_tests::halves::adds(work, &head[0..8 * n], &head[8 * n..16 * n], b, n, q)
 }
 
 // Whether the half of the key at a place of a first message is that of an opening.
@@ -47,7 +47,7 @@ fn opens_key(
     ensures { λ r. ⌜ r ≡ same (part (now (head .entry)) at (8 * n)) (encode n (modulo q (key q n 2 (poly (now (a .entry))) (slot (now (opening .entry)) 0) (slot (now (opening .entry)) (8 * n))))) ⌝ }
     ensures { λ _. ⌜ length (now (work .exit)) ≡ length (now (work .entry)) ⌝ }
 {
-    transcript::halves::is_key(
+    ballot_tests::halves::is_key(
         work,
         a,
         &head[at..at + 8 * n],
@@ -73,7 +73,7 @@ fn opens_pairs(
     ensures { λ _. ⌜ length (now (work .exit)) ≡ length (now (work .entry)) ⌝ }
 {
     let end = at + 48 * n;
-    transcript::halves::opens_pairs(
+    ballot_tests::halves::opens_pairs(
         work,
         k,
         &head[at..at + 16 * n],
@@ -130,7 +130,7 @@ pub fn test_votes(
     ensures { λ reply. ⌜ reply ≡ first (voteTests q n bound count (slot (now (opening .entry)) 0) (now (ballots .entry)) (now (claims .entry)) (now (shares0 .entry)) (now (shares1 .entry)) (now (opened .entry))) ⌝ }
     ensures { λ _. ⌜ length (now (work .exit)) ≡ length (now (work .entry)) ⌝ }
 {
-    transcript::ballots::test_ballots(
+    ballot_tests::ballots::test_ballots(
         work,
         &opening[0..8 * n],
         ballots,

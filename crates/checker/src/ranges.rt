@@ -76,7 +76,7 @@ pub fn message_ranged(
     requires { ⌜ (n ≤ 2048) × (count ≤ 4096) × (length (now ballots) ≡ ballotLength n * count) × (80 * n ≤ length (now head)) ⌝ }
     ensures { λ r. ⌜ r ≡ (all count (λ j. allBelow q (list (2 * n) (uAt n (now (ballots .entry)) j))) && (allBelow 2 (now (claims .entry)) && (allBelow q (list (10 * n) (poly (now (head .entry)))) && (allBelow q (vector (now (shares0 .entry))) && allBelow q (vector (now (shares1 .entry))))))) ⌝ }
 {
-    if !transcript::ranges::ballots_in_range(ballots, count, n, q) {
+    if !ballot_tests::ranges::ballots_in_range(ballots, count, n, q) {
         return false;
     }
     if !bgv::is_message(claims, 2) {

@@ -7,7 +7,7 @@ use crate::ranges::answers_ranged;
 use crate::ranges::message_ranged;
 use crate::ranges::opening_ranged;
 use codec::Reply;
-use transcript::repetitions::test_repetitions;
+use repetitions::test_repetitions;
 ghost use mathlib.Core.Path.{_≡_};
 ghost use mathlib.Core.List.{_++_};
 ghost use Prim.Native.Nat.{_*_, _%_, _≤_};

@@ -10,7 +10,7 @@ ghost use Rattle.lengths.specs.Sheets.{parametersOf, ballotsIn};
 ghost use Rattle.verification.specs.Extraction.{extraction, answered};
 ghost use Rattle.round_calls.specs.Replies.{firstReply, secondReply};
 ghost use Rattle.verification_calls.specs.Replies.{extractReply};
-ghost use Rattle.jackdawnail.specs.Opened.{openedReply};
+ghost use Rattle.opened_share.specs.Opened.{openedReply};
 
 // The producer's first call: the first message and the claims.
 #[no_mangle]
@@ -145,16 +145,5 @@ pub extern "C" fn jdn_extract(
 pub extern "C" fn jdn_opened_share(side: u64, n: u64, shares0: &[u8], shares1: &[u8], j: u64) -> u64
     ensures { λ answer. ⌜ answer ≡ openedReply side n (length (now (shares0 .entry))) (length (now (shares1 .entry))) j ⌝ }
 {
-    let place = transcript::shares::opened_place(
-        side,
-        n as usize,
-        shares0.len(),
-        shares1.len(),
-        j as usize,
-    );
-    if place < 72057594037927936 {
-        256 * (place as u64)
-    } else {
-        0
-    }
+    opened_share::opened_reply(side, n, shares0.len(), shares1.len(), j)
 }

@@ -31,5 +31,5 @@ pub fn in_range(
     if !ring::in_range(vectors, q) {
         return false;
     }
-    transcript::ranges::ballots_in_range(ballots, count, n, q)
+    ballot_tests::ranges::ballots_in_range(ballots, count, n, q)
 }

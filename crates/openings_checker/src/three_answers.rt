@@ -46,7 +46,7 @@ fn test_answer(
     ensures { λ reply. ⌜ reply ≡ first (answerTests q n (keysOf n (now (k .entry))) (pairsOf n (now (head .entry))) (part (now (head .entry)) digests 96) place challenge (now (answer .entry))) ⌝ }
     ensures { λ _. ⌜ length (now (work .exit)) ≡ length (now (work .entry)) ⌝ }
 {
-    transcript::repetitions::test_at(
+    repetitions::test_at(
         work,
         k,
         head,

@@ -1,7 +1,6 @@
 pub mod Accepted
 pub mod Answered
 pub mod Answers
-pub mod BallotLoop
 pub mod Compared
 pub mod Extraction
 pub mod ExtractionHalves
@@ -11,13 +10,11 @@ pub mod ExtractionVectors
 pub mod ExtractionWritten
 pub mod Honest
 pub mod Many
-pub mod Opened
 pub mod Orders
 pub mod Passed
 pub mod Produced
 pub mod Ranged
 pub mod Refuses
-pub mod RepetitionLoop
 pub mod Tests
 pub mod Walk
 pub mod Written

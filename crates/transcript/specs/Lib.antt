@@ -4,5 +4,4 @@ pub mod Accepted
 pub mod Method
 pub mod Producer
 pub mod Extractor
-pub mod Opened
 pub mod Refuses
