@@ -7,7 +7,7 @@ use native.Mathlib.Omega.{arith}
 use lib.Bits.{bitXor, bitAnd, bitOr, xor-lt}
 use lib.ListN.{getD}
 use Rattle.keccak.specs.Keccak.{State, lane, five, lanes, offsets, rotate, complement, parity, effect, theta, rho, pi, chi, chiRow, iota, round, rounds, constants}
-use Rattle.keccak_steps.specs.Chi.{chiRow0, chiRow1, chiRow2, chiRow3, chiRow4, chiFlipped}
+use Rattle.chi.specs.Chi.{chiRow0, chiRow1, chiRow2, chiRow3, chiRow4, chiFlipped}
 use Rattle.keccak.specs.Complemented.{_⊻_, flip, flipped, six, roundFlipped}
 use Rattle.keccak.proofs.Complement.{flip-lt, flip-flip, flip-xor, flip-rotate, chiLane, by-and, by-or, twice}
 use Rattle.keccak.proofs.Bits.{rotate-lt}

@@ -5,7 +5,7 @@ use mathlib.Core.List.{[], _∷_}
 use Prim.Native.Nat.{ℕ}
 use lib.ListN.{getD}
 use Rattle.keccak_steps.specs.Steps.{State, lane, lanes, complement, theta, rho, pi, iota}
-use Rattle.keccak_steps.specs.Chi.{chiFlipped}
+use Rattle.chi.specs.Chi.{chiFlipped}
 
 infixl 30 _⊻_
 abbrev pub _⊻_ : Bool → Bool → Bool

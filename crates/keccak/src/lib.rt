@@ -1,5 +1,5 @@
 // The permutation Keccak-f[1600] of FIPS 202, section 3: five rows of five lanes, by value.
-use keccak_steps::chi_step;
+use chi::chi_step;
 use keccak_steps::iota_step;
 use keccak_steps::pi_step;
 use keccak_steps::rho_step;

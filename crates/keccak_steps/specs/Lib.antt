@@ -1,3 +1,2 @@
-pub mod Chi
 pub mod Steps
 pub mod Table

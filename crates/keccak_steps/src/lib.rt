@@ -1,8 +1,7 @@
-// The step mappings of FIPS 202, section 3.2, on five rows of five lanes, by value. Chi is that of a state with some lanes complemented.
+// The step mappings of FIPS 202, section 3.2, on five rows of five lanes, by value; chi has a crate of its own.
 ghost use mathlib.Core.Path.{_≡_};
 ghost use Prim.Native.Nat.{_<_};
 ghost use Rattle.keccak_steps.specs.Steps.{rotate, xorRow, parity, effect, theta, rho, rhoRow, pi, iota, Offsets};
-ghost use Rattle.keccak_steps.specs.Chi.{chiRow0, chiRow1, chiRow2, chiRow3, chiRow4, chiFlipped};
 
 // The rotation offsets of FIPS 202, table 2, modulo 64: row y, column x.
 const OFFSETS: [[u32; 5]; 5] = [
@@ -54,6 +53,7 @@ fn theta_effect(c: [u64; 5]) -> [u64; 5]
     ]
 }
 
+// Theta (3.2.1).
 pub fn theta_step(s: [[u64; 5]; 5]) -> [[u64; 5]; 5]
     ensures { λ r. ⌜ r ≡ theta s ⌝ }
 {
@@ -67,79 +67,7 @@ pub fn theta_step(s: [[u64; 5]; 5]) -> [[u64; 5]; 5]
     ]
 }
 
-// Chi on the five rows of a state whose lanes stand complemented as theta, rho and pi leave them.
-fn chi_row0(r: [u64; 5]) -> [u64; 5]
-    ensures { λ q. ⌜ q ≡ chiRow0 r ⌝ }
-{
-    [
-        r[0] ^ (r[1] | r[2]),
-        r[1] ^ (!r[2] | r[3]),
-        r[2] ^ (r[3] & r[4]),
-        r[3] ^ (r[4] | r[0]),
-        r[4] ^ (r[0] & r[1]),
-    ]
-}
-
-fn chi_row1(r: [u64; 5]) -> [u64; 5]
-    ensures { λ q. ⌜ q ≡ chiRow1 r ⌝ }
-{
-    [
-        r[0] ^ (r[1] | r[2]),
-        r[1] ^ (r[2] & r[3]),
-        r[2] ^ (r[3] | !r[4]),
-        r[3] ^ (r[4] | r[0]),
-        r[4] ^ (r[0] & r[1]),
-    ]
-}
-
-fn chi_row2(r: [u64; 5]) -> [u64; 5]
-    ensures { λ q. ⌜ q ≡ chiRow2 r ⌝ }
-{
-    [
-        r[0] ^ (r[1] | r[2]),
-        r[1] ^ (r[2] & r[3]),
-        r[2] ^ (!r[3] & r[4]),
-        !r[3] ^ (r[4] | r[0]),
-        r[4] ^ (r[0] & r[1]),
-    ]
-}
-
-fn chi_row3(r: [u64; 5]) -> [u64; 5]
-    ensures { λ q. ⌜ q ≡ chiRow3 r ⌝ }
-{
-    [
-        r[0] ^ (r[1] & r[2]),
-        r[1] ^ (r[2] | r[3]),
-        r[2] ^ (!r[3] | r[4]),
-        !r[3] ^ (r[4] & r[0]),
-        r[4] ^ (r[0] | r[1]),
-    ]
-}
-
-fn chi_row4(r: [u64; 5]) -> [u64; 5]
-    ensures { λ q. ⌜ q ≡ chiRow4 r ⌝ }
-{
-    [
-        r[0] ^ (!r[1] & r[2]),
-        !r[1] ^ (r[2] | r[3]),
-        r[2] ^ (r[3] & r[4]),
-        r[3] ^ (r[4] | r[0]),
-        r[4] ^ (r[0] & r[1]),
-    ]
-}
-
-pub fn chi_step(s: [[u64; 5]; 5]) -> [[u64; 5]; 5]
-    ensures { λ r. ⌜ r ≡ chiFlipped s ⌝ }
-{
-    [
-        chi_row0(s[0]),
-        chi_row1(s[1]),
-        chi_row2(s[2]),
-        chi_row3(s[3]),
-        chi_row4(s[4]),
-    ]
-}
-
+// Pi (3.2.3): the lane of column x and row y is that of column (x + 3 y) mod 5 and row x.
 pub fn pi_step(s: [[u64; 5]; 5]) -> [[u64; 5]; 5]
     ensures { λ r. ⌜ r ≡ pi s ⌝ }
 {
@@ -152,6 +80,7 @@ pub fn pi_step(s: [[u64; 5]; 5]) -> [[u64; 5]; 5]
     ]
 }
 
+// Rho on a row: each lane by its own offset.
 fn rho_row(r: [u64; 5], n: [u32; 5]) -> [u64; 5]
     requires { ⌜ Offsets n ⌝ }
     ensures { λ q. ⌜ q ≡ rhoRow r n ⌝ }
@@ -165,6 +94,7 @@ fn rho_row(r: [u64; 5], n: [u32; 5]) -> [u64; 5]
     ]
 }
 
+// Rho (3.2.2).
 pub fn rho_step(s: [[u64; 5]; 5]) -> [[u64; 5]; 5]
     ensures { λ r. ⌜ r ≡ rho s ⌝ }
 {
@@ -177,6 +107,7 @@ pub fn rho_step(s: [[u64; 5]; 5]) -> [[u64; 5]; 5]
     ]
 }
 
+// Iota (3.2.5): the round constant goes into the first lane.
 pub fn iota_step(s: [[u64; 5]; 5], c: u64) -> [[u64; 5]; 5]
     ensures { λ r. ⌜ r ≡ iota s c ⌝ }
 {

@@ -1,8 +1,8 @@
--- `keccak_steps::chi_step` meets its contract. Assumes nothing.
+-- `chi::chi_step` meets its contract. Assumes nothing.
 use borrow.Author.Needs.{needs}
-use Rattle.keccak_steps.specs.Chi.{chiFlipped}
-use Rattle.keccak_steps.proofs.chi_step.Statement.{statement}
-use Rattle.keccak_steps.proofs.chi_step.Tie as tie
+use Rattle.chi.specs.Chi.{chiFlipped}
+use Rattle.chi.proofs.chi_step.Statement.{statement}
+use Rattle.chi.proofs.chi_step.Tie as tie
 
 returns : tie.Need-returns
 unfolding chiFlipped
