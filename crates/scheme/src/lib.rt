@@ -1,9 +1,7 @@
-// The calls of decryption shares (document 000, section 6.1) and commitment (5.4) once the sheet is taken: the tests of the lent slices, and then the work in scratch. p is 2.
-// `written` has what the scheme's polynomials are written with; `encryption` has the calls of keys and ballots.
-mod commitments;
+// The calls of decryption shares (document 000, section 6.1) once the sheet is taken: the tests of the lent slices, and then the work in scratch. p is 2.
+// `written` has what the scheme's polynomials are written with, here and in the crates of the other calls: `keys`, `encryption`, `commitments`.
 mod shares;
 pub mod written;
 
-pub use commitments::commitment;
 pub use shares::reconstruct;
 pub use shares::share;

@@ -204,7 +204,7 @@ pub fn commitment(
         sheet::Reading::Taken(k) => {
             let n = k.ring as usize;
             let q = k.modulus;
-            let reply = scheme::commitment(&public[16 * n..40 * n], m, r, pair, scratch, n, q);
+            let reply = commitments::commitment(&public[16 * n..40 * n], m, r, pair, scratch, n, q);
             call::sweep(reply, scratch);
             reply
         }

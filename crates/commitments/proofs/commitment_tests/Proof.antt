@@ -1,4 +1,4 @@
--- `commitments::commitment_tests` meets its contract. Assumes nothing.
+-- `commitment_tests` meets its contract. Assumes nothing.
 use mathlib.Core.Path.{_≡_, sym, _∙_}
 use mathlib.Core.Bool.{true, not, _&&_}
 use mathlib.Core.List.{List, [], _∷_}
@@ -10,8 +10,8 @@ use Rattle.codec.specs.Bytes.{same}
 use Rattle.codec.specs.Reply.{test, first}
 use Rattle.call.specs.Call.{bytesBelow, coefficientsBelow}
 use Rattle.call.proofs.Order.{length-at, wrong-length, out-of-range, in-order}
-use Rattle.scheme.proofs.commitments.commitment_tests.Statement.{statement}
-use Rattle.scheme.proofs.commitments.commitment_tests.Tie as tie
+use Rattle.commitments.proofs.commitment_tests.Statement.{statement}
+use Rattle.commitments.proofs.commitment_tests.Tie as tie
 
 returns : tie.Need-returns
 unfolding same

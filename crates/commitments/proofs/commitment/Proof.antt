@@ -1,10 +1,10 @@
--- `commitments::commitment` meets its contract. Assumes nothing.
+-- `commitment` meets its contract. Assumes nothing.
 use mathlib.Core.Path.{_∙_}
 use borrow.Author.Needs.{needs}
 use Rattle.call.proofs.Sweeping.{untouched, spent, leaves-taken, leaves-refused}
 use Rattle.scheme.proofs.Passed.{commitment-passed}
-use Rattle.scheme.proofs.commitments.commitment.Statement.{statement}
-use Rattle.scheme.proofs.commitments.commitment.Tie as tie
+use Rattle.commitments.proofs.commitment.Statement.{statement}
+use Rattle.commitments.proofs.commitment.Tie as tie
 
 commitment-tests-requires : tie.Need-commitment-tests-requires
 commitment-tests-requires c κs = c .before .before .before .before .before .before .before .pre .one .high

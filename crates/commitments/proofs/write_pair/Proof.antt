@@ -1,10 +1,10 @@
--- `commitments::write_pair` meets its contract. Assumes nothing.
+-- `write_pair` meets its contract. Assumes nothing.
 use native.Mathlib.Omega.{arith}
 use borrow.Author.Needs.{needs}
 use Rattle.scheme.specs.Calls.{commitmentWrites}
 use Rattle.scheme.proofs.Places.{pair-written}
-use Rattle.scheme.proofs.commitments.write_pair.Statement.{statement}
-use Rattle.scheme.proofs.commitments.write_pair.Tie as tie
+use Rattle.commitments.proofs.write_pair.Statement.{statement}
+use Rattle.commitments.proofs.write_pair.Tie as tie
 
 write-out-requires : tie.Need-write-out-requires
 write-out-requires c κs =
