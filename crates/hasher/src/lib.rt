@@ -1,6 +1,7 @@
 // SHA3-256 of a message that comes in parts: a hasher by value, and the same lent in place.
 ghost use mathlib.Core.Path.{_≡_};
-ghost use mathlib.Core.List.{[]};
+ghost use mathlib.Core.List.{[], _++_};
+ghost use Rattle.sha3.specs.Sponge.{sha3};
 ghost use Rattle.hasher.specs.Hasher.{made, holding, updated, finished};
 
 // The sponge's state, and the place in its block of the next byte.
@@ -56,4 +57,16 @@ impl Hasher {
     {
         sha3::finish(state(self), self.place % 136)
     }
+}
+
+// SHA3-256 of four strings end to end.
+pub fn hash_parts(a: &[u8], b: &[u8], c: &[u8], d: &[u8]) -> [u8; 32]
+    ensures { λ r. ⌜ r ≡ sha3 (now (a .entry) ++ (now (b .entry) ++ (now (c .entry) ++ now (d .entry)))) ⌝ }
+{
+    let mut h = Hasher::new();
+    h.update(a);
+    h.update(b);
+    h.update(c);
+    h.update(d);
+    h.finish()
 }
