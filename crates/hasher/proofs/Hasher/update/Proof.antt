@@ -1,5 +1,6 @@
--- `hasher::Hasher::update` meets its contract: a walk of its MIR, by hand. The borrow is opened and the struct copied out whole; `absorbed` is called on it and the slice; its result is stored over the struct, and the borrow is closed at it.
--- Nothing here names a field of the struct. Assumes nothing.
+-- `Hasher::update` meets its contract: a walk of its MIR, by hand. The borrow is opened and the struct copied out whole; `absorbed` is called on it and the slice;
+-- its result is stored over the struct, and the borrow is closed at it. Nothing here names a field of the struct.
+-- Assumes nothing.
 use mathlib.Core.Path.{_≡_, refl}
 use Prim.Native.Nat.{ℕ}
 use mathlib.Core.List.{[], _∷_, List}
