@@ -1,4 +1,5 @@
 // The digests by which a session holds what it was lent (document 01, "Register and session").
+use hasher::Hasher;
 ghost use mathlib.Core.Path.{_≡_};
 ghost use Prim.Native.Nat.{_+_, _*_, _≤_, _<_};
 ghost use lib.ListN.{length};
@@ -10,7 +11,7 @@ pub fn closing_of_register(sheet: &[u8; 32], reg: &[u8], n: usize) -> [u8; 32]
     requires { ⌜ 40 * n ≤ length (now reg) ⌝ }
     ensures { λ r. ⌜ r ≡ closingDigest (now (sheet .entry)) (standingDigests (now (reg .entry)) n) ⌝ }
 {
-    let mut h = hasher::Hasher::new().absorbed(sheet);
+    let mut h = Hasher::new().absorbed(sheet);
     let mut i = 0;
     while i < n {
         if register::is_standing(reg, i) {
@@ -26,7 +27,7 @@ pub fn closing_of_ballots(sheet: &[u8; 32], ballots: &[u8], size: usize, m: usiz
     requires { ⌜ (size * m ≤ length (now ballots)) × (size ≤ 65536) × (m ≤ 4096) ⌝ }
     ensures { λ r. ⌜ r ≡ closingDigest (now (sheet .entry)) (ballotDigests size m (now (ballots .entry))) ⌝ }
 {
-    let mut h = hasher::Hasher::new().absorbed(sheet);
+    let mut h = Hasher::new().absorbed(sheet);
     let mut j = 0;
     while j < m {
         let digest = sha3::hash(&ballots[size * j..size * j + size]);
