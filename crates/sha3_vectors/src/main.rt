@@ -1,6 +1,5 @@
 // Writes SHA3-256 of the published example messages in hexadecimal, a line each; the file `stdout` has the published digests.
-ghost use mathlib.Core.Path.{_≡_};
-ghost use lib.ListN.{length};
+use hasher::Hasher;
 use libc::STDOUT_FILENO;
 
 const DIGITS: [u8; 16] = *b"0123456789abcdef";
@@ -27,20 +26,15 @@ fn line(d: [u8; 32]) {
     io::write_all(STDOUT_FILENO, &text);
 }
 
-// A message of n times the same 1,000 bytes, absorbed part by part.
-fn repeated(part: &[u8], n: usize) -> [u8; 32]
-    requires { ⌜ length (now part) ≡ 1000 ⌝ }
-{
-    let mut s = sha3::start();
-    let mut at = 0;
+// A message of n times the same bytes, taken in part by part.
+fn repeated(part: &[u8], n: usize) -> [u8; 32] {
+    let mut h = Hasher::new();
     let mut i = 0;
     while i < n {
-        let t = sha3::absorb(s, at, part);
-        s = t;
-        at = sha3::advance(at, 1000);
+        h = h.absorbed(part);
         i += 1;
     }
-    sha3::finish(s, at)
+    h.finish()
 }
 
 fn main() {

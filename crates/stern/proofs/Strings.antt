@@ -2,17 +2,17 @@
 use mathlib.Core.Path.{_≡_, refl, sym, ap, ap₂, _∙_}
 use mathlib.Core.Bool.{Bool, true, false, cond}
 use mathlib.Core.List.{List, [], _∷_, _++_, append-assoc}
-use Prim.Native.Nat.{ℕ, suc, _+_, _-_, _*_, _%_, _^_, _≤_, _<_}
+use Prim.Native.Nat.{ℕ, suc, _+_, _-_, _*_, _%_, _≤_, _<_}
 use native.Mathlib.Nat.{mul-le-mul, mul-suc, mul-comm, mul-assoc, mul-add}
 use native.Mathlib.Omega.{arith}
-use lib.ListN.{length, take, drop, getD, length-append}
+use lib.ListN.{length, take, getD}
 use lib.Seq.{getD-take}
 use Rattle.codec.specs.Bytes.{Bytes, part, words}
 use Rattle.codec.proofs.Numbers.{words-append}
-use Rattle.keccak.specs.Keccak.{State}
-use Rattle.sha3.specs.Sponge.{absorb, zeroState, squeeze, padding, sha3}
-use Rattle.sha3.proofs.Absorbing.{absorb-append}
-use Rattle.sha3.proofs.Parts.{Absorbed, more, done}
+use Rattle.sha3.specs.Sponge.{sha3}
+use Rattle.hasher.specs.declared.Hasher.{Hasher}
+use Rattle.hasher.specs.Hasher.{holding, updated, finished}
+use Rattle.hasher.proofs.Laws.{taken, finished-holding}
 use Rattle.modular.proofs.Congruence.{same-eq}
 use Rattle.ring.specs.Poly.{Poly, plus, minus, modulo, Alike, Below}
 use Rattle.ring.specs.Slots.{slot, list, encode}
@@ -135,24 +135,18 @@ module _ (q N : ℕ) (positive : 0 < q) where
     covered true = ap words less-are ∙ joined-bytes (lessPairs q N one-pair c 0) (lessPairs q N two-pair c (4 * N))
     covered false = ap words equations-are ∙ joined-bytes one-pair two-pair
 
--- ---- digest 1, absorbed in parts
+-- ---- digest 1, taken in by parts
 
 -- the halves of a pair, as they stand in scratch
 pub stands-bytes : (q n : ℕ) (p : Pair) (w w' : Bytes) → PairStands q n p w w' → part w' 0 (8 * n) ++ part w' 49152 (8 * n) ≡ pairBytes q n p
 unfolding pairBytes
 stands-bytes q n p w w' h = ap₂ _++_ (h .one) (h .two)
 
-pub begun : (lead : ℕ) (salt : Bytes) (s : State) → length salt ≡ 32 → s ≡ absorb zeroState 0 (lead ∷ salt) → Absorbed s 33 (lead ∷ salt)
-begun lead salt s l e = record { state = e; place = omega arith }
-
--- P, and then two pairs of halves
-pub equations-absorbed : (q n : ℕ) (salt p u v : Bytes) (less : List ℕ) (s a b d : State) (i j l : ℕ) → length salt ≡ 32 → s ≡ absorb zeroState 0 (1 ∷ salt) → a ≡ absorb s 33 p → i ≡ (33 + length p) % 136
-    → length u ≡ 16 * n → b ≡ absorb a i u → j ≡ (i + 16 * n) % 136 → length v ≡ 16 * n → d ≡ absorb b j v → l ≡ (j + 16 * n) % 136 → words less ≡ u ++ v
-    → squeeze (absorb d l (padding l)) ≡ sha3 (1 ∷ (salt ++ (p ++ words less)))
-equations-absorbed q n salt p u v less s a b d i j l ls es ea ei lu eb ej lv ed el w =
-    let h0 = begun 1 salt s ls es in
-    let h1 = more s 33 (1 ∷ salt) p a i h0 ea ei in
-    let h2 = more a i ((1 ∷ salt) ++ p) u b j h1 eb (ej ∙ ap (λ (x : ℕ). (i + x) % 136) (sym lu)) in
-    let h3 = more b j (((1 ∷ salt) ++ p) ++ u) v d l h2 ed (el ∙ ap (λ (x : ℕ). (j + x) % 136) (sym lv)) in
-    done d l ((((1 ∷ salt) ++ p) ++ u) ++ v) h3
-    ∙ ap sha3 (append-assoc ((1 ∷ salt) ++ p) u v ∙ append-assoc (1 ∷ salt) p (u ++ v) ∙ ap (λ (t : Bytes). 1 ∷ (salt ++ (p ++ t))) (sym w))
+-- a leading byte and a salt, P, and then two pairs of halves
+pub equations-taken : (salt p u v : Bytes) (ns : List ℕ) {s a b d : Hasher} → s ≡ holding (1 ∷ salt) → a ≡ updated s p → b ≡ updated a u → d ≡ updated b v → words ns ≡ u ++ v
+    → finished d ≡ sha3 (1 ∷ (salt ++ (p ++ words ns)))
+equations-taken salt p u v ns es ea eb ed w =
+    let m = (1 ∷ salt) ++ p in
+    ap finished (taken (m ++ u) v (taken m u (taken (1 ∷ salt) p es ea) eb) ed)
+    ∙ finished-holding ((m ++ u) ++ v)
+    ∙ ap sha3 (append-assoc m u v ∙ ap (λ (t : Bytes). 1 ∷ t) (append-assoc salt p (u ++ v) ∙ ap (λ (t : Bytes). salt ++ (p ++ t)) (sym w)))

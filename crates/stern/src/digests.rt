@@ -1,12 +1,14 @@
 // The digests of a repetition: SHA3-256 over a leading byte, a salt and what the digest covers.
 use crate::equations::equation_pair;
+use hasher::Hasher;
 ghost use mathlib.Core.Path.{_≡_};
 ghost use mathlib.Core.Bool.{true, cond};
 ghost use mathlib.Core.List.{_∷_, _++_};
 ghost use Prim.Native.Nat.{_+_, _*_, _/_, _≤_, _<_, _^_};
 ghost use lib.ListN.{length, take};
 ghost use Rattle.codec.specs.Bytes.{part, words};
-ghost use Rattle.sha3.specs.Sponge.{absorb, zeroState, sha3};
+ghost use Rattle.sha3.specs.Sponge.{sha3};
+ghost use Rattle.hasher.specs.Hasher.{holding, updated};
 ghost use Rattle.ring.specs.Poly.{Below};
 ghost use Rattle.ring.specs.Slots.{poly, allBelow};
 ghost use Rattle.call.specs.Call.{scratchLength};
@@ -16,13 +18,12 @@ ghost use Rattle.vector.specs.Permutation.{entries, apply, extend};
 ghost use Rattle.stern.specs.Argument.{string1, string3};
 ghost use Rattle.stern.specs.Shortness.{equations, sides};
 
-// The state after a leading byte and a salt: 33 bytes.
-fn begin(lead: u8, salt: &[u8]) -> [[u64; 5]; 5]
-    ensures { λ r. ⌜ r ≡ absorb zeroState 0 (lead ∷ now (salt .entry)) ⌝ }
+// A hasher that has taken in a leading byte and a salt.
+fn begin(lead: u8, salt: &[u8]) -> Hasher
+    ensures { λ r. ⌜ r ≡ holding (lead ∷ now (salt .entry)) ⌝ }
 {
     let head = [lead; 1];
-    let s = sha3::absorb(sha3::start(), 0, &head);
-    sha3::absorb(s, 1, salt)
+    Hasher::new().absorbed(&head).absorbed(salt)
 }
 
 // The digest of a leading byte, a salt and a message.
@@ -30,22 +31,16 @@ pub fn tagged(lead: u8, salt: &[u8], m: &[u8]) -> [u8; 32]
     requires { ⌜ length (now salt) ≡ 32 ⌝ }
     ensures { λ r. ⌜ r ≡ sha3 (lead ∷ (now (salt .entry) ++ now (m .entry))) ⌝ }
 {
-    let s = sha3::absorb(begin(lead, salt), 33, m);
-    sha3::finish(s, sha3::advance(33, m.len()))
+    begin(lead, salt).absorbed(m).finish()
 }
 
-// Absorbs a pair that stands in scratch.
-fn absorb_pair(s: [[u64; 5]; 5], at: usize, work: &[u8], n: usize) -> [[u64; 5]; 5]
-    requires { ⌜ (at < 136) × (49152 + 8 * n ≤ length (now work)) ⌝ }
-    ensures { λ r. ⌜ r ≡ absorb s at (part (now (work .entry)) 0 (8 * n) ++ part (now (work .entry)) 49152 (8 * n)) ⌝ }
+// A hasher that takes in a pair too, which stands in scratch.
+fn absorb_pair(h: Hasher, work: &[u8], n: usize) -> Hasher
+    requires { ⌜ 49152 + 8 * n ≤ length (now work) ⌝ }
+    ensures { λ r. ⌜ r ≡ updated h (part (now (work .entry)) 0 (8 * n) ++ part (now (work .entry)) 49152 (8 * n)) ⌝ }
 {
-    let t = sha3::absorb(s, at, &work[0..8 * n]);
-    let next = sha3::advance(at, 8 * n);
-    sha3::absorb(
-        t,
-        next,
-        &work[commitment::MESSAGE..commitment::MESSAGE + 8 * n],
-    )
+    let one = h.absorbed(&work[0..8 * n]);
+    one.absorbed(&work[commitment::MESSAGE..commitment::MESSAGE + 8 * n])
 }
 
 // Digest 1: of P and the equations applied to a vector, with their right-hand sides subtracted or not.
@@ -65,14 +60,11 @@ pub fn equations_digest(
     ensures { λ r. ⌜ r ≡ sha3 (string1 (now (salt .entry)) (now (p .entry)) (cond less (subtract q (equations q n (keysOf n (now (k .entry))) (take (14 * n) (vector (now (x .entry))))) (sides q n (now (c .entry)))) (equations q n (keysOf n (now (k .entry))) (take (14 * n) (vector (now (x .entry))))))) ⌝ }
     ensures { λ _. ⌜ length (now (work .exit)) ≡ length (now (work .entry)) ⌝ }
 {
-    let a = sha3::absorb(begin(1, salt), 33, p);
-    let i = sha3::advance(33, p.len());
+    let a = begin(1, salt).absorbed(p);
     equation_pair(work, k, c, less, x, 2 * n, 0, 0, n, q);
-    let b = absorb_pair(a, i, work, n);
-    let j = sha3::advance(i, 16 * n);
+    let b = absorb_pair(a, work, n);
     equation_pair(work, k, c, less, x, 8 * n, n, 4 * n, n, q);
-    let d = absorb_pair(b, j, work, n);
-    sha3::finish(d, sha3::advance(j, 16 * n))
+    absorb_pair(b, work, n).finish()
 }
 
 // Digest 2 or 3 of a permuted vector, which is gathered in scratch.

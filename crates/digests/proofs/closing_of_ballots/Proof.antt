@@ -1,25 +1,23 @@
--- `closing_of_ballots` meets its contract. The loop's invariant: the sheet's digest and the digests of the ballots passed are absorbed. Assumes nothing.
+-- `closing_of_ballots` meets its contract. The loop's invariant: the sheet's digest and the digests of the ballots passed are taken in. Assumes nothing.
 use mathlib.Core.Path.{_≡_, ap, _∙_}
 use mathlib.Core.List.{_++_}
 use Prim.Native.Nat.{ℕ, suc, _+_, _*_, _-_, _≤_, _<_}
 use native.Mathlib.Nat.{mul-suc, mul-le-mul-left}
 use native.Mathlib.Omega.{arith}
 use borrow.Author.Needs.{needs}
-use lib.ListN.{length}
-use Rattle.codec.specs.Bytes.{part}
+use Rattle.codec.specs.Bytes.{Bytes, part}
 use Rattle.sha3.specs.Sponge.{sha3}
-use Rattle.sha3.proofs.Parts.{Absorbed}
-use Rattle.sha3.proofs.Squeezing.{length-sha3}
+use Rattle.hasher.specs.Hasher.{holding, updated}
 use Rattle.digests.specs.Digests.{concatenated, ballotDigests, closingDigest}
-use Rattle.digests.proofs.Parts.{begun, none, next, closing-done, ballots-more}
+use Rattle.digests.proofs.Parts.{none, next, closing-done, ballots-more}
 use Rattle.digests.proofs.closing_of_ballots.Statement.{statement}
 use Rattle.digests.proofs.closing_of_ballots.Tie as tie
 
 abbrev Inv-loop : tie.InvT-loop
-Inv-loop sheet ballots size m state₀ place₀ j₀ state place j = (j ≤ m) × Absorbed state place (sheet ++ concatenated (ballotDigests size j ballots))
+Inv-loop sheet ballots size m h₀ j₀ h j = (j ≤ m) × (h ≡ holding (sheet ++ concatenated (ballotDigests size j ballots)))
 
 abbrev μ-loop : tie.MeasureT-loop
-μ-loop sheet ballots size m state₀ place₀ j₀ state place j = m - j
+μ-loop sheet ballots size m h₀ j₀ h j = m - j
 
 -- a ballot before the last ends where or before they all do
 within : (size j m : ℕ) → j < m → size * j + size ≤ size * m
@@ -27,10 +25,7 @@ within size j m h = omega (arith, mul-suc size j, mul-le-mul-left {m = suc j} {n
 
 loop-holds : tie.Need-loop-holds Inv-loop μ-loop
 unfolding ballotDigests
-loop-holds c =
-    let a = c .before .before .before .before .args in
-    let l : length (a .sheet .now) ≡ 32 = search needs in
-    (omega arith, none (a .sheet .now) (c .absorb .result) 32 (begun (a .sheet .now) (c .before .before .start .result) (c .absorb .result) l (c .before .before .start .ensures) (c .absorb .ensures)))
+loop-holds c = (omega arith, none (c .before .before .before .before .args .sheet .now) (c .before .before .new .ensures) (c .absorbed .ensures))
 
 mul-hash : tie.Need-mul-hash Inv-loop μ-loop
 mul-hash c = let w = within (c .before .before .before .before .before .before .args .size) (c .before .loop .j) (c .before .before .before .before .before .before .args .m) (omega arith) in search needs
@@ -49,21 +44,21 @@ part-hash-end c = let w = within (c .before .before .before .before .before .bef
 
 loop-again : tie.Need-loop-again Inv-loop μ-loop
 loop-again c =
-    let a = c .before .before .before .before .before .before .before .before .before .before .before .args in
-    let j = c .before .before .before .before .before .before .loop .j in
-    let ds = ballotDigests (a .size) j (a .ballots .now) in
+    let a = c .before .before .before .before .before .before .before .before .before .before .args in
+    let h = c .before .before .before .before .before .loop .h in
+    let j = c .before .before .before .before .before .loop .j in
+    let d = sha3 (part (a .ballots .now) (a .size * j) (a .size)) in
     let p : a .size * j + a .size - a .size * j ≡ a .size = omega arith in
-    let e : c .before .before .before .hash .result ≡ sha3 (part (a .ballots .now) (a .size * j) (a .size)) = c .before .before .before .hash .ensures ∙ ap (λ (n : ℕ). sha3 (part (a .ballots .now) (a .size * j) n)) p in
-    let l : length (c .before .before .before .hash .result) ≡ 32 = ap length e ∙ length-sha3 (part (a .ballots .now) (a .size * j) (a .size)) in
-    let h = next (a .sheet .now) ds (c .before .before .before .hash .result) (c .before .before .before .before .before .before .loop .state) (c .before .absorb2 .result) (c .before .before .before .before .before .before .loop .place) (c .advance .result) (c .before .before .before .before .before .before .loop .inv .1) l (c .before .absorb2 .ensures) (c .advance .ensures) in
-    (omega arith, rw (ballots-more (a .size) j (a .ballots .now), ← e) h)
+    let e = c .before .before .hash .ensures ∙ ap (λ (n : ℕ). sha3 (part (a .ballots .now) (a .size * j) n)) p in
+    let f = c .absorbed2 .ensures ∙ ap (λ (s : Bytes). updated h s) e in
+    (omega arith, rw (ballots-more (a .size) j (a .ballots .now)) (next (a .sheet .now) (ballotDigests (a .size) j (a .ballots .now)) d (c .before .before .before .before .before .loop .inv .1) f))
 
 returns : tie.Need-returns Inv-loop μ-loop
 returns c =
     let a = c .before .before .before .before .before .before .before .args in
     let e : c .before .before .loop .j ≡ a .m = omega arith in
-    c .finish .ensures ∙ closing-done (a .sheet .now) (ballotDigests (a .size) (c .before .before .loop .j) (a .ballots .now)) (c .before .before .loop .state) (c .before .before .loop .place) (c .before .before .loop .inv .1)
+    c .finish .ensures ∙ closing-done (a .sheet .now) (ballotDigests (a .size) (c .before .before .loop .j) (a .ballots .now)) (c .before .before .loop .inv .1)
     ∙ ap (λ (m : ℕ). closingDigest (a .sheet .now) (ballotDigests (a .size) m (a .ballots .now))) e
 
 pub closing-of-ballots-spec : {M : Type 1} → statement M
-closing-of-ballots-spec = tie.close (tie.spec Inv-loop μ-loop (λ c κs. search needs) (λ c κs. search needs) loop-holds mul-hash mul-hash-2 add-hash (λ c. search needs) part-hash-start part-hash-end (λ c κs. search needs) (λ c. search needs) (λ c κs. search needs) (λ c κs. search needs) (λ c. search needs) (λ c. search needs) loop-again (λ c κs. search needs) returns)
+closing-of-ballots-spec = tie.close (tie.spec Inv-loop μ-loop (λ c κs. search needs) (λ c κs. search needs) loop-holds mul-hash mul-hash-2 add-hash (λ c. search needs) part-hash-start part-hash-end (λ c κs. search needs) (λ c. search needs) (λ c κs. search needs) (λ c. search needs) (λ c. search needs) loop-again (λ c κs. search needs) returns)
