@@ -3,7 +3,7 @@
 ghost use mathlib.Core.Path.{_≡_};
 ghost use Rattle.codec.specs.Reply.{packed};
 ghost use Rattle.call.specs.Call.{swept};
-ghost use Rattle.checker.specs.Orders.{roundOf};
+ghost use Rattle.round_parts.specs.Orders.{roundOf};
 ghost use Rattle.verification_calls.specs.Replies.{checkReply};
 
 // Answers 0 where the round is accepted, and else document 01's number, with the place above the low byte.

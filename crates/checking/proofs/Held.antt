@@ -17,7 +17,7 @@ use Rattle.call.specs.Call.{scratchLength}
 use Rattle.call.proofs.Order.{refuses, passes}
 use Rattle.transcript.specs.Layout.{ballotLength}
 use Rattle.transcript.specs.Round.{Lengths}
-use Rattle.checker.specs.Orders.{roundOf}
+use Rattle.round_parts.specs.Orders.{roundOf}
 use Rattle.lengths.specs.Calls.{messageSized, secondSized}
 use Rattle.lengths.specs.Sheets.{given}
 use Rattle.lengths.proofs.Sizes.{message-sizes, check-lengths}

@@ -20,7 +20,7 @@ use Rattle.bgv.proofs.Sheets.{two-sound}
 use Rattle.scheme_calls.proofs.Keys.{lent-keys}
 use Rattle.transcript.specs.Method.{parameters}
 use Rattle.transcript.specs.Round.{Parameters, Round, roundTests}
-use Rattle.checker.specs.Orders.{roundOf}
+use Rattle.round_parts.specs.Orders.{roundOf}
 use Rattle.lengths.specs.Sheets.{given, parametersOf}
 use Rattle.lengths.proofs.Swept.{later-round, swept-alike}
 use Rattle.lengths.proofs.OverSheet.{lent-keyed, over, refused-over}

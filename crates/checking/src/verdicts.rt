@@ -14,7 +14,7 @@ ghost use Rattle.sheet.specs.Reader.{sheetOf};
 ghost use Rattle.sheet_numbers.specs.Rules.{outside};
 ghost use Rattle.call.specs.Call.{scratchLength, swept};
 ghost use Rattle.transcript.specs.Round.{Lengths, roundTests};
-ghost use Rattle.checker.specs.Orders.{roundOf};
+ghost use Rattle.round_parts.specs.Orders.{roundOf};
 ghost use Rattle.lengths.specs.Sheets.{given};
 ghost use Rattle.drawing.specs.Draw.{drawnChallenges};
 ghost use Rattle.checking.specs.Check.{storedOf, inputsOf, inputsSized, storedTests, drawnRound, verdict, replyOf};
@@ -63,7 +63,7 @@ fn test_round(
     let n = k.ring as usize;
     let repeats = k.repeats as usize;
     let bound = sheet_numbers::mask_bound(k.ring, k.drown);
-    checker::round::check_round(
+    checker::check_round(
         scratch,
         &public[0..8 * n],
         &public[8 * n..16 * n],

@@ -10,7 +10,7 @@ use Rattle.commitment.specs.Commitment.{keysOf}
 use Rattle.transcript.specs.Round.{ballotsRanged, headRanged, openingRanged, splits, opensKey, opensPairs}
 use Rattle.transcript.specs.Extractor.{Openings, lentRanged, extractTests}
 use Rattle.transcript.specs.Method.{parameters}
-use Rattle.checker.specs.Orders.{rangeParameters, splitTest}
+use Rattle.round_parts.specs.Orders.{rangeParameters, splitTest}
 use Rattle.openings_checker.specs.Orders.{sideTests, bothTests, threeTests}
 
 module _ (n q bound repeats : ℕ) (a b k : Bytes) (m : ℕ) where

@@ -12,7 +12,7 @@ use Rattle.vector.specs.Vector.{vector}
 use Rattle.stern.specs.Shortness.{inRange}
 use Rattle.transcript.specs.Round.{Parameters, ballotsRanged, openingRanged, headRanged}
 use Rattle.transcript.specs.Extractor.{Openings, lentRanged}
-use Rattle.checker.proofs.Passed.{opening-passed, head-passed, batch-passed, shares-passed}
+use Rattle.round_parts.proofs.Passed.{opening-passed, head-passed, batch-passed, shares-passed}
 use Rattle.openings_checker.specs.Lent.{OpeningsInRange}
 
 -- for a ring size and a modulus that some polynomial of the sheet has

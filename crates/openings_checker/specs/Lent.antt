@@ -8,7 +8,7 @@ use Rattle.codec.specs.Bytes.{Bytes}
 use Rattle.stern.specs.Shortness.{answerLength, inRange}
 use Rattle.transcript.specs.Extractor.{Openings}
 use Rattle.transcript.specs.Method.{Batch, Shares}
-use Rattle.checker.specs.Lent.{Opened, Head}
+use Rattle.round_parts.specs.Lent.{Opened, Head}
 
 -- the answer to a challenge
 pub record Answered (q n challenge : ℕ) (answer : Bytes) : Type 0 where

@@ -10,7 +10,7 @@ use Rattle.commitment.specs.Commitment.{Keys}
 use Rattle.stern.specs.Shortness.{answerTests}
 use Rattle.transcript.specs.Layout.{pairsOf, digestsAt, openingOf}
 use Rattle.transcript.specs.Extractor.{Openings}
-use Rattle.checker.specs.Orders.{openingTests, voteTests}
+use Rattle.round_parts.specs.Orders.{openingTests, voteTests}
 
 -- what is lent to the extractor
 abbrev pub openingsOf : (head shares0 shares1 ballots claims opening0 opening1 : Bytes) (repetition : ℕ) (answer1 answer2 answer3 : Bytes) → Openings

@@ -2,10 +2,10 @@
 use crate::sides::test_sides;
 use crate::three_answers::answers_ranged;
 use crate::three_answers::test_answers;
-use checker::openings::refused;
-use checker::openings::splits;
-use checker::ranges::message_ranged;
-use checker::ranges::opening_ranged;
+use round_parts::openings::refused;
+use round_parts::openings::splits;
+use round_parts::ranges::message_ranged;
+use round_parts::ranges::opening_ranged;
 use codec::Reply;
 ghost use mathlib.Core.Path.{_≡_};
 ghost use mathlib.Core.List.{_∷_, _++_};
@@ -19,7 +19,7 @@ ghost use Rattle.stern.specs.Shortness.{answerLength};
 ghost use Rattle.transcript.specs.Layout.{ballotLength};
 ghost use Rattle.transcript.specs.Extractor.{Lent, lentRanged, extractTests};
 ghost use Rattle.transcript.specs.Method.{parameters};
-ghost use Rattle.checker.specs.Orders.{rangeParameters, splitTest};
+ghost use Rattle.round_parts.specs.Orders.{rangeParameters, splitTest};
 ghost use Rattle.openings_checker.specs.Lent.{OpeningsInRange};
 ghost use Rattle.openings_checker.specs.Orders.{openingsOf, bothTests, threeTests};
 

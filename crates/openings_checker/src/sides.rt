@@ -1,6 +1,6 @@
 // The openings of both sides, as the extractor is lent them: for side 0 and then side 1 7, 8 and by ballot 12, 13.
-use checker::openings::test_opening;
-use checker::openings::test_votes;
+use round_parts::openings::test_opening;
+use round_parts::openings::test_votes;
 use codec::Reply;
 ghost use mathlib.Core.Path.{_≡_};
 ghost use Prim.Native.Nat.{_*_, _%_, _≤_, _<_};
@@ -10,7 +10,7 @@ ghost use Rattle.ring.specs.Slots.{poly};
 ghost use Rattle.call.specs.Call.{scratchLength, Public};
 ghost use Rattle.commitment.specs.Commitment.{keysOf, PublicKeys};
 ghost use Rattle.transcript.specs.Method.{Batch, Shares};
-ghost use Rattle.checker.specs.Lent.{Opened};
+ghost use Rattle.round_parts.specs.Lent.{Opened};
 ghost use Rattle.openings_checker.specs.Orders.{sideTests, bothTests};
 
 // All that a side's opening is tested by: 7, 8, then by ballot 12, 13.

@@ -11,7 +11,7 @@ ghost use Rattle.call.specs.Call.{scratchLength};
 ghost use Rattle.commitment.specs.Commitment.{keysOf, PublicKeys};
 ghost use Rattle.stern.specs.Shortness.{answerLength, inRange, answerTests};
 ghost use Rattle.transcript.specs.Layout.{pairsOf};
-ghost use Rattle.checker.specs.Lent.{Head};
+ghost use Rattle.round_parts.specs.Lent.{Head};
 ghost use Rattle.openings_checker.specs.Lent.{Answered};
 ghost use Rattle.openings_checker.specs.Orders.{threeTests};
 

@@ -15,7 +15,7 @@ ghost use Rattle.call.specs.Call.{Public, swept};
 ghost use Rattle.commitment.specs.Commitment.{PublicKeys};
 ghost use Rattle.transcript.specs.Method.{parameters};
 ghost use Rattle.transcript.specs.Extractor.{kind, extracted};
-ghost use Rattle.checker.specs.Orders.{roundOf};
+ghost use Rattle.round_parts.specs.Orders.{roundOf};
 ghost use Rattle.openings_checker.specs.Orders.{openingsOf};
 ghost use Rattle.lengths.specs.Calls.{countOf, checkTests, openingsTests};
 ghost use Rattle.verification.specs.Extraction.{extraction, replyOf, answered};
@@ -80,7 +80,7 @@ pub fn check(
     if !second_sized(challenges, opening, answers, scratch, repeats, n) {
         return refused();
     }
-    checker::round::check_round(
+    checker::check_round(
         scratch,
         a,
         b,

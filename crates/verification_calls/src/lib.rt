@@ -7,7 +7,7 @@ ghost use mathlib.Core.Path.{_≡_};
 ghost use Rattle.codec.specs.Reply.{leaves};
 ghost use Rattle.call.specs.Call.{swept};
 ghost use Rattle.transcript.specs.Extractor.{kind, extracted};
-ghost use Rattle.checker.specs.Orders.{roundOf};
+ghost use Rattle.round_parts.specs.Orders.{roundOf};
 ghost use Rattle.openings_checker.specs.Orders.{openingsOf};
 ghost use Rattle.lengths.specs.Sheets.{parametersOf, ballotsIn};
 ghost use Rattle.verification.specs.Extraction.{extraction};

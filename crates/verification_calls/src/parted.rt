@@ -10,7 +10,7 @@ ghost use Rattle.call.specs.Call.{Public, swept};
 ghost use Rattle.commitment.specs.Commitment.{PublicKeys};
 ghost use Rattle.transcript.specs.Method.{parameters};
 ghost use Rattle.transcript.specs.Extractor.{kind, extracted};
-ghost use Rattle.checker.specs.Orders.{roundOf};
+ghost use Rattle.round_parts.specs.Orders.{roundOf};
 ghost use Rattle.openings_checker.specs.Orders.{openingsOf};
 ghost use Rattle.lengths.specs.Calls.{countOf, checkTests, openingsTests};
 ghost use Rattle.verification.specs.Extraction.{extraction};

@@ -4,7 +4,7 @@ use native.Mathlib.Omega.{arith}
 use borrow.Author.Needs.{needs}
 use borrow.Author.Tests.{not-true, not-false}
 use Rattle.transcript.specs.Method.{parameters}
-use Rattle.checker.specs.Orders.{roundOf}
+use Rattle.round_parts.specs.Orders.{roundOf}
 use Rattle.lengths.proofs.Swept.{later-round, swept-alike}
 use Rattle.lengths.proofs.Sizes.{check-lengths}
 use Rattle.verification.proofs.Tested.{check-many, check-message, check-second, check-rest}

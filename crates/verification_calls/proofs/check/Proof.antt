@@ -6,7 +6,7 @@ use borrow.Author.Needs.{needs}
 use Rattle.call.proofs.Lent.{lent}
 use Rattle.bgv.proofs.Sheets.{two-sound}
 use Rattle.scheme_calls.proofs.Keys.{lent-keys}
-use Rattle.checker.specs.Orders.{roundOf}
+use Rattle.round_parts.specs.Orders.{roundOf}
 use Rattle.lengths.proofs.OverSheet.{parameters-are}
 use Rattle.verification_calls.proofs.Given.{check-restated, check-over, check-refused}
 use Rattle.verification_calls.proofs.check.Statement.{statement}

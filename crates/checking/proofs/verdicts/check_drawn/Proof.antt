@@ -2,7 +2,7 @@
 use mathlib.Core.Path.{refl}
 use mathlib.Core.List.{[]}
 use borrow.Author.Needs.{needs}
-use Rattle.checker.specs.Orders.{roundOf}
+use Rattle.round_parts.specs.Orders.{roundOf}
 use Rattle.lengths.specs.Sheets.{given}
 use Rattle.checking.specs.Check.{storedOf, inputsOf}
 use Rattle.checking.proofs.Held.{round-lengths}

@@ -7,7 +7,7 @@ use Rattle.codec.specs.Reply.{first}
 use Rattle.call.specs.Call.{Public}
 use Rattle.commitment.specs.Commitment.{PublicKeys}
 use Rattle.transcript.specs.Round.{Parameters, Lengths, roundTests}
-use Rattle.checker.specs.Orders.{roundOf}
+use Rattle.round_parts.specs.Orders.{roundOf}
 use Rattle.lengths.proofs.OverSheet.{cut}
 use Rattle.checking.proofs.Outcome.{parted}
 use Rattle.checking.proofs.verdicts.test_round.Statement.{statement}

@@ -8,8 +8,8 @@ use Rattle.call.proofs.Order.{fails, goes-on}
 use Rattle.stern.specs.Shortness.{inRange}
 use Rattle.transcript.specs.Round.{ballotsRanged, headRanged, openingRanged}
 use Rattle.transcript.specs.Extractor.{lentRanged}
-use Rattle.checker.specs.Orders.{rangeParameters}
-use Rattle.checker.proofs.Ranged.{message-fails, message-passes}
+use Rattle.round_parts.specs.Orders.{rangeParameters}
+use Rattle.round_parts.proofs.Ranged.{message-fails, message-passes}
 use Rattle.openings_checker.proofs.both_sides.openings_ranged.Statement.{statement}
 use Rattle.openings_checker.proofs.both_sides.openings_ranged.Tie as tie
 

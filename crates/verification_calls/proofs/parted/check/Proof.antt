@@ -4,7 +4,7 @@ use native.Mathlib.Omega.{arith}
 use borrow.Author.Needs.{needs}
 use Rattle.call.specs.Call.{Public}
 use Rattle.commitment.specs.Commitment.{PublicKeys}
-use Rattle.checker.specs.Orders.{roundOf}
+use Rattle.round_parts.specs.Orders.{roundOf}
 use Rattle.lengths.proofs.OverSheet.{cut, lent-keyed}
 use Rattle.verification_calls.proofs.Given.{check-restated}
 use Rattle.verification_calls.proofs.parted.check.Statement.{statement}

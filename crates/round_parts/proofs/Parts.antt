@@ -1,0 +1,89 @@
+-- Parts of an opening and of the head of a first message, lent on: what they are, and that a test of them is the test of the places they stand at. Assumes nothing.
+use mathlib.Core.Path.{_≡_, sym, ap, ap₂, _∙_}
+use mathlib.Core.Bool.{Bool, not, _&&_}
+use mathlib.Core.List.{[], _∷_, _++_}
+use Prim.Native.Nat.{ℕ, _+_, _*_, _≤_, _<_}
+use native.Mathlib.Nat.{mul-zero, mul-one, mul-add}
+use native.Mathlib.Omega.{arith}
+use lib.ListN.{take, drop}
+use Rattle.codec.specs.Bytes.{Bytes, part, same}
+use Rattle.codec.specs.Reply.{test}
+use Rattle.modular.specs.Modulo.{centre}
+use Rattle.modular.specs.Division.{divide}
+use Rattle.ring.specs.Poly.{Poly, plus, minus, modulo, Alike}
+use Rattle.ring.specs.Slots.{poly, slot, list, encode}
+use Rattle.ring.proofs.Bridge.{encode-alike}
+use Rattle.ring.proofs.Polynomials.{mul-poly-comm, alike-refl, alike-plus}
+use Rattle.call.specs.Call.{Public}
+use Rattle.bgv.specs.Scheme.{key, worked, within, reconstructed}
+use Rattle.bgv.proofs.Form.{noisy-alike}
+use Rattle.commitment.specs.Commitment.{Keys, threeOf, row, opens, pairBytes}
+use Rattle.commitment.proofs.Additive.{second-alike}
+use Rattle.transcript.specs.Layout.{Opening, uAt, vAt, shareAt, claimAt, keyAt, pairAt}
+use Rattle.transcript.proofs.Many.{stretch}
+use Rattle.transcript.proofs.Compared.{lent-alike, within-alike}
+use Rattle.round_parts.specs.Lent.{Opened, Head}
+use Rattle.round_parts.specs.Orders.{voteTests}
+use Rattle.round_parts.proofs.InOrder.{each-cong}
+
+-- a polynomial at a place, lent on with a length that is a difference of places
+pub lent-on : {n q : ℕ} (s : Bytes) (at m : ℕ) → m ≡ 8 * n → Public n q (part s at (8 * n)) → Public n q (take m (drop at s))
+lent-on s at m e p = rw e p
+
+-- ---- s and e of an opening, lent on, are what stands there
+
+module _ (n q : ℕ) (opening : Bytes) (o : Opened q n opening) where
+  pub alike-s : (m : ℕ) → m ≡ 8 * n → Alike q n (poly (take m opening)) (slot opening 0)
+  alike-s m e = lent-alike n q opening 0 m e (omega (arith, o .sized))
+
+  pub alike-e : (m : ℕ) → m ≡ 8 * n → Alike q n (poly (take m (drop (8 * n) opening))) (slot opening (8 * n))
+  alike-e m e = lent-alike n q opening (8 * n) m e (omega (arith, o .sized))
+
+-- 6: the halves of the key added
+pub sum-alike : (n q repeats : ℕ) (head : Bytes) → Head q n repeats head → (l m : ℕ) → l ≡ 8 * n → m ≡ 8 * n
+    → encode n (modulo q (plus (poly (take l head)) (poly (take m (drop (8 * n) head))))) ≡ encode n (modulo q (plus (keyAt n head 0) (keyAt n head 1)))
+sum-alike n q repeats head h l m e f =
+    encode-alike (alike-plus (lent-alike n q head 0 l e (omega (arith, h .sized))) (lent-alike n q head (8 * n) m f (omega (arith, h .sized))))
+    ∙ ap₂ (λ (x y : ℕ). encode n (modulo q (plus (slot head x) (slot head y)))) (sym (mul-zero (8 * n))) (sym (mul-one (8 * n)))
+
+-- 7: the half of the key that an opening makes
+pub key-alike : (n q : ℕ) (a : Poly) {s s' e e' : Poly} → Alike q n s s' → Alike q n e e' → encode n (modulo q (key q n 2 a s e)) ≡ encode n (modulo q (key q n 2 a s' e'))
+key-alike n q a u v = encode-alike (noisy-alike q n 2 alike-refl u v)
+
+-- 8: a pair, the polynomial that it commits to, and the three r
+pub opens-alike : (n q : ℕ) (k : Keys) {c c' r r' : Bytes} {m m' : Poly} → c ≡ c' → r ≡ r' → Alike q n m m' → opens q n k c (threeOf q n r) m ≡ opens q n k c' (threeOf q n r') m'
+unfolding opens pairBytes
+opens-alike n q k {c} {c'} {r} {r'} {m} ec er em =
+    ap₂ (λ (x y : Bytes). opens q n k x (threeOf q n y) m) ec er
+    ∙ ap (λ (x : Bytes). same c' (encode n (modulo q (row q n k (threeOf q n r'))) ++ x)) (encode-alike (second-alike q n k (record { r1 = alike-refl; r2 = alike-refl; r3 = alike-refl }) em))
+
+-- where the half of the key and the pairs of a side stand
+module _ (n side : ℕ) (low : side < 2) where
+  pub half-ends : 8 * n * side + 8 * n ≤ 16 * n
+  half-ends = omega (arith, stretch (8 * n) side 2 low)
+
+  pub pairs-end : 16 * n + 2 * (8 * n * side) + 48 * n ≤ 80 * n
+  pairs-end = omega (arith, half-ends)
+
+pub pairs-at : (n q side : ℕ) (k : Keys) (head : Bytes) (o : Opening)
+    → (opens q n k (part head (16 * n + 2 * (8 * n * side)) (16 * n)) (threeOf q n (o .rs)) (o .s) && opens q n k (part head (16 * n + 2 * (8 * n * side) + 32 * n) (16 * n)) (threeOf q n (o .re)) (o .e))
+    ≡ (opens q n k (pairAt n head side) (threeOf q n (o .rs)) (o .s) && opens q n k (pairAt n head (2 + side)) (threeOf q n (o .re)) (o .e))
+pairs-at n q side k head o =
+    let e : 16 * n + 2 * (8 * n * side) ≡ 16 * n + 16 * n * side = omega arith in
+    let f : 16 * n + 2 * (8 * n * side) + 32 * n ≡ 16 * n + 16 * n * (2 + side) = omega (arith, mul-add (16 * n) 2 side) in
+    ap₂ (λ (x y : ℕ). opens q n k (part head x (16 * n)) (threeOf q n (o .rs)) (o .s) && opens q n k (part head y (16 * n)) (threeOf q n (o .re)) (o .e)) e f
+
+-- 12: the mask goes by what the opened half of the secret is modulo q
+worked-either : (q n p : ℕ) (s u t : Poly) → worked q n p s u t ≡ worked q n p u s t
+unfolding worked
+worked-either q n p s u t = ap (λ (x : Poly). λ (k : ℕ). centre q (divide q p (minus q t x k))) (mul-poly-comm q n s u)
+
+pub mask-alike : (q n bound : ℕ) {s s' : Poly} (u t : Poly) → Alike q n s s' → within bound n (worked q n 2 s u t) ≡ within bound n (worked q n 2 s' u t)
+mask-alike q n bound {s} {s'} u t e =
+    ap (within bound n) (worked-either q n 2 s u t) ∙ within-alike q n 2 bound u e alike-refl ∙ ap (within bound n) (worked-either q n 2 u s' t)
+
+pub votes-alike : (q n bound count : ℕ) {s s' : Poly} (ballots claims shares0 shares1 opened : Bytes) → Alike q n s s'
+    → voteTests q n bound count s ballots claims shares0 shares1 opened ≡ voteTests q n bound count s' ballots claims shares0 shares1 opened
+votes-alike q n bound count ballots claims shares0 shares1 opened e =
+    each-cong count
+    (λ j l. ap (λ (b : Bool). test 12 j (not b) ∷ test 13 j (not (same (claimAt n claims j) (list n (reconstructed q 2 (vAt n ballots j) (shareAt n shares0 j) (shareAt n shares1 j))))) ∷ []) (mask-alike q n bound (uAt n ballots j) (shareAt n opened j) e))
