@@ -73,14 +73,6 @@ module _ (P : Parameters) where
       lengthsTest m (materialSized N repeats m x && secondSized N repeats challenges opening answers scratch)
       ∷ producerTests P m x (askedRanged P m x side challenges)
 
-  -- a check of one round
-  unfoldable pub checkTests : Round → (scratch : Bytes) → List Test
-  checkTests r scratch =
-      let m = countOf N (r .ballots) in
-      lengthsTest m
-      (messageSized N repeats m (r .head) (r .shares0) (r .shares1) (r .ballots) (r .claims) && secondSized N repeats (r .challenges) (r .opening) (r .answers) scratch)
-      ∷ roundTests P m r
-
   -- the extractor
   unfoldable pub openingsTests : Openings → (out scratch : Bytes) → List Test
   openingsTests x out scratch =

@@ -1,4 +1,4 @@
--- What the check and the extractor promise, for parameters P, and the same over the sheet that gives them. Assumes nothing.
+-- What the extractor promises, for parameters P, and the same over the sheet that gives them. Assumes nothing.
 use mathlib.Core.Path.{_≡_, refl, sym, ap, subst, _∙_}
 use mathlib.Core.List.{_++_}
 use Prim.Native.Nat.{ℕ}
@@ -11,36 +11,16 @@ use Rattle.sheet_numbers.specs.declared.Numbers.{Numbers}
 use Rattle.sheet.specs.declared.Reading.{Reading}
 use Rattle.sheet.specs.declared.Reading.the-variants.{Taken, Refused}
 use Rattle.call.specs.Call.{swept}
-use Rattle.transcript.specs.Round.{Parameters, Round}
+use Rattle.transcript.specs.Round.{Parameters}
 use Rattle.transcript.specs.Extractor.{Openings, kind, extracted}
-use Rattle.lengths.specs.Calls.{countOf, checkTests, openingsTests}
+use Rattle.lengths.specs.Calls.{countOf, openingsTests}
 use Rattle.lengths.specs.Sheets.{parametersOf, ballotsIn}
 use Rattle.verification.specs.Extraction.{extraction, replyOf}
 use Rattle.verification.specs.declared.Extraction.{Extraction}
 use Rattle.verification.specs.declared.Extraction.the-variants as found
 use Rattle.verification.proofs.Extracted.{reply-of}
 use Rattle.lengths.proofs.OverSheet.{over, refused-over}
-use Rattle.verification_calls.specs.Replies.{checkReply, extractReply}
-
--- ---- the check
-
-module _ (r : Round) (said : Reply) (w w' : Bytes) where
-  abbrev pub Check : Parameters → Type 0
-  Check P = (said ≡ first (checkTests P r w)) × (swept said w' ≡ swept said w)
-
-  pub check-restated : {P Q : Parameters} → P ≡ Q → Check P → Check Q
-  check-restated e f = subst Check e f
-
-  pub check-over : (text : Bytes) {k : Numbers} {w'' : Bytes} → reading 2 text ≡ Taken k → Check (parametersOf 2 text) → w'' ≡ swept said w' → (said ≡ checkReply 2 text r w) × (w'' ≡ swept said w)
-  unfolding checkReply
-  check-over text taken f z = (over 2 text _ taken (f .0), z ∙ f .1)
-
-pub check-refused : (r : Round) (w text : Bytes) {w'' : Bytes} {s : Reading} {i : ℕ} → s ≡ reading 2 text → s ≡ Refused i → w'' ≡ swept (reply.Refused i 0) w
-    → (reply.Refused i 0 ≡ checkReply 2 text r w) × (w'' ≡ swept (reply.Refused i 0) w)
-unfolding checkReply
-check-refused r w text f e z = (refused-over 2 text _ f e, z)
-
--- ---- the extractor
+use Rattle.verification_calls.specs.Replies.{extractReply}
 
 module _ (x : Openings) (answer : Extraction) (out out' w w' : Bytes) where
   abbrev pub Extract : Parameters → Type 0

@@ -1,4 +1,4 @@
-// The check of one round and the extractor over the sheet and lent bytes (document 01, "One round" and the extractor's order). p is 2.
+// The extractor over the sheet and lent bytes (document 01, the extractor's order). p is 2.
 mod parted;
 
 use codec::Reply;
@@ -7,63 +7,10 @@ ghost use mathlib.Core.Path.{_≡_};
 ghost use Rattle.codec.specs.Reply.{leaves};
 ghost use Rattle.call.specs.Call.{swept};
 ghost use Rattle.transcript.specs.Extractor.{kind, extracted};
-ghost use Rattle.round_parts.specs.Orders.{roundOf};
 ghost use Rattle.openings_checker.specs.Orders.{openingsOf};
 ghost use Rattle.lengths.specs.Sheets.{parametersOf, ballotsIn};
 ghost use Rattle.verification.specs.Extraction.{extraction};
-ghost use Rattle.verification_calls.specs.Replies.{checkReply, extractReply};
-
-// Checks one round with the side and the challenges that are lent.
-pub fn check(
-    sheet: &[u8],
-    side: u64,
-    challenges: &[u8],
-    ballots: &[u8],
-    claims: &[u8],
-    head: &[u8],
-    shares0: &[u8],
-    shares1: &[u8],
-    opening: &[u8],
-    answers: &[u8],
-    scratch: &mut [u8],
-) -> Reply
-    ensures { λ reply. ⌜ reply ≡ checkReply 2 (now (sheet .entry)) (roundOf side (now (challenges .entry)) (now (ballots .entry)) (now (claims .entry)) (now (head .entry)) (now (shares0 .entry)) (now (shares1 .entry)) (now (opening .entry)) (now (answers .entry))) (now (scratch .entry)) ⌝ }
-    ensures { λ reply. ⌜ now (scratch .exit) ≡ swept reply (now (scratch .entry)) ⌝ }
-{
-    let mut public = [0u8; 81920];
-    let reading = sheet::load(sheet, &mut public);
-    match reading {
-        sheet::Reading::Taken(k) => {
-            let n = k.ring as usize;
-            let repeats = k.repeats as usize;
-            let bound = sheet_numbers::mask_bound(k.ring, k.drown);
-            let reply = parted::check(
-                &public,
-                side,
-                challenges,
-                ballots,
-                claims,
-                head,
-                shares0,
-                shares1,
-                opening,
-                answers,
-                scratch,
-                repeats,
-                bound,
-                n,
-                k.modulus,
-            );
-            call::sweep(reply, scratch);
-            reply
-        }
-        sheet::Reading::Refused { number } => {
-            let reply = Reply::Refused { number, place: 0 };
-            call::sweep(reply, scratch);
-            reply
-        }
-    }
-}
+ghost use Rattle.verification_calls.specs.Replies.{extractReply};
 
 // Finds what two openings and three answers give away.
 pub fn extract(

@@ -8,9 +8,9 @@ use Rattle.bgv.proofs.Sheets.{two-sound}
 use Rattle.scheme_calls.proofs.Keys.{lent-keys}
 use Rattle.round_parts.specs.Orders.{roundOf}
 use Rattle.lengths.proofs.OverSheet.{parameters-are}
-use Rattle.verification_calls.proofs.Given.{check-restated, check-over, check-refused}
-use Rattle.verification_calls.proofs.check.Statement.{statement}
-use Rattle.verification_calls.proofs.check.Tie as tie
+use Rattle.checker_calls.proofs.Given.{check-restated, check-over, check-refused}
+use Rattle.checker_calls.proofs.check.Statement.{statement}
+use Rattle.checker_calls.proofs.check.Tie as tie
 
 mask-bound-requires : tie.Need-mask-bound-requires
 mask-bound-requires c κs = let r = lent 2 (c .before .before .before .before .before .before .before .before .before .before .before .before .before .before .before .args .sheet .now) (c .before .before .before .load .ensures) (c .before .reading .given .1) .ranged in (r .ring-high, r .drown-high)

@@ -6,9 +6,9 @@ use Rattle.call.specs.Call.{Public}
 use Rattle.commitment.specs.Commitment.{PublicKeys}
 use Rattle.round_parts.specs.Orders.{roundOf}
 use Rattle.lengths.proofs.OverSheet.{cut, lent-keyed}
-use Rattle.verification_calls.proofs.Given.{check-restated}
-use Rattle.verification_calls.proofs.parted.check.Statement.{statement}
-use Rattle.verification_calls.proofs.parted.check.Tie as tie
+use Rattle.checker_calls.proofs.Given.{check-restated}
+use Rattle.checker_calls.proofs.parted.check.Statement.{statement}
+use Rattle.checker_calls.proofs.parted.check.Tie as tie
 
 check-requires : tie.Need-check-requires
 check-requires c κs =

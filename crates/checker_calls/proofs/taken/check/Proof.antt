@@ -1,4 +1,4 @@
--- `check` meets its contract. Assumes nothing.
+-- `taken::check` meets its contract. Assumes nothing.
 use mathlib.Core.Path.{refl, sym, _∙_}
 use native.Mathlib.Omega.{arith}
 use borrow.Author.Needs.{needs}
@@ -7,9 +7,9 @@ use Rattle.transcript.specs.Method.{parameters}
 use Rattle.round_parts.specs.Orders.{roundOf}
 use Rattle.lengths.proofs.Swept.{later-round, swept-alike}
 use Rattle.lengths.proofs.Sizes.{check-lengths}
-use Rattle.verification.proofs.Tested.{check-many, check-message, check-second, check-rest}
-use Rattle.verification.proofs.check.Statement.{statement}
-use Rattle.verification.proofs.check.Tie as tie
+use Rattle.checker_calls.proofs.Tested.{check-many, check-message, check-second, check-rest}
+use Rattle.checker_calls.proofs.taken.check.Statement.{statement}
+use Rattle.checker_calls.proofs.taken.check.Tie as tie
 
 returns : tie.Need-returns
 returns c = (check-many _ _ _ (c .before .before .count-of .ensures) (c .refused .ensures) (omega arith), (refl, refl))
