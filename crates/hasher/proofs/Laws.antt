@@ -1,7 +1,7 @@
 -- What a hasher has taken in: parts of a message are as the whole of it, and the digest is that of the whole. Assumes nothing.
 use mathlib.Core.Path.{_≡_, refl, sym, ap, ap₂, _∙_}
 use Prim.Native.Nat.{ℕ, _+_, _%_}
-use mathlib.Core.List.{[], _++_, append-assoc}
+use mathlib.Core.List.{[], _++_}
 use native.Mathlib.Omega.{arith}
 use lib.ListN.{length, length-append}
 use Rattle.codec.specs.Bytes.{Bytes}

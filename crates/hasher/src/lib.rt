@@ -1,10 +1,11 @@
-// SHA3-256 of a message that comes in parts: a hasher by value, and the same lent in place.
+// SHA3-256 of a message that comes in parts: a hasher by value, and the same lent in place. The proofs of `make`, `state`, `update` and
+// `hash_parts` are walks by hand: the first two are all that reaches into a hasher's state, and the others lend a hasher by `&mut`.
 ghost use mathlib.Core.Path.{_≡_};
 ghost use mathlib.Core.List.{[], _++_};
 ghost use Rattle.sha3.specs.Sponge.{sha3};
 ghost use Rattle.hasher.specs.Hasher.{made, holding, updated, finished};
 
-// The sponge's state, and the place in its block of the next byte.
+// The sponge's state, and the place of the next byte in its block.
 pub struct Hasher {
     pub state: [[u64; 5]; 5],
     pub place: usize,
@@ -35,7 +36,7 @@ impl Hasher {
         make(sha3::start(), 0)
     }
 
-    // The hasher that takes in the bytes too.
+    // The hasher after the bytes too.
     pub fn absorbed(self, bytes: &[u8]) -> Hasher
         ensures { λ r. ⌜ r ≡ updated self (now (bytes .entry)) ⌝ }
     {
@@ -44,7 +45,7 @@ impl Hasher {
         make(next, sha3::advance(at, bytes.len()))
     }
 
-    // The same in place: the hasher is lent.
+    // Takes in the bytes, in place.
     pub fn update(&mut self, bytes: &[u8])
         ensures { λ _. ⌜ now (self .exit) ≡ updated (now (self .entry)) (now (bytes .entry)) ⌝ }
     {
@@ -59,7 +60,7 @@ impl Hasher {
     }
 }
 
-// SHA3-256 of four strings end to end.
+// SHA3-256 of four strings end to end. Its contract says nothing of a hasher, so its callers need no walk by hand.
 pub fn hash_parts(a: &[u8], b: &[u8], c: &[u8], d: &[u8]) -> [u8; 32]
     ensures { λ r. ⌜ r ≡ sha3 (now (a .entry) ++ (now (b .entry) ++ (now (c .entry) ++ now (d .entry)))) ⌝ }
 {

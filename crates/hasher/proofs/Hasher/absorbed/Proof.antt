@@ -1,9 +1,8 @@
 -- `Hasher::absorbed` meets its contract. Assumes nothing.
-use mathlib.Core.Path.{_≡_, _∙_, ap, ap₂}
-use Prim.Native.Nat.{_+_, _%_}
+use mathlib.Core.Path.{_∙_, ap, ap₂}
+use Prim.Native.Nat.{_%_}
 use native.Mathlib.Omega.{arith}
 use borrow.Author.Needs.{needs}
-use lib.ListN.{length}
 use Rattle.keccak.specs.Keccak.{State}
 use Rattle.sha3.specs.Sponge.{absorb}
 use Rattle.hasher.specs.Hasher.{made, updated}
