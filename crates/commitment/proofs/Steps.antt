@@ -6,15 +6,15 @@ use Prim.Native.Nat.{ℕ, _+_, _-_, _*_, _%_, _^_, _≤_, _<_}
 use native.Mathlib.Nat.{mod-lt}
 use native.Mathlib.Omega.{arith}
 use lib.ListN.{length, take, drop, getD}
-use Rattle.codec.specs.Bytes.{Bytes, Octets, part, put, zeros}
+use Rattle.codec.specs.Bytes.{Bytes, Octets, part, put}
 use Rattle.modular.proofs.Congruence.{same-eq, same-mod, _then_}
 use Rattle.ring.specs.Poly.{Poly, plus, mul, zero-poly, modulo, Alike, Below}
 use Rattle.ring.specs.Slots.{poly, slot, encode, store, Slots}
-use Rattle.ring.proofs.Bridge.{encode-alike, poly-part, store-alike, after-multiply, length-multiplied, slot-multiplied, slot-beside}
-use Rattle.ring.proofs.Polynomials.{plus-comm, plus-assoc, plus-left-comm, mul-poly-comm, alike-eq, alike-plus, alike-mul}
+use Rattle.ring.proofs.Bridge.{poly-part, store-alike, after-multiply, length-multiplied, slot-multiplied, slot-beside}
+use Rattle.ring.proofs.Polynomials.{plus-comm, plus-assoc, plus-left-comm, mul-poly-comm, alike-plus, alike-mul}
 use Rattle.call.specs.Call.{Public}
-use Rattle.call.proofs.Shelf.{Shelf, place, place-length, shelf-below, shelf-alike, shelf-slots, shelf-put, shelf-store, shelf-add, shelf-copy-slot, shelf-behind, shelf-multiply, shelf-none, shelf-next}
-use Rattle.commitment.specs.Commitment.{Keys, Three, keysOf, threeAt, row, second, committed, PublicKeys, PairStands, withProduct}
+use Rattle.call.proofs.Shelf.{Shelf, place, place-length, shelf-below, shelf-alike, shelf-slots, shelf-store, shelf-add, shelf-copy-slot, shelf-multiply, shelf-none, shelf-next}
+use Rattle.commitment.specs.Commitment.{keysOf, threeAt, row, second, committed, PublicKeys, PairStands, withProduct}
 
 -- a lent part of the keys
 pub key-alike : (q n : ℕ) (k a : Bytes) (at : ℕ) → a ≡ part k at (8 * n) → Alike q n (poly a) (slot k at)

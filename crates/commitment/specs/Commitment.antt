@@ -1,4 +1,4 @@
--- The commitment to a polynomial m with three short polynomials and three public ones (document 01, "Ring and scheme"; document 000, section 5.4), with N and q as
+-- The commitment to a polynomial m with three short polynomials and three public ones (document 01, "Ring and scheme"), with N and q as
 -- parameters. Assumes nothing.
 use mathlib.Core.Path.{_≡_}
 use mathlib.Core.Bool.{Bool}

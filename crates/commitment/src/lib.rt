@@ -1,12 +1,10 @@
-// The commitment to a polynomial (document 01, "Ring and scheme"; document 000, section 5.4), worked out in the slots of scratch: specs/Commitment.antt, with its laws in
+// The commitment to a polynomial (document 01, "Ring and scheme"), worked out in the slots of scratch: specs/Commitment.antt, with its laws in
 // proofs/Additive.antt and proofs/Opening.antt.
 ghost use mathlib.Core.Path.{_≡_};
-ghost use Prim.Native.Nat.{_+_, _*_, _≤_, _<_, _^_};
+ghost use Prim.Native.Nat.{_+_, _*_, _≤_};
 ghost use lib.ListN.{length};
-ghost use Rattle.codec.specs.Bytes.{part, put};
 ghost use Rattle.ring.specs.Poly.{Below};
-ghost use Rattle.ring.specs.Slots.{poly, slot, encode, Slots};
-ghost use Rattle.ring.specs.Ternary.{ternary};
+ghost use Rattle.ring.specs.Slots.{poly, slot, Slots};
 ghost use Rattle.call.specs.Call.{scratchLength, Public};
 ghost use Rattle.commitment.specs.Commitment.{keysOf, threeOf, threeAt, committed, opens, PublicKeys, PairStands, withProduct, withThree};
 
