@@ -14,7 +14,7 @@ use Rattle.ring.specs.Slots.{poly, slot, encode}
 use Rattle.ring.specs.Ternary.{ternary}
 use Rattle.ring.proofs.Bridge.{length-encode, encode-alike}
 use Rattle.ring.proofs.Ranges.{below-ternary}
-use Rattle.call.specs.Call.{Public}
+use Rattle.call.specs.Call.{Polynomial}
 use Rattle.call.proofs.Shelf.{Shelf, shelf-below, shelf-alike, shelf-load, shelf-copy, shelf-none}
 use Rattle.commitment.specs.Commitment.{Keys, Three, Alike3, threeOf, threeAt, committed, pairBytes, opens, PairStands, withThree}
 use Rattle.commitment.proofs.Additive.{row-alike, second-alike}
@@ -55,7 +55,7 @@ module _ (q n : ℕ) (high : n ≤ 2048) (positive : 0 < q) (few : q < 2 ^ 56) w
 
   -- ---- from lent bytes
 
-  module _ (w w1 w2 m r : Bytes) (long : length w ≡ 1048576) (octets : Octets m) (lent : Public n q m) (e1 : w1 ≡ withThree n w (threeOf q n r)) (e2 : w2 ≡ put w1 49152 m) where
+  module _ (w w1 w2 m r : Bytes) (long : length w ≡ 1048576) (octets : Octets m) (lent : Polynomial n q m) (e1 : w1 ≡ withThree n w (threeOf q n r)) (e2 : w2 ≡ put w1 49152 m) where
     three : Shelf q n (threeOf q n r .r1 ∷ threeOf q n r .r2 ∷ threeOf q n r .r3 ∷ []) w1
     unfolding withThree
     three =

@@ -27,17 +27,17 @@ equation-pair-requires-2 c κs =
 absorb-pair-requires-2 : tie.Need-absorb-pair-requires-2
 absorb-pair-requires-2 c κs =
     let p = c .before .before .before .before .before .before .before .before .before .before .before .before .before .before .before .before .before .before .before .before .before .pre in
-    let h = p .0 .0 .one .high in
+    let h = p .0 .0 .one .ring-high in
     (omega (arith, c .before .before .before .before .before .advance2 .ensures), omega (arith, c .before .before .before .equation-pair2 .ensures .sized, c .before .before .before .before .before .before .before .before .before .before .equation-pair .ensures .sized, p .0 .1))
 
 mul-advance-2 : tie.Need-mul-advance-2
-mul-advance-2 c = let h = c .before .before .before .before .before .before .before .before .before .before .before .before .before .before .before .before .before .before .before .before .before .before .pre .0 .0 .one .high in omega arith
+mul-advance-2 c = let h = c .before .before .before .before .before .before .before .before .before .before .before .before .before .before .before .before .before .before .before .before .before .before .pre .0 .0 .one .ring-high in omega arith
 
 returns : tie.Need-returns
 returns c =
     let a = c .before .before .before .before .before .before .before .before .before .before .before .before .before .before .before .before .before .before .before .before .before .before .before .before .args in
     let p = c .before .before .before .before .before .before .before .before .before .before .before .before .before .before .before .before .before .before .before .before .before .before .before .before .pre in
-    let t = p .0 .0 .one .some in
+    let t = p .0 .0 .one .modulus-low in
     let z : 0 < a .q = omega arith in
     let k = keysOf (a .n) (a .k .now) in
     let u = equationPair (a .q) (a .n) k (a .c .now) (a .less) (a .x .now) (2 * a .n) 0 0 in
