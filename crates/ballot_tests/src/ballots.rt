@@ -10,7 +10,7 @@ ghost use Rattle.codec.specs.Bytes.{part, same};
 ghost use Rattle.codec.specs.Reply.{test, first};
 ghost use Rattle.ring.specs.Poly.{Below};
 ghost use Rattle.ring.specs.Slots.{poly, slot, list};
-ghost use Rattle.call.specs.Call.{scratchLength, Public};
+ghost use Rattle.call.specs.Call.{scratchLength, Polynomial};
 ghost use Rattle.bgv.specs.Scheme.{worked, within, reconstructed};
 ghost use Rattle.transcript.specs.Layout.{each, uAt, vAt, shareAt, claimAt};
 ghost use Rattle.transcript.specs.Method.{Batch, Shares};
@@ -30,7 +30,7 @@ fn test_ballot(
     n: usize,
     q: u64,
 ) -> Reply
-    requires { ⌜ Public n q (now s) × Public n q (now u) × Public n q (now v) × Public n q (now t0) × Public n q (now t1) × Public n q (now t) × (q % 2 ≡ 1) × (length (now work) ≡ scratchLength) × (length (now claim) ≡ n) ⌝ }
+    requires { ⌜ Polynomial n q (now s) × Polynomial n q (now u) × Polynomial n q (now v) × Polynomial n q (now t0) × Polynomial n q (now t1) × Polynomial n q (now t) × (q % 2 ≡ 1) × (length (now work) ≡ scratchLength) × (length (now claim) ≡ n) ⌝ }
     ensures { λ reply. ⌜ reply ≡ first (test 12 place (not (within bound n (worked q n 2 (poly (now (s .entry))) (poly (now (u .entry))) (poly (now (t .entry)))))) ∷ test 13 place (not (same (now (claim .entry)) (list n (reconstructed q 2 (poly (now (v .entry))) (poly (now (t0 .entry))) (poly (now (t1 .entry))))))) ∷ []) ⌝ }
     ensures { λ _. ⌜ length (now (work .exit)) ≡ length (now (work .entry)) ⌝ }
 {
@@ -60,7 +60,7 @@ fn test_at(
     n: usize,
     q: u64,
 ) -> Reply
-    requires { ⌜ Public n q (now s) × (q % 2 ≡ 1) × (length (now work) ≡ scratchLength) × (at + 4 + 16 * n ≤ length (now ballots)) × (claim + n ≤ length (now claims)) × (share + 8 * n ≤ length (now shares0)) × (share + 8 * n ≤ length (now shares1)) × (share + 8 * n ≤ length (now opened)) ⌝ }
+    requires { ⌜ Polynomial n q (now s) × (q % 2 ≡ 1) × (length (now work) ≡ scratchLength) × (at + 4 + 16 * n ≤ length (now ballots)) × (claim + n ≤ length (now claims)) × (share + 8 * n ≤ length (now shares0)) × (share + 8 * n ≤ length (now shares1)) × (share + 8 * n ≤ length (now opened)) ⌝ }
     requires { ⌜ Below q (2 * n) (slot (now ballots) (at + 4)) × Below q n (slot (now shares0) share) × Below q n (slot (now shares1) share) × Below q n (slot (now opened) share) ⌝ }
     ensures { λ reply. ⌜ reply ≡ first (test 12 place (not (within bound n (worked q n 2 (poly (now (s .entry))) (slot (now (ballots .entry)) (at + 4)) (slot (now (opened .entry)) share)))) ∷ test 13 place (not (same (part (now (claims .entry)) claim n) (list n (reconstructed q 2 (slot (now (ballots .entry)) (at + 4 + 8 * n)) (slot (now (shares0 .entry)) share) (slot (now (shares1 .entry)) share))))) ∷ []) ⌝ }
     ensures { λ _. ⌜ length (now (work .exit)) ≡ length (now (work .entry)) ⌝ }
@@ -96,7 +96,7 @@ pub fn test_ballots(
     n: usize,
     q: u64,
 ) -> Reply
-    requires { ⌜ Public n q (now s) × (q % 2 ≡ 1) × (length (now work) ≡ scratchLength) × (count ≤ 4096) × Batch q n count (now ballots) (now claims) × Shares q n count (now shares0) × Shares q n count (now shares1) × Shares q n count (now opened) ⌝ }
+    requires { ⌜ Polynomial n q (now s) × (q % 2 ≡ 1) × (length (now work) ≡ scratchLength) × (count ≤ 4096) × Batch q n count (now ballots) (now claims) × Shares q n count (now shares0) × Shares q n count (now shares1) × Shares q n count (now opened) ⌝ }
     ensures { λ reply. ⌜ reply ≡ first (each count (λ j. test 12 j (not (within bound n (worked q n 2 (poly (now (s .entry))) (uAt n (now (ballots .entry)) j) (shareAt n (now (opened .entry)) j)))) ∷ test 13 j (not (same (claimAt n (now (claims .entry)) j) (list n (reconstructed q 2 (vAt n (now (ballots .entry)) j) (shareAt n (now (shares0 .entry)) j) (shareAt n (now (shares1 .entry)) j))))) ∷ [])) ⌝ }
     ensures { λ _. ⌜ length (now (work .exit)) ≡ length (now (work .entry)) ⌝ }
 {

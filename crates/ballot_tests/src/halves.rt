@@ -6,13 +6,13 @@ ghost use lib.ListN.{length};
 ghost use Rattle.codec.specs.Bytes.{part, same};
 ghost use Rattle.ring.specs.Poly.{plus, modulo, Below};
 ghost use Rattle.ring.specs.Slots.{poly, slot, list, encode};
-ghost use Rattle.call.specs.Call.{scratchLength, Public};
+ghost use Rattle.call.specs.Call.{scratchLength, Polynomial};
 ghost use Rattle.bgv.specs.Scheme.{key, plain, rebuilt};
 ghost use Rattle.commitment.specs.Commitment.{keysOf, threeOf, opens, PublicKeys};
 
 // Whether two lent halves of the key add to b.
 pub fn adds(work: &mut [u8], b0: &[u8], b1: &[u8], b: &[u8], n: usize, q: u64) -> bool
-    requires { ⌜ Public n q (now b0) × Public n q (now b1) × Public n q (now b) × (length (now work) ≡ scratchLength) ⌝ }
+    requires { ⌜ Polynomial n q (now b0) × Polynomial n q (now b1) × Polynomial n q (now b) × (length (now work) ≡ scratchLength) ⌝ }
     ensures { λ r. ⌜ r ≡ same (encode n (modulo q (plus (poly (now (b0 .entry))) (poly (now (b1 .entry)))))) (encode n (modulo q (poly (now (b .entry))))) ⌝ }
     ensures { λ _. ⌜ length (now (work .exit)) ≡ length (now (work .entry)) ⌝ }
 {
@@ -23,7 +23,7 @@ pub fn adds(work: &mut [u8], b0: &[u8], b1: &[u8], b: &[u8], n: usize, q: u64) -
 
 // Whether a lent half of the key is a s + 2 e.
 pub fn is_key(work: &mut [u8], a: &[u8], half: &[u8], s: &[u8], e: &[u8], n: usize, q: u64) -> bool
-    requires { ⌜ Public n q (now a) × Public n q (now s) × Public n q (now e) × (length (now work) ≡ scratchLength) ⌝ }
+    requires { ⌜ Polynomial n q (now a) × Polynomial n q (now s) × Polynomial n q (now e) × (length (now work) ≡ scratchLength) ⌝ }
     ensures { λ r. ⌜ r ≡ same (now (half .entry)) (encode n (modulo q (key q n 2 (poly (now (a .entry))) (poly (now (s .entry))) (poly (now (e .entry)))))) ⌝ }
     ensures { λ _. ⌜ length (now (work .exit)) ≡ length (now (work .entry)) ⌝ }
 {
@@ -57,7 +57,7 @@ pub fn is_claim(
     n: usize,
     q: u64,
 ) -> bool
-    requires { ⌜ Public n q (now v) × Public n q (now t0) × Public n q (now t1) × (length (now work) ≡ scratchLength) × (length (now claim) ≡ n) ⌝ }
+    requires { ⌜ Polynomial n q (now v) × Polynomial n q (now t0) × Polynomial n q (now t1) × (length (now work) ≡ scratchLength) × (length (now claim) ≡ n) ⌝ }
     ensures { λ r. ⌜ r ≡ same (now (claim .entry)) (list n (plain q 2 (rebuilt q (poly (now (v .entry))) (poly (now (t0 .entry))) (poly (now (t1 .entry)))))) ⌝ }
     ensures { λ _. ⌜ length (now (work .exit)) ≡ length (now (work .entry)) ⌝ }
 {
@@ -78,7 +78,7 @@ pub fn opens_pairs(
     n: usize,
     q: u64,
 ) -> bool
-    requires { ⌜ PublicKeys n q (now k) × Public n q (now s) × Public n q (now e) × (length (now rs) ≡ 3 * n) × (length (now re) ≡ 3 * n) × (length (now work) ≡ scratchLength) × (length (now first) ≡ 16 * n) × (length (now second) ≡ 16 * n) ⌝ }
+    requires { ⌜ PublicKeys n q (now k) × Polynomial n q (now s) × Polynomial n q (now e) × (length (now rs) ≡ 3 * n) × (length (now re) ≡ 3 * n) × (length (now work) ≡ scratchLength) × (length (now first) ≡ 16 * n) × (length (now second) ≡ 16 * n) ⌝ }
     ensures { λ r. ⌜ r ≡ (opens q n (keysOf n (now (k .entry))) (now (first .entry)) (threeOf q n (now (rs .entry))) (poly (now (s .entry))) && opens q n (keysOf n (now (k .entry))) (now (second .entry)) (threeOf q n (now (re .entry))) (poly (now (e .entry)))) ⌝ }
     ensures { λ _. ⌜ length (now (work .exit)) ≡ length (now (work .entry)) ⌝ }
 {

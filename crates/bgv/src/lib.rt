@@ -9,7 +9,7 @@ ghost use Rattle.modular.specs.Division.{divide};
 ghost use Rattle.ring.specs.Poly.{plus, minus, mul, modulo, Below};
 ghost use Rattle.ring.specs.Slots.{poly, slot, list, encode, allBelow};
 ghost use Rattle.ring.specs.Ternary.{ternary};
-ghost use Rattle.call.specs.Call.{scratchLength, coefficients, Public, Stands};
+ghost use Rattle.call.specs.Call.{scratchLength, coefficients, Polynomial, Stands};
 ghost use Rattle.bgv.specs.Scheme as scheme;
 ghost use Rattle.bgv.specs.Scheme.{lentMask, within};
 
@@ -19,7 +19,7 @@ const ROOM: usize = 32768;
 
 // a x + 2 y, for x at 0 and y at ERROR.
 pub fn combine(work: &mut [u8], a: &[u8], n: usize, q: u64)
-    requires { ⌜ Public n q (now a) × (length (now work) ≡ scratchLength) ⌝ }
+    requires { ⌜ Polynomial n q (now a) × (length (now work) ≡ scratchLength) ⌝ }
     requires { ⌜ Below q n (slot (now work) 0) × Below q n (slot (now work) 16384) ⌝ }
     ensures { λ _. ⌜ Stands q n (scheme.noisy q n 2 (poly (now (a .entry))) (slot (now (work .entry)) 0) (slot (now (work .entry)) 16384)) (now (work .entry)) (now (work .exit)) ⌝ }
 {
@@ -30,7 +30,7 @@ pub fn combine(work: &mut [u8], a: &[u8], n: usize, q: u64)
 
 // a x + 2 y, for ternary bytes x and y.
 pub fn noisy(work: &mut [u8], a: &[u8], x: &[u8], y: &[u8], n: usize, q: u64)
-    requires { ⌜ Public n q (now a) × (length (now work) ≡ scratchLength) × (length (now x) ≡ n) × (length (now y) ≡ n) ⌝ }
+    requires { ⌜ Polynomial n q (now a) × (length (now work) ≡ scratchLength) × (length (now x) ≡ n) × (length (now y) ≡ n) ⌝ }
     ensures { λ _. ⌜ Stands q n (scheme.noisy q n 2 (poly (now (a .entry))) (ternary q (now (x .entry))) (ternary q (now (y .entry)))) (now (work .entry)) (now (work .exit)) ⌝ }
 {
     ring::load_ternary(work, 0, x, q);
@@ -40,7 +40,7 @@ pub fn noisy(work: &mut [u8], a: &[u8], x: &[u8], y: &[u8], n: usize, q: u64)
 
 // a x + 2 y, for lent polynomials x and y.
 pub fn noisy_lent(work: &mut [u8], a: &[u8], x: &[u8], y: &[u8], n: usize, q: u64)
-    requires { ⌜ Public n q (now a) × Public n q (now x) × Public n q (now y) × (length (now work) ≡ scratchLength) ⌝ }
+    requires { ⌜ Polynomial n q (now a) × Polynomial n q (now x) × Polynomial n q (now y) × (length (now work) ≡ scratchLength) ⌝ }
     ensures { λ _. ⌜ Stands q n (scheme.noisy q n 2 (poly (now (a .entry))) (poly (now (x .entry))) (poly (now (y .entry)))) (now (work .entry)) (now (work .exit)) ⌝ }
 {
     codec::copy(work, 0, x);
@@ -93,7 +93,7 @@ pub fn add_message(work: &mut [u8], m: &[u8], n: usize, q: u64)
 
 // x - x0 in the slot at a place, for ternary bytes x and a lent polynomial x0.
 pub fn difference(work: &mut [u8], at: usize, x: &[u8], x0: &[u8], n: usize, q: u64)
-    requires { ⌜ Public n q (now x0) × (length (now work) ≡ scratchLength) × (length (now x) ≡ n) × (at ≤ 16384) ⌝ }
+    requires { ⌜ Polynomial n q (now x0) × (length (now work) ≡ scratchLength) × (length (now x) ≡ n) × (at ≤ 16384) ⌝ }
     ensures { λ _. ⌜ now (work .exit) ≡ put (now (work .entry)) at (encode n (modulo q (scheme.other q (ternary q (now (x .entry))) (poly (now (x0 .entry)))))) ⌝ }
 {
     ring::load_ternary(work, at, x, q);
@@ -111,7 +111,7 @@ pub fn noisy_difference(
     n: usize,
     q: u64,
 )
-    requires { ⌜ Public n q (now a) × Public n q (now x0) × Public n q (now y0) × (length (now work) ≡ scratchLength) × (length (now x) ≡ n) × (length (now y) ≡ n) ⌝ }
+    requires { ⌜ Polynomial n q (now a) × Polynomial n q (now x0) × Polynomial n q (now y0) × (length (now work) ≡ scratchLength) × (length (now x) ≡ n) × (length (now y) ≡ n) ⌝ }
     ensures { λ _. ⌜ Stands q n (scheme.noisy q n 2 (poly (now (a .entry))) (scheme.other q (ternary q (now (x .entry))) (poly (now (x0 .entry)))) (scheme.other q (ternary q (now (y .entry))) (poly (now (y0 .entry))))) (now (work .entry)) (now (work .exit)) ⌝ }
 {
     difference(work, 0, x, x0, n, q);
@@ -121,7 +121,7 @@ pub fn noisy_difference(
 
 // v - x u, for x at 0.
 fn less_product(work: &mut [u8], u: &[u8], v: &[u8], n: usize, q: u64)
-    requires { ⌜ Public n q (now u) × Public n q (now v) × (length (now work) ≡ scratchLength) × Below q n (slot (now work) 0) ⌝ }
+    requires { ⌜ Polynomial n q (now u) × Polynomial n q (now v) × (length (now work) ≡ scratchLength) × Below q n (slot (now work) 0) ⌝ }
     ensures { λ _. ⌜ Stands q n (minus q (poly (now (v .entry))) (mul q n (slot (now (work .entry)) 0) (poly (now (u .entry))))) (now (work .entry)) (now (work .exit)) ⌝ }
 {
     ring::multiply(work, 0, ROOM, u, n, q);
@@ -131,7 +131,7 @@ fn less_product(work: &mut [u8], u: &[u8], v: &[u8], n: usize, q: u64)
 
 // v - s u, for ternary bytes s.
 pub fn opened(work: &mut [u8], s: &[u8], u: &[u8], v: &[u8], n: usize, q: u64)
-    requires { ⌜ Public n q (now u) × Public n q (now v) × (length (now work) ≡ scratchLength) × (length (now s) ≡ n) ⌝ }
+    requires { ⌜ Polynomial n q (now u) × Polynomial n q (now v) × (length (now work) ≡ scratchLength) × (length (now s) ≡ n) ⌝ }
     ensures { λ _. ⌜ Stands q n (scheme.opened q n (ternary q (now (s .entry))) (poly (now (u .entry))) (poly (now (v .entry)))) (now (work .entry)) (now (work .exit)) ⌝ }
 {
     ring::load_ternary(work, 0, s, q);
@@ -140,7 +140,7 @@ pub fn opened(work: &mut [u8], s: &[u8], u: &[u8], v: &[u8], n: usize, q: u64)
 
 // v - t0 - t1.
 pub fn rebuilt(work: &mut [u8], v: &[u8], t0: &[u8], t1: &[u8], n: usize, q: u64)
-    requires { ⌜ Public n q (now v) × Public n q (now t0) × Public n q (now t1) × (length (now work) ≡ scratchLength) ⌝ }
+    requires { ⌜ Polynomial n q (now v) × Polynomial n q (now t0) × Polynomial n q (now t1) × (length (now work) ≡ scratchLength) ⌝ }
     ensures { λ _. ⌜ Stands q n (scheme.rebuilt q (poly (now (v .entry))) (poly (now (t0 .entry))) (poly (now (t1 .entry)))) (now (work .entry)) (now (work .exit)) ⌝ }
 {
     codec::copy(work, 0, v);
@@ -187,7 +187,7 @@ pub fn load_mask(work: &mut [u8], mask: &[u8], n: usize, q: u64)
 
 // s u + 2 E, for a lent mask E.
 pub fn share(work: &mut [u8], s: &[u8], u: &[u8], mask: &[u8], n: usize, q: u64)
-    requires { ⌜ Public n q (now s) × Public n q (now u) × (length (now mask) ≡ 8 * n) × (length (now work) ≡ scratchLength) ⌝ }
+    requires { ⌜ Polynomial n q (now s) × Polynomial n q (now u) × (length (now mask) ≡ 8 * n) × (length (now work) ≡ scratchLength) ⌝ }
     ensures { λ _. ⌜ Stands q n (scheme.share q n 2 (poly (now (s .entry))) (poly (now (u .entry))) (lentMask (now (mask .entry)))) (now (work .entry)) (now (work .exit)) ⌝ }
 {
     codec::copy(work, 0, s);
@@ -223,7 +223,7 @@ pub fn mask_within(
     n: usize,
     q: u64,
 ) -> bool
-    requires { ⌜ Public n q (now half) × Public n q (now u) × Public n q (now t) × (length (now work) ≡ scratchLength) × (q % 2 ≡ 1) ⌝ }
+    requires { ⌜ Polynomial n q (now half) × Polynomial n q (now u) × Polynomial n q (now t) × (length (now work) ≡ scratchLength) × (q % 2 ≡ 1) ⌝ }
     ensures { λ r. ⌜ r ≡ within bound n (scheme.worked q n 2 (poly (now (half .entry))) (poly (now (u .entry))) (poly (now (t .entry)))) ⌝ }
     ensures { λ _. ⌜ length (now (work .exit)) ≡ length (now (work .entry)) ⌝ }
 {

@@ -17,7 +17,7 @@ use Rattle.sheet.specs.declared.Reading.{Reading}
 use Rattle.sheet.specs.declared.Reading.the-variants.{Taken, Refused}
 use Rattle.sheet_numbers.proofs.Ranges.{InRange}
 use Rattle.sheet.proofs.Taken.{onwards, order-first, taken}
-use Rattle.call.specs.Call.{coefficients, swept, Public, Used}
+use Rattle.call.specs.Call.{coefficients, swept, Polynomial, Used}
 use Rattle.call.proofs.Sheets.{put-room, lent-public, lent-alike}
 use Rattle.call.proofs.Sweeping.{swept-used}
 
@@ -27,7 +27,7 @@ pub record Lent (p : ℕ) (text public : Bytes) (k : Numbers) : Type 0 where
   pub numbers : sheetOf text .numbers ≡ k
   pub ranged : InRange k
   pub sized : length public ≡ 81920
-  pub polynomial : (i from long : ℕ) → i < 5 → from ≡ 8 * k .ring * i → long ≡ 8 * k .ring → Public (k .ring) (k .modulus) (take long (drop from public))
+  pub polynomial : (i from long : ℕ) → i < 5 → from ≡ 8 * k .ring * i → long ≡ 8 * k .ring → Polynomial (k .ring) (k .modulus) (take long (drop from public))
   pub alike : (i from long : ℕ) → i < 5 → from ≡ 8 * k .ring * i → long ≡ 8 * k .ring → Alike (k .modulus) (k .ring) (poly (take long (drop from public))) (coefficients (getD (lists (sheetOf text)) i []))
 
 -- that is so after `sheet::load` into zeros

@@ -12,7 +12,7 @@ use Rattle.ring.specs.Poly.{Alike}
 use Rattle.ring.specs.Slots.{poly, slot, list, allBelow}
 use Rattle.ring.proofs.Bridge.{poly-part, slot-later, slot-poly}
 use Rattle.ring.proofs.Ranges.{below-sound}
-use Rattle.call.specs.Call.{Public}
+use Rattle.call.specs.Call.{Polynomial}
 
 -- 8n bytes are n coefficients
 eighth : (n l : ℕ) → l ≡ 8 * n → n ≡ l / 8
@@ -22,8 +22,8 @@ pub whole-range : (q n : ℕ) (s : Bytes) {b : Bool} → length s ≡ 8 * n → 
 whole-range q n s l e = e ∙ ap (λ (k : ℕ). allBelow q (list k (poly s))) (sym (eighth n (length s) l))
 
 module _ (n q : ℕ) (low : 4 ≤ n) (high : n ≤ 2048) (some : 3 ≤ q) (few : q < 2 ^ 56) (s : Bytes) where
-  pub ranged : length s ≡ 8 * n → allBelow q (list n (poly s)) ≡ true → Public n q s
-  ranged l e = record { low = low; high = high; some = some; few = few; sized = l; below = below-sound q n (poly s) e }
+  pub ranged : length s ≡ 8 * n → allBelow q (list n (poly s)) ≡ true → Polynomial n q s
+  ranged l e = record { ring-low = low; ring-high = high; modulus-low = some; modulus-high = few; sized = l; below = below-sound q n (poly s) e }
 
   -- one of the two polynomials of 16n bytes: the first from 0 on, the second from 8n
   module _ (l : length s ≡ 16 * n) (e : allBelow q (list (2 * n) (poly s)) ≡ true) (m from long : ℕ) (place : from ≡ 8 * m) (h : m + n ≤ 2 * n) (g : long ≡ 8 * n) where
@@ -39,12 +39,12 @@ module _ (n q : ℕ) (low : 4 ≤ n) (high : n ≤ 2048) (some : 3 ≤ q) (few :
     pub half-alike : Alike q n (poly (take long (drop from s))) (slot s from)
     half-alike = record { at = λ k j. same-eq (half-reads k j) }
 
-    pub half-public : Public n q (take long (drop from s))
+    pub half-public : Polynomial n q (take long (drop from s))
     half-public = record {
-      low = low;
-      high = high;
-      some = some;
-      few = few;
+      ring-low = low;
+      ring-high = high;
+      modulus-low = some;
+      modulus-high = few;
       sized = ap length halved ∙ length-part s from (8 * n) ends;
       below = record { at = λ k j. rw (half-reads k j ∙ ap (λ (x : ℕ). slot s x k) (place ∙ sym (zero-add (8 * m))) ∙ slot-later s 0 m k ∙ slot-poly s (m + k)) (below-sound q (2 * n) (poly s) e .at (m + k) (omega arith)) };
     }

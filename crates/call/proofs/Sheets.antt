@@ -16,8 +16,8 @@ use Rattle.sheet.specs.Reader.{sheetOf}
 use Rattle.sheet.specs.Sheet.{reading, lists, joined, polynomials}
 use Rattle.sheet_numbers.specs.declared.Numbers.{Numbers}
 use Rattle.sheet.specs.declared.Reading.the-variants.{Taken}
-use Rattle.sheet.proofs.Taken.{Polynomial, AllPolynomials, taken, lists-taken}
-use Rattle.call.specs.Call.{coefficients, Public}
+use Rattle.sheet.proofs.Taken.{Coefficients, AllCoefficients, taken, lists-taken}
+use Rattle.call.specs.Call.{coefficients, Polynomial}
 
 -- a list of coefficients in bytes
 words-are : (n : ℕ) (xs : List ℕ) → length xs ≡ n → words xs ≡ encode n (coefficients xs)
@@ -29,12 +29,12 @@ length-listed n xs l = ap length (words-are n xs l) ∙ length-encode n (coeffic
 
 -- lists one after the other
 module _ (n q : ℕ) where
-  length-joined : (ls : List (List ℕ)) → AllPolynomials n q ls → length (joined ls) ≡ 8 * n * length ls
+  length-joined : (ls : List (List ℕ)) → AllCoefficients n q ls → length (joined ls) ≡ 8 * n * length ls
   unfolding joined
   length-joined [] a = sym (mul-zero (8 * n))
   length-joined (l ∷ ls) a = simp length-append (omega (arith, length-listed n l (a .0 .count), length-joined ls (a .1), mul-suc (8 * n) (length ls)))
 
-  joined-at : (ls : List (List ℕ)) → AllPolynomials n q ls → (i : ℕ) → i < length ls → part (joined ls) (8 * n * i) (8 * n) ≡ words (getD ls i [])
+  joined-at : (ls : List (List ℕ)) → AllCoefficients n q ls → (i : ℕ) → i < length ls → part (joined ls) (8 * n * i) (8 * n) ≡ words (getD ls i [])
   unfolding joined
   joined-at [] a i h = absurd (omega arith)
   joined-at (l ∷ ls) a zero h = ap (λ (k : ℕ). part (words l ++ joined ls) k (8 * n)) (mul-zero (8 * n)) ∙ take-at (words l) (joined ls) (8 * n) (length-listed n l (a .0 .count))
@@ -42,7 +42,7 @@ module _ (n q : ℕ) where
       ap (λ (k : ℕ). part (words l ++ joined ls) k (8 * n)) (mul-suc (8 * n) i ∙ add-comm (8 * n * i) (8 * n) ∙ ap (λ (k : ℕ). k + 8 * n * i) (sym (length-listed n l (a .0 .count))))
       ∙ ap (take (8 * n)) (drop-append-add (words l) (joined ls) (8 * n * i)) ∙ joined-at ls (a .1) i (omega arith)
 
-  polynomial-at : (ls : List (List ℕ)) → AllPolynomials n q ls → (i : ℕ) → i < length ls → Polynomial n q (getD ls i [])
+  polynomial-at : (ls : List (List ℕ)) → AllCoefficients n q ls → (i : ℕ) → i < length ls → Coefficients n q (getD ls i [])
   polynomial-at [] a i h = absurd (omega arith)
   polynomial-at (l ∷ ls) a zero h = a .0
   polynomial-at (l ∷ ls) a (suc i) h = polynomial-at ls (a .1) i (omega arith)
@@ -56,7 +56,7 @@ module _ (p : ℕ) (text : Bytes) (k : Numbers) (e : reading p text ≡ Taken k)
   abbrev ls : List (List ℕ)
   ls = lists (sheetOf text)
 
-  all : AllPolynomials n (k .modulus) ls
+  all : AllCoefficients n (k .modulus) ls
   all = lists-taken p text e
 
   high : n ≤ 2048
@@ -88,14 +88,14 @@ module _ (p : ℕ) (text : Bytes) (k : Numbers) (e : reading p text ≡ Taken k)
     pub lent-alike : Alike (k .modulus) n (poly a) (coefficients (getD ls i []))
     lent-alike = record { at = λ j l. same-eq (read j l) }
 
-    pub lent-public : Public n (k .modulus) a
+    pub lent-public : Polynomial n (k .modulus) a
     lent-public =
         let r = taken p text e .ranged in
         record {
-          low = r .ring-low;
-          high = r .ring-high;
-          some = r .modulus-low;
-          few = r .modulus-high;
+          ring-low = r .ring-low;
+          ring-high = r .ring-high;
+          modulus-low = r .modulus-low;
+          modulus-high = r .modulus-high;
           sized = ap length (is ∙ part-is) ∙ length-encode n (coefficients (getD ls i []));
           below = record { at = λ j l. rw (read j l) (polynomial-at n (k .modulus) ls all i h .below j) };
         }

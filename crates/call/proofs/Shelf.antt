@@ -9,10 +9,10 @@ use native.Mathlib.Omega.{arith}
 use lib.ListN.{length, getD, length-replicate}
 use Rattle.codec.specs.Bytes.{Bytes, Octets, part, put, zeros}
 use Rattle.codec.proofs.Laws.{length-put, length-part, part-put, put-part, part-put-before, part-put-after, octets-part}
-use Rattle.ring.specs.Poly.{Poly, plus, minus, mul, modulo, zero-poly, Alike, Below}
+use Rattle.ring.specs.Poly.{Poly, plus, mul, modulo, zero-poly, Alike, Below}
 use Rattle.ring.specs.Slots.{poly, slot, encode, store, Slots}
 use Rattle.ring.proofs.Bridge.{length-encode, poly-encode, encode-cong, encode-alike, encode-poly, poly-part}
-use Rattle.ring.proofs.Polynomials.{alike-refl, _so_, alike-plus, alike-minus, alike-mul, alike-modulo}
+use Rattle.ring.proofs.Polynomials.{alike-plus, alike-mul}
 
 -- the polynomials fs modulo q stand in the first slots, in bytes
 pub record Shelf (q n : ℕ) (fs : List Poly) (w : Bytes) : Type 0 where
@@ -134,9 +134,6 @@ module _ (q n : ℕ) (high : n ≤ 2048) (positive : 0 < q) (few : q < 2 ^ 56) w
     module _ {w' : Bytes} (j : ℕ) (h : j < length fs) (g : j < 64) where
       pub shelf-add : (a b : Poly) → Alike q n a b → w' ≡ store q n w (16384 * j) (plus (slot w (16384 * j)) a) → Shelf q n (place fs j (plus (getD fs j zero-poly) b)) w'
       shelf-add a b x e = shelf-store j (omega arith) g _ _ (alike-plus (shelf-alike s j h) x) e
-
-      pub shelf-subtract : (a b : Poly) → Alike q n a b → w' ≡ store q n w (16384 * j) (minus q (slot w (16384 * j)) a) → Shelf q n (place fs j (minus q (getD fs j zero-poly) b)) w'
-      shelf-subtract a b x e = shelf-store j (omega arith) g _ _ (alike-minus (shelf-alike s j h) x) e
 
     -- what stands in one slot copied into another
     pub shelf-copy-slot : {w' : Bytes} (j i : ℕ) → j ≤ length fs → j < 64 → i < length fs → w' ≡ put w (16384 * j) (encode n (slot w (16384 * i))) → Shelf q n (place fs j (getD fs i zero-poly)) w'

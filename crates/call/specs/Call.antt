@@ -41,18 +41,18 @@ abbrev pub coefficientsBelow : (q n : ℕ) → List Bytes → Bool
 coefficientsBelow q n [] = true
 coefficientsBelow q n (s ∷ ss) = allBelow q (list n (poly s)) && coefficientsBelow q n ss
 
--- ---- the sheet's polynomials
+-- ---- polynomials
 
 -- the polynomial of a list of coefficients
 abbrev pub coefficients : List ℕ → Poly
 coefficients xs i = getD xs i 0
 
--- what a call's inner part is given: a ring size, a modulus, and a polynomial of the sheet in 8n bytes
-pub record Public (n q : ℕ) (a : Bytes) : Type 0 where
-  pub low : 4 ≤ n
-  pub high : n ≤ 2048
-  pub some : 3 ≤ q
-  pub few : q < 2 ^ 56
+-- what a call's inner part is given: a ring size, a modulus, and a polynomial in 8n bytes, the sheet's or a secret one
+pub record Polynomial (n q : ℕ) (a : Bytes) : Type 0 where
+  pub ring-low : 4 ≤ n
+  pub ring-high : n ≤ 2048
+  pub modulus-low : 3 ≤ q
+  pub modulus-high : q < 2 ^ 56
   pub sized : length a ≡ 8 * n
   pub below : Below q n (poly a)
 

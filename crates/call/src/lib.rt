@@ -7,11 +7,8 @@ ghost use lib.ListN.{length};
 ghost use Rattle.codec.specs.Bytes.{part, put, same};
 ghost use Rattle.call.specs.Call.{bytesBelow, coefficientsBelow, swept};
 
-// The length of scratch, for every call that is lent one: 64 slots.
+// The length of scratch, for every call that is lent one: 64 slots of 16,384 bytes, each with room for a polynomial of 2048 coefficients.
 pub const SCRATCH: usize = 1048576;
-
-// The length of a slot: room for a polynomial of 2048 coefficients.
-pub const SLOT: usize = 16384;
 
 // Whether lengths are those that are wanted. A call with fewer slices fills up with zeros.
 pub fn sized(lengths: [usize; 6], wanted: [usize; 6]) -> bool

@@ -14,7 +14,7 @@ ghost use Prim.Native.Nat.{_*_, _%_, _≤_};
 ghost use lib.ListN.{length};
 ghost use Rattle.codec.specs.Reply.{first};
 ghost use Rattle.ring.specs.Slots.{poly, slot};
-ghost use Rattle.call.specs.Call.{scratchLength, Public};
+ghost use Rattle.call.specs.Call.{scratchLength, Polynomial};
 ghost use Rattle.commitment.specs.Commitment.{keysOf, PublicKeys};
 ghost use Rattle.transcript.specs.Layout.{ballotLength, answersLength};
 ghost use Rattle.transcript.specs.Round.{Lengths, ranged, roundTests};
@@ -164,7 +164,7 @@ fn check_ranged(
     n: usize,
     q: u64,
 ) -> Reply
-    requires { ⌜ Public n q (now a) × Public n q (now b) × PublicKeys n q (now k) × (q % 2 ≡ 1) × (length (now work) ≡ scratchLength) × (count ≤ 4096) × (repeats ≤ 256) × RoundInRange q n count repeats (roundOf side (now challenges) (now ballots) (now claims) (now head) (now shares0) (now shares1) (now opening) (now answers)) ⌝ }
+    requires { ⌜ Polynomial n q (now a) × Polynomial n q (now b) × PublicKeys n q (now k) × (q % 2 ≡ 1) × (length (now work) ≡ scratchLength) × (count ≤ 4096) × (repeats ≤ 256) × RoundInRange q n count repeats (roundOf side (now challenges) (now ballots) (now claims) (now head) (now shares0) (now shares1) (now opening) (now answers)) ⌝ }
     ensures { λ reply. ⌜ reply ≡ first (laterTests q n bound count repeats (poly (now (a .entry))) (poly (now (b .entry))) (keysOf n (now (k .entry))) (roundOf side (now (challenges .entry)) (now (ballots .entry)) (now (claims .entry)) (now (head .entry)) (now (shares0 .entry)) (now (shares1 .entry)) (now (opening .entry)) (now (answers .entry)))) ⌝ }
     ensures { λ _. ⌜ length (now (work .exit)) ≡ length (now (work .entry)) ⌝ }
 {
@@ -216,7 +216,7 @@ pub fn check_round(
     n: usize,
     q: u64,
 ) -> Reply
-    requires { ⌜ Public n q (now a) × Public n q (now b) × PublicKeys n q (now k) × (q % 2 ≡ 1) × (length (now work) ≡ scratchLength) × (count ≤ 4096) × (repeats ≤ 256) ⌝ }
+    requires { ⌜ Polynomial n q (now a) × Polynomial n q (now b) × PublicKeys n q (now k) × (q % 2 ≡ 1) × (length (now work) ≡ scratchLength) × (count ≤ 4096) × (repeats ≤ 256) ⌝ }
     requires { ⌜ Lengths (parameters 2 n q bound repeats (now a) (now b) (now k)) count (roundOf side (now challenges) (now ballots) (now claims) (now head) (now shares0) (now shares1) (now opening) (now answers)) ⌝ }
     ensures { λ reply. ⌜ reply ≡ first (roundTests (parameters 2 n q bound repeats (now (a .entry)) (now (b .entry)) (now (k .entry))) count (roundOf side (now (challenges .entry)) (now (ballots .entry)) (now (claims .entry)) (now (head .entry)) (now (shares0 .entry)) (now (shares1 .entry)) (now (opening .entry)) (now (answers .entry)))) ⌝ }
     ensures { λ _. ⌜ length (now (work .exit)) ≡ length (now (work .entry)) ⌝ }

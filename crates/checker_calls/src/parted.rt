@@ -6,7 +6,7 @@ ghost use Prim.Native.Nat.{_*_, _%_, _≤_};
 ghost use lib.ListN.{length};
 ghost use Rattle.codec.specs.Bytes.{part};
 ghost use Rattle.codec.specs.Reply.{first};
-ghost use Rattle.call.specs.Call.{Public, swept};
+ghost use Rattle.call.specs.Call.{Polynomial, swept};
 ghost use Rattle.commitment.specs.Commitment.{PublicKeys};
 ghost use Rattle.transcript.specs.Method.{parameters};
 ghost use Rattle.round_parts.specs.Orders.{roundOf};
@@ -30,7 +30,7 @@ pub fn check(
     n: usize,
     q: u64,
 ) -> Reply
-    requires { ⌜ Public n q (part (now public) 0 (8 * n)) × Public n q (part (now public) (8 * n) (8 * n)) × PublicKeys n q (part (now public) (16 * n) (24 * n)) × (q % 2 ≡ 1) × (repeats ≤ 256) × (40 * n ≤ length (now public)) ⌝ }
+    requires { ⌜ Polynomial n q (part (now public) 0 (8 * n)) × Polynomial n q (part (now public) (8 * n) (8 * n)) × PublicKeys n q (part (now public) (16 * n) (24 * n)) × (q % 2 ≡ 1) × (repeats ≤ 256) × (40 * n ≤ length (now public)) ⌝ }
     ensures { λ reply. ⌜ reply ≡ first (checkTests (parameters 2 n q bound repeats (part (now (public .entry)) 0 (8 * n)) (part (now (public .entry)) (8 * n) (8 * n)) (part (now (public .entry)) (16 * n) (24 * n))) (roundOf side (now (challenges .entry)) (now (ballots .entry)) (now (claims .entry)) (now (head .entry)) (now (shares0 .entry)) (now (shares1 .entry)) (now (opening .entry)) (now (answers .entry))) (now (scratch .entry))) ⌝ }
     ensures { λ reply. ⌜ swept reply (now (scratch .exit)) ≡ swept reply (now (scratch .entry)) ⌝ }
 {

@@ -7,15 +7,15 @@ use lib.ListN.{length}
 use Rattle.codec.specs.Bytes.{Bytes, part}
 use Rattle.codec.specs.Reply.{Test, test}
 use Rattle.sheet_numbers.specs.declared.Numbers.{Numbers}
-use Rattle.call.specs.Call.{Public}
+use Rattle.call.specs.Call.{Polynomial}
 use Rattle.commitment.specs.Commitment.{PublicKeys}
 use Rattle.lengths.specs.Calls.{messageSized, secondSized}
 use Rattle.checking.specs.Check.{Stored, Inputs, storedTests}
 
 -- a sheet that was taken with the numbers k, and the bytes that its polynomials were put into
 pub record Loaded (k : Numbers) (public : Bytes) : Type 0 where
-  pub a : Public (k .ring) (k .modulus) (part public 0 (8 * k .ring))
-  pub b : Public (k .ring) (k .modulus) (part public (8 * k .ring) (8 * k .ring))
+  pub a : Polynomial (k .ring) (k .modulus) (part public 0 (8 * k .ring))
+  pub b : Polynomial (k .ring) (k .modulus) (part public (8 * k .ring) (8 * k .ring))
   pub keys : PublicKeys (k .ring) (k .modulus) (part public (16 * k .ring) (24 * k .ring))
   pub odd : k .modulus % 2 ≡ 1
   pub drown-high : k .drown ≤ 40

@@ -1,7 +1,7 @@
 -- The three r and m are loaded, and the pair is compared: what stands in scratch before and after the pair is worked out. Assumes nothing.
 use mathlib.Core.Path.{_≡_, refl, sym, ap, ap₂, _∙_}
 use mathlib.Core.Bool.{Bool, true, false, _&&_}
-use mathlib.Core.List.{List, [], _∷_, _++_}
+use mathlib.Core.List.{[], _∷_, _++_}
 use Prim.Native.Nat.{ℕ, _+_, _-_, _*_, _^_, _≤_, _<_}
 use native.Mathlib.Nat.{zero-add}
 use native.Mathlib.Omega.{arith}
@@ -9,14 +9,14 @@ use lib.ListN.{length, take, drop}
 use lib.Seq.{take-all}
 use Rattle.codec.specs.Bytes.{Bytes, Octets, part, put, same}
 use Rattle.codec.proofs.Laws.{length-part, part-append}
-use Rattle.ring.specs.Poly.{Poly, modulo, Alike, Below}
+use Rattle.ring.specs.Poly.{Poly, Below}
 use Rattle.ring.specs.Slots.{poly, slot, encode}
 use Rattle.ring.specs.Ternary.{ternary}
 use Rattle.ring.proofs.Bridge.{length-encode, encode-alike}
 use Rattle.ring.proofs.Ranges.{below-ternary}
-use Rattle.call.specs.Call.{Public}
+use Rattle.call.specs.Call.{Polynomial}
 use Rattle.call.proofs.Shelf.{Shelf, shelf-below, shelf-alike, shelf-load, shelf-copy, shelf-none}
-use Rattle.commitment.specs.Commitment.{Keys, Three, Pair, Alike3, threeOf, threeAt, row, second, committed, pairBytes, opens, PairStands, withThree}
+use Rattle.commitment.specs.Commitment.{Keys, Three, Alike3, threeOf, threeAt, committed, pairBytes, opens, PairStands, withThree}
 use Rattle.commitment.proofs.Additive.{row-alike, second-alike}
 
 -- a lent part of ternary bytes, loaded
@@ -55,7 +55,7 @@ module _ (q n : ℕ) (high : n ≤ 2048) (positive : 0 < q) (few : q < 2 ^ 56) w
 
   -- ---- from lent bytes
 
-  module _ (w w1 w2 m r : Bytes) (long : length w ≡ 1048576) (octets : Octets m) (lent : Public n q m) (e1 : w1 ≡ withThree n w (threeOf q n r)) (e2 : w2 ≡ put w1 49152 m) where
+  module _ (w w1 w2 m r : Bytes) (long : length w ≡ 1048576) (octets : Octets m) (lent : Polynomial n q m) (e1 : w1 ≡ withThree n w (threeOf q n r)) (e2 : w2 ≡ put w1 49152 m) where
     three : Shelf q n (threeOf q n r .r1 ∷ threeOf q n r .r2 ∷ threeOf q n r .r3 ∷ []) w1
     unfolding withThree
     three =

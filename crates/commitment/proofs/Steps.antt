@@ -6,15 +6,15 @@ use Prim.Native.Nat.{ℕ, _+_, _-_, _*_, _%_, _^_, _≤_, _<_}
 use native.Mathlib.Nat.{mod-lt}
 use native.Mathlib.Omega.{arith}
 use lib.ListN.{length, take, drop, getD}
-use Rattle.codec.specs.Bytes.{Bytes, Octets, part, put, zeros}
+use Rattle.codec.specs.Bytes.{Bytes, Octets, part, put}
 use Rattle.modular.proofs.Congruence.{same-eq, same-mod, _then_}
 use Rattle.ring.specs.Poly.{Poly, plus, mul, zero-poly, modulo, Alike, Below}
 use Rattle.ring.specs.Slots.{poly, slot, encode, store, Slots}
-use Rattle.ring.proofs.Bridge.{encode-alike, poly-part, store-alike, after-multiply, length-multiplied, slot-multiplied, slot-beside}
-use Rattle.ring.proofs.Polynomials.{plus-comm, plus-assoc, plus-left-comm, mul-poly-comm, alike-eq, alike-plus, alike-mul}
-use Rattle.call.specs.Call.{Public}
-use Rattle.call.proofs.Shelf.{Shelf, place, place-length, shelf-below, shelf-alike, shelf-slots, shelf-put, shelf-store, shelf-add, shelf-copy-slot, shelf-behind, shelf-multiply, shelf-none, shelf-next}
-use Rattle.commitment.specs.Commitment.{Keys, Three, keysOf, threeAt, row, second, committed, PublicKeys, PairStands, withProduct}
+use Rattle.ring.proofs.Bridge.{poly-part, store-alike, after-multiply, length-multiplied, slot-multiplied, slot-beside}
+use Rattle.ring.proofs.Polynomials.{plus-comm, plus-assoc, plus-left-comm, mul-poly-comm, alike-plus, alike-mul}
+use Rattle.call.specs.Call.{Polynomial}
+use Rattle.call.proofs.Shelf.{Shelf, place, place-length, shelf-below, shelf-alike, shelf-slots, shelf-store, shelf-add, shelf-copy-slot, shelf-multiply, shelf-none, shelf-next}
+use Rattle.commitment.specs.Commitment.{keysOf, threeAt, row, second, committed, PublicKeys, PairStands, withProduct}
 
 -- a lent part of the keys
 pub key-alike : (q n : ℕ) (k a : Bytes) (at : ℕ) → a ≡ part k at (8 * n) → Alike q n (poly a) (slot k at)
@@ -69,8 +69,8 @@ module _ (q n : ℕ) (high : n ≤ 2048) (positive : 0 < q) (few : q < 2 ^ 56) w
       shelf-store q n high positive few t j (omega (arith, place-length fs i (mul q n (getD fs i zero-poly) b) l)) (omega arith) _ _ (alike-plus (shelf-alike q n high positive few s j h) m) e
 
   -- what adding a product asks
-  pub product-asks : {fs : List Poly} {w : Bytes} → Shelf q n fs w → (j i : ℕ) → j < length fs → i < length fs → length fs ≤ 5 → (i < j) ⊎ (j < i) → (a : Bytes) → Public n q a
-      → Public n q a × (length w ≡ 1048576) × Slots n (16384 * j) (16384 * i) w × (16384 * j + 8 * n ≤ 81920) × (16384 * i + 8 * n ≤ 81920) × Below q n (slot w (16384 * j)) × Below q n (slot w (16384 * i))
+  pub product-asks : {fs : List Poly} {w : Bytes} → Shelf q n fs w → (j i : ℕ) → j < length fs → i < length fs → length fs ≤ 5 → (i < j) ⊎ (j < i) → (a : Bytes) → Polynomial n q a
+      → Polynomial n q a × (length w ≡ 1048576) × Slots n (16384 * j) (16384 * i) w × (16384 * j + 8 * n ≤ 81920) × (16384 * i + 8 * n ≤ 81920) × Below q n (slot w (16384 * j)) × Below q n (slot w (16384 * i))
   product-asks s j i h l five d a p = (
     p,
     s .long,
@@ -104,13 +104,13 @@ module _ (q n : ℕ) (high : n ≤ 2048) (positive : 0 < q) (few : q < 2 ^ 56) w
     is3 : k3 ≡ part k (16 * n) (8 * n)
     is3 = let e : 24 * n - 16 * n ≡ 8 * n = omega arith in ap (λ (x : ℕ). take x (drop (16 * n) k)) e
 
-    pub public1 : Public n q k1
+    pub public1 : Polynomial n q k1
     public1 = rw is1 (keys .one)
 
-    pub public2 : Public n q k2
+    pub public2 : Polynomial n q k2
     public2 = rw is2 (keys .two)
 
-    pub public3 : Public n q k3
+    pub public3 : Polynomial n q k3
     public3 = rw is3 (keys .three)
 
     abbrev r1 : Poly

@@ -1,4 +1,4 @@
--- The commitment to a polynomial m with three short polynomials and three public ones (document 01, "Ring and scheme"; document 000, section 5.4), with N and q as
+-- The commitment to a polynomial m with three short polynomials and three public ones (document 01, "Ring and scheme"), with N and q as
 -- parameters. Assumes nothing.
 use mathlib.Core.Path.{_≡_}
 use mathlib.Core.Bool.{Bool}
@@ -9,7 +9,7 @@ use Rattle.codec.specs.Bytes.{Bytes, part, put, zeros, same}
 use Rattle.ring.specs.Poly.{Poly, plus, minus, mul, modulo, Alike}
 use Rattle.ring.specs.Slots.{slot, encode, store}
 use Rattle.ring.specs.Ternary.{ternary}
-use Rattle.call.specs.Call.{Public}
+use Rattle.call.specs.Call.{Polynomial}
 
 -- the public k1, k2, k3
 pub record Keys : Type 0 where
@@ -79,9 +79,9 @@ opens q N k c r m = same c (pairBytes q N (committed q N k r m))
 -- the sheet's k1, k2, k3 in 24n bytes
 pub record PublicKeys (n q : ℕ) (k : Bytes) : Type 0 where
   pub sized : length k ≡ 24 * n
-  pub one : Public n q (part k 0 (8 * n))
-  pub two : Public n q (part k (8 * n) (8 * n))
-  pub three : Public n q (part k (16 * n) (8 * n))
+  pub one : Polynomial n q (part k 0 (8 * n))
+  pub two : Polynomial n q (part k (8 * n) (8 * n))
+  pub three : Polynomial n q (part k (16 * n) (8 * n))
 
 -- the slot at `to` with the product of a and what stands at `from` added; the product is left at `from`, and its room is zeroed
 unfoldable pub withProduct : (q n : ℕ) (w : Bytes) (to from : ℕ) → Poly → Bytes

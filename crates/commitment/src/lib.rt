@@ -1,13 +1,11 @@
-// The commitment to a polynomial (document 01, "Ring and scheme"; document 000, section 5.4), worked out in the slots of scratch: specs/Commitment.antt, with its laws in
+// The commitment to a polynomial (document 01, "Ring and scheme"), worked out in the slots of scratch: specs/Commitment.antt, with its laws in
 // proofs/Additive.antt and proofs/Opening.antt.
 ghost use mathlib.Core.Path.{_≡_};
-ghost use Prim.Native.Nat.{_+_, _*_, _≤_, _<_, _^_};
+ghost use Prim.Native.Nat.{_+_, _*_, _≤_};
 ghost use lib.ListN.{length};
-ghost use Rattle.codec.specs.Bytes.{part, put};
 ghost use Rattle.ring.specs.Poly.{Below};
-ghost use Rattle.ring.specs.Slots.{poly, slot, encode, Slots};
-ghost use Rattle.ring.specs.Ternary.{ternary};
-ghost use Rattle.call.specs.Call.{scratchLength, Public};
+ghost use Rattle.ring.specs.Slots.{poly, slot, Slots};
+ghost use Rattle.call.specs.Call.{scratchLength, Polynomial};
 ghost use Rattle.commitment.specs.Commitment.{keysOf, threeOf, threeAt, committed, opens, PublicKeys, PairStands, withProduct, withThree};
 
 const TWO: usize = 16384;
@@ -23,7 +21,7 @@ const ROOM: usize = 81920;
 
 // Adds the product of what stands in one slot with a lent polynomial to what stands in another.
 fn add_product(work: &mut [u8], to: usize, from: usize, a: &[u8], n: usize, q: u64)
-    requires { ⌜ Public n q (now a) × (length (now work) ≡ scratchLength) × Slots n to from (now work) × (to + 8 * n ≤ 81920) × (from + 8 * n ≤ 81920) × Below q n (slot (now work) to) × Below q n (slot (now work) from) ⌝ }
+    requires { ⌜ Polynomial n q (now a) × (length (now work) ≡ scratchLength) × Slots n to from (now work) × (to + 8 * n ≤ 81920) × (from + 8 * n ≤ 81920) × Below q n (slot (now work) to) × Below q n (slot (now work) from) ⌝ }
     ensures { λ _. ⌜ now (work .exit) ≡ withProduct q n (now (work .entry)) to from (poly (now (a .entry))) ⌝ }
 {
     ring::multiply(work, from, ROOM, a, n, q);
@@ -55,7 +53,7 @@ pub fn load_three(work: &mut [u8], r: &[u8], n: usize, q: u64)
 
 // The pair of a lent polynomial m and of the three r in ternary bytes.
 pub fn pair(work: &mut [u8], k: &[u8], m: &[u8], r: &[u8], n: usize, q: u64)
-    requires { ⌜ PublicKeys n q (now k) × Public n q (now m) × (length (now r) ≡ 3 * n) × (length (now work) ≡ scratchLength) ⌝ }
+    requires { ⌜ PublicKeys n q (now k) × Polynomial n q (now m) × (length (now r) ≡ 3 * n) × (length (now work) ≡ scratchLength) ⌝ }
     ensures { λ _. ⌜ PairStands q n (committed q n (keysOf n (now (k .entry))) (threeOf q n (now (r .entry))) (poly (now (m .entry)))) (now (work .entry)) (now (work .exit)) ⌝ }
 {
     load_three(work, r, n, q);
@@ -65,7 +63,7 @@ pub fn pair(work: &mut [u8], k: &[u8], m: &[u8], r: &[u8], n: usize, q: u64)
 
 // Whether a lent pair is that of m and the three r.
 pub fn opens(work: &mut [u8], k: &[u8], halves: &[u8], m: &[u8], r: &[u8], n: usize, q: u64) -> bool
-    requires { ⌜ PublicKeys n q (now k) × Public n q (now m) × (length (now r) ≡ 3 * n) × (length (now work) ≡ scratchLength) × (length (now halves) ≡ 16 * n) ⌝ }
+    requires { ⌜ PublicKeys n q (now k) × Polynomial n q (now m) × (length (now r) ≡ 3 * n) × (length (now work) ≡ scratchLength) × (length (now halves) ≡ 16 * n) ⌝ }
     ensures { λ yes. ⌜ yes ≡ opens q n (keysOf n (now (k .entry))) (now (halves .entry)) (threeOf q n (now (r .entry))) (poly (now (m .entry))) ⌝ }
     ensures { λ _. ⌜ length (now (work .exit)) ≡ length (now (work .entry)) ⌝ }
 {

@@ -4,7 +4,7 @@ ghost use mathlib.Core.Path.{_≡_};
 ghost use Prim.Native.Nat.{_*_, _≤_};
 ghost use lib.ListN.{length};
 ghost use Rattle.codec.specs.Reply.{first, leaves};
-ghost use Rattle.call.specs.Call.{scratchLength, Public, Used};
+ghost use Rattle.call.specs.Call.{scratchLength, Polynomial, Used};
 ghost use Rattle.commitment.specs.Commitment.{keysOf, PublicKeys};
 ghost use Rattle.scheme.specs.Calls.{commitmentTests, commitmentWrites};
 
@@ -33,7 +33,7 @@ fn commitment_tests(m: &[u8], r: &[u8], pair: &[u8], scratch: &[u8], n: usize, q
 
 // The work of `commitment`, for slices that passed its tests: the row stands at the head of scratch, the second half where m was put.
 fn write_pair(k: &[u8], m: &[u8], r: &[u8], pair: &mut [u8], scratch: &mut [u8], n: usize, q: u64)
-    requires { ⌜ PublicKeys n q (now k) × Public n q (now m) × (length (now r) ≡ 3 * n) × (length (now pair) ≡ 16 * n) × (length (now scratch) ≡ scratchLength) ⌝ }
+    requires { ⌜ PublicKeys n q (now k) × Polynomial n q (now m) × (length (now r) ≡ 3 * n) × (length (now pair) ≡ 16 * n) × (length (now scratch) ≡ scratchLength) ⌝ }
     ensures { λ _. ⌜ now (pair .exit) ≡ commitmentWrites q n (keysOf n (now (k .entry))) (now (m .entry)) (now (r .entry)) ⌝ }
     ensures { λ _. ⌜ length (now (scratch .exit)) ≡ length (now (scratch .entry)) ⌝ }
 {

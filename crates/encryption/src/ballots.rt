@@ -10,7 +10,7 @@ ghost use Rattle.codec.specs.Bytes.{part};
 ghost use Rattle.codec.specs.Reply.{first, leaves};
 ghost use Rattle.ring.specs.Poly.{Below};
 ghost use Rattle.ring.specs.Slots.{poly, list, allBelow};
-ghost use Rattle.call.specs.Call.{scratchLength, bytesBelow, coefficients, Public, Used};
+ghost use Rattle.call.specs.Call.{scratchLength, bytesBelow, coefficients, Polynomial, Used};
 ghost use Rattle.scheme.specs.Calls.{encryptTests, encryptWrites, decryptTests, decryptWrites};
 
 // r, e' and e'' are ternary, and m is a message.
@@ -77,7 +77,7 @@ fn write_ciphertext(
     n: usize,
     q: u64,
 )
-    requires { ⌜ Public n q (now a) × Public n q (now b) × (length (now r) ≡ n) × (length (now e1) ≡ n) × (length (now e2) ≡ n) × (length (now m) ≡ n) × Below q n (coefficients (now m)) × (length (now ciphertext) ≡ 16 * n) × (length (now scratch) ≡ scratchLength) ⌝ }
+    requires { ⌜ Polynomial n q (now a) × Polynomial n q (now b) × (length (now r) ≡ n) × (length (now e1) ≡ n) × (length (now e2) ≡ n) × (length (now m) ≡ n) × Below q n (coefficients (now m)) × (length (now ciphertext) ≡ 16 * n) × (length (now scratch) ≡ scratchLength) ⌝ }
     ensures { λ _. ⌜ now (ciphertext .exit) ≡ encryptWrites 2 q n (poly (now (a .entry))) (poly (now (b .entry))) (now (r .entry)) (now (e1 .entry)) (now (e2 .entry)) (now (m .entry)) ⌝ }
     ensures { λ _. ⌜ length (now (scratch .exit)) ≡ length (now (scratch .entry)) ⌝ }
 {
@@ -97,7 +97,7 @@ pub fn encrypt(
     n: usize,
     q: u64,
 ) -> Reply
-    requires { ⌜ (16 * n ≤ length (now public)) × Public n q (part (now public) 0 (8 * n)) × Public n q (part (now public) (8 * n) (8 * n)) ⌝ }
+    requires { ⌜ (16 * n ≤ length (now public)) × Polynomial n q (part (now public) 0 (8 * n)) × Polynomial n q (part (now public) (8 * n) (8 * n)) ⌝ }
     ensures { λ reply. ⌜ reply ≡ first (encryptTests 2 n (now (r .entry)) (now (e1 .entry)) (now (e2 .entry)) (now (m .entry)) (now (ciphertext .entry)) (now (scratch .entry))) ⌝ }
     ensures { λ reply. ⌜ now (ciphertext .exit) ≡ leaves reply (encryptWrites 2 q n (poly (part (now (public .entry)) 0 (8 * n))) (poly (part (now (public .entry)) (8 * n) (8 * n))) (now (r .entry)) (now (e1 .entry)) (now (e2 .entry)) (now (m .entry))) (now (ciphertext .entry)) ⌝ }
     ensures { λ reply. ⌜ Used reply (now (scratch .entry)) (now (scratch .exit)) ⌝ }

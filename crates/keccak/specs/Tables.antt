@@ -15,7 +15,7 @@ unfoldable pub register : ℕ → ℕ
 register zero = 1
 register (suc t) = let r = register t in reduce (r / 128) (r * 2 % 256)
 
--- rc(t), the lowest bit after t steps
+-- rc(t), the lowest bit after t steps. Algorithm 5 takes t mod 255 steps; the constants of 24 rounds ask for t up to 6 + 7 * 23 = 167, where t mod 255 is t
 unfoldable pub rc : ℕ → ℕ
 rc t = register t % 2
 

@@ -13,7 +13,7 @@ use Rattle.codec.proofs.Laws.{both}
 use Rattle.ring.specs.Poly.{Below}
 use Rattle.ring.specs.Slots.{poly, list, allBelow}
 use Rattle.ring.proofs.Ranges.{allBelow-sound}
-use Rattle.call.specs.Call.{bytesBelow, coefficientsBelow, Public}
+use Rattle.call.specs.Call.{bytesBelow, coefficientsBelow, Polynomial}
 use Rattle.call.proofs.Order.{length-at, passed}
 use Rattle.scheme.specs.Calls.{keygenTests, splitTests}
 use Rattle.scheme.proofs.Passed.{two-ranged}
@@ -28,7 +28,7 @@ module _ (n q : ℕ) where
 
   module _ (low : 4 ≤ n) (high : n ≤ 2048) (some : 3 ≤ q) (few : q < 2 ^ 56) where
     pub split-passed : (s e s0 e0 d w : Bytes) → (z : Reply) → z ≡ first (splitTests q n s e s0 e0 d w) → z ≡ Taken
-        → (Public n q s0 × Public n q e0) × (length s ≡ n) × (length e ≡ n) × (length d ≡ 32 * n) × (length w ≡ 1048576)
+        → (Polynomial n q s0 × Polynomial n q e0) × (length s ≡ n) × (length e ≡ n) × (length d ≡ 32 * n) × (length w ≡ 1048576)
     split-passed s e s0 e0 d w z i t =
         let xs : List ℕ = length s ∷ length e ∷ length s0 ∷ length e0 ∷ length d ∷ length w ∷ [] in
         let ys : List ℕ = n ∷ n ∷ 8 * n ∷ 8 * n ∷ 32 * n ∷ 1048576 ∷ [] in

@@ -9,7 +9,7 @@ ghost use Prim.Native.Nat.{_*_, _≤_};
 ghost use lib.ListN.{length};
 ghost use Rattle.codec.specs.Reply.{first, leaves};
 ghost use Rattle.ring.specs.Slots.{poly};
-ghost use Rattle.call.specs.Call.{scratchLength, bytesBelow, coefficientsBelow, Public, Used};
+ghost use Rattle.call.specs.Call.{scratchLength, bytesBelow, coefficientsBelow, Polynomial, Used};
 ghost use Rattle.scheme.specs.Calls.{keygenTests, keygenWrites, splitTests, splitWrites};
 
 // What `keygen` refuses, in order.
@@ -45,7 +45,7 @@ pub fn keygen(
     n: usize,
     q: u64,
 ) -> Reply
-    requires { ⌜ Public n q (now a) ⌝ }
+    requires { ⌜ Polynomial n q (now a) ⌝ }
     ensures { λ reply. ⌜ reply ≡ first (keygenTests n (now (s .entry)) (now (e .entry)) (now (b .entry)) (now (scratch .entry))) ⌝ }
     ensures { λ reply. ⌜ now (b .exit) ≡ leaves reply (keygenWrites 2 q n (poly (now (a .entry))) (now (s .entry)) (now (e .entry))) (now (b .entry)) ⌝ }
     ensures { λ reply. ⌜ Used reply (now (scratch .entry)) (now (scratch .exit)) ⌝ }
@@ -126,7 +126,7 @@ fn write_split(
     n: usize,
     q: u64,
 )
-    requires { ⌜ Public n q (now a) × Public n q (now s0) × Public n q (now e0) × (length (now s) ≡ n) × (length (now e) ≡ n) × (length (now out) ≡ 32 * n) × (length (now scratch) ≡ scratchLength) ⌝ }
+    requires { ⌜ Polynomial n q (now a) × Polynomial n q (now s0) × Polynomial n q (now e0) × (length (now s) ≡ n) × (length (now e) ≡ n) × (length (now out) ≡ 32 * n) × (length (now scratch) ≡ scratchLength) ⌝ }
     ensures { λ _. ⌜ now (out .exit) ≡ splitWrites 2 q n (poly (now (a .entry))) (now (s .entry)) (now (e .entry)) (now (s0 .entry)) (now (e0 .entry)) ⌝ }
     ensures { λ _. ⌜ length (now (scratch .exit)) ≡ length (now (scratch .entry)) ⌝ }
 {
@@ -148,7 +148,7 @@ pub fn split(
     n: usize,
     q: u64,
 ) -> Reply
-    requires { ⌜ Public n q (now a) ⌝ }
+    requires { ⌜ Polynomial n q (now a) ⌝ }
     ensures { λ reply. ⌜ reply ≡ first (splitTests q n (now (s .entry)) (now (e .entry)) (now (s0 .entry)) (now (e0 .entry)) (now (out .entry)) (now (scratch .entry))) ⌝ }
     ensures { λ reply. ⌜ now (out .exit) ≡ leaves reply (splitWrites 2 q n (poly (now (a .entry))) (now (s .entry)) (now (e .entry)) (now (s0 .entry)) (now (e0 .entry))) (now (out .entry)) ⌝ }
     ensures { λ reply. ⌜ Used reply (now (scratch .entry)) (now (scratch .exit)) ⌝ }

@@ -4,35 +4,11 @@ use mathlib.Core.Bool.{Bool}
 use mathlib.Core.List.{[]}
 use Prim.Native.Nat.{ℕ}
 use Rattle.codec.specs.Bytes.{Bytes}
-use Rattle.commitment.specs.Commitment.{Keys}
 use Rattle.transcript.specs.Round.{Parameters, ballotsRanged}
 use Rattle.transcript.specs.Method.{parameters}
 use Rattle.transcript.specs.Producer.{Material, Sized, materialRanged, producerTests}
 use Rattle.material.specs.Lent.{lent, Lengths}
 
--- with other keys
-abbrev pub keyed : Parameters → Keys → Parameters
-keyed P k = record { q = P .q; N = P .N; p = P .p; B = P .B; D = P .D; repeats = P .repeats; a = P .a; b = P .b; k = k }
-
--- with other salts
-abbrev pub salted : Material → Bytes → Material
-salted x salts = record {
-  secrets = x .secrets;
-  s0 = x .s0;
-  e0 = x .e0;
-  masks0 = x .masks0;
-  masks1 = x .masks1;
-  vectors = x .vectors;
-  permutations = x .permutations;
-  salts = salts;
-  ballots = x .ballots;
-}
-
-pub tests-unread : (P : Parameters) (k : Keys) (count : ℕ) (x : Material) (salts : Bytes) (asked : Bool) → producerTests (keyed P k) count (salted x salts) asked ≡ producerTests P count x asked
-unfolding producerTests materialRanged ballotsRanged
-tests-unread P k count x salts asked = refl
-
--- the same for the slices that are lent
 module _ (x : Material) where
   abbrev pub unsalted : Material
   unsalted = lent (x .secrets) (x .s0) (x .e0) (x .masks0) (x .masks1) (x .vectors) (x .permutations) (x .ballots)

@@ -12,7 +12,7 @@ use Rattle.codec.proofs.Replies.{taken-exactly}
 use Rattle.ring.specs.Poly.{Below}
 use Rattle.ring.specs.Slots.{list, allBelow}
 use Rattle.ring.proofs.Ranges.{below-sound}
-use Rattle.call.specs.Call.{Public}
+use Rattle.call.specs.Call.{Polynomial}
 use Rattle.call.proofs.Ranges.{ranged}
 use Rattle.vector.specs.Vector.{vector}
 use Rattle.vector.specs.Permutation.{entries, permutes}
@@ -28,8 +28,8 @@ use Rattle.material.proofs.Sequence.{all-below}
 
 pub record Usable (n q count repeats : ℕ) (x : Material) : Type 0 where
   pub secrets : allBelow 3 (x .secrets) ≡ true
-  pub s0 : Public n q (x .s0)
-  pub e0 : Public n q (x .e0)
+  pub s0 : Polynomial n q (x .s0)
+  pub e0 : Polynomial n q (x .e0)
   pub vectors : allBelow q (vector (x .vectors)) ≡ true
   pub ballots : (j : ℕ) → j < count → Below q (2 * n) (uAt n (x .ballots) j)
   pub permuting : (i : ℕ) → i < repeats → permutes (42 * n) (entries (part (x .permutations) (168 * n * i) (168 * n))) ≡ true
@@ -46,10 +46,10 @@ module _ (p n q B repeats : ℕ) (a b k : Bytes) (count : ℕ) (x : Material) (a
   pub none-refused : (asked ≡ true) × None (producerTests P count x true)
   none-refused = (in-range .0, taken-exactly (producerTests P count x true) .0 (ap (λ (t : Bool). first (producerTests P count x t)) (sym (in-range .0)) ∙ taken))
 
-  module _ (public : Public n q a) where
+  module _ (public : Polynomial n q a) where
     -- it matches b, and masks and noise are within their bounds
     pub fit : Fit P count x
-    fit = let l = public .some in let h = public .few in material-fit P count x (omega arith) (omega arith) (none-refused .1)
+    fit = let l = public .modulus-low in let h = public .modulus-high in material-fit P count x (omega arith) (omega arith) (none-refused .1)
 
     pub usable : Lengths n count repeats x → Usable n q count repeats x
     usable sized =
@@ -57,8 +57,8 @@ module _ (p n q B repeats : ℕ) (a b k : Bytes) (count : ℕ) (x : Material) (a
         let f = fit in
         record {
           secrets = r .0;
-          s0 = ranged n q (public .low) (public .high) (public .some) (public .few) (x .s0) (sized .s0) (r .1);
-          e0 = ranged n q (public .low) (public .high) (public .some) (public .few) (x .e0) (sized .e0) (r .2);
+          s0 = ranged n q (public .ring-low) (public .ring-high) (public .modulus-low) (public .modulus-high) (x .s0) (sized .s0) (r .1);
+          e0 = ranged n q (public .ring-low) (public .ring-high) (public .modulus-low) (public .modulus-high) (x .e0) (sized .e0) (r .2);
           vectors = r .3;
           ballots = λ j l. below-sound q (2 * n) (uAt n (x .ballots) j) (all-sound count (λ i. allBelow q (list (2 * n) (uAt n (x .ballots) i))) (r .4) j l);
           permuting = f .permuting;

@@ -13,7 +13,7 @@ ghost use Prim.Native.Nat.{_*_, _≤_, _<_, _^_};
 ghost use lib.ListN.{length};
 ghost use Rattle.codec.specs.Reply.{first, leaves};
 ghost use Rattle.sheet_numbers.specs.Bounds.{noise};
-ghost use Rattle.call.specs.Call.{scratchLength, Public};
+ghost use Rattle.call.specs.Call.{scratchLength, Polynomial};
 ghost use Rattle.transcript.specs.Layout.{ballotLength};
 ghost use Rattle.transcript.specs.Method.{parameters};
 ghost use Rattle.transcript.specs.Producer.{producerTests};
@@ -35,7 +35,7 @@ fn test_secret(
     n: usize,
     q: u64,
 ) -> Reply
-    requires { ⌜ Public n q (now a) × Public n q (now b) × (length (now work) ≡ scratchLength) × (count ≤ 4096) × (length (now secrets) ≡ 14 * n) × (length (now s0) ≡ 8 * n) × (length (now e0) ≡ 8 * n) × (length (now ballots) ≡ ballotLength n * count) ⌝ }
+    requires { ⌜ Polynomial n q (now a) × Polynomial n q (now b) × (length (now work) ≡ scratchLength) × (count ≤ 4096) × (length (now secrets) ≡ 14 * n) × (length (now s0) ≡ 8 * n) × (length (now e0) ≡ 8 * n) × (length (now ballots) ≡ ballotLength n * count) ⌝ }
     ensures { λ reply. ⌜ reply ≡ first (secretTests q n 2 count asked (now (a .entry)) (now (b .entry)) (now (secrets .entry)) (now (s0 .entry)) (now (e0 .entry)) (now (vectors .entry)) (now (ballots .entry))) ⌝ }
     ensures { λ _. ⌜ length (now (work .exit)) ≡ length (now (work .entry)) ⌝ }
 {
@@ -115,7 +115,7 @@ pub fn test_material(
     n: usize,
     q: u64,
 ) -> Reply
-    requires { ⌜ Public n q (now a) × Public n q (now b) × (length (now work) ≡ scratchLength) × (count ≤ 4096) × (repeats ≤ 256) × Lengths n count repeats (lent (now secrets) (now s0) (now e0) (now masks0) (now masks1) (now vectors) (now permutations) (now ballots)) ⌝ }
+    requires { ⌜ Polynomial n q (now a) × Polynomial n q (now b) × (length (now work) ≡ scratchLength) × (count ≤ 4096) × (repeats ≤ 256) × Lengths n count repeats (lent (now secrets) (now s0) (now e0) (now masks0) (now masks1) (now vectors) (now permutations) (now ballots)) ⌝ }
     ensures { λ reply. ⌜ reply ≡ first (producerTests (parameters 2 n q bound repeats (now (a .entry)) (now (b .entry)) []) count (lent (now (secrets .entry)) (now (s0 .entry)) (now (e0 .entry)) (now (masks0 .entry)) (now (masks1 .entry)) (now (vectors .entry)) (now (permutations .entry)) (now (ballots .entry))) asked) ⌝ }
     ensures { λ _. ⌜ length (now (work .exit)) ≡ length (now (work .entry)) ⌝ }
 {

@@ -9,7 +9,7 @@ ghost use Rattle.codec.specs.Reply.{first};
 ghost use Rattle.ring.specs.Poly.{Below};
 ghost use Rattle.ring.specs.Slots.{poly, slot};
 ghost use Rattle.ring.specs.Ternary.{ternary};
-ghost use Rattle.call.specs.Call.{scratchLength, Public};
+ghost use Rattle.call.specs.Call.{scratchLength, Polynomial};
 ghost use Rattle.bgv.specs.Scheme.{centred, opened, within};
 ghost use Rattle.transcript.specs.Layout.{ballotLength};
 ghost use Rattle.material.specs.Parts.{ballotsBelow, noiseTests};
@@ -32,7 +32,7 @@ fn head_within(work: &[u8], bound: u64, n: usize, q: u64) -> bool
 
 // Whether the noise of a ciphertext u, v is at most a bound.
 fn is_quiet(work: &mut [u8], s: &[u8], u: &[u8], v: &[u8], bound: u64, n: usize, q: u64) -> bool
-    requires { ⌜ Public n q (now u) × Public n q (now v) × (length (now work) ≡ scratchLength) × (length (now s) ≡ n) ⌝ }
+    requires { ⌜ Polynomial n q (now u) × Polynomial n q (now v) × (length (now work) ≡ scratchLength) × (length (now s) ≡ n) ⌝ }
     ensures { λ r. ⌜ r ≡ within bound n (centred q (opened q n (ternary q (now (s .entry))) (poly (now (u .entry))) (poly (now (v .entry))))) ⌝ }
     ensures { λ _. ⌜ length (now (work .exit)) ≡ length (now (work .entry)) ⌝ }
 {

@@ -8,7 +8,7 @@ ghost use lib.ListN.{length};
 ghost use Rattle.codec.specs.Bytes.{part, put};
 ghost use Rattle.ring.specs.Slots.{poly};
 ghost use Rattle.ring.specs.Ternary.{ternary};
-ghost use Rattle.call.specs.Call.{scratchLength, Public};
+ghost use Rattle.call.specs.Call.{scratchLength, Polynomial};
 ghost use Rattle.bgv.specs.Scheme.{key, other};
 ghost use Rattle.commitment.specs.Commitment.{PublicKeys};
 ghost use Rattle.scheme.specs.Calls.{written};
@@ -28,7 +28,7 @@ fn write_keys(
     n: usize,
     q: u64,
 )
-    requires { ⌜ Public n q (now a) × Public n q (now s0) × Public n q (now e0) × (length (now secrets) ≡ 14 * n) × (length (now work) ≡ scratchLength) × (16 * n ≤ length (now head)) ⌝ }
+    requires { ⌜ Polynomial n q (now a) × Polynomial n q (now s0) × Polynomial n q (now e0) × (length (now secrets) ≡ 14 * n) × (length (now work) ≡ scratchLength) × (16 * n ≤ length (now head)) ⌝ }
     ensures { λ _. ⌜ now (head .exit) ≡ put (now (head .entry)) 0 (written q n (key q n 2 (poly (now (a .entry))) (poly (now (s0 .entry))) (poly (now (e0 .entry)))) ++ written q n (key q n 2 (poly (now (a .entry))) (other q (ternary q (part (now (secrets .entry)) 0 n)) (poly (now (s0 .entry)))) (other q (ternary q (part (now (secrets .entry)) n n)) (poly (now (e0 .entry)))))) ⌝ }
     ensures { λ _. ⌜ length (now (work .exit)) ≡ length (now (work .entry)) ⌝ }
 {
@@ -63,7 +63,7 @@ pub fn write_head(
     n: usize,
     q: u64,
 )
-    requires { ⌜ Public n q (now a) × PublicKeys n q (now k) × Public n q (now s0) × Public n q (now e0) × (length (now work) ≡ scratchLength) × (repeats ≤ 256) × (length (now head) ≡ headLength n repeats) × Drawings q n repeats (now secrets) (now vectors) (now permutations) (now salts) ⌝ }
+    requires { ⌜ Polynomial n q (now a) × PublicKeys n q (now k) × Polynomial n q (now s0) × Polynomial n q (now e0) × (length (now work) ≡ scratchLength) × (repeats ≤ 256) × (length (now head) ≡ headLength n repeats) × Drawings q n repeats (now secrets) (now vectors) (now permutations) (now salts) ⌝ }
     ensures { λ _. ⌜ now (head .exit) ≡ producedHead (parameters 2 n q 0 repeats (now (a .entry)) [] (now (k .entry))) 0 (materialOf (now (secrets .entry)) (now (s0 .entry)) (now (e0 .entry)) [] [] (now (vectors .entry)) (now (permutations .entry)) (now (salts .entry)) []) ⌝ }
     ensures { λ _. ⌜ length (now (work .exit)) ≡ length (now (work .entry)) ⌝ }
 {

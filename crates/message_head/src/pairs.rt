@@ -6,7 +6,7 @@ ghost use lib.ListN.{length};
 ghost use Rattle.codec.specs.Bytes.{part, put};
 ghost use Rattle.ring.specs.Slots.{poly};
 ghost use Rattle.ring.specs.Ternary.{ternary};
-ghost use Rattle.call.specs.Call.{scratchLength, Public};
+ghost use Rattle.call.specs.Call.{scratchLength, Polynomial};
 ghost use Rattle.bgv.specs.Scheme.{other};
 ghost use Rattle.commitment.specs.Commitment.{keysOf, threeOf, committed, pairBytes, PublicKeys, PairStands};
 ghost use Rattle.transcript.specs.Method.{parameters};
@@ -32,7 +32,7 @@ fn lent_pair(
     n: usize,
     q: u64,
 )
-    requires { ⌜ PublicKeys n q (now k) × Public n q (now x0) × (length (now r) ≡ 3 * n) × (length (now work) ≡ scratchLength) × (at + 16 * n ≤ length (now out)) ⌝ }
+    requires { ⌜ PublicKeys n q (now k) × Polynomial n q (now x0) × (length (now r) ≡ 3 * n) × (length (now work) ≡ scratchLength) × (at + 16 * n ≤ length (now out)) ⌝ }
     ensures { λ _. ⌜ now (out .exit) ≡ put (now (out .entry)) at (pairBytes q n (committed q n (keysOf n (now (k .entry))) (threeOf q n (now (r .entry))) (poly (now (x0 .entry))))) ⌝ }
     ensures { λ _. ⌜ length (now (work .exit)) ≡ length (now (work .entry)) ⌝ }
 {
@@ -42,7 +42,7 @@ fn lent_pair(
 
 // The pair of x - x0, the other half, stands in scratch, for ternary bytes x.
 fn pair_difference(work: &mut [u8], k: &[u8], x: &[u8], x0: &[u8], r: &[u8], n: usize, q: u64)
-    requires { ⌜ PublicKeys n q (now k) × Public n q (now x0) × (length (now x) ≡ n) × (length (now r) ≡ 3 * n) × (length (now work) ≡ scratchLength) ⌝ }
+    requires { ⌜ PublicKeys n q (now k) × Polynomial n q (now x0) × (length (now x) ≡ n) × (length (now r) ≡ 3 * n) × (length (now work) ≡ scratchLength) ⌝ }
     ensures { λ _. ⌜ PairStands q n (committed q n (keysOf n (now (k .entry))) (threeOf q n (now (r .entry))) (other q (ternary q (now (x .entry))) (poly (now (x0 .entry))))) (now (work .entry)) (now (work .exit)) ⌝ }
 {
     commitment::load_three(work, r, n, q);
@@ -63,7 +63,7 @@ fn other_pair(
     n: usize,
     q: u64,
 )
-    requires { ⌜ PublicKeys n q (now k) × Public n q (now x0) × (length (now x) ≡ n) × (length (now r) ≡ 3 * n) × (length (now work) ≡ scratchLength) × (at + 16 * n ≤ length (now out)) ⌝ }
+    requires { ⌜ PublicKeys n q (now k) × Polynomial n q (now x0) × (length (now x) ≡ n) × (length (now r) ≡ 3 * n) × (length (now work) ≡ scratchLength) × (at + 16 * n ≤ length (now out)) ⌝ }
     ensures { λ _. ⌜ now (out .exit) ≡ put (now (out .entry)) at (pairBytes q n (committed q n (keysOf n (now (k .entry))) (threeOf q n (now (r .entry))) (other q (ternary q (now (x .entry))) (poly (now (x0 .entry)))))) ⌝ }
     ensures { λ _. ⌜ length (now (work .exit)) ≡ length (now (work .entry)) ⌝ }
 {
@@ -83,7 +83,7 @@ fn both_pairs(
     n: usize,
     q: u64,
 )
-    requires { ⌜ PublicKeys n q (now k) × Public n q (now x0) × (length (now x) ≡ n) × (length (now r) ≡ 6 * n) × (length (now work) ≡ scratchLength) × (at + 32 * n ≤ length (now out)) ⌝ }
+    requires { ⌜ PublicKeys n q (now k) × Polynomial n q (now x0) × (length (now x) ≡ n) × (length (now r) ≡ 6 * n) × (length (now work) ≡ scratchLength) × (at + 32 * n ≤ length (now out)) ⌝ }
     ensures { λ _. ⌜ now (out .exit) ≡ put (now (out .entry)) at (pairBytes q n (committed q n (keysOf n (now (k .entry))) (threeOf q n (part (now (r .entry)) 0 (3 * n))) (poly (now (x0 .entry)))) ++ pairBytes q n (committed q n (keysOf n (now (k .entry))) (threeOf q n (part (now (r .entry)) (3 * n) (3 * n))) (other q (ternary q (now (x .entry))) (poly (now (x0 .entry)))))) ⌝ }
     ensures { λ _. ⌜ length (now (work .exit)) ≡ length (now (work .entry)) ⌝ }
 {
@@ -103,7 +103,7 @@ pub fn write_pairs(
     n: usize,
     q: u64,
 )
-    requires { ⌜ PublicKeys n q (now k) × Public n q (now s0) × Public n q (now e0) × (length (now secrets) ≡ 14 * n) × (length (now work) ≡ scratchLength) × (80 * n ≤ length (now head)) ⌝ }
+    requires { ⌜ PublicKeys n q (now k) × Polynomial n q (now s0) × Polynomial n q (now e0) × (length (now secrets) ≡ 14 * n) × (length (now work) ≡ scratchLength) × (80 * n ≤ length (now head)) ⌝ }
     ensures { λ _. ⌜ now (head .exit) ≡ put (now (head .entry)) (16 * n) (producedPairs (parameters 2 n q 0 0 [] [] (now (k .entry))) 0 (materialOf (now (secrets .entry)) (now (s0 .entry)) (now (e0 .entry)) [] [] [] [] [] [])) ⌝ }
     ensures { λ _. ⌜ length (now (work .exit)) ≡ length (now (work .entry)) ⌝ }
 {

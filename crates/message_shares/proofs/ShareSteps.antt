@@ -14,7 +14,7 @@ use Rattle.ring.specs.Ternary.{ternary}
 use Rattle.ring.proofs.Bridge.{length-encode, encode-alike}
 use Rattle.ring.proofs.Polynomials.{plus-comm, alike-eq, alike-refl, _so_, alike-plus, alike-minus, alike-scale}
 use Rattle.ring.proofs.Ranges.{below-ternary}
-use Rattle.call.specs.Call.{Public, Stands}
+use Rattle.call.specs.Call.{Polynomial, Stands}
 use Rattle.call.proofs.Slots.{Holds, holds-below, holds-alike, holds-slot, stored, stored-length, stored-other, loaded, put-length, put-other, stands-alike, stands-stored}
 use Rattle.call.proofs.Loads.{Loaded, residues-load, loaded-asks}
 use Rattle.call.proofs.Shelf.{Shelf, shelf-none, shelf-load, shelf-copy, shelf-multiply, shelf-below}
@@ -24,32 +24,32 @@ use Rattle.message_shares.specs.Method.{TwoStand}
 
 -- ---- s u and s0 u
 
-module _ (q n : ℕ) (w w1 w2 s s0 u : Bytes) (half : Public n q s0) (octets : Octets s0) (size : length s ≡ n) (long : length w ≡ 1048576)
+module _ (q n : ℕ) (w w1 w2 s s0 u : Bytes) (half : Polynomial n q s0) (octets : Octets s0) (size : length s ≡ n) (long : length w ≡ 1048576)
     (e1 : w1 ≡ put w 0 (encode (length s) (ternary q s))) (e2 : w2 ≡ put w1 16384 s0) where
   positive : 0 < q
-  positive = let h = half .some in omega arith
+  positive = let h = half .modulus-low in omega arith
 
   held : Shelf q n (ternary q s ∷ poly s0 ∷ []) w2
   held =
-      let none = shelf-none q n (half .high) positive (half .few) long in
-      let one = shelf-load q n (half .high) positive (half .few) none 0 (omega arith) (omega arith) (ternary q s) (below-ternary q n s positive) (e1 ∙ ap (λ (k : ℕ). put w 0 (encode k (ternary q s))) size) in
-      shelf-copy q n (half .high) positive (half .few) one 1 (omega arith) (omega arith) s0 octets (half .sized) (half .below) e2
+      let none = shelf-none q n (half .ring-high) positive (half .modulus-high) long in
+      let one = shelf-load q n (half .ring-high) positive (half .modulus-high) none 0 (omega arith) (omega arith) (ternary q s) (below-ternary q n s positive) (e1 ∙ ap (λ (k : ℕ). put w 0 (encode k (ternary q s))) size) in
+      shelf-copy q n (half .ring-high) positive (half .modulus-high) one 1 (omega arith) (omega arith) s0 octets (half .sized) (half .below) e2
 
   pub first-asks : (65536 + 24 * n ≤ length w2) × Below q n (slot w2 0)
-  first-asks = (let h = half .high in omega (arith, held .long), shelf-below q n (half .high) positive (half .few) held 0 (omega arith))
+  first-asks = (let h = half .ring-high in omega (arith, held .long), shelf-below q n (half .ring-high) positive (half .modulus-high) held 0 (omega arith))
 
   module _ (w3 : Bytes) (e3 : w3 ≡ put (store q n w2 0 (mul q n (slot w2 0) (poly u))) 65536 (zeros (24 * n))) where
     once : Shelf q n (mul q n (ternary q s) (poly u) ∷ poly s0 ∷ []) w3
-    once = let h = half .high in shelf-multiply q n (half .high) positive (half .few) held 0 (omega arith) (omega arith) (poly u) (poly u) 65536 alike-refl (omega arith) (omega arith) e3
+    once = let h = half .ring-high in shelf-multiply q n (half .ring-high) positive (half .modulus-high) held 0 (omega arith) (omega arith) (poly u) (poly u) 65536 alike-refl (omega arith) (omega arith) e3
 
     pub second-asks : (65536 + 24 * n ≤ length w3) × Below q n (slot w3 16384)
-    second-asks = (let h = half .high in omega (arith, once .long), shelf-below q n (half .high) positive (half .few) once 1 (omega arith))
+    second-asks = (let h = half .ring-high in omega (arith, once .long), shelf-below q n (half .ring-high) positive (half .modulus-high) once 1 (omega arith))
 
     pub products-stand : (w4 : Bytes) → w4 ≡ put (store q n w3 16384 (mul q n (slot w3 16384) (poly u))) 65536 (zeros (24 * n))
         → TwoStand q n (mul q n (ternary q s) (poly u)) (mul q n (poly s0) (poly u)) w w4
     products-stand w4 e4 =
-        let h = half .high in
-        let both = shelf-multiply q n (half .high) positive (half .few) once 1 (omega arith) (omega arith) (poly u) (poly u) 65536 alike-refl (omega arith) (omega arith) e4 in
+        let h = half .ring-high in
+        let both = shelf-multiply q n (half .ring-high) positive (half .modulus-high) once 1 (omega arith) (omega arith) (poly u) (poly u) 65536 alike-refl (omega arith) (omega arith) e4 in
         record { sized = both .long ∙ sym long; one = both .stands 0 (omega arith); two = both .stands 1 (omega arith) }
 
 -- ---- what stands where a part of scratch is kept

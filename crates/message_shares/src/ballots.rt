@@ -8,7 +8,7 @@ ghost use Rattle.codec.specs.Bytes.{part, put};
 ghost use Rattle.ring.specs.Poly.{Below};
 ghost use Rattle.ring.specs.Slots.{poly, slot, list};
 ghost use Rattle.ring.specs.Ternary.{ternary};
-ghost use Rattle.call.specs.Call.{scratchLength, Public};
+ghost use Rattle.call.specs.Call.{scratchLength, Polynomial};
 ghost use Rattle.bgv.specs.Scheme.{decrypted, other, lentMask, share};
 ghost use Rattle.scheme.specs.Calls.{written};
 ghost use Rattle.transcript.specs.Method.{parameters};
@@ -32,7 +32,7 @@ fn ballot_at(
     n: usize,
     q: u64,
 )
-    requires { ⌜ Public n q (now s0) × (length (now secrets) ≡ 14 * n) × (length (now work) ≡ scratchLength) × (at + 4 + 16 * n ≤ length (now ballots)) × Below q (2 * n) (slot (now ballots) (at + 4)) ⌝ }
+    requires { ⌜ Polynomial n q (now s0) × (length (now secrets) ≡ 14 * n) × (length (now work) ≡ scratchLength) × (at + 4 + 16 * n ≤ length (now ballots)) × Below q (2 * n) (slot (now ballots) (at + 4)) ⌝ }
     requires { ⌜ (sent + 8 * n ≤ length (now masks0)) × (sent + 8 * n ≤ length (now masks1)) × (sent + 8 * n ≤ length (now shares0)) × (sent + 8 * n ≤ length (now shares1)) × (claim + n ≤ length (now claims)) ⌝ }
     ensures { λ _. ⌜ now (shares0 .exit) ≡ put (now (shares0 .entry)) sent (written q n (share q n 2 (poly (now (s0 .entry))) (slot (now (ballots .entry)) (at + 4)) (lentMask (part (now (masks0 .entry)) sent (8 * n))))) ⌝ }
     ensures { λ _. ⌜ now (shares1 .exit) ≡ put (now (shares1 .entry)) sent (written q n (share q n 2 (other q (ternary q (part (now (secrets .entry)) 0 n)) (poly (now (s0 .entry)))) (slot (now (ballots .entry)) (at + 4)) (lentMask (part (now (masks1 .entry)) sent (8 * n))))) ⌝ }
@@ -73,7 +73,7 @@ pub fn write_ballots(
     n: usize,
     q: u64,
 )
-    requires { ⌜ Public n q (now s0) × (length (now secrets) ≡ 14 * n) × (length (now work) ≡ scratchLength) × (count ≤ 4096) × Masked q n count (now ballots) (now masks0) (now masks1) × (length (now shares0) ≡ 8 * n * count) × (length (now shares1) ≡ 8 * n * count) × (length (now claims) ≡ n * count) ⌝ }
+    requires { ⌜ Polynomial n q (now s0) × (length (now secrets) ≡ 14 * n) × (length (now work) ≡ scratchLength) × (count ≤ 4096) × Masked q n count (now ballots) (now masks0) (now masks1) × (length (now shares0) ≡ 8 * n * count) × (length (now shares1) ≡ 8 * n * count) × (length (now claims) ≡ n * count) ⌝ }
     ensures { λ _. ⌜ now (shares0 .exit) ≡ producedShares (parameters 2 n q 0 0 [] [] []) count (materialOf (now (secrets .entry)) (now (s0 .entry)) [] (now (masks0 .entry)) (now (masks1 .entry)) [] [] [] (now (ballots .entry))) 0 ⌝ }
     ensures { λ _. ⌜ now (shares1 .exit) ≡ producedShares (parameters 2 n q 0 0 [] [] []) count (materialOf (now (secrets .entry)) (now (s0 .entry)) [] (now (masks0 .entry)) (now (masks1 .entry)) [] [] [] (now (ballots .entry))) 1 ⌝ }
     ensures { λ _. ⌜ now (claims .exit) ≡ producedClaims (parameters 2 n q 0 0 [] [] []) count (materialOf (now (secrets .entry)) (now (s0 .entry)) [] (now (masks0 .entry)) (now (masks1 .entry)) [] [] [] (now (ballots .entry))) ⌝ }

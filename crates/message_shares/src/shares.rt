@@ -6,7 +6,7 @@ ghost use Rattle.codec.specs.Bytes.{part, put};
 ghost use Rattle.ring.specs.Poly.{plus, minus, scale, mul, Below};
 ghost use Rattle.ring.specs.Slots.{poly, slot, list};
 ghost use Rattle.ring.specs.Ternary.{ternary};
-ghost use Rattle.call.specs.Call.{scratchLength, Public};
+ghost use Rattle.call.specs.Call.{scratchLength, Polynomial};
 ghost use Rattle.bgv.specs.Scheme.{residues, plain, decrypted, other, lentMask, share};
 ghost use Rattle.scheme.specs.Calls.{written};
 ghost use Rattle.message_shares.specs.Method.{TwoStand};
@@ -25,7 +25,7 @@ const ROOM: usize = 65536;
 
 // s u at 0 and s0 u behind it, for ternary bytes s.
 fn products(work: &mut [u8], s: &[u8], s0: &[u8], u: &[u8], n: usize, q: u64)
-    requires { ⌜ Public n q (now s0) × Public n q (now u) × (length (now s) ≡ n) × (length (now work) ≡ scratchLength) ⌝ }
+    requires { ⌜ Polynomial n q (now s0) × Polynomial n q (now u) × (length (now s) ≡ n) × (length (now work) ≡ scratchLength) ⌝ }
     ensures { λ _. ⌜ TwoStand q n (mul q n (ternary q (now (s .entry))) (poly (now (u .entry)))) (mul q n (poly (now (s0 .entry))) (poly (now (u .entry)))) (now (work .entry)) (now (work .exit)) ⌝ }
 {
     ring::load_ternary(work, 0, s, q);
@@ -78,7 +78,7 @@ fn write_shares(
 
 // The claim, v - s u centred, by 2, from s u at 0.
 fn write_claim(claims: &mut [u8], at: usize, work: &mut [u8], v: &[u8], n: usize, q: u64)
-    requires { ⌜ Public n q (now v) × (length (now work) ≡ scratchLength) × Below q n (slot (now work) 0) × (at + n ≤ length (now claims)) ⌝ }
+    requires { ⌜ Polynomial n q (now v) × (length (now work) ≡ scratchLength) × Below q n (slot (now work) 0) × (at + n ≤ length (now claims)) ⌝ }
     ensures { λ _. ⌜ now (claims .exit) ≡ put (now (claims .entry)) at (list n (plain q 2 (minus q (poly (now (v .entry))) (slot (now (work .entry)) 0)))) ⌝ }
     ensures { λ _. ⌜ length (now (work .exit)) ≡ length (now (work .entry)) ⌝ }
 {
@@ -104,7 +104,7 @@ pub fn write_ballot(
     n: usize,
     q: u64,
 )
-    requires { ⌜ Public n q (now s0) × Public n q (now u) × Public n q (now v) × (length (now s) ≡ n) × (length (now mask0) ≡ 8 * n) × (length (now mask1) ≡ 8 * n) × (length (now work) ≡ scratchLength) × (at + 8 * n ≤ length (now shares0)) × (at + 8 * n ≤ length (now shares1)) × (claim + n ≤ length (now claims)) ⌝ }
+    requires { ⌜ Polynomial n q (now s0) × Polynomial n q (now u) × Polynomial n q (now v) × (length (now s) ≡ n) × (length (now mask0) ≡ 8 * n) × (length (now mask1) ≡ 8 * n) × (length (now work) ≡ scratchLength) × (at + 8 * n ≤ length (now shares0)) × (at + 8 * n ≤ length (now shares1)) × (claim + n ≤ length (now claims)) ⌝ }
     ensures { λ _. ⌜ now (shares0 .exit) ≡ put (now (shares0 .entry)) at (written q n (share q n 2 (poly (now (s0 .entry))) (poly (now (u .entry))) (lentMask (now (mask0 .entry))))) ⌝ }
     ensures { λ _. ⌜ now (shares1 .exit) ≡ put (now (shares1 .entry)) at (written q n (share q n 2 (other q (ternary q (now (s .entry))) (poly (now (s0 .entry)))) (poly (now (u .entry))) (lentMask (now (mask1 .entry))))) ⌝ }
     ensures { λ _. ⌜ now (claims .exit) ≡ put (now (claims .entry)) claim (list n (decrypted q n 2 (ternary q (now (s .entry))) (poly (now (u .entry))) (poly (now (v .entry))))) ⌝ }

@@ -165,10 +165,6 @@ centre-unique q x c odd e s = parts-injective (centre q x) c (near-parts odd (om
     near : Near q ((q - 1) / 2) x
     near = record { m = up c; n = down c; is = same; small = rw (← abs-parts c) s }
 
--- a number that is small already is its own centred form
-pub centre-whole : (q : ℕ) (c : ℤ) → q % 2 ≡ 1 → natAbs c ≤ (q - 1) / 2 → centre q (remainder q c) ≡ c
-centre-whole q c odd s = centre-unique q (remainder q c) c odd (sym (remainder-mod q c)) s
-
 -- ---- centred sums do not wrap while the sizes stay within (q - 1) / 2
 
 module _ (q x y : ℕ) (odd : q % 2 ≡ 1) (room : natAbs (centre q x) + natAbs (centre q y) ≤ (q - 1) / 2) where
@@ -189,6 +185,3 @@ module _ (q x y : ℕ) (odd : q % 2 ≡ 1) (room : natAbs (centre q x) + natAbs 
   centre-add =
       parts-injective (centre q (x + y)) (centre q x +ℤ centre q y)
       (omega (arith, near-parts {x = x + y} odd room near-both, sum-parts (centre q x) (centre q y)))
-
-  pub centre-add-size : natAbs (centre q (x + y)) ≤ natAbs (centre q x) + natAbs (centre q y)
-  centre-add-size = near-size {x = x + y} odd room near-both

@@ -10,9 +10,6 @@ use Rattle.modular.proofs.Centring.{Near, near-remainder}
 pub near-le : {q K L x : ℕ} → K ≤ L → Near q K x → Near q L x
 near-le h y = let s = y .small in record { m = y .m; n = y .n; is = y .is; small = omega arith }
 
-pub near-same : {q K x y : ℕ} → Same q x y → Near q K x → Near q K y
-near-same e z = record { m = z .m; n = z .n; is = same-add (same-sym e) same-refl then z .is; small = z .small }
-
 pub near-add : {q K L x y : ℕ} → Near q K x → Near q L y → Near q (K + L) (x + y)
 near-add {x} {y} a b = let s = a .small in let t = b .small in record {
   m = a .m + b .m;

@@ -1,4 +1,4 @@
--- Division by p modulo q, for any p that has no factor in common with q (document 000, section 5.1). Assumes nothing.
+-- Division by p modulo q, for any p that has no factor in common with q (document 01, refusal 12: a mask "worked out from t_i"). Assumes nothing.
 use mathlib.Core.Path.{_≡_}
 use mathlib.Core.Bool.{cond}
 use Prim.Native.Nat.{ℕ, zero, suc, _+_, _*_, _/_, _%_}

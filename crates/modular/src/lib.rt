@@ -1,13 +1,12 @@
 // Numbers modulo q, for q below 2^56 (document 01, "Ring and scheme"). -x modulo q is (q - 1) * x in contracts.
 ghost use mathlib.Core.Path.{_≡_};
 ghost use Prim.Native.Nat.{_+_, _-_, _*_, _%_, _^_, _<_};
-ghost use lib.Dec.{leb};
 ghost use lib.IntN.{natAbs};
 ghost use Rattle.modular.specs.Modulo.{centre, remainder};
 ghost use Rattle.modular.specs.Division.{divide};
 
-// a + b. The numbers may be secret, so there is no jump and no division that depends on them: q is subtracted `over` times, and
-// s + 2^62 - q is at least 2^62 where s is at least q, and only there. What is divided by 2^62 is shifted.
+// a + b. Whether q is subtracted is computed, as a jump on it is foretold wrongly half the time: s + 2^62 - q is at least 2^62 where s
+// is at least q, and only there, so that `over` is 1 there and else 0. What is divided by 2^62 is shifted.
 pub fn add(a: u64, b: u64, q: u64) -> u64
     requires { ⌜ (a < q) × (b < q) × (q < 2 ^ 56) ⌝ }
     ensures { λ r. ⌜ r ≡ (a + b) % q ⌝ }
@@ -84,14 +83,6 @@ pub fn size(x: u64, q: u64) -> u64
     ensures { λ r. ⌜ r ≡ natAbs (centre q x) ⌝ }
 {
     if x <= (q - 1) / 2 { x } else { q - x }
-}
-
-// Whether the centred form is at most a bound in size.
-pub fn within(x: u64, bound: u64, q: u64) -> bool
-    requires { ⌜ x < q ⌝ }
-    ensures { λ r. ⌜ r ≡ leb (natAbs (centre q x)) bound ⌝ }
-{
-    size(x, q) <= bound
 }
 
 // The remainder by p of the centred form, never negative.

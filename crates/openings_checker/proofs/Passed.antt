@@ -7,7 +7,7 @@ use lib.Dec.{ltb}
 use Rattle.codec.specs.Bytes.{Bytes}
 use Rattle.codec.proofs.Laws.{both}
 use Rattle.ring.specs.Slots.{allBelow}
-use Rattle.call.specs.Call.{Public}
+use Rattle.call.specs.Call.{Polynomial}
 use Rattle.vector.specs.Vector.{vector}
 use Rattle.stern.specs.Shortness.{inRange}
 use Rattle.transcript.specs.Round.{Parameters, ballotsRanged, openingRanged, headRanged}
@@ -16,7 +16,7 @@ use Rattle.round_parts.proofs.Passed.{opening-passed, head-passed, batch-passed
 use Rattle.openings_checker.specs.Lent.{OpeningsInRange}
 
 -- for a ring size and a modulus that some polynomial of the sheet has
-module _ (P : Parameters) (m : ℕ) {a : Bytes} (p : Public (P .N) (P .q) a) where
+module _ (P : Parameters) (m : ℕ) {a : Bytes} (p : Polynomial (P .N) (P .q) a) where
   open Parameters P using (q, N, repeats)
 
   pub openings-passed : (x : Openings) → Rattle.transcript.specs.Extractor.Lent P m x → lentRanged P m x ≡ true → OpeningsInRange q N m repeats x

@@ -13,7 +13,7 @@ ghost use Prim.Native.Nat.{_+_, _*_, _%_, _≤_, _<_};
 ghost use lib.ListN.{length};
 ghost use Rattle.codec.specs.Reply.{first};
 ghost use Rattle.ring.specs.Slots.{poly};
-ghost use Rattle.call.specs.Call.{scratchLength, Public};
+ghost use Rattle.call.specs.Call.{scratchLength, Polynomial};
 ghost use Rattle.commitment.specs.Commitment.{keysOf, PublicKeys};
 ghost use Rattle.stern.specs.Shortness.{answerLength};
 ghost use Rattle.transcript.specs.Layout.{ballotLength};
@@ -82,7 +82,7 @@ fn test_ranged(
     n: usize,
     q: u64,
 ) -> Reply
-    requires { ⌜ Public n q (now a) × Public n q (now b) × PublicKeys n q (now k) × (q % 2 ≡ 1) × (length (now work) ≡ scratchLength) × (count ≤ 4096) × (repeats ≤ 256) × OpeningsInRange q n count repeats (openingsOf (now head) (now shares0) (now shares1) (now ballots) (now claims) (now opening0) (now opening1) repetition (now answer1) (now answer2) (now answer3)) ⌝ }
+    requires { ⌜ Polynomial n q (now a) × Polynomial n q (now b) × PublicKeys n q (now k) × (q % 2 ≡ 1) × (length (now work) ≡ scratchLength) × (count ≤ 4096) × (repeats ≤ 256) × OpeningsInRange q n count repeats (openingsOf (now head) (now shares0) (now shares1) (now ballots) (now claims) (now opening0) (now opening1) repetition (now answer1) (now answer2) (now answer3)) ⌝ }
     ensures { λ reply. ⌜ reply ≡ first (splitTest q n (poly (now (b .entry))) (now (head .entry)) ∷ (bothTests q n bound count (poly (now (a .entry))) (keysOf n (now (k .entry))) (now (head .entry)) (now (shares0 .entry)) (now (shares1 .entry)) (now (ballots .entry)) (now (claims .entry)) (now (opening0 .entry)) (now (opening1 .entry)) ++ threeTests q n (keysOf n (now (k .entry))) (now (head .entry)) repetition (now (answer1 .entry)) (now (answer2 .entry)) (now (answer3 .entry)))) ⌝ }
     ensures { λ _. ⌜ length (now (work .exit)) ≡ length (now (work .entry)) ⌝ }
 {
@@ -145,7 +145,7 @@ pub fn check_openings(
     n: usize,
     q: u64,
 ) -> Reply
-    requires { ⌜ Public n q (now a) × Public n q (now b) × PublicKeys n q (now k) × (q % 2 ≡ 1) × (length (now work) ≡ scratchLength) × (count ≤ 4096) × (repeats ≤ 256) ⌝ }
+    requires { ⌜ Polynomial n q (now a) × Polynomial n q (now b) × PublicKeys n q (now k) × (q % 2 ≡ 1) × (length (now work) ≡ scratchLength) × (count ≤ 4096) × (repeats ≤ 256) ⌝ }
     requires { ⌜ Lent (parameters 2 n q bound repeats (now a) (now b) (now k)) count (openingsOf (now head) (now shares0) (now shares1) (now ballots) (now claims) (now opening0) (now opening1) repetition (now answer1) (now answer2) (now answer3)) ⌝ }
     ensures { λ reply. ⌜ reply ≡ first (extractTests (parameters 2 n q bound repeats (now (a .entry)) (now (b .entry)) (now (k .entry))) count (openingsOf (now (head .entry)) (now (shares0 .entry)) (now (shares1 .entry)) (now (ballots .entry)) (now (claims .entry)) (now (opening0 .entry)) (now (opening1 .entry)) repetition (now (answer1 .entry)) (now (answer2 .entry)) (now (answer3 .entry)))) ⌝ }
     ensures { λ _. ⌜ length (now (work .exit)) ≡ length (now (work .entry)) ⌝ }

@@ -7,7 +7,7 @@ ghost use Prim.Native.Nat.{_*_, _%_, _≤_, _<_};
 ghost use lib.ListN.{length};
 ghost use Rattle.codec.specs.Reply.{first};
 ghost use Rattle.ring.specs.Slots.{poly};
-ghost use Rattle.call.specs.Call.{scratchLength, Public};
+ghost use Rattle.call.specs.Call.{scratchLength, Polynomial};
 ghost use Rattle.commitment.specs.Commitment.{keysOf, PublicKeys};
 ghost use Rattle.transcript.specs.Method.{Batch, Shares};
 ghost use Rattle.round_parts.specs.Lent.{Opened};
@@ -31,7 +31,7 @@ fn test_side(
     n: usize,
     q: u64,
 ) -> Reply
-    requires { ⌜ Public n q (now a) × PublicKeys n q (now k) × Opened q n (now opening) × (q % 2 ≡ 1) × (length (now work) ≡ scratchLength) × (80 * n ≤ length (now head)) × (side < 2) × (count ≤ 4096) × Batch q n count (now ballots) (now claims) × Shares q n count (now shares0) × Shares q n count (now shares1) × Shares q n count (now opened) ⌝ }
+    requires { ⌜ Polynomial n q (now a) × PublicKeys n q (now k) × Opened q n (now opening) × (q % 2 ≡ 1) × (length (now work) ≡ scratchLength) × (80 * n ≤ length (now head)) × (side < 2) × (count ≤ 4096) × Batch q n count (now ballots) (now claims) × Shares q n count (now shares0) × Shares q n count (now shares1) × Shares q n count (now opened) ⌝ }
     ensures { λ reply. ⌜ reply ≡ first (sideTests q n bound count (poly (now (a .entry))) (keysOf n (now (k .entry))) (now (head .entry)) side (now (opening .entry)) (now (ballots .entry)) (now (claims .entry)) (now (shares0 .entry)) (now (shares1 .entry)) (now (opened .entry))) ⌝ }
     ensures { λ _. ⌜ length (now (work .exit)) ≡ length (now (work .entry)) ⌝ }
 {
@@ -71,7 +71,7 @@ pub fn test_sides(
     n: usize,
     q: u64,
 ) -> Reply
-    requires { ⌜ Public n q (now a) × PublicKeys n q (now k) × (q % 2 ≡ 1) × (length (now work) ≡ scratchLength) × (count ≤ 4096) × (80 * n ≤ length (now head)) × Batch q n count (now ballots) (now claims) × Shares q n count (now shares0) × Shares q n count (now shares1) × Opened q n (now opening0) × Opened q n (now opening1) ⌝ }
+    requires { ⌜ Polynomial n q (now a) × PublicKeys n q (now k) × (q % 2 ≡ 1) × (length (now work) ≡ scratchLength) × (count ≤ 4096) × (80 * n ≤ length (now head)) × Batch q n count (now ballots) (now claims) × Shares q n count (now shares0) × Shares q n count (now shares1) × Opened q n (now opening0) × Opened q n (now opening1) ⌝ }
     ensures { λ reply. ⌜ reply ≡ first (bothTests q n bound count (poly (now (a .entry))) (keysOf n (now (k .entry))) (now (head .entry)) (now (shares0 .entry)) (now (shares1 .entry)) (now (ballots .entry)) (now (claims .entry)) (now (opening0 .entry)) (now (opening1 .entry))) ⌝ }
     ensures { λ _. ⌜ length (now (work .exit)) ≡ length (now (work .entry)) ⌝ }
 {

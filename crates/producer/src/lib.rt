@@ -6,7 +6,7 @@ ghost use mathlib.Core.Path.{_≡_};
 ghost use mathlib.Core.List.{[]};
 ghost use Prim.Native.Nat.{_+_, _*_, _≤_, _<_};
 ghost use lib.ListN.{length};
-ghost use Rattle.call.specs.Call.{scratchLength, Public};
+ghost use Rattle.call.specs.Call.{scratchLength, Polynomial};
 ghost use Rattle.commitment.specs.Commitment.{PublicKeys};
 ghost use Rattle.transcript.specs.Layout.{headLength, answersLength};
 ghost use Rattle.transcript.specs.Method.{parameters};
@@ -37,7 +37,7 @@ pub fn write_first(
     n: usize,
     q: u64,
 )
-    requires { ⌜ Public n q (now a) × PublicKeys n q (now k) × Public n q (now s0) × Public n q (now e0) × (length (now work) ≡ scratchLength) × (count ≤ 4096) × (repeats ≤ 256) × Drawings q n repeats (now secrets) (now vectors) (now permutations) (now salts) × Masked q n count (now ballots) (now masks0) (now masks1) ⌝ }
+    requires { ⌜ Polynomial n q (now a) × PublicKeys n q (now k) × Polynomial n q (now s0) × Polynomial n q (now e0) × (length (now work) ≡ scratchLength) × (count ≤ 4096) × (repeats ≤ 256) × Drawings q n repeats (now secrets) (now vectors) (now permutations) (now salts) × Masked q n count (now ballots) (now masks0) (now masks1) ⌝ }
     requires { ⌜ (length (now head) ≡ headLength n repeats) × (length (now shares0) ≡ 8 * n * count) × (length (now shares1) ≡ 8 * n * count) × (length (now claims) ≡ n * count) ⌝ }
     ensures { λ _. ⌜ now (head .exit) ≡ producedHead (parameters 2 n q 0 repeats (now (a .entry)) [] (now (k .entry))) count (materialOf (now (secrets .entry)) (now (s0 .entry)) (now (e0 .entry)) (now (masks0 .entry)) (now (masks1 .entry)) (now (vectors .entry)) (now (permutations .entry)) (now (salts .entry)) (now (ballots .entry))) ⌝ }
     ensures { λ _. ⌜ now (shares0 .exit) ≡ producedShares (parameters 2 n q 0 repeats (now (a .entry)) [] (now (k .entry))) count (materialOf (now (secrets .entry)) (now (s0 .entry)) (now (e0 .entry)) (now (masks0 .entry)) (now (masks1 .entry)) (now (vectors .entry)) (now (permutations .entry)) (now (salts .entry)) (now (ballots .entry))) 0 ⌝ }
@@ -93,7 +93,7 @@ pub fn write_second(
     n: usize,
     q: u64,
 )
-    requires { ⌜ Public n q (now s0) × Public n q (now e0) × (length (now work) ≡ scratchLength) × (side < 2) × (repeats ≤ 256) × Drawings q n repeats (now secrets) (now vectors) (now permutations) (now salts) × (length (now challenges) ≡ repeats) × (length (now opening) ≡ 22 * n) × (length (now answers) ≡ answersLength n (now challenges)) ⌝ }
+    requires { ⌜ Polynomial n q (now s0) × Polynomial n q (now e0) × (length (now work) ≡ scratchLength) × (side < 2) × (repeats ≤ 256) × Drawings q n repeats (now secrets) (now vectors) (now permutations) (now salts) × (length (now challenges) ≡ repeats) × (length (now opening) ≡ 22 * n) × (length (now answers) ≡ answersLength n (now challenges)) ⌝ }
     ensures { λ _. ⌜ now (opening .exit) ≡ producedOpening (parameters 2 n q 0 repeats [] [] []) 0 (materialOf (now (secrets .entry)) (now (s0 .entry)) (now (e0 .entry)) [] [] (now (vectors .entry)) (now (permutations .entry)) (now (salts .entry)) []) side ⌝ }
     ensures { λ _. ⌜ now (answers .exit) ≡ producedAnswers (parameters 2 n q 0 repeats [] [] []) 0 (materialOf (now (secrets .entry)) (now (s0 .entry)) (now (e0 .entry)) [] [] (now (vectors .entry)) (now (permutations .entry)) (now (salts .entry)) []) (now (challenges .entry)) ⌝ }
     ensures { λ _. ⌜ length (now (work .exit)) ≡ length (now (work .entry)) ⌝ }

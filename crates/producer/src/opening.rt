@@ -6,7 +6,7 @@ ghost use lib.ListN.{length};
 ghost use Rattle.codec.specs.Bytes.{part, put};
 ghost use Rattle.ring.specs.Slots.{poly};
 ghost use Rattle.ring.specs.Ternary.{ternary};
-ghost use Rattle.call.specs.Call.{scratchLength, Public};
+ghost use Rattle.call.specs.Call.{scratchLength, Polynomial};
 ghost use Rattle.bgv.specs.Scheme.{other};
 ghost use Rattle.scheme.specs.Calls.{written};
 ghost use Rattle.transcript.specs.Method.{parameters};
@@ -14,7 +14,7 @@ ghost use Rattle.transcript.specs.Producer.{producedOpening, materialOf};
 
 // The halves that were lent.
 fn lent_halves(opening: &mut [u8], s0: &[u8], e0: &[u8], n: usize, q: u64)
-    requires { ⌜ Public n q (now s0) × Public n q (now e0) × (16 * n ≤ length (now opening)) ⌝ }
+    requires { ⌜ Polynomial n q (now s0) × Polynomial n q (now e0) × (16 * n ≤ length (now opening)) ⌝ }
     ensures { λ _. ⌜ now (opening .exit) ≡ put (now (opening .entry)) 0 (written q n (poly (now (s0 .entry))) ++ written q n (poly (now (e0 .entry)))) ⌝ }
 {
     codec::copy(opening, 0, s0);
@@ -31,7 +31,7 @@ fn other_halves(
     n: usize,
     q: u64,
 )
-    requires { ⌜ Public n q (now s0) × Public n q (now e0) × (length (now secrets) ≡ 14 * n) × (length (now work) ≡ scratchLength) × (16 * n ≤ length (now opening)) ⌝ }
+    requires { ⌜ Polynomial n q (now s0) × Polynomial n q (now e0) × (length (now secrets) ≡ 14 * n) × (length (now work) ≡ scratchLength) × (16 * n ≤ length (now opening)) ⌝ }
     ensures { λ _. ⌜ now (opening .exit) ≡ put (now (opening .entry)) 0 (written q n (other q (ternary q (part (now (secrets .entry)) 0 n)) (poly (now (s0 .entry)))) ++ written q n (other q (ternary q (part (now (secrets .entry)) n n)) (poly (now (e0 .entry))))) ⌝ }
     ensures { λ _. ⌜ length (now (work .exit)) ≡ length (now (work .entry)) ⌝ }
 {
@@ -59,7 +59,7 @@ pub fn write_opening(
     n: usize,
     q: u64,
 )
-    requires { ⌜ Public n q (now s0) × Public n q (now e0) × (length (now secrets) ≡ 14 * n) × (length (now work) ≡ scratchLength) × (side < 2) × (length (now opening) ≡ 22 * n) ⌝ }
+    requires { ⌜ Polynomial n q (now s0) × Polynomial n q (now e0) × (length (now secrets) ≡ 14 * n) × (length (now work) ≡ scratchLength) × (side < 2) × (length (now opening) ≡ 22 * n) ⌝ }
     ensures { λ _. ⌜ now (opening .exit) ≡ producedOpening (parameters 2 n q 0 0 [] [] []) 0 (materialOf (now (secrets .entry)) (now (s0 .entry)) (now (e0 .entry)) [] [] [] [] [] []) side ⌝ }
     ensures { λ _. ⌜ length (now (work .exit)) ≡ length (now (work .entry)) ⌝ }
 {

@@ -43,8 +43,6 @@ list-getD xs =
     ext-getD 0 (list (length xs) (λ k. getD xs k 0)) xs (length-list (length xs) _)
     (λ k h. getD-list (length xs) (λ k. getD xs k 0) k (omega (arith, length-list (length xs) (λ k. getD xs k 0))))
 
--- ---- lists and bytes
-
 -- ---- coefficients and bytes
 
 pub encode-none : (a : Poly) → encode 0 a ≡ []
@@ -131,9 +129,6 @@ unfolding slot poly
 slot-put w at s k h l =
     ap number
     (sym (part-part (put w at s) at (length s) (8 * k) 8 (omega arith)) ∙ ap (λ (t : Bytes). part t (8 * k) 8) (part-put w at s h))
-
-pub slot-encode : (n : ℕ) (w : Bytes) (at : ℕ) (a : Poly) (k : ℕ) → at + 8 * n ≤ length w → k < n → a k < 2 ^ 64 → slot (put w at (encode n a)) at k ≡ a k
-slot-encode n w at a k h l b = slot-put w at (encode n a) k (omega (arith, length-encode n a)) (omega (arith, length-encode n a)) ∙ poly-encode n a k l b
 
 -- a write before or behind it leaves a slot's coefficient as it was
 pub slot-put-before : (w : Bytes) (at : ℕ) (s : Bytes) (from k : ℕ) → at + length s ≤ length w → from + 8 * k + 8 ≤ at → slot (put w at s) from k ≡ slot w from k

@@ -5,7 +5,7 @@ use Prim.Native.Nat.{ℕ, _+_, _*_, _≤_, _<_}
 use native.Mathlib.Omega.{arith}
 use lib.ListN.{length}
 use Rattle.codec.specs.Bytes.{Bytes, bytes, number, part, put}
-use Rattle.codec.proofs.Laws.{length-put, put-none, put-append, part-put-before, part-put-after}
+use Rattle.codec.proofs.Laws.{put-none, put-append, part-put-before, part-put-after}
 use Rattle.codec.proofs.Numbers.{length-bytes}
 use Rattle.ring.specs.Poly.{Poly}
 use Rattle.ring.specs.Slots.{slot, encode, Slots}
@@ -27,10 +27,6 @@ module _ (w : Bytes) (at : ℕ) (f : Poly) where
   module _ (i : ℕ) where
     fits : at + 8 * i ≤ length w → at + length (encode i f) ≤ length w
     fits h = omega (arith, length-encode i f)
-
-    pub filled-length : at + 8 * i ≤ length w → length (filled w at f i) ≡ length w
-    unfolding filled
-    filled-length h = length-put w at (encode i f) (fits h)
 
     -- one coefficient more
     pub filled-more : (d e : Bytes) (v : ℕ) → d ≡ filled w at f i → at + 8 * (i + 1) ≤ length w → v ≡ f i → e ≡ put d (at + 8 * i) (bytes 8 v) → e ≡ filled w at f (i + 1)

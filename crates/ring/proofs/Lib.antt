@@ -1,5 +1,5 @@
 pub mod Sums
-pub mod Product
+pub mod Coefficients
 pub mod Polynomials
 pub mod Sizes
 pub mod Bridge

@@ -3,12 +3,12 @@
 use mathlib.Core.Path.{_≡_, refl, sym, ap, ap₂, _∙_}
 use mathlib.Core.Bool.{Bool, true, false, cond}
 use Prim.Native.Nat.{ℕ, _+_, _-_, _*_, _<_}
-use native.Mathlib.Nat.{add-assoc, add-comm, add-left-comm, mul-assoc, mul-left-comm, mul-add, mul-zero, one-mul, add-zero, mod-lt, mod-eq-of-lt}
+use native.Mathlib.Nat.{add-assoc, add-comm, add-left-comm, mul-left-comm, mul-add, mul-zero, one-mul, add-zero, mod-lt}
 use borrow.Author.Tests.{ltb-true, lt-ltb}
 use lib.Dec.{ltb}
-use Rattle.modular.proofs.Congruence.{same-refl, same-eq, same-sym, _then_, same-mod, same-add, same-mul, same-opposite, same-cancel, same-minus}
+use Rattle.modular.proofs.Congruence.{same-refl, same-eq, same-sym, _then_, same-add, same-mul, same-opposite, same-cancel, same-minus}
 use Rattle.ring.specs.Poly.{Poly, coefficient, mul, plus, minus, scale, zero-poly, one-poly, modulo, Alike, Below}
-use Rattle.ring.proofs.Product.{coefficient-cong, coefficient-comm, coefficient-left-comm, coefficient-one, coefficient-add-right, coefficient-scale, coefficient-same}
+use Rattle.ring.proofs.Coefficients.{coefficient-cong, coefficient-comm, coefficient-left-comm, coefficient-one, coefficient-add-right, coefficient-scale, coefficient-same}
 
 -- equal at every index
 pub ext : {a b : Poly} → ((k : ℕ) → a k ≡ b k) → a ≡ b
@@ -35,10 +35,6 @@ plus-zero a = ext (λ k. add-zero _)
 pub scale-plus : (p : ℕ) (a b : Poly) → scale p (plus a b) ≡ plus (scale p a) (scale p b)
 unfolding scale plus
 scale-plus p a b = ext (λ k. mul-add _ _ _)
-
-pub scale-scale : (p r : ℕ) (a : Poly) → scale p (scale r a) ≡ scale (p * r) a
-unfolding scale
-scale-scale p r a = ext (λ k. sym (mul-assoc _ _ _))
 
 pub scale-left-comm : (p r : ℕ) (a : Poly) → scale p (scale r a) ≡ scale r (scale p a)
 unfolding scale
@@ -99,9 +95,6 @@ scale-mul q N p a b = ext (λ k. ap (λ (x : ℕ). cond (ltb k N) x 0) (coeffici
 pub mul-scale : (q N p : ℕ) (a b : Poly) → mul q N a (scale p b) ≡ scale p (mul q N a b)
 mul-scale q N p a b = mul-poly-comm q N a (scale p b) ∙ scale-mul q N p b a ∙ ap (scale p) (mul-poly-comm q N b a)
 
-pub mul-minus : (q N : ℕ) (a b c : Poly) → mul q N a (minus q b c) ≡ minus q (mul q N a b) (mul q N a c)
-mul-minus q N a b c = mul-plus q N a b (scale (q - 1) c) ∙ ap (plus (mul q N a b)) (mul-scale q N (q - 1) a c)
-
 pub minus-mul : (q N : ℕ) (a b c : Poly) → mul q N (minus q a b) c ≡ minus q (mul q N a c) (mul q N b c)
 minus-mul q N a b c = plus-mul q N a (scale (q - 1) b) c ∙ ap (plus (mul q N a c)) (scale-mul q N (q - 1) b c)
 
@@ -119,10 +112,6 @@ alike-sym e = record { at = λ k l. same-sym (e .at k l) }
 infixr 40 _so_
 pub _so_ : {q N : ℕ} {a b c : Poly} → Alike q N a b → Alike q N b c → Alike q N a c
 e so f = record { at = λ k l. e .at k l then f .at k l }
-
-pub alike-modulo : {q N : ℕ} {a : Poly} → Alike q N (modulo q a) a
-unfolding modulo
-alike-modulo = record { at = λ k l. same-mod }
 
 pub alike-plus : {q N : ℕ} {a b c d : Poly} → Alike q N a b → Alike q N c d → Alike q N (plus a c) (plus b d)
 unfolding plus
@@ -164,7 +153,3 @@ alike-cancel c h e = record { at = λ k l. same-cancel (c k) h (e .at k l) }
 pub below-modulo : {q N : ℕ} (a : Poly) → 0 < q → Below q N (modulo q a)
 unfolding modulo
 below-modulo a h = record { at = λ k l. mod-lt (a k) h }
-
--- alike polynomials with coefficients below q are equal
-pub alike-equal : {q N : ℕ} {a b : Poly} → Below q N a → Below q N b → Alike q N a b → (k : ℕ) → k < N → a k ≡ b k
-alike-equal ha hb e k l = sym (mod-eq-of-lt (ha .at k l)) ∙ e .at k l .is ∙ mod-eq-of-lt (hb .at k l)

@@ -10,11 +10,11 @@ use borrow.Author.Tests.{ltb-true, lt-ltb}
 use lib.Dec.{ltb, eqb}
 use lib.ListN.{length, take, getD}
 use lib.Seq.{take-suc}
-use Rattle.codec.specs.Bytes.{Bytes, signed}
+use Rattle.codec.specs.Bytes.{Bytes}
 use Rattle.codec.proofs.Laws.{both}
 use Rattle.modular.proofs.Centring.{remainder-lt}
 use Rattle.ring.specs.Poly.{Poly, Below}
-use Rattle.ring.specs.Slots.{poly, fromSigned, list, allBelow}
+use Rattle.ring.specs.Slots.{list, allBelow}
 use Rattle.ring.specs.Ternary.{meaning, ternary, count}
 use Rattle.ring.proofs.Bridge.{length-list, getD-list}
 
@@ -54,10 +54,6 @@ not-below q n a k l h = not-allBelow q (list n a) k (omega (arith, length-list n
 pub below-ternary : (q n : ℕ) (t : Bytes) → 0 < q → Below q n (ternary q t)
 unfolding ternary
 below-ternary q n t h = record { at = λ k l. remainder-lt q (meaning (getD t k 0)) h }
-
-pub below-signed : (q n : ℕ) (s : Bytes) → 0 < q → Below q n (fromSigned q s)
-unfolding fromSigned
-below-signed q n s h = record { at = λ k l. remainder-lt q (signed (poly s k)) h }
 
 -- ---- counts
 

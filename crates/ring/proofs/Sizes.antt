@@ -8,16 +8,15 @@ use native.Mathlib.Omega.{arith}
 use lib.Dec.{eqb}
 use lib.IntN.{natAbs}
 use lib.ListN.{getD}
-use Rattle.codec.specs.Bytes.{Bytes, signed}
+use Rattle.codec.specs.Bytes.{Bytes}
 use Rattle.modular.specs.Modulo.{centre, remainder}
 use Rattle.modular.proofs.Congruence.{same-refl, same-eq, _then_, same-more}
-use Rattle.modular.proofs.Centring.{Near, near-centre, near-size, centre-whole}
+use Rattle.modular.proofs.Centring.{Near, near-centre, near-size}
 use Rattle.modular.proofs.Near.{near-le, near-add, near-negative, near-mul}
 use Rattle.ring.specs.Poly.{Poly, sum, turn, coefficient, mul}
-use Rattle.ring.specs.Slots.{poly, fromSigned}
 use Rattle.ring.specs.Ternary.{meaning, ternary}
 use Rattle.ring.proofs.Sums.{side}
-use Rattle.ring.proofs.Product.{turn-low, turn-high}
+use Rattle.ring.proofs.Coefficients.{turn-low, turn-high}
 use Rattle.ring.proofs.Polynomials.{mul-at}
 
 pub near-sum : {q K : ℕ} (n : ℕ) (f : ℕ → ℕ) → ((i : ℕ) → i < n → Near q K (f i)) → Near q (n * K) (sum n f)
@@ -62,8 +61,3 @@ ternary-product-size {q} {N} {K} t b odd big room h k l =
     near-size odd room
     (near-le (omega (arith, ap (λ (x : ℕ). N * x) (one-mul K)))
     (near-product (ternary q t) b (omega arith) (λ i m. near-ternary q t i big) (λ i m. near-le (h i m) (near-centre q (b i) (omega arith))) k l))
-
--- a mask that is small as lent is its coefficient's centred form
-pub centre-signed : (q : ℕ) (s : Bytes) (i : ℕ) → q % 2 ≡ 1 → natAbs (signed (poly s i)) ≤ (q - 1) / 2 → centre q (fromSigned q s i) ≡ signed (poly s i)
-unfolding fromSigned
-centre-signed q s i odd h = centre-whole q (signed (poly s i)) odd h

@@ -13,7 +13,7 @@ use Rattle.codec.proofs.Apart.{put-comm}
 use Rattle.ring.specs.Poly.{Poly, sum, turn, coefficient, mul, modulo, Alike, Below}
 use Rattle.ring.specs.Slots.{slot, encode, store, Slots}
 use Rattle.ring.proofs.Sums.{side, sum-same}
-use Rattle.ring.proofs.Product.{turn-low, turn-high}
+use Rattle.ring.proofs.Coefficients.{turn-low, turn-high}
 use Rattle.ring.proofs.Polynomials.{mul-at}
 use Rattle.ring.proofs.Bridge.{length-encode, poly-encode, slot-later, slot-put, slot-put-before, slot-store, length-store, store-alike}
 

@@ -2,4 +2,3 @@ pub mod Poly
 pub mod Slots
 pub mod Ternary
 pub mod Method
-pub mod Examples

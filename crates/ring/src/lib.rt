@@ -1,15 +1,17 @@
 // Polynomials modulo X^n + 1 and q over lent bytes (document 01, "Ring and scheme"), for q below 2^56 and n at most 2048.
 // A polynomial is 8n bytes. Scratch is a row of slots of 8n bytes, and a slot is named by its place in bytes: at, from, room.
 // A lent polynomial is loaded into a slot by `codec::copy`.
+mod product;
+
 ghost use mathlib.Core.Path.{_≡_};
 ghost use Prim.Native.Nat.{_+_, _-_, _*_, _/_, _%_, _^_, _≤_, _<_};
 ghost use lib.ListN.{length};
 ghost use Rattle.codec.specs.Bytes.{put, zeros};
 ghost use Rattle.modular.specs.Modulo.{remainder};
-ghost use Rattle.ring.specs.Poly.{sum, turn, mul, plus, minus, scale, Below};
+ghost use Rattle.ring.specs.Poly.{mul, plus, minus, scale, Below};
 ghost use Rattle.ring.specs.Slots.{poly, fromSigned, slot, list, encode, store, Slots, allBelow};
 ghost use Rattle.ring.specs.Ternary.{meaning, ternary, count};
-ghost use Rattle.ring.specs.Method.{sign, Columns};
+ghost use Rattle.ring.specs.Method.{sign};
 
 // ---- range tests and counts
 
@@ -59,9 +61,9 @@ pub fn count_of(t: &[u8], v: u8) -> usize
 
 // ---- slots
 
-// The coefficient that a ternary byte means. The byte may be secret, so there is no jump and no division that depends on it: `above0`,
-// `above1` and `above2` say whether it is above 0, 1 and 2, since t + 2^62 - 1 - m is at least 2^62 where t is above m, and only
-// there. What is divided by 2^62 is shifted.
+// The coefficient that a ternary byte means. It is computed, as a jump on the byte is foretold wrongly too often: `above0`, `above1`
+// and `above2` say whether it is above 0, 1 and 2, since t + 2^62 - 1 - m is at least 2^62 where t is above m, and only there. What is
+// divided by 2^62 is shifted.
 pub fn from_ternary(b: u8, q: u64) -> u64
     requires { ⌜ 1 < q ⌝ }
     ensures { λ r. ⌜ r ≡ remainder q (meaning b) ⌝ }
@@ -203,110 +205,6 @@ pub fn scale_slot(work: &mut [u8], at: usize, p: u64, n: usize, q: u64)
 
 // ---- the product
 
-// Coefficient j of the row from which every coefficient of a product by a is taken: a backwards, and then -a backwards.
-fn mirrored(a: &[u8], j: usize, n: usize, q: u64) -> u64
-    requires { ⌜ (j < 2 * n) × (8 * n ≤ length (now a)) × (q < 2 ^ 56) × Below q n (poly (now a)) ⌝ }
-    ensures { λ r. ⌜ r ≡ turn q n (poly (now (a .entry))) (n - 1) j % q ⌝ }
-{
-    if j < n {
-        codec::read64(a, 8 * (n - 1 - j))
-    } else {
-        modular::subtract(0, codec::read64(a, 8 * (2 * n - 1 - j)), q)
-    }
-}
-
-// Writes that row of 2n coefficients into the first two slots of the room.
-fn mirror(work: &mut [u8], room: usize, a: &[u8], n: usize, q: u64)
-    requires { ⌜ (room + 16 * n ≤ length (now work)) × (8 * n ≤ length (now a)) × (q < 2 ^ 56) × Below q n (poly (now a)) ⌝ }
-    ensures { λ _. ⌜ now (work .exit) ≡ store q (2 * n) (now (work .entry)) room (turn q n (poly (now (a .entry))) (n - 1)) ⌝ }
-{
-    let mut j = 0;
-    while j < 2 * n {
-        let v = mirrored(a, j, n, q);
-        codec::write64(work, room + 8 * j, v);
-        j += 1;
-    }
-}
-
-// Sums of products by the digits of the factors to the base 2^28: low by low, low by high, high by high.
-struct Partial {
-    lo: u64,
-    mid: u64,
-    hi: u64,
-}
-
-// The sums of at most 128 products of the coefficients from x on by those from y on.
-fn block(w: &[u8], x: usize, y: usize, n: usize) -> Partial
-    requires { ⌜ (n ≤ 128) × (x + 8 * n ≤ length (now w)) × (y + 8 * n ≤ length (now w)) ⌝ }
-    requires { ⌜ Below (2 ^ 56) n (slot (now w) x) × Below (2 ^ 56) n (slot (now w) y) ⌝ }
-    ensures { λ r. ⌜ Columns (slot (now (w .entry)) x) (slot (now (w .entry)) y) n (r .lo) (r .mid) (r .hi) ⌝ }
-{
-    let mut lo: u64 = 0;
-    let mut mid: u64 = 0;
-    let mut hi: u64 = 0;
-    let mut j = 0;
-    while j < n {
-        let u = codec::read64(w, x + 8 * j);
-        let v = codec::read64(w, y + 8 * j);
-        let u0 = u % 268435456;
-        let u1 = u / 268435456 % 268435456;
-        let v0 = v % 268435456;
-        let v1 = v / 268435456 % 268435456;
-        lo += u0 * v0;
-        mid += u0 * v1 + u1 * v0;
-        hi += u1 * v1;
-        j += 1;
-    }
-    Partial { lo, mid, hi }
-}
-
-// How many of the products that are left the next block has.
-fn piece(left: usize) -> usize
-    requires { ⌜ 0 < left ⌝ }
-    ensures { λ r. ⌜ (0 < r) × (r ≤ left) × (r ≤ 128) ⌝ }
-{
-    if left < 128 { left } else { 128 }
-}
-
-// The sum of n products modulo q: block by block, with the carries taken and one reduction at the end.
-fn dot(w: &[u8], x: usize, y: usize, n: usize, q: u64) -> u64
-    requires { ⌜ (0 < q) × (q < 2 ^ 56) × (n ≤ 2048) × (x + 8 * n ≤ length (now w)) × (y + 8 * n ≤ length (now w)) ⌝ }
-    requires { ⌜ Below (2 ^ 56) n (slot (now w) x) × Below (2 ^ 56) n (slot (now w) y) ⌝ }
-    ensures { λ r. ⌜ r ≡ sum n (λ i. slot (now (w .entry)) x i * slot (now (w .entry)) y i) % q ⌝ }
-{
-    let mut d0: u64 = 0;
-    let mut d1: u64 = 0;
-    let mut d2: u64 = 0;
-    let mut d3: u64 = 0;
-    let mut done = 0;
-    while done < n {
-        let m = piece(n - done);
-        let b = block(w, x + 8 * done, y + 8 * done, m);
-        let lo = d0 + b.lo;
-        let mid = d1 + b.mid + lo / 268435456;
-        let hi = d2 + b.hi + mid / 268435456;
-        d0 = lo % 268435456;
-        d1 = mid % 268435456;
-        d2 = hi % 268435456;
-        d3 = d3 + hi / 268435456;
-        done += m;
-    }
-    modular::from_digits(d0, d1, d2, d3, q)
-}
-
-// Fills the slot at `at` with the n coefficients of a product, from the row and the factor that stand in the room.
-fn products(work: &mut [u8], at: usize, room: usize, n: usize, q: u64)
-    requires { ⌜ (0 < q) × (q < 2 ^ 56) × (n ≤ 2048) × (at + 8 * n ≤ room) × (room + 24 * n ≤ length (now work)) × Below q (3 * n) (slot (now work) room) ⌝ }
-    ensures { λ _. ⌜ now (work .exit) ≡ store q n (now (work .entry)) at (λ k. sum n (λ i. slot (now (work .entry)) room (2 * n + i) * slot (now (work .entry)) room (n - 1 - k + i))) ⌝ }
-{
-    let mut k = 0;
-    while k < n {
-        let v = dot(work, room + 8 * (2 * n), room + 8 * (n - 1 - k), n, q);
-        codec::write64(work, at + 8 * k, v);
-        k += 1;
-    }
-}
-
 // Multiplies a slot by a lent polynomial modulo X^n + 1: the one place where polynomials are multiplied. The room is three slots
 // behind the slot; it is zero afterwards. What the contract says is independent of the method.
 pub fn multiply(work: &mut [u8], at: usize, room: usize, a: &[u8], n: usize, q: u64)
@@ -314,8 +212,8 @@ pub fn multiply(work: &mut [u8], at: usize, room: usize, a: &[u8], n: usize, q: 
     requires { ⌜ Below q n (slot (now work) at) × Below q n (poly (now a)) ⌝ }
     ensures { λ _. ⌜ now (work .exit) ≡ put (store q n (now (work .entry)) at (mul q n (slot (now (work .entry)) at) (poly (now (a .entry))))) room (zeros (24 * n)) ⌝ }
 {
-    mirror(work, room, a, n, q);
+    product::mirror(work, room, a, n, q);
     copy_slot(work, room + 16 * n, at, n);
-    products(work, at, room, n, q);
+    product::products(work, at, room, n, q);
     codec::wipe(&mut work[room..room + 24 * n]);
 }

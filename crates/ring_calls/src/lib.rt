@@ -1,6 +1,7 @@
 // Calls over `modular` and `ring` for tests and benchmarks outside the proof: plain numbers and byte slices, nothing asked of the caller.
-// Each answers 0 where it is taken, 1 for a slice of wrong length, 5 for a number out of range, and a refusal leaves every byte as it was.
-// A number is answered above the low byte, as 256 * value. In C a slice is `uint8_t *, size_t`, and `const` where it is lent to be read.
+// A refusal is 1 for a slice of wrong length and 5 for a number out of range, and leaves every byte as it was. A call that writes answers 0
+// where it is taken; one that answers a number has it above the low byte, as 256 * value. Two answer a plain number: `modular_centred`,
+// whose refusal is 2^62, and `ring_count`, which refuses nothing. In C a slice is `uint8_t *, size_t`, and `const` where it is lent to be read.
 ghost use mathlib.Core.Path.{_≡_};
 ghost use Prim.Native.Nat.{_+_, _*_, _%_, _≤_, _<_, _^_};
 ghost use lib.IntN.{pos};

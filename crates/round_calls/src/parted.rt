@@ -5,7 +5,7 @@ ghost use Prim.Native.Nat.{_*_, _≤_};
 ghost use lib.ListN.{length};
 ghost use Rattle.codec.specs.Bytes.{part};
 ghost use Rattle.codec.specs.Reply.{first, leaves};
-ghost use Rattle.call.specs.Call.{Public, swept};
+ghost use Rattle.call.specs.Call.{Polynomial, swept};
 ghost use Rattle.commitment.specs.Commitment.{PublicKeys};
 ghost use Rattle.transcript.specs.Method.{parameters};
 ghost use Rattle.transcript.specs.Producer.{materialOf, producedHead, producedShares, producedClaims, producedOpening, producedAnswers};
@@ -33,7 +33,7 @@ pub fn first(
     n: usize,
     q: u64,
 ) -> Reply
-    requires { ⌜ Public n q (part (now public) 0 (8 * n)) × Public n q (part (now public) (8 * n) (8 * n)) × (repeats ≤ 256) × (40 * n ≤ length (now public)) × PublicKeys n q (part (now public) (16 * n) (24 * n)) ⌝ }
+    requires { ⌜ Polynomial n q (part (now public) 0 (8 * n)) × Polynomial n q (part (now public) (8 * n) (8 * n)) × (repeats ≤ 256) × (40 * n ≤ length (now public)) × PublicKeys n q (part (now public) (16 * n) (24 * n)) ⌝ }
     ensures { λ reply. ⌜ reply ≡ first (firstTests (parameters 2 n q bound repeats (part (now (public .entry)) 0 (8 * n)) (part (now (public .entry)) (8 * n) (8 * n)) (part (now (public .entry)) (16 * n) (24 * n))) (materialOf (now (secrets .entry)) (now (s0 .entry)) (now (e0 .entry)) (now (masks0 .entry)) (now (masks1 .entry)) (now (vectors .entry)) (now (permutations .entry)) (now (salts .entry)) (now (ballots .entry))) (now (head .entry)) (now (shares0 .entry)) (now (shares1 .entry)) (now (claims .entry)) (now (scratch .entry))) ⌝ }
     ensures { λ reply. ⌜ now (head .exit) ≡ leaves reply (producedHead (parameters 2 n q bound repeats (part (now (public .entry)) 0 (8 * n)) (part (now (public .entry)) (8 * n) (8 * n)) (part (now (public .entry)) (16 * n) (24 * n))) (countOf n (now (ballots .entry))) (materialOf (now (secrets .entry)) (now (s0 .entry)) (now (e0 .entry)) (now (masks0 .entry)) (now (masks1 .entry)) (now (vectors .entry)) (now (permutations .entry)) (now (salts .entry)) (now (ballots .entry)))) (now (head .entry)) ⌝ }
     ensures { λ reply. ⌜ now (shares0 .exit) ≡ leaves reply (producedShares (parameters 2 n q bound repeats (part (now (public .entry)) 0 (8 * n)) (part (now (public .entry)) (8 * n) (8 * n)) (part (now (public .entry)) (16 * n) (24 * n))) (countOf n (now (ballots .entry))) (materialOf (now (secrets .entry)) (now (s0 .entry)) (now (e0 .entry)) (now (masks0 .entry)) (now (masks1 .entry)) (now (vectors .entry)) (now (permutations .entry)) (now (salts .entry)) (now (ballots .entry))) 0) (now (shares0 .entry)) ⌝ }
@@ -88,7 +88,7 @@ pub fn second(
     n: usize,
     q: u64,
 ) -> Reply
-    requires { ⌜ Public n q (part (now public) 0 (8 * n)) × Public n q (part (now public) (8 * n) (8 * n)) × (repeats ≤ 256) × (40 * n ≤ length (now public)) ⌝ }
+    requires { ⌜ Polynomial n q (part (now public) 0 (8 * n)) × Polynomial n q (part (now public) (8 * n) (8 * n)) × (repeats ≤ 256) × (40 * n ≤ length (now public)) ⌝ }
     ensures { λ reply. ⌜ reply ≡ first (secondTests (parameters 2 n q bound repeats (part (now (public .entry)) 0 (8 * n)) (part (now (public .entry)) (8 * n) (8 * n)) (part (now (public .entry)) (16 * n) (24 * n))) (materialOf (now (secrets .entry)) (now (s0 .entry)) (now (e0 .entry)) (now (masks0 .entry)) (now (masks1 .entry)) (now (vectors .entry)) (now (permutations .entry)) (now (salts .entry)) (now (ballots .entry))) side (now (challenges .entry)) (now (opening .entry)) (now (answers .entry)) (now (scratch .entry))) ⌝ }
     ensures { λ reply. ⌜ now (opening .exit) ≡ leaves reply (producedOpening (parameters 2 n q bound repeats (part (now (public .entry)) 0 (8 * n)) (part (now (public .entry)) (8 * n) (8 * n)) (part (now (public .entry)) (16 * n) (24 * n))) (countOf n (now (ballots .entry))) (materialOf (now (secrets .entry)) (now (s0 .entry)) (now (e0 .entry)) (now (masks0 .entry)) (now (masks1 .entry)) (now (vectors .entry)) (now (permutations .entry)) (now (salts .entry)) (now (ballots .entry))) side) (now (opening .entry)) ⌝ }
     ensures { λ reply. ⌜ now (answers .exit) ≡ leaves reply (producedAnswers (parameters 2 n q bound repeats (part (now (public .entry)) 0 (8 * n)) (part (now (public .entry)) (8 * n) (8 * n)) (part (now (public .entry)) (16 * n) (24 * n))) (countOf n (now (ballots .entry))) (materialOf (now (secrets .entry)) (now (s0 .entry)) (now (e0 .entry)) (now (masks0 .entry)) (now (masks1 .entry)) (now (vectors .entry)) (now (permutations .entry)) (now (salts .entry)) (now (ballots .entry))) (now (challenges .entry))) (now (answers .entry)) ⌝ }

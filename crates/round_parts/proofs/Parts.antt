@@ -14,7 +14,7 @@ use Rattle.ring.specs.Poly.{Poly, plus, minus, modulo, Alike}
 use Rattle.ring.specs.Slots.{poly, slot, list, encode}
 use Rattle.ring.proofs.Bridge.{encode-alike}
 use Rattle.ring.proofs.Polynomials.{mul-poly-comm, alike-refl, alike-plus}
-use Rattle.call.specs.Call.{Public}
+use Rattle.call.specs.Call.{Polynomial}
 use Rattle.bgv.specs.Scheme.{key, worked, within, reconstructed}
 use Rattle.bgv.proofs.Form.{noisy-alike}
 use Rattle.commitment.specs.Commitment.{Keys, threeOf, row, opens, pairBytes}
@@ -27,7 +27,7 @@ use Rattle.round_parts.specs.Orders.{voteTests}
 use Rattle.round_parts.proofs.InOrder.{each-cong}
 
 -- a polynomial at a place, lent on with a length that is a difference of places
-pub lent-on : {n q : ℕ} (s : Bytes) (at m : ℕ) → m ≡ 8 * n → Public n q (part s at (8 * n)) → Public n q (take m (drop at s))
+pub lent-on : {n q : ℕ} (s : Bytes) (at m : ℕ) → m ≡ 8 * n → Polynomial n q (part s at (8 * n)) → Polynomial n q (take m (drop at s))
 lent-on s at m e p = rw e p
 
 -- ---- s and e of an opening, lent on, are what stands there

@@ -13,7 +13,7 @@ use Rattle.ring.specs.Poly.{Below}
 use Rattle.ring.specs.Slots.{poly, list, allBelow}
 use Rattle.ring.proofs.Bridge.{poly-part}
 use Rattle.ring.proofs.Ranges.{below-sound}
-use Rattle.call.specs.Call.{Public}
+use Rattle.call.specs.Call.{Polynomial}
 use Rattle.vector.specs.Vector.{vector}
 use Rattle.stern.specs.Shortness.{inRange}
 use Rattle.stern.proofs.Written.{vector-below}
@@ -26,13 +26,13 @@ use Rattle.transcript.proofs.Compared.{lent-public}
 use Rattle.round_parts.specs.Lent.{Opened, Head, RoundInRange}
 
 -- for a ring size and a modulus that some polynomial of the sheet has
-module _ (P : Parameters) (m : ℕ) {a : Bytes} (p : Public (P .N) (P .q) a) where
+module _ (P : Parameters) (m : ℕ) {a : Bytes} (p : Polynomial (P .N) (P .q) a) where
   open Parameters P using (q, N, repeats)
 
   -- a polynomial of bytes that hold l coefficients below q, from coefficient d on
-  public-part : (l : ℕ) (s : Bytes) → Below q l (poly s) → (d at : ℕ) → at ≡ 8 * d → d + N ≤ l → 8 * l ≤ length s → Public N q (part s at (8 * N))
+  public-part : (l : ℕ) (s : Bytes) → Below q l (poly s) → (d at : ℕ) → at ≡ 8 * d → d + N ≤ l → 8 * l ≤ length s → Polynomial N q (part s at (8 * N))
   public-part l s b d at e h f =
-      lent-public N q s at (8 * N) (omega arith) (omega arith) (p .low) (p .high) (p .some) (p .few) (below-slot q l s d N at e h b)
+      lent-public N q s at (8 * N) (omega arith) (omega arith) (p .ring-low) (p .ring-high) (p .modulus-low) (p .modulus-high) (below-slot q l s d N at e h b)
 
   pub opening-passed : (opening : Bytes) → length opening ≡ 22 * N → openingRanged P m opening ≡ true → Opened q N opening
   unfolding openingRanged

@@ -5,7 +5,7 @@ use Prim.Native.Nat.{ℕ, _*_, _<_}
 use lib.ListN.{length}
 use Rattle.codec.specs.Bytes.{Bytes, part}
 use Rattle.ring.specs.Slots.{allBelow}
-use Rattle.call.specs.Call.{Public}
+use Rattle.call.specs.Call.{Polynomial}
 use Rattle.vector.specs.Vector.{vector}
 use Rattle.transcript.specs.Layout.{headLength, pairsOf}
 use Rattle.transcript.specs.Round.{Round}
@@ -14,14 +14,14 @@ use Rattle.transcript.specs.Method.{Batch, Shares, Answers}
 -- an opening
 pub record Opened (q n : ℕ) (opening : Bytes) : Type 0 where
   pub sized : length opening ≡ 22 * n
-  pub s : Public n q (part opening 0 (8 * n))
-  pub e : Public n q (part opening (8 * n) (8 * n))
+  pub s : Polynomial n q (part opening 0 (8 * n))
+  pub e : Polynomial n q (part opening (8 * n) (8 * n))
 
 -- the head of a first message
 pub record Head (q n repeats : ℕ) (head : Bytes) : Type 0 where
   pub sized : length head ≡ headLength n repeats
-  pub b0 : Public n q (part head 0 (8 * n))
-  pub b1 : Public n q (part head (8 * n) (8 * n))
+  pub b0 : Polynomial n q (part head 0 (8 * n))
+  pub b1 : Polynomial n q (part head (8 * n) (8 * n))
   pub pairs : allBelow q (vector (pairsOf n head)) ≡ true
 
 -- all that is lent to a check

@@ -9,7 +9,7 @@ ghost use Rattle.codec.specs.Reply.{first};
 ghost use Rattle.codec.specs.declared.Reply.the-variants.{Refused};
 ghost use Rattle.ring.specs.Poly.{plus, modulo};
 ghost use Rattle.ring.specs.Slots.{poly, slot, encode};
-ghost use Rattle.call.specs.Call.{scratchLength, Public};
+ghost use Rattle.call.specs.Call.{scratchLength, Polynomial};
 ghost use Rattle.bgv.specs.Scheme.{key};
 ghost use Rattle.commitment.specs.Commitment.{keysOf, threeOf, opens, PublicKeys};
 ghost use Rattle.transcript.specs.Layout.{keyAt, openingOf};
@@ -26,7 +26,7 @@ pub fn refused(number: u8) -> Reply
 
 // Whether b0 and b1 of a first message add to b.
 pub fn splits(work: &mut [u8], head: &[u8], b: &[u8], repeats: usize, n: usize, q: u64) -> bool
-    requires { ⌜ Public n q (now b) × Head q n repeats (now head) × (length (now work) ≡ scratchLength) ⌝ }
+    requires { ⌜ Polynomial n q (now b) × Head q n repeats (now head) × (length (now work) ≡ scratchLength) ⌝ }
     ensures { λ r. ⌜ r ≡ same (encode n (modulo q (plus (keyAt n (now (head .entry)) 0) (keyAt n (now (head .entry)) 1)))) (encode n (modulo q (poly (now (b .entry))))) ⌝ }
     ensures { λ _. ⌜ length (now (work .exit)) ≡ length (now (work .entry)) ⌝ }
 {
@@ -43,7 +43,7 @@ fn opens_key(
     n: usize,
     q: u64,
 ) -> bool
-    requires { ⌜ Public n q (now a) × Opened q n (now opening) × (length (now work) ≡ scratchLength) × (at + 8 * n ≤ length (now head)) ⌝ }
+    requires { ⌜ Polynomial n q (now a) × Opened q n (now opening) × (length (now work) ≡ scratchLength) × (at + 8 * n ≤ length (now head)) ⌝ }
     ensures { λ r. ⌜ r ≡ same (part (now (head .entry)) at (8 * n)) (encode n (modulo q (key q n 2 (poly (now (a .entry))) (slot (now (opening .entry)) 0) (slot (now (opening .entry)) (8 * n))))) ⌝ }
     ensures { λ _. ⌜ length (now (work .exit)) ≡ length (now (work .entry)) ⌝ }
 {
@@ -98,7 +98,7 @@ pub fn test_opening(
     n: usize,
     q: u64,
 ) -> Reply
-    requires { ⌜ Public n q (now a) × PublicKeys n q (now k) × Opened q n (now opening) × (length (now work) ≡ scratchLength) × (80 * n ≤ length (now head)) × (side < 2) ⌝ }
+    requires { ⌜ Polynomial n q (now a) × PublicKeys n q (now k) × Opened q n (now opening) × (length (now work) ≡ scratchLength) × (80 * n ≤ length (now head)) × (side < 2) ⌝ }
     ensures { λ reply. ⌜ reply ≡ first (openingTests q n (poly (now (a .entry))) (keysOf n (now (k .entry))) (now (head .entry)) side (openingOf n (now (opening .entry)))) ⌝ }
     ensures { λ _. ⌜ length (now (work .exit)) ≡ length (now (work .entry)) ⌝ }
 {

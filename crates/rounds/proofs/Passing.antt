@@ -10,7 +10,7 @@ use Rattle.codec.specs.Bytes.{Bytes}
 use Rattle.codec.specs.Reply.{first}
 use Rattle.codec.specs.declared.Reply.the-variants.{Taken}
 use Rattle.codec.proofs.Laws.{both}
-use Rattle.call.specs.Call.{scratchLength, Public}
+use Rattle.call.specs.Call.{scratchLength, Polynomial}
 use Rattle.transcript.specs.Layout.{headLength, answersLength}
 use Rattle.transcript.specs.Round.{Parameters, ballotsRanged}
 use Rattle.transcript.specs.Method.{parameters}
@@ -27,7 +27,7 @@ module _ (n q bound repeats : ℕ) (a b : Bytes) (x : Material) where
   P = parameters 2 n q bound repeats a b []
 
   -- the material of m ballots, by its lengths and by its tests
-  module _ (m : ℕ) (public : Public n q a) (e : materialSized n repeats m x ≡ true) (asked : Bool) (t : first (producerTests P m x asked) ≡ Taken) where
+  module _ (m : ℕ) (public : Polynomial n q a) (e : materialSized n repeats m x ≡ true) (asked : Bool) (t : first (producerTests P m x asked) ≡ Taken) where
     sizes : Sized P m x
     sizes = material-sizes P m x e
 
@@ -51,7 +51,7 @@ module _ (n q bound repeats : ℕ) (a b : Bytes) (x : Material) where
 
   -- ---- the first call
 
-  module _ (head shares0 shares1 claims w : Bytes) (public : Public n q a) (t : first (firstTests P x head shares0 shares1 claims w) ≡ Taken) where
+  module _ (head shares0 shares1 claims w : Bytes) (public : Polynomial n q a) (t : first (firstTests P x head shares0 shares1 claims w) ≡ Taken) where
     abbrev count : ℕ
     count = countOf n (x .ballots)
 
@@ -61,7 +61,7 @@ module _ (n q bound repeats : ℕ) (a b : Bytes) (x : Material) where
 
     abbrev pub Asks : ℕ → Type 0
     Asks m =
-        ((Public n q (x .s0)) × (Public n q (x .e0)) × (length w ≡ scratchLength) × (m ≤ 4096) × Drawings q n repeats (x .secrets) (x .vectors) (x .permutations) (x .salts) × Masked q n m (x .ballots) (x .masks0) (x .masks1))
+        ((Polynomial n q (x .s0)) × (Polynomial n q (x .e0)) × (length w ≡ scratchLength) × (m ≤ 4096) × Drawings q n repeats (x .secrets) (x .vectors) (x .permutations) (x .salts) × Masked q n m (x .ballots) (x .masks0) (x .masks1))
         × ((length head ≡ headLength n repeats) × (length shares0 ≡ 8 * n * m) × (length shares1 ≡ 8 * n * m) × (length claims ≡ n * m))
 
     -- for any number that is the count
@@ -73,7 +73,7 @@ module _ (n q bound repeats : ℕ) (a b : Bytes) (x : Material) where
 
   -- ---- the second call
 
-  module _ (side : ℕ) (challenges opening answers w : Bytes) (public : Public n q a) (t : first (secondTests P x side challenges opening answers w) ≡ Taken) where
+  module _ (side : ℕ) (challenges opening answers w : Bytes) (public : Polynomial n q a) (t : first (secondTests P x side challenges opening answers w) ≡ Taken) where
     abbrev number : ℕ
     number = countOf n (x .ballots)
 
@@ -88,7 +88,7 @@ module _ (n q bound repeats : ℕ) (a b : Bytes) (x : Material) where
     unfolding askedRanged
     small = ltb-true side 2 (both (ltb side 2) _ (none-refused 2 n q bound repeats a b [] number x asked (taken .3) .0) .0)
 
-    pub second-asks : (Public n q (x .s0)) × (Public n q (x .e0)) × (length w ≡ scratchLength) × (side < 2) × Drawings q n repeats (x .secrets) (x .vectors) (x .permutations) (x .salts)
+    pub second-asks : (Polynomial n q (x .s0)) × (Polynomial n q (x .e0)) × (length w ≡ scratchLength) × (side < 2) × Drawings q n repeats (x .secrets) (x .vectors) (x .permutations) (x .salts)
         × (length challenges ≡ repeats) × (length opening ≡ 22 * n) × (length answers ≡ answersLength n challenges)
     second-asks =
         let f = second-sizes n repeats challenges opening answers w (taken .2) in

@@ -7,17 +7,13 @@ use Rattle.codec.specs.Bytes.{Bytes}
 use Rattle.codec.specs.Reply.{first}
 use Rattle.transcript.specs.Round.{ballotsRanged}
 use Rattle.transcript.specs.Method.{parameters}
-use Rattle.transcript.specs.Producer.{Material, askedRanged, materialRanged, producerTests, producedPairs, producedHead, producedShares, producedClaims, producedOpening, producedAnswers, materialOf}
-use Rattle.lengths.specs.Calls.{firstTests, secondTests}
+use Rattle.transcript.specs.Producer.{Material, materialRanged, producerTests, producedPairs, producedHead, producedShares, producedClaims, producedOpening, producedAnswers, materialOf}
+use Rattle.lengths.specs.Calls.{firstTests}
 
 module _ (n q bound repeats : ℕ) (a b k : Bytes) (x : Material) where
   pub first-unkeyed : (head shares0 shares1 claims w : Bytes) → first (firstTests (parameters 2 n q bound repeats a b []) x head shares0 shares1 claims w) ≡ first (firstTests (parameters 2 n q bound repeats a b k) x head shares0 shares1 claims w)
   unfolding firstTests producerTests materialRanged ballotsRanged
   first-unkeyed head shares0 shares1 claims w = refl
-
-  pub second-unkeyed : (side : ℕ) (challenges opening answers w : Bytes) → first (secondTests (parameters 2 n q bound repeats a b []) x side challenges opening answers w) ≡ first (secondTests (parameters 2 n q bound repeats a b k) x side challenges opening answers w)
-  unfolding secondTests askedRanged producerTests materialRanged ballotsRanged
-  second-unkeyed side challenges opening answers w = refl
 
   module _ (m : ℕ) where
     pub head-unbound : producedHead (parameters 2 n q 0 repeats a [] k) m x ≡ producedHead (parameters 2 n q bound repeats a b k) m x

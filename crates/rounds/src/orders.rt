@@ -11,7 +11,7 @@ ghost use mathlib.Core.List.{[]};
 ghost use Prim.Native.Nat.{_≤_};
 ghost use lib.ListN.{length};
 ghost use Rattle.codec.specs.Reply.{first};
-ghost use Rattle.call.specs.Call.{Public, swept};
+ghost use Rattle.call.specs.Call.{Polynomial, swept};
 ghost use Rattle.transcript.specs.Method.{parameters};
 ghost use Rattle.transcript.specs.Producer.{materialOf};
 ghost use Rattle.lengths.specs.Calls.{firstTests, secondTests};
@@ -39,7 +39,7 @@ pub fn first_tests(
     n: usize,
     q: u64,
 ) -> Reply
-    requires { ⌜ Public n q (now a) × Public n q (now b) × (repeats ≤ 256) ⌝ }
+    requires { ⌜ Polynomial n q (now a) × Polynomial n q (now b) × (repeats ≤ 256) ⌝ }
     ensures { λ reply. ⌜ reply ≡ first (firstTests (parameters 2 n q bound repeats (now (a .entry)) (now (b .entry)) []) (materialOf (now (secrets .entry)) (now (s0 .entry)) (now (e0 .entry)) (now (masks0 .entry)) (now (masks1 .entry)) (now (vectors .entry)) (now (permutations .entry)) (now (salts .entry)) (now (ballots .entry))) (now (head .entry)) (now (shares0 .entry)) (now (shares1 .entry)) (now (claims .entry)) (now (scratch .entry))) ⌝ }
     ensures { λ reply. ⌜ (swept reply (now (scratch .exit)) ≡ swept reply (now (scratch .entry))) × (length (now (scratch .exit)) ≡ length (now (scratch .entry))) ⌝ }
 {
@@ -110,7 +110,7 @@ pub fn second_tests(
     n: usize,
     q: u64,
 ) -> Reply
-    requires { ⌜ Public n q (now a) × Public n q (now b) × (repeats ≤ 256) ⌝ }
+    requires { ⌜ Polynomial n q (now a) × Polynomial n q (now b) × (repeats ≤ 256) ⌝ }
     ensures { λ reply. ⌜ reply ≡ first (secondTests (parameters 2 n q bound repeats (now (a .entry)) (now (b .entry)) []) (materialOf (now (secrets .entry)) (now (s0 .entry)) (now (e0 .entry)) (now (masks0 .entry)) (now (masks1 .entry)) (now (vectors .entry)) (now (permutations .entry)) (now (salts .entry)) (now (ballots .entry))) side (now (challenges .entry)) (now (opening .entry)) (now (answers .entry)) (now (scratch .entry))) ⌝ }
     ensures { λ reply. ⌜ (swept reply (now (scratch .exit)) ≡ swept reply (now (scratch .entry))) × (length (now (scratch .exit)) ≡ length (now (scratch .entry))) ⌝ }
 {

@@ -7,7 +7,7 @@ ghost use mathlib.Core.Path.{_≡_};
 ghost use mathlib.Core.List.{[]};
 ghost use Prim.Native.Nat.{_≤_};
 ghost use Rattle.codec.specs.Reply.{first, leaves};
-ghost use Rattle.call.specs.Call.{Public, swept};
+ghost use Rattle.call.specs.Call.{Polynomial, swept};
 ghost use Rattle.commitment.specs.Commitment.{PublicKeys};
 ghost use Rattle.transcript.specs.Method.{parameters};
 ghost use Rattle.transcript.specs.Producer.{materialOf, producedHead, producedShares, producedClaims, producedOpening, producedAnswers};
@@ -37,7 +37,7 @@ pub fn produce_first(
     n: usize,
     q: u64,
 ) -> Reply
-    requires { ⌜ Public n q (now a) × Public n q (now b) × PublicKeys n q (now k) × (repeats ≤ 256) ⌝ }
+    requires { ⌜ Polynomial n q (now a) × Polynomial n q (now b) × PublicKeys n q (now k) × (repeats ≤ 256) ⌝ }
     ensures { λ reply. ⌜ reply ≡ first (firstTests (parameters 2 n q bound repeats (now (a .entry)) (now (b .entry)) (now (k .entry))) (materialOf (now (secrets .entry)) (now (s0 .entry)) (now (e0 .entry)) (now (masks0 .entry)) (now (masks1 .entry)) (now (vectors .entry)) (now (permutations .entry)) (now (salts .entry)) (now (ballots .entry))) (now (head .entry)) (now (shares0 .entry)) (now (shares1 .entry)) (now (claims .entry)) (now (scratch .entry))) ⌝ }
     ensures { λ reply. ⌜ now (head .exit) ≡ leaves reply (producedHead (parameters 2 n q bound repeats (now (a .entry)) (now (b .entry)) (now (k .entry))) (countOf n (now (ballots .entry))) (materialOf (now (secrets .entry)) (now (s0 .entry)) (now (e0 .entry)) (now (masks0 .entry)) (now (masks1 .entry)) (now (vectors .entry)) (now (permutations .entry)) (now (salts .entry)) (now (ballots .entry)))) (now (head .entry)) ⌝ }
     ensures { λ reply. ⌜ now (shares0 .exit) ≡ leaves reply (producedShares (parameters 2 n q bound repeats (now (a .entry)) (now (b .entry)) (now (k .entry))) (countOf n (now (ballots .entry))) (materialOf (now (secrets .entry)) (now (s0 .entry)) (now (e0 .entry)) (now (masks0 .entry)) (now (masks1 .entry)) (now (vectors .entry)) (now (permutations .entry)) (now (salts .entry)) (now (ballots .entry))) 0) (now (shares0 .entry)) ⌝ }
@@ -124,7 +124,7 @@ pub fn produce_second(
     n: usize,
     q: u64,
 ) -> Reply
-    requires { ⌜ Public n q (now a) × Public n q (now b) × (repeats ≤ 256) ⌝ }
+    requires { ⌜ Polynomial n q (now a) × Polynomial n q (now b) × (repeats ≤ 256) ⌝ }
     ensures { λ reply. ⌜ reply ≡ first (secondTests (parameters 2 n q bound repeats (now (a .entry)) (now (b .entry)) []) (materialOf (now (secrets .entry)) (now (s0 .entry)) (now (e0 .entry)) (now (masks0 .entry)) (now (masks1 .entry)) (now (vectors .entry)) (now (permutations .entry)) (now (salts .entry)) (now (ballots .entry))) side (now (challenges .entry)) (now (opening .entry)) (now (answers .entry)) (now (scratch .entry))) ⌝ }
     ensures { λ reply. ⌜ now (opening .exit) ≡ leaves reply (producedOpening (parameters 2 n q bound repeats (now (a .entry)) (now (b .entry)) []) (countOf n (now (ballots .entry))) (materialOf (now (secrets .entry)) (now (s0 .entry)) (now (e0 .entry)) (now (masks0 .entry)) (now (masks1 .entry)) (now (vectors .entry)) (now (permutations .entry)) (now (salts .entry)) (now (ballots .entry))) side) (now (opening .entry)) ⌝ }
     ensures { λ reply. ⌜ now (answers .exit) ≡ leaves reply (producedAnswers (parameters 2 n q bound repeats (now (a .entry)) (now (b .entry)) []) (countOf n (now (ballots .entry))) (materialOf (now (secrets .entry)) (now (s0 .entry)) (now (e0 .entry)) (now (masks0 .entry)) (now (masks1 .entry)) (now (vectors .entry)) (now (permutations .entry)) (now (salts .entry)) (now (ballots .entry))) (now (challenges .entry))) (now (answers .entry)) ⌝ }

@@ -10,7 +10,7 @@ use Rattle.codec.specs.declared.Reply.{Reply}
 use Rattle.codec.specs.declared.Reply.the-variants.{Taken}
 use Rattle.codec.proofs.Laws.{both}
 use Rattle.ring.specs.Slots.{poly, list, allBelow}
-use Rattle.call.specs.Call.{bytesBelow, coefficientsBelow, Public}
+use Rattle.call.specs.Call.{bytesBelow, coefficientsBelow, Polynomial}
 use Rattle.call.proofs.Order.{length-at, passed}
 use Rattle.call.proofs.Ranges.{ranged}
 use Rattle.bgv.specs.Scheme.{within, lentMask}
@@ -18,13 +18,13 @@ use Rattle.scheme.specs.Calls.{shareTests, reconstructTests, commitmentT
 
 module _ (n q : ℕ) (low : 4 ≤ n) (high : n ≤ 2048) (some : 3 ≤ q) (few : q < 2 ^ 56) where
   -- two polynomials in range
-  pub two-ranged : (x y : Bytes) → length x ≡ 8 * n → length y ≡ 8 * n → coefficientsBelow q n (x ∷ y ∷ []) ≡ true → Public n q x × Public n q y
+  pub two-ranged : (x y : Bytes) → length x ≡ 8 * n → length y ≡ 8 * n → coefficientsBelow q n (x ∷ y ∷ []) ≡ true → Polynomial n q x × Polynomial n q y
   two-ranged x y lx ly e =
       let h = both (allBelow q (list n (poly x))) (coefficientsBelow q n (y ∷ [])) e in
       (ranged n q low high some few x lx (h .0), ranged n q low high some few y ly (both (allBelow q (list n (poly y))) true (h .1) .0))
 
   pub share-passed : (B : ℕ) (x u m d w : Bytes) → (z : Reply) → z ≡ first (shareTests q n B x u m d w) → z ≡ Taken
-      → (Public n q x × Public n q u) × (length m ≡ 8 * n) × (length w ≡ 1048576) × (length d ≡ 8 * n)
+      → (Polynomial n q x × Polynomial n q u) × (length m ≡ 8 * n) × (length w ≡ 1048576) × (length d ≡ 8 * n)
   share-passed B x u m d w z i t =
       let xs : List ℕ = length x ∷ length u ∷ length m ∷ length d ∷ length w ∷ [] in
       let ys : List ℕ = 8 * n ∷ 8 * n ∷ 8 * n ∷ 8 * n ∷ 1048576 ∷ [] in
@@ -33,7 +33,7 @@ module _ (n q : ℕ) (low : 4 ≤ n) (high : n ≤ 2048) (some : 3 ≤ q) (few :
       (two-ranged x u (length-at xs ys 0 l) (length-at xs ys 1 l) (h .1), length-at xs ys 2 l, length-at xs ys 4 l, length-at xs ys 3 l)
 
   pub reconstruct-passed : (v t0 t1 d w : Bytes) → (z : Reply) → z ≡ first (reconstructTests q n v t0 t1 d w) → z ≡ Taken
-      → Public n q v × (Public n q t0 × Public n q t1) × (length d ≡ n) × (length w ≡ 1048576)
+      → Polynomial n q v × (Polynomial n q t0 × Polynomial n q t1) × (length d ≡ n) × (length w ≡ 1048576)
   reconstruct-passed v t0 t1 d w z i t =
       let xs : List ℕ = length v ∷ length t0 ∷ length t1 ∷ length d ∷ length w ∷ [] in
       let ys : List ℕ = 8 * n ∷ 8 * n ∷ 8 * n ∷ n ∷ 1048576 ∷ [] in
@@ -42,7 +42,7 @@ module _ (n q : ℕ) (low : 4 ≤ n) (high : n ≤ 2048) (some : 3 ≤ q) (few :
       let r = both (allBelow q (list n (poly v))) (coefficientsBelow q n (t0 ∷ t1 ∷ [])) (h .1) in
       (ranged n q low high some few v (length-at xs ys 0 l) (r .0), two-ranged t0 t1 (length-at xs ys 1 l) (length-at xs ys 2 l) (r .1), length-at xs ys 3 l, length-at xs ys 4 l)
 
-  pub commitment-passed : (m r d w : Bytes) → (z : Reply) → z ≡ first (commitmentTests q n m r d w) → z ≡ Taken → Public n q m × (length r ≡ 3 * n) × (length d ≡ 16 * n) × (length w ≡ 1048576)
+  pub commitment-passed : (m r d w : Bytes) → (z : Reply) → z ≡ first (commitmentTests q n m r d w) → z ≡ Taken → Polynomial n q m × (length r ≡ 3 * n) × (length d ≡ 16 * n) × (length w ≡ 1048576)
   commitment-passed m r d w z i t =
       let xs : List ℕ = length m ∷ length r ∷ length d ∷ length w ∷ [] in
       let ys : List ℕ = 8 * n ∷ 3 * n ∷ 16 * n ∷ 1048576 ∷ [] in

@@ -6,7 +6,7 @@ ghost use mathlib.Core.List.{[], _∷_};
 ghost use Prim.Native.Nat.{_*_, _≤_, _<_, _^_};
 ghost use lib.ListN.{length};
 ghost use Rattle.codec.specs.Reply.{first, leaves};
-ghost use Rattle.call.specs.Call.{scratchLength, coefficientsBelow, Public, Used};
+ghost use Rattle.call.specs.Call.{scratchLength, coefficientsBelow, Polynomial, Used};
 ghost use Rattle.scheme.specs.Calls.{shareTests, shareWrites, reconstructTests, reconstructWrites};
 
 // What `share` refuses, in order. A lent mask is bounded as it is lent.
@@ -129,7 +129,7 @@ fn write_rebuilt(
     n: usize,
     q: u64,
 )
-    requires { ⌜ Public n q (now v) × Public n q (now t0) × Public n q (now t1) × (length (now vote) ≡ n) × (length (now scratch) ≡ scratchLength) ⌝ }
+    requires { ⌜ Polynomial n q (now v) × Polynomial n q (now t0) × Polynomial n q (now t1) × (length (now vote) ≡ n) × (length (now scratch) ≡ scratchLength) ⌝ }
     ensures { λ _. ⌜ now (vote .exit) ≡ reconstructWrites 2 q n (now (v .entry)) (now (t0 .entry)) (now (t1 .entry)) ⌝ }
     ensures { λ _. ⌜ length (now (scratch .exit)) ≡ length (now (scratch .entry)) ⌝ }
 {

@@ -6,7 +6,7 @@ ghost use Rattle.codec.specs.Bytes.{put};
 ghost use Rattle.ring.specs.Poly.{Below};
 ghost use Rattle.ring.specs.Slots.{poly};
 ghost use Rattle.ring.specs.Ternary.{ternary};
-ghost use Rattle.call.specs.Call.{scratchLength, coefficients, Public};
+ghost use Rattle.call.specs.Call.{scratchLength, coefficients, Polynomial};
 ghost use Rattle.bgv.specs.Scheme as scheme;
 ghost use Rattle.bgv.specs.Scheme.{lentMask};
 ghost use Rattle.scheme.specs.Calls.{written};
@@ -22,7 +22,7 @@ pub fn noisy(
     n: usize,
     q: u64,
 )
-    requires { ⌜ Public n q (now a) × (length (now scratch) ≡ scratchLength) × (length (now x) ≡ n) × (length (now y) ≡ n) × (at + 8 * n ≤ length (now out)) ⌝ }
+    requires { ⌜ Polynomial n q (now a) × (length (now scratch) ≡ scratchLength) × (length (now x) ≡ n) × (length (now y) ≡ n) × (at + 8 * n ≤ length (now out)) ⌝ }
     ensures { λ _. ⌜ now (out .exit) ≡ put (now (out .entry)) at (written q n (scheme.noisy q n 2 (poly (now (a .entry))) (ternary q (now (x .entry))) (ternary q (now (y .entry))))) ⌝ }
     ensures { λ _. ⌜ length (now (scratch .exit)) ≡ length (now (scratch .entry)) ⌝ }
 {
@@ -42,7 +42,7 @@ pub fn cipher_v(
     n: usize,
     q: u64,
 )
-    requires { ⌜ Public n q (now b) × (length (now scratch) ≡ scratchLength) × (length (now r) ≡ n) × (length (now e2) ≡ n) × (length (now m) ≡ n) × Below q n (coefficients (now m)) × (at + 8 * n ≤ length (now out)) ⌝ }
+    requires { ⌜ Polynomial n q (now b) × (length (now scratch) ≡ scratchLength) × (length (now r) ≡ n) × (length (now e2) ≡ n) × (length (now m) ≡ n) × Below q n (coefficients (now m)) × (at + 8 * n ≤ length (now out)) ⌝ }
     ensures { λ _. ⌜ now (out .exit) ≡ put (now (out .entry)) at (written q n (scheme.cipher-v q n 2 (poly (now (b .entry))) (ternary q (now (r .entry))) (ternary q (now (e2 .entry))) (coefficients (now (m .entry))))) ⌝ }
     ensures { λ _. ⌜ length (now (scratch .exit)) ≡ length (now (scratch .entry)) ⌝ }
 {
@@ -61,7 +61,7 @@ pub fn difference(
     n: usize,
     q: u64,
 )
-    requires { ⌜ Public n q (now x0) × (length (now scratch) ≡ scratchLength) × (length (now x) ≡ n) × (at + 8 * n ≤ length (now out)) ⌝ }
+    requires { ⌜ Polynomial n q (now x0) × (length (now scratch) ≡ scratchLength) × (length (now x) ≡ n) × (at + 8 * n ≤ length (now out)) ⌝ }
     ensures { λ _. ⌜ now (out .exit) ≡ put (now (out .entry)) at (written q n (scheme.other q (ternary q (now (x .entry))) (poly (now (x0 .entry))))) ⌝ }
     ensures { λ _. ⌜ length (now (scratch .exit)) ≡ length (now (scratch .entry)) ⌝ }
 {
@@ -80,7 +80,7 @@ pub fn lent_key(
     n: usize,
     q: u64,
 )
-    requires { ⌜ Public n q (now a) × Public n q (now x0) × Public n q (now y0) × (length (now scratch) ≡ scratchLength) × (at + 8 * n ≤ length (now out)) ⌝ }
+    requires { ⌜ Polynomial n q (now a) × Polynomial n q (now x0) × Polynomial n q (now y0) × (length (now scratch) ≡ scratchLength) × (at + 8 * n ≤ length (now out)) ⌝ }
     ensures { λ _. ⌜ now (out .exit) ≡ put (now (out .entry)) at (written q n (scheme.key q n 2 (poly (now (a .entry))) (poly (now (x0 .entry))) (poly (now (y0 .entry))))) ⌝ }
     ensures { λ _. ⌜ length (now (scratch .exit)) ≡ length (now (scratch .entry)) ⌝ }
 {
@@ -101,7 +101,7 @@ pub fn other_key(
     n: usize,
     q: u64,
 )
-    requires { ⌜ Public n q (now a) × Public n q (now x0) × Public n q (now y0) × (length (now scratch) ≡ scratchLength) × (length (now x) ≡ n) × (length (now y) ≡ n) × (at + 8 * n ≤ length (now out)) ⌝ }
+    requires { ⌜ Polynomial n q (now a) × Polynomial n q (now x0) × Polynomial n q (now y0) × (length (now scratch) ≡ scratchLength) × (length (now x) ≡ n) × (length (now y) ≡ n) × (at + 8 * n ≤ length (now out)) ⌝ }
     ensures { λ _. ⌜ now (out .exit) ≡ put (now (out .entry)) at (written q n (scheme.key q n 2 (poly (now (a .entry))) (scheme.other q (ternary q (now (x .entry))) (poly (now (x0 .entry)))) (scheme.other q (ternary q (now (y .entry))) (poly (now (y0 .entry)))))) ⌝ }
     ensures { λ _. ⌜ length (now (scratch .exit)) ≡ length (now (scratch .entry)) ⌝ }
 {
@@ -120,7 +120,7 @@ pub fn share(
     n: usize,
     q: u64,
 )
-    requires { ⌜ Public n q (now half) × Public n q (now u) × (length (now mask) ≡ 8 * n) × (length (now scratch) ≡ scratchLength) × (at + 8 * n ≤ length (now out)) ⌝ }
+    requires { ⌜ Polynomial n q (now half) × Polynomial n q (now u) × (length (now mask) ≡ 8 * n) × (length (now scratch) ≡ scratchLength) × (at + 8 * n ≤ length (now out)) ⌝ }
     ensures { λ _. ⌜ now (out .exit) ≡ put (now (out .entry)) at (written q n (scheme.share q n 2 (poly (now (half .entry))) (poly (now (u .entry))) (lentMask (now (mask .entry))))) ⌝ }
     ensures { λ _. ⌜ length (now (scratch .exit)) ≡ length (now (scratch .entry)) ⌝ }
 {

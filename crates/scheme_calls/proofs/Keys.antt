@@ -11,7 +11,7 @@ use Rattle.ring.specs.Slots.{poly, slot}
 use Rattle.ring.proofs.Polynomials.{_so_}
 use Rattle.ring.proofs.Bridge.{poly-part}
 use Rattle.sheet_numbers.specs.declared.Numbers.{Numbers}
-use Rattle.call.specs.Call.{Public}
+use Rattle.call.specs.Call.{Polynomial}
 use Rattle.call.proofs.Lent.{Lent}
 use Rattle.commitment.specs.Commitment.{keysOf, PublicKeys}
 use Rattle.scheme.specs.Calls.{commitmentWrites}
@@ -32,9 +32,9 @@ module _ {p : ℕ} {text public : Bytes} {k : Numbers} (h : Lent p text public k
   pub lent-keys : PublicKeys n (k .modulus) keys
   lent-keys = record {
     sized = length-part public from long (omega (arith, h .sized, h .ranged .ring-high)) ∙ ends;
-    one = subst (Public n (k .modulus)) (sym (third 0 (omega arith))) (h .polynomial 2 (from + 0) (8 * n) (omega arith) (omega arith) refl);
-    two = subst (Public n (k .modulus)) (sym (third (8 * n) (omega arith))) (h .polynomial 3 (from + 8 * n) (8 * n) (omega arith) (omega arith) refl);
-    three = subst (Public n (k .modulus)) (sym (third (16 * n) (omega arith))) (h .polynomial 4 (from + 16 * n) (8 * n) (omega arith) (omega arith) refl);
+    one = subst (Polynomial n (k .modulus)) (sym (third 0 (omega arith))) (h .polynomial 2 (from + 0) (8 * n) (omega arith) (omega arith) refl);
+    two = subst (Polynomial n (k .modulus)) (sym (third (8 * n) (omega arith))) (h .polynomial 3 (from + 8 * n) (8 * n) (omega arith) (omega arith) refl);
+    three = subst (Polynomial n (k .modulus)) (sym (third (16 * n) (omega arith))) (h .polynomial 4 (from + 16 * n) (8 * n) (omega arith) (omega arith) refl);
   }
 
   reads : (at : ℕ) (f : Poly) → at + 8 * n ≤ 24 * n → Alike (k .modulus) n (poly (take (8 * n) (drop (from + at) public))) f → Alike (k .modulus) n (slot keys at) f

@@ -57,8 +57,8 @@ reply-is p text = by (reading p text) ∙ sym (order-first p text [])
 
 -- ---- a sheet that is taken
 
--- a polynomial: n coefficients, each below q
-pub record Polynomial (n q : ℕ) (xs : List ℕ) : Type 0 where
+-- a list of n coefficients, each below q
+pub record Coefficients (n q : ℕ) (xs : List ℕ) : Type 0 where
   pub count : length xs ≡ n
   pub below : (i : ℕ) → getD xs i 0 < q
 
@@ -108,22 +108,22 @@ each-below q h [] e i = h
 each-below q h (x ∷ xs) e zero = ltb-true x q (both (ltb x q) (every (λ y. ltb y q) xs) e .0)
 each-below q h (x ∷ xs) e (suc i) = each-below q h xs (both (ltb x q) (every (λ y. ltb y q) xs) e .1) i
 
-polynomial : (n q : ℕ) → 0 < q → (xs : List ℕ) → fits n q xs ≡ true → Polynomial n q xs
+polynomial : (n q : ℕ) → 0 < q → (xs : List ℕ) → fits n q xs ≡ true → Coefficients n q xs
 polynomial n q h xs e =
     let p = both (eqb (length xs) n) (every (λ x. ltb x q) xs) e in
     record { count = eqb-true (length xs) n (p .0); below = each-below q h xs (p .1) }
 
-abbrev pub AllPolynomials : ℕ → ℕ → List (List ℕ) → Type 0
-AllPolynomials n q [] = Unit
-AllPolynomials n q (l ∷ ls) = Polynomial n q l × AllPolynomials n q ls
+abbrev pub AllCoefficients : ℕ → ℕ → List (List ℕ) → Type 0
+AllCoefficients n q [] = Unit
+AllCoefficients n q (l ∷ ls) = Coefficients n q l × AllCoefficients n q ls
 
-all-polynomials : (n q : ℕ) → 0 < q → (ls : List (List ℕ)) → every (fits n q) ls ≡ true → AllPolynomials n q ls
+all-polynomials : (n q : ℕ) → 0 < q → (ls : List (List ℕ)) → every (fits n q) ls ≡ true → AllCoefficients n q ls
 all-polynomials n q h [] e = tt
 all-polynomials n q h (l ∷ ls) e =
     let p = both (fits n q l) (every (fits n q) ls) e in
     (polynomial n q h l (p .0), all-polynomials n q h ls (p .1))
 
-pub lists-taken : (p : ℕ) (text : Bytes) {k : Numbers} → reading p text ≡ Taken k → AllPolynomials (k .ring) (k .modulus) (lists (sheetOf text))
+pub lists-taken : (p : ℕ) (text : Bytes) {k : Numbers} → reading p text ≡ Taken k → AllCoefficients (k .ring) (k .modulus) (lists (sheetOf text))
 unfolding unfit
 lists-taken p text {k} e =
     let t = taken p text e in

@@ -15,8 +15,6 @@ use Rattle.sheet.specs.Reader.{digit, Place, fresh, within, Found, missi
 use Rattle.sheet.specs.Seen.{numbersIn, Ready, Writes}
 use Rattle.sheet.proofs.Steps.{unroll, same-or, le-or, begins, no-number, grows, leading-zero, too-long, comma, ends, neither}
 
--- ---- polynomials in bytes
-
 -- ---- a line has no fewer numbers than were read
 
 data Grown (n : ℕ) : Found → Type 0 where

@@ -8,7 +8,7 @@ use native.Mathlib.Omega.{arith}
 use borrow.Author.Tests.{eqb-true, le-ltb, ltb-true, ltb-false, leb-false, not-false}
 use lib.Dec.{ltb, eqb}
 use lib.ListN.{getD}
-use Rattle.sheet_numbers.specs.Bounds.{noise, least, power}
+use Rattle.sheet_numbers.specs.Bounds.{noise, power}
 use Rattle.sheet_numbers.specs.Rules.{any, ranges, outside, conditions, unsound}
 use Rattle.sheet_numbers.specs.declared.Numbers.{Numbers}
 use Rattle.sheet_numbers.proofs.Below.{below, holds}
@@ -36,27 +36,16 @@ divides n low high = go (eqb (2048 % n) 0) (power 12 n) (rw (le-ltb n 4 low) at 
     go false true e = sym e
     go false false e = refl
 
-pub power-of : (k n : ℕ) → power k n ≡ true → (j : ℕ) × (n ≡ 2 ^ j)
-unfolding power
-power-of zero n e = absurd (let z : _≡_ {A = ℕ} 0 1 = cc in omega arith)
-power-of (suc k) n e = go (eqb n (2 ^ k)) refl e (power-of k n)
-  where
-    go : (b : Bool) → eqb n (2 ^ k) ≡ b → cond b true (power k n) ≡ true → (power k n ≡ true → (j : ℕ) × (n ≡ 2 ^ j)) → (j : ℕ) × (n ≡ 2 ^ j)
-    go true q e f = (k, eqb-true n (2 ^ k) q)
-    go false q e f = f e
-
 -- ---- numbers in their ranges
 
 pub record InRange (k : Numbers) : Type 0 where
   pub ring-low : 4 ≤ k .ring
   pub ring-high : k .ring ≤ 2048
-  pub ring-power : (j : ℕ) × (k .ring ≡ 2 ^ j)
   pub modulus-low : 3 ≤ k .modulus
   pub modulus-high : k .modulus < 2 ^ 56
   pub drown-high : k .drown ≤ 40
   pub rounds-low : 1 ≤ k .rounds
   pub rounds-high : k .rounds ≤ 128
-  pub repeats-low : least (k .rounds) ≤ k .repeats
   pub repeats-high : k .repeats ≤ 256
 
 none-at : (ts : List Bool) (i : ℕ) → any ts ≡ false → getD ts i false ≡ false
@@ -71,13 +60,11 @@ unfolding outside
 in-range k e = record {
   ring-low = ltb-false _ _ (none-at (ranges k) 0 e);
   ring-high = ltb-false _ _ (none-at (ranges k) 1 e);
-  ring-power = power-of 12 (k .ring) (not-false _ (none-at (ranges k) 2 e));
   modulus-low = ltb-false _ _ (none-at (ranges k) 3 e);
   modulus-high = leb-false _ _ (none-at (ranges k) 4 e);
   drown-high = ltb-false _ _ (none-at (ranges k) 5 e);
   rounds-low = ltb-false _ _ (none-at (ranges k) 6 e);
   rounds-high = ltb-false _ _ (none-at (ranges k) 7 e);
-  repeats-low = ltb-false _ _ (none-at (ranges k) 8 e);
   repeats-high = ltb-false _ _ (none-at (ranges k) 9 e);
 }
 

@@ -94,9 +94,6 @@ firstOf-firstBytes f e1 e2 e3 =
     let r = three-read 32 32 32 64 refl (f .d1) (f .d2) (f .d3) e1 e2 e3 in
     λ i. record { d1 = r .0 i; d2 = r .1 i; d3 = r .2 i }
 
-pub firstBytes-firstOf : (d : Bytes) → length d ≡ 96 → firstBytes (firstOf d) ≡ d
-firstBytes-firstOf d e = three-written 32 32 32 64 refl d 0 ∙ take-all 96 d (omega arith)
-
 -- ---- answers
 
 pub answer1Of-answer1Bytes : (N : ℕ) (a : Answer1) → length (a .w) ≡ 42 * N → length (a .t) ≡ 336 * N → length (a .salt2) ≡ 32 → length (a .salt3) ≡ 32

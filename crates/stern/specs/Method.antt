@@ -1,10 +1,9 @@
--- What inner functions hold: the four equations two at a time, as pairs of polynomials in scratch. No public contract cites this file. Assumes nothing.
+-- The four equations (document 01, "One round") two at a time, as pairs of polynomials: what the functions that work them out in scratch promise. Assumes nothing.
 use mathlib.Core.Bool.{Bool, cond}
-use mathlib.Core.List.{List, _++_}
 use Prim.Native.Nat.{ℕ, _+_, _*_}
 use Rattle.codec.specs.Bytes.{Bytes}
-use Rattle.ring.specs.Poly.{Poly, plus, minus, modulo}
-use Rattle.ring.specs.Slots.{slot, list, encode}
+use Rattle.ring.specs.Poly.{Poly, minus}
+use Rattle.ring.specs.Slots.{slot}
 use Rattle.commitment.specs.Commitment.{Keys, Three, Pair, plus3, committed}
 
 -- the polynomial of n words from a word on

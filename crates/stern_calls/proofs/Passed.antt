@@ -17,7 +17,7 @@ use Rattle.ring.specs.Poly.{Below}
 use Rattle.ring.specs.Slots.{poly, slot, allBelow}
 use Rattle.ring.proofs.Bridge.{poly-part, slot-later, slot-poly}
 use Rattle.ring.proofs.Ranges.{below-sound}
-use Rattle.call.specs.Call.{Public}
+use Rattle.call.specs.Call.{Polynomial}
 use Rattle.call.proofs.Order.{length-at}
 use Rattle.commitment.specs.Commitment.{Keys, PublicKeys}
 use Rattle.vector.specs.Vector.{vector}
@@ -28,10 +28,10 @@ use Rattle.stern_calls.specs.Calls.{ringFits, lengths, wanted, digestsRe
 -- ---- plain numbers
 
 pub record Ring (n q : ℕ) : Type 0 where
-  pub low : 4 ≤ n
-  pub high : n ≤ 2048
-  pub some : 3 ≤ q
-  pub few : q < 2 ^ 56
+  pub ring-low : 4 ≤ n
+  pub ring-high : n ≤ 2048
+  pub modulus-low : 3 ≤ q
+  pub modulus-high : q < 2 ^ 56
 
 pub ring : (n q : ℕ) → ringFits n q ≡ true → Ring n q
 unfolding ringFits
@@ -39,7 +39,7 @@ ring n q e =
     let a = both (leb 4 n) _ e in
     let b = both (leb n 2048) _ (a .1) in
     let c = both (leb 3 q) (ltb q (2 ^ 56)) (b .1) in
-    record { low = leb-true 4 n (a .0); high = leb-true n 2048 (b .0); some = leb-true 3 q (c .0); few = ltb-true q (2 ^ 56) (c .1) }
+    record { ring-low = leb-true 4 n (a .0); ring-high = leb-true n 2048 (b .0); modulus-low = leb-true 3 q (c .0); modulus-high = ltb-true q (2 ^ 56) (c .1) }
 
 -- ---- the keys
 
@@ -49,12 +49,12 @@ module _ (n q : ℕ) (fits : Ring n q) (k : Bytes) (sized : length k ≡ 24 * n)
   ranged = below-sound q (length k / 8) (poly k) below
 
   -- one of the three, from a number on
-  key : (m from : ℕ) → from ≡ 8 * m → m + n ≤ 3 * n → Public n q (part k from (8 * n))
+  key : (m from : ℕ) → from ≡ 8 * m → m + n ≤ 3 * n → Polynomial n q (part k from (8 * n))
   key m from place h = record {
-    low = fits .low;
-    high = fits .high;
-    some = fits .some;
-    few = fits .few;
+    ring-low = fits .ring-low;
+    ring-high = fits .ring-high;
+    modulus-low = fits .modulus-low;
+    modulus-high = fits .modulus-high;
     sized = length-part k from (8 * n) (omega arith);
     below = record { at = λ j l. rw (poly-part k from n j l ∙ ap (λ (x : ℕ). slot k x j) (place ∙ sym (zero-add (8 * m))) ∙ slot-later k 0 m j ∙ slot-poly k (m + j)) (ranged .at (m + j) (omega arith)) };
   }

@@ -18,7 +18,7 @@ use Rattle.ring.specs.Poly.{Poly, plus, modulo, Alike, Below}
 use Rattle.ring.specs.Slots.{poly, slot, list, encode, store, allBelow}
 use Rattle.ring.proofs.Bridge.{length-list, list-cong, getD-list, poly-part, slot-later}
 use Rattle.ring.proofs.Polynomials.{alike-refl, alike-minus, alike-mul}
-use Rattle.call.specs.Call.{Public}
+use Rattle.call.specs.Call.{Polynomial}
 use Rattle.bgv.specs.Scheme.{worked, within, plain, rebuilt, reconstructed}
 use Rattle.call.proofs.Shelf.{Shelf, shelf-none, shelf-copy, shelf-add, shelf-below}
 use Rattle.commitment.proofs.Opening.{encode-bytes}
@@ -26,24 +26,24 @@ use Rattle.transcript.proofs.ExtractionSizes.{same-centre}
 
 -- ---- two lent halves added at the head of scratch
 
-module _ (n q : ℕ) (w w1 b0 : Bytes) (long : length w ≡ 1048576) (octets : Octets b0) (p0 : Public n q b0) (e1 : w1 ≡ put w 0 b0) where
+module _ (n q : ℕ) (w w1 b0 : Bytes) (long : length w ≡ 1048576) (octets : Octets b0) (p0 : Polynomial n q b0) (e1 : w1 ≡ put w 0 b0) where
   positive : 0 < q
-  positive = let s = p0 .some in omega arith
+  positive = let s = p0 .modulus-low in omega arith
 
   copied : Shelf q n (poly b0 ∷ []) w1
-  copied = shelf-copy q n (p0 .high) positive (p0 .few) (shelf-none q n (p0 .high) positive (p0 .few) long) 0 (omega arith) (omega arith) b0 octets (p0 .sized) (p0 .below) e1
+  copied = shelf-copy q n (p0 .ring-high) positive (p0 .modulus-high) (shelf-none q n (p0 .ring-high) positive (p0 .modulus-high) long) 0 (omega arith) (omega arith) b0 octets (p0 .sized) (p0 .below) e1
 
   pub add-asks : (8 * n ≤ length w1) × Below q n (slot w1 0)
-  add-asks = (let h = p0 .high in omega (arith, copied .long), shelf-below q n (p0 .high) positive (p0 .few) copied 0 (omega arith))
+  add-asks = (let h = p0 .ring-high in omega (arith, copied .long), shelf-below q n (p0 .ring-high) positive (p0 .modulus-high) copied 0 (omega arith))
 
   module _ (w2 b1 b : Bytes) (e2 : w2 ≡ store q n w1 0 (plus (slot w1 0) (poly b1))) where
     added : Shelf q n (plus (poly b0) (poly b1) ∷ []) w2
-    added = shelf-add q n (p0 .high) positive (p0 .few) copied 0 (omega arith) (omega arith) (poly b1) (poly b1) alike-refl e2
+    added = shelf-add q n (p0 .ring-high) positive (p0 .modulus-high) copied 0 (omega arith) (omega arith) (poly b1) (poly b1) alike-refl e2
 
     pub added-length : length w2 ≡ length w
     added-length = added .long ∙ sym long
 
-    pub sum-compared : (m : ℕ) → m ≡ 8 * n → Octets b → Public n q b → same (take m w2) b ≡ same (encode n (modulo q (plus (poly b0) (poly b1)))) (encode n (modulo q (poly b)))
+    pub sum-compared : (m : ℕ) → m ≡ 8 * n → Octets b → Polynomial n q b → same (take m w2) b ≡ same (encode n (modulo q (plus (poly b0) (poly b1)))) (encode n (modulo q (poly b)))
     sum-compared m e o p = ap (λ (k : ℕ). same (take k w2) b) e ∙ ap₂ same (added .stands 0 (omega arith)) (encode-bytes q n b o (p .sized) (p .below))
 
 -- ---- a claim compared byte by byte
@@ -83,12 +83,12 @@ module _ (n q : ℕ) (s : Bytes) (at m : ℕ) (e : m ≡ 8 * n) (fits : at + 8 *
   pub lent-alike : Alike q n (poly (take m (drop at s))) (slot s at)
   lent-alike = record { at = λ k l. same-eq (reads k l) }
 
-  pub lent-public : 4 ≤ n → n ≤ 2048 → 3 ≤ q → q < 2 ^ 56 → Below q n (slot s at) → Public n q (take m (drop at s))
+  pub lent-public : 4 ≤ n → n ≤ 2048 → 3 ≤ q → q < 2 ^ 56 → Below q n (slot s at) → Polynomial n q (take m (drop at s))
   lent-public low high some few b = record {
-    low = low;
-    high = high;
-    some = some;
-    few = few;
+    ring-low = low;
+    ring-high = high;
+    modulus-low = some;
+    modulus-high = few;
     sized = ap length is-part ∙ length-part s at (8 * n) fits;
     below = record { at = λ k l. rw (reads k l) (b .at k l) };
   }

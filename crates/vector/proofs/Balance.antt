@@ -152,6 +152,3 @@ module _ (L : ℕ) (x : Bytes) (size : length x ≡ L) (ternary : allBelow 3 x �
         zeros = omega (arith, count-extend L x 0, count-same (L - count 0 x) 0, count-other (L - count 2 x) 0 2 (omega arith), count-other (L - count 1 x) 0 1 (omega arith));
         ones = omega (arith, count-extend L x 1, count-same (L - count 1 x) 1, count-other (L - count 2 x) 1 2 (omega arith), count-other (L - count 0 x) 1 0 (omega arith));
       })
-
-  pub extend-ternary : allBelow 3 (extend L x) ≡ true
-  extend-ternary = balanced-ternary L (extend L x) extend-balanced

@@ -27,10 +27,6 @@ pub each-length : {P : ℕ → Type 0} {n : ℕ} {x : List ℕ} → Each P n x �
 each-length none = refl
 each-length (more h v) = ap suc (each-length v)
 
-pub map-each : {P Q : ℕ → Type 0} {n : ℕ} {x : List ℕ} → ((v : ℕ) → P v → Q v) → Each P n x → Each Q n x
-map-each f none = none
-map-each f (more h v) = more (f _ h) (map-each f v)
-
 -- entry by entry
 pub at-each : {P : ℕ → Type 0} {n : ℕ} {x : List ℕ} → Each P n x → (i : ℕ) → i < n → P (getD x i 0)
 at-each none i h = absurd (omega arith)
@@ -126,13 +122,6 @@ add-take q zero x y = refl
 add-take q (suc k) [] y = refl
 add-take q (suc k) (x ∷ xs) [] = refl
 add-take q (suc k) (x ∷ xs) (y ∷ ys) = ap (λ (l : List ℕ). (x + y) % q ∷ l) (add-take q k xs ys)
-
-pub add-drop : (q k : ℕ) (x y : List ℕ) → drop k (add q x y) ≡ add q (drop k x) (drop k y)
-unfolding add
-add-drop q zero x y = refl
-add-drop q (suc k) [] y = refl
-add-drop q (suc k) (x ∷ xs) [] = sym (commute q (drop k xs) [])
-add-drop q (suc k) (x ∷ xs) (y ∷ ys) = add-drop q k xs ys
 
 -- ---- a permutation goes through sums, entry by entry
 

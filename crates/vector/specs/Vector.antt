@@ -1,9 +1,9 @@
 -- Vectors of numbers modulo q as lists, and as bytes (document 01, "One round" and "Layouts"). Assumes nothing.
 use mathlib.Core.Path.{_≡_}
 use mathlib.Core.List.{List, [], _∷_}
-use Prim.Native.Nat.{ℕ, zero, suc, _+_, _-_, _*_, _/_, _%_, _<_}
+use Prim.Native.Nat.{ℕ, zero, suc, _+_, _-_, _/_, _%_, _<_}
 use lib.ListN.{length}
-use Rattle.codec.specs.Bytes.{Bytes, number, part}
+use Rattle.codec.specs.Bytes.{Bytes}
 use Rattle.ring.specs.Slots.{poly, list}
 use Rattle.ring.specs.Ternary.{ternary}
 

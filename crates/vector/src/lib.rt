@@ -14,7 +14,7 @@ ghost use Rattle.vector.specs.Permutation.{entries, permutes, apply, ext
 
 // ---- tests
 
-// Writes n zeros into scratch.
+// Writes n zeros into lent bytes, from a place on.
 pub fn clear(work: &mut [u8], at: usize, n: usize)
     requires { ⌜ at + n ≤ length (now work) ⌝ }
     ensures { λ _. ⌜ now (work .exit) ≡ put (now (work .entry)) at (zeros n) ⌝ }
@@ -91,8 +91,8 @@ pub fn component(x: &[u8], i: usize) -> u64
     codec::read64(x, 8 * i)
 }
 
-// v where j is below m, and else 0. It is computed, as a jump on the index of a permutation is foretold wrongly too often:
-// m + 2^62 - 1 - j is at least 2^62 where j is below m, and only there.
+// v where j is below m, and else 0. It is computed, as a jump is foretold wrongly too often where j is an entry of a random
+// permutation: m + 2^62 - 1 - j is at least 2^62 where j is below m, and only there.
 fn below(j: usize, m: usize, v: usize) -> usize
     requires { ⌜ (j < 2 ^ 62) × (m < 2 ^ 62) ⌝ }
     ensures { λ r. ⌜ r ≡ cond (ltb j m) v 0 ⌝ }
@@ -100,7 +100,8 @@ fn below(j: usize, m: usize, v: usize) -> usize
     (m + 4611686018427387903 - j) / 4611686018427387904 * v
 }
 
-// Byte j of the extended form of x: x itself, and then the -1s up to m, the 0s up to z, and the 1s.
+// Byte j of the extended form of x: x itself, its n bytes; behind it `minus` bytes for -1, up to m; `zeros` bytes for 0, up to z; and
+// bytes for 1. Past x the first byte of x is read and does not count.
 pub fn extended(x: &[u8], minus: usize, zeros: usize, j: usize) -> u8
     requires { ⌜ (3 * length (now x) < 2 ^ 62) × (minus ≡ length (now x) - count 2 (now x)) × (zeros ≡ length (now x) - count 0 (now x)) × (j < 3 * length (now x)) ⌝ }
     ensures { λ r. ⌜ r ≡ getD (extend (length (now (x .entry))) (now (x .entry))) j 0 ⌝ }

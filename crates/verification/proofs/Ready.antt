@@ -10,7 +10,7 @@ use Rattle.codec.specs.Reply.{first, None}
 use Rattle.codec.specs.declared.Reply.the-variants.{Taken}
 use Rattle.codec.proofs.Replies.{taken-exactly}
 use Rattle.ring.specs.Slots.{allBelow}
-use Rattle.call.specs.Call.{scratchLength, Public}
+use Rattle.call.specs.Call.{scratchLength, Polynomial}
 use Rattle.vector.specs.Vector.{vector}
 use Rattle.vector.specs.Permutation.{entries, permutes}
 use Rattle.stern.specs.Shortness.{answer2Of, answer3Of}
@@ -34,7 +34,7 @@ extract-passed P m x none =
     let later = after1 .1 .1 .1 in
     (not-false (lentRanged P m x) (none .0), not-false (permutes _ _) (later .0), not-false (permutes _ _) (later .1 .1 .0))
 
-module _ (P : Parameters) (x : Openings) (out scratch : Bytes) {a : Bytes} (public : Public (P .N) (P .q) a) (octets : Octets (x .head))
+module _ (P : Parameters) (x : Openings) (out scratch : Bytes) {a : Bytes} (public : Polynomial (P .N) (P .q) a) (octets : Octets (x .head))
     (taken : first (openingsTests P x out scratch) ≡ Taken) where
   open Parameters P using (q, N)
 

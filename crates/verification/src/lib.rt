@@ -8,7 +8,7 @@ ghost use mathlib.Core.Path.{_≡_};
 ghost use Prim.Native.Nat.{_%_, _≤_};
 ghost use lib.ListN.{length};
 ghost use Rattle.codec.specs.Reply.{first, leaves};
-ghost use Rattle.call.specs.Call.{Public, swept};
+ghost use Rattle.call.specs.Call.{Polynomial, swept};
 ghost use Rattle.commitment.specs.Commitment.{PublicKeys};
 ghost use Rattle.transcript.specs.Method.{parameters};
 ghost use Rattle.transcript.specs.Extractor.{kind, extracted};
@@ -65,7 +65,7 @@ pub fn extract(
     n: usize,
     q: u64,
 ) -> Extraction
-    requires { ⌜ Public n q (now a) × Public n q (now b) × PublicKeys n q (now k) × (q % 2 ≡ 1) × (repeats ≤ 256) ⌝ }
+    requires { ⌜ Polynomial n q (now a) × Polynomial n q (now b) × PublicKeys n q (now k) × (q % 2 ≡ 1) × (repeats ≤ 256) ⌝ }
     ensures { λ r. ⌜ r ≡ extraction (first (openingsTests (parameters 2 n q bound repeats (now (a .entry)) (now (b .entry)) (now (k .entry))) (openingsOf (now (head .entry)) (now (shares0 .entry)) (now (shares1 .entry)) (now (ballots .entry)) (now (claims .entry)) (now (opening0 .entry)) (now (opening1 .entry)) repetition (now (answer1 .entry)) (now (answer2 .entry)) (now (answer3 .entry))) (now (out .entry)) (now (scratch .entry)))) (kind (parameters 2 n q bound repeats (now (a .entry)) (now (b .entry)) (now (k .entry))) (countOf n (now (ballots .entry))) (openingsOf (now (head .entry)) (now (shares0 .entry)) (now (shares1 .entry)) (now (ballots .entry)) (now (claims .entry)) (now (opening0 .entry)) (now (opening1 .entry)) repetition (now (answer1 .entry)) (now (answer2 .entry)) (now (answer3 .entry)))) ⌝ }
     ensures { λ _. ⌜ now (out .exit) ≡ leaves (first (openingsTests (parameters 2 n q bound repeats (now (a .entry)) (now (b .entry)) (now (k .entry))) (openingsOf (now (head .entry)) (now (shares0 .entry)) (now (shares1 .entry)) (now (ballots .entry)) (now (claims .entry)) (now (opening0 .entry)) (now (opening1 .entry)) repetition (now (answer1 .entry)) (now (answer2 .entry)) (now (answer3 .entry))) (now (out .entry)) (now (scratch .entry)))) (extracted (parameters 2 n q bound repeats (now (a .entry)) (now (b .entry)) (now (k .entry))) (countOf n (now (ballots .entry))) (openingsOf (now (head .entry)) (now (shares0 .entry)) (now (shares1 .entry)) (now (ballots .entry)) (now (claims .entry)) (now (opening0 .entry)) (now (opening1 .entry)) repetition (now (answer1 .entry)) (now (answer2 .entry)) (now (answer3 .entry)))) (now (out .entry)) ⌝ }
     ensures { λ _. ⌜ (swept (first (openingsTests (parameters 2 n q bound repeats (now (a .entry)) (now (b .entry)) (now (k .entry))) (openingsOf (now (head .entry)) (now (shares0 .entry)) (now (shares1 .entry)) (now (ballots .entry)) (now (claims .entry)) (now (opening0 .entry)) (now (opening1 .entry)) repetition (now (answer1 .entry)) (now (answer2 .entry)) (now (answer3 .entry))) (now (out .entry)) (now (scratch .entry)))) (now (scratch .exit)) ≡ swept (first (openingsTests (parameters 2 n q bound repeats (now (a .entry)) (now (b .entry)) (now (k .entry))) (openingsOf (now (head .entry)) (now (shares0 .entry)) (now (shares1 .entry)) (now (ballots .entry)) (now (claims .entry)) (now (opening0 .entry)) (now (opening1 .entry)) repetition (now (answer1 .entry)) (now (answer2 .entry)) (now (answer3 .entry))) (now (out .entry)) (now (scratch .entry)))) (now (scratch .entry))) × (length (now (scratch .exit)) ≡ length (now (scratch .entry))) ⌝ }

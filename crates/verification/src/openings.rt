@@ -8,7 +8,7 @@ ghost use mathlib.Core.Path.{_≡_};
 ghost use Prim.Native.Nat.{_%_, _≤_};
 ghost use lib.ListN.{length};
 ghost use Rattle.codec.specs.Reply.{first};
-ghost use Rattle.call.specs.Call.{Public, swept};
+ghost use Rattle.call.specs.Call.{Polynomial, swept};
 ghost use Rattle.commitment.specs.Commitment.{PublicKeys};
 ghost use Rattle.transcript.specs.Method.{parameters};
 ghost use Rattle.openings_checker.specs.Orders.{openingsOf};
@@ -37,7 +37,7 @@ pub fn openings_tests(
     n: usize,
     q: u64,
 ) -> Reply
-    requires { ⌜ Public n q (now a) × Public n q (now b) × PublicKeys n q (now k) × (q % 2 ≡ 1) × (repeats ≤ 256) ⌝ }
+    requires { ⌜ Polynomial n q (now a) × Polynomial n q (now b) × PublicKeys n q (now k) × (q % 2 ≡ 1) × (repeats ≤ 256) ⌝ }
     ensures { λ reply. ⌜ reply ≡ first (openingsTests (parameters 2 n q bound repeats (now (a .entry)) (now (b .entry)) (now (k .entry))) (openingsOf (now (head .entry)) (now (shares0 .entry)) (now (shares1 .entry)) (now (ballots .entry)) (now (claims .entry)) (now (opening0 .entry)) (now (opening1 .entry)) repetition (now (answer1 .entry)) (now (answer2 .entry)) (now (answer3 .entry))) (now (out .entry)) (now (scratch .entry))) ⌝ }
     ensures { λ reply. ⌜ (swept reply (now (scratch .exit)) ≡ swept reply (now (scratch .entry))) × (length (now (scratch .exit)) ≡ length (now (scratch .entry))) ⌝ }
 {

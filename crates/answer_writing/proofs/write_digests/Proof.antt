@@ -28,7 +28,7 @@ gathered-digest-requires c κs =
     let a = c .before .before .before .before .before .before .before .before .before .before .before .before .before .before .before .before .before .before .before .args in
     let p = c .before .before .before .before .before .before .before .before .before .before .before .before .before .before .before .before .before .before .before .pre in
     let m = p .3 in
-    (p .0 .one .high, c .before .before .before .before .before .before .before .before .before .equations-digest .ensures .1 ∙ p .1, m .size-p, m .size-r, length-part (a .salts .now) 32 32 (omega (arith, m .size-salts)), permutes-below (42 * a .n) (entries (a .p .now)) (m .permutes))
+    (p .0 .one .ring-high, c .before .before .before .before .before .before .before .before .before .equations-digest .ensures .1 ∙ p .1, m .size-p, m .size-r, length-part (a .salts .now) 32 32 (omega (arith, m .size-salts)), permutes-below (42 * a .n) (entries (a .p .now)) (m .permutes))
 
 part-masked-digest-end : tie.Need-part-masked-digest-end
 part-masked-digest-end c = let m = c .before .before .before .before .before .before .before .before .before .before .before .before .before .before .before .before .before .before .before .before .before .before .before .before .before .before .before .before .pre .3 .size-salts in search needs
@@ -38,7 +38,7 @@ masked-digest-requires c κs =
     let a = c .before .before .before .before .before .before .before .before .before .before .before .before .before .before .before .before .before .before .before .before .before .before .before .before .before .before .before .before .before .args in
     let p = c .before .before .before .before .before .before .before .before .before .before .before .before .before .before .before .before .before .before .before .before .before .before .before .before .before .before .before .before .before .pre in
     let m = p .3 in (
-      (p .0 .one .high, p .0 .one .some, p .0 .one .few, c .before .before .before .before .before .before .before .before .before .gathered-digest .ensures .1 ∙ c .before .before .before .before .before .before .before .before .before .before .before .before .before .before .before .before .before .before .before .equations-digest .ensures .1 ∙ p .1, m .size-p, m .size-x, m .size-r, length-part (a .salts .now) 64 32 (omega (arith, m .size-salts))),
+      (p .0 .one .ring-high, p .0 .one .modulus-low, p .0 .one .modulus-high, c .before .before .before .before .before .before .before .before .before .gathered-digest .ensures .1 ∙ c .before .before .before .before .before .before .before .before .before .before .before .before .before .before .before .before .before .before .before .equations-digest .ensures .1 ∙ p .1, m .size-p, m .size-x, m .size-r, length-part (a .salts .now) 64 32 (omega (arith, m .size-salts))),
       (permutes-below (42 * a .n) (entries (a .p .now)) (m .permutes), m .below),
     )
 

@@ -14,9 +14,9 @@ combine-requires c κs =
     let p = c .before .before .before .before .before .before .before .before .before .before .before .before .before .pre in
     let w1 = c .before .before .before .before .before .before .before .load-ternary .last .0 in
     let w2 = c .before .before .before .load-ternary2 .last .0 in
-    let x = ternary-load (a .q) (a .n) (p .0 .high) (p .0 .some) (p .0 .few) (a .work .now) w1 0 (p .1) (omega (arith, p .0 .high)) (a .x .now) (p .2) (c .before .before .before .before .before .before .before .load-ternary .ensures) in
-    let y = ternary-load (a .q) (a .n) (p .0 .high) (p .0 .some) (p .0 .few) w1 w2 16384 (loaded-length (a .q) (a .n) (p .0 .high) (p .0 .some) (p .0 .few) (ternary (a .q) (a .x .now)) (a .work .now) w1 (p .1) x) (omega (arith, p .0 .high)) (a .y .now) (p .3) (c .before .before .before .load-ternary2 .ensures) in
-    let h = both-asks (a .q) (a .n) (p .0 .high) (p .0 .some) (p .0 .few) (ternary (a .q) (a .x .now)) (ternary (a .q) (a .y .now)) (a .work .now) w1 w2 (p .1) x y in
+    let x = ternary-load (a .q) (a .n) (p .0 .ring-high) (p .0 .modulus-low) (p .0 .modulus-high) (a .work .now) w1 0 (p .1) (omega (arith, p .0 .ring-high)) (a .x .now) (p .2) (c .before .before .before .before .before .before .before .load-ternary .ensures) in
+    let y = ternary-load (a .q) (a .n) (p .0 .ring-high) (p .0 .modulus-low) (p .0 .modulus-high) w1 w2 16384 (loaded-length (a .q) (a .n) (p .0 .ring-high) (p .0 .modulus-low) (p .0 .modulus-high) (ternary (a .q) (a .x .now)) (a .work .now) w1 (p .1) x) (omega (arith, p .0 .ring-high)) (a .y .now) (p .3) (c .before .before .before .load-ternary2 .ensures) in
+    let h = both-asks (a .q) (a .n) (p .0 .ring-high) (p .0 .modulus-low) (p .0 .modulus-high) (ternary (a .q) (a .x .now)) (ternary (a .q) (a .y .now)) (a .work .now) w1 w2 (p .1) x y in
     ((p .0, h .0), (h .1, h .2))
 
 returns : tie.Need-returns
@@ -25,9 +25,9 @@ returns c =
     let p = c .before .before .before .before .before .before .before .before .before .before .before .before .before .before .before .before .pre in
     let w1 = c .before .before .before .before .before .before .before .before .before .before .load-ternary .last .0 in
     let w2 = c .before .before .before .before .before .before .load-ternary2 .last .0 in
-    let x = ternary-load (a .q) (a .n) (p .0 .high) (p .0 .some) (p .0 .few) (a .work .now) w1 0 (p .1) (omega (arith, p .0 .high)) (a .x .now) (p .2) (c .before .before .before .before .before .before .before .before .before .before .load-ternary .ensures) in
-    let y = ternary-load (a .q) (a .n) (p .0 .high) (p .0 .some) (p .0 .few) w1 w2 16384 (loaded-length (a .q) (a .n) (p .0 .high) (p .0 .some) (p .0 .few) (ternary (a .q) (a .x .now)) (a .work .now) w1 (p .1) x) (omega (arith, p .0 .high)) (a .y .now) (p .3) (c .before .before .before .before .before .before .load-ternary2 .ensures) in
-    stands-noisy (a .q) (a .n) (p .0 .high) (p .0 .some) (p .0 .few) (ternary (a .q) (a .x .now)) (ternary (a .q) (a .y .now)) (a .work .now) w1 w2 (p .1) x y (poly (a .a .now)) (c .before .before .combine .last .0) (c .before .before .combine .ensures)
+    let x = ternary-load (a .q) (a .n) (p .0 .ring-high) (p .0 .modulus-low) (p .0 .modulus-high) (a .work .now) w1 0 (p .1) (omega (arith, p .0 .ring-high)) (a .x .now) (p .2) (c .before .before .before .before .before .before .before .before .before .before .load-ternary .ensures) in
+    let y = ternary-load (a .q) (a .n) (p .0 .ring-high) (p .0 .modulus-low) (p .0 .modulus-high) w1 w2 16384 (loaded-length (a .q) (a .n) (p .0 .ring-high) (p .0 .modulus-low) (p .0 .modulus-high) (ternary (a .q) (a .x .now)) (a .work .now) w1 (p .1) x) (omega (arith, p .0 .ring-high)) (a .y .now) (p .3) (c .before .before .before .before .before .before .load-ternary2 .ensures) in
+    stands-noisy (a .q) (a .n) (p .0 .ring-high) (p .0 .modulus-low) (p .0 .modulus-high) (ternary (a .q) (a .x .now)) (ternary (a .q) (a .y .now)) (a .work .now) w1 w2 (p .1) x y (poly (a .a .now)) (c .before .before .combine .last .0) (c .before .before .combine .ensures)
 
 pub noisy-spec : {M : Type 1} → statement M
 noisy-spec = tie.close (tie.spec (λ c κs. search needs) (λ c κs. search needs) combine-requires (λ c. search needs) returns)

@@ -18,41 +18,41 @@ difference-requires-2 : tie.Need-difference-requires-2
 difference-requires-2 c κs =
     let a = c .before .before .before .before .before .before .before .before .before .before .before .args in
     let p = c .before .before .before .before .before .before .before .before .before .before .before .pre in
-    let r = p .0 .high in
+    let r = p .0 .ring-high in
     let g = other (a .q) (ternary (a .q) (a .x .now)) (poly (a .x0 .now)) in
     let w1 = c .before .before .before .difference .last .0 in
-    let x = modulo-load (a .q) (a .n) (p .0 .high) (p .0 .some) (p .0 .few) (a .work .now) w1 0 g (p .3) (omega arith) (c .before .before .before .difference .ensures) in
-    let l = loaded-length (a .q) (a .n) (p .0 .high) (p .0 .some) (p .0 .few) g (a .work .now) w1 (p .3) x in
+    let x = modulo-load (a .q) (a .n) (p .0 .ring-high) (p .0 .modulus-low) (p .0 .modulus-high) (a .work .now) w1 0 g (p .3) (omega arith) (c .before .before .before .difference .ensures) in
+    let l = loaded-length (a .q) (a .n) (p .0 .ring-high) (p .0 .modulus-low) (p .0 .modulus-high) g (a .work .now) w1 (p .3) x in
     (p .2, l, p .5, omega arith)
 
 combine-requires : tie.Need-combine-requires
 combine-requires c κs =
     let a = c .before .before .before .before .before .before .before .before .before .before .before .before .before .before .before .args in
     let p = c .before .before .before .before .before .before .before .before .before .before .before .before .before .before .before .pre in
-    let r = p .0 .high in
+    let r = p .0 .ring-high in
     let g = other (a .q) (ternary (a .q) (a .x .now)) (poly (a .x0 .now)) in
     let w1 = c .before .before .before .before .before .before .before .difference .last .0 in
-    let x = modulo-load (a .q) (a .n) (p .0 .high) (p .0 .some) (p .0 .few) (a .work .now) w1 0 g (p .3) (omega arith) (c .before .before .before .before .before .before .before .difference .ensures) in
-    let l = loaded-length (a .q) (a .n) (p .0 .high) (p .0 .some) (p .0 .few) g (a .work .now) w1 (p .3) x in
+    let x = modulo-load (a .q) (a .n) (p .0 .ring-high) (p .0 .modulus-low) (p .0 .modulus-high) (a .work .now) w1 0 g (p .3) (omega arith) (c .before .before .before .before .before .before .before .difference .ensures) in
+    let l = loaded-length (a .q) (a .n) (p .0 .ring-high) (p .0 .modulus-low) (p .0 .modulus-high) g (a .work .now) w1 (p .3) x in
     let h = other (a .q) (ternary (a .q) (a .y .now)) (poly (a .y0 .now)) in
     let w2 = c .before .before .before .difference2 .last .0 in
-    let y = modulo-load (a .q) (a .n) (p .0 .high) (p .0 .some) (p .0 .few) w1 w2 16384 h l (omega arith) (c .before .before .before .difference2 .ensures) in
-    let k = both-asks (a .q) (a .n) (p .0 .high) (p .0 .some) (p .0 .few) g h (a .work .now) w1 w2 (p .3) x y in
+    let y = modulo-load (a .q) (a .n) (p .0 .ring-high) (p .0 .modulus-low) (p .0 .modulus-high) w1 w2 16384 h l (omega arith) (c .before .before .before .difference2 .ensures) in
+    let k = both-asks (a .q) (a .n) (p .0 .ring-high) (p .0 .modulus-low) (p .0 .modulus-high) g h (a .work .now) w1 w2 (p .3) x y in
     ((p .0, k .0), (k .1, k .2))
 
 returns : tie.Need-returns
 returns c =
     let a = c .before .before .before .before .before .before .before .before .before .before .before .before .before .before .before .before .before .before .args in
     let p = c .before .before .before .before .before .before .before .before .before .before .before .before .before .before .before .before .before .before .pre in
-    let r = p .0 .high in
+    let r = p .0 .ring-high in
     let g = other (a .q) (ternary (a .q) (a .x .now)) (poly (a .x0 .now)) in
     let w1 = c .before .before .before .before .before .before .before .before .before .before .difference .last .0 in
-    let x = modulo-load (a .q) (a .n) (p .0 .high) (p .0 .some) (p .0 .few) (a .work .now) w1 0 g (p .3) (omega arith) (c .before .before .before .before .before .before .before .before .before .before .difference .ensures) in
-    let l = loaded-length (a .q) (a .n) (p .0 .high) (p .0 .some) (p .0 .few) g (a .work .now) w1 (p .3) x in
+    let x = modulo-load (a .q) (a .n) (p .0 .ring-high) (p .0 .modulus-low) (p .0 .modulus-high) (a .work .now) w1 0 g (p .3) (omega arith) (c .before .before .before .before .before .before .before .before .before .before .difference .ensures) in
+    let l = loaded-length (a .q) (a .n) (p .0 .ring-high) (p .0 .modulus-low) (p .0 .modulus-high) g (a .work .now) w1 (p .3) x in
     let h = other (a .q) (ternary (a .q) (a .y .now)) (poly (a .y0 .now)) in
     let w2 = c .before .before .before .before .before .before .difference2 .last .0 in
-    let y = modulo-load (a .q) (a .n) (p .0 .high) (p .0 .some) (p .0 .few) w1 w2 16384 h l (omega arith) (c .before .before .before .before .before .before .difference2 .ensures) in
-    stands-noisy (a .q) (a .n) (p .0 .high) (p .0 .some) (p .0 .few) g h (a .work .now) w1 w2 (p .3) x y (poly (a .a .now)) (c .before .before .combine .last .0) (c .before .before .combine .ensures)
+    let y = modulo-load (a .q) (a .n) (p .0 .ring-high) (p .0 .modulus-low) (p .0 .modulus-high) w1 w2 16384 h l (omega arith) (c .before .before .before .before .before .before .difference2 .ensures) in
+    stands-noisy (a .q) (a .n) (p .0 .ring-high) (p .0 .modulus-low) (p .0 .modulus-high) g h (a .work .now) w1 w2 (p .3) x y (poly (a .a .now)) (c .before .before .combine .last .0) (c .before .before .combine .ensures)
 
 pub noisy-difference-spec : {M : Type 1} → statement M
 noisy-difference-spec = tie.close (tie.spec difference-requires difference-requires-2 combine-requires (λ c. search needs) returns)

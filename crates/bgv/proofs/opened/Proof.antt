@@ -15,8 +15,8 @@ less-product-requires c κs =
     let p = c .before .before .before .before .before .before .before .before .before .pre in
     let f = ternary (a .q) (a .s .now) in
     let w1 = c .before .before .before .load-ternary .last .0 in
-    let x = ternary-load (a .q) (a .n) (p .0 .high) (p .0 .some) (p .0 .few) (a .work .now) w1 0 (p .2) (omega (arith, p .0 .high)) (a .s .now) (p .3) (c .before .before .before .load-ternary .ensures) in
-    (p .0, p .1, loaded-length (a .q) (a .n) (p .0 .high) (p .0 .some) (p .0 .few) f (a .work .now) w1 (p .2) x, head-asks (a .q) (a .n) (p .0 .high) (p .0 .some) (p .0 .few) f (a .work .now) w1 (p .2) x .1)
+    let x = ternary-load (a .q) (a .n) (p .0 .ring-high) (p .0 .modulus-low) (p .0 .modulus-high) (a .work .now) w1 0 (p .2) (omega (arith, p .0 .ring-high)) (a .s .now) (p .3) (c .before .before .before .load-ternary .ensures) in
+    (p .0, p .1, loaded-length (a .q) (a .n) (p .0 .ring-high) (p .0 .modulus-low) (p .0 .modulus-high) f (a .work .now) w1 (p .2) x, head-asks (a .q) (a .n) (p .0 .ring-high) (p .0 .modulus-low) (p .0 .modulus-high) f (a .work .now) w1 (p .2) x .1)
 
 returns : tie.Need-returns
 unfolding opened
@@ -25,8 +25,8 @@ returns c =
     let p = c .before .before .before .before .before .before .before .before .before .before .before .before .pre in
     let f = ternary (a .q) (a .s .now) in
     let w1 = c .before .before .before .before .before .before .load-ternary .last .0 in
-    let x = ternary-load (a .q) (a .n) (p .0 .high) (p .0 .some) (p .0 .few) (a .work .now) w1 0 (p .2) (omega (arith, p .0 .high)) (a .s .now) (p .3) (c .before .before .before .before .before .before .load-ternary .ensures) in
-    stands-alike (stands-after (head-length (a .q) (a .n) (p .0 .high) (p .0 .some) (p .0 .few) f (a .work .now) w1 (p .2) x) (c .before .before .less-product .ensures)) (alike-minus alike-refl (alike-mul (holds-alike (x .holds)) alike-refl))
+    let x = ternary-load (a .q) (a .n) (p .0 .ring-high) (p .0 .modulus-low) (p .0 .modulus-high) (a .work .now) w1 0 (p .2) (omega (arith, p .0 .ring-high)) (a .s .now) (p .3) (c .before .before .before .before .before .before .load-ternary .ensures) in
+    stands-alike (stands-after (head-length (a .q) (a .n) (p .0 .ring-high) (p .0 .modulus-low) (p .0 .modulus-high) f (a .work .now) w1 (p .2) x) (c .before .before .less-product .ensures)) (alike-minus alike-refl (alike-mul (holds-alike (x .holds)) alike-refl))
 
 pub opened-spec : {M : Type 1} → statement M
 opened-spec = tie.close (tie.spec (λ c κs. search needs) less-product-requires (λ c. search needs) returns)

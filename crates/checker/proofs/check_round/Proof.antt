@@ -17,7 +17,7 @@ round-ranged-requires : tie.Need-round-ranged-requires
 round-ranged-requires c κs =
     let p = c .before .before .before .before .before .before .before .before .before .before .before .before .pre .0 in
     let l = c .before .before .before .before .before .before .before .before .before .before .before .before .pre .1 in
-    (p .0 .high, p .5, p .6, l .challenges, l .answers, l .ballots, omega (arith, l .head), l .opening)
+    (p .0 .ring-high, p .5, p .6, l .challenges, l .answers, l .ballots, omega (arith, l .head), l .opening)
 
 returns : tie.Need-returns
 returns c =

@@ -26,15 +26,15 @@ second-agrees-requires c κs =
     let a = c .before .before .before .before .before .before .before .before .before .before .before .before .before .before .before .before .args in
     let p = c .before .before .before .before .before .before .before .before .before .before .before .before .before .before .before .before .pre in
     let r = p .5 in
-    (p .0 .one .high, c .before .before .before .before .before .before .first-agrees .ensures .1 .0 ∙ p .1, r .sized1, r .sized3, permutes-below (42 * a .n) (entries (answer3Of (a .n) (a .answer3 .now) .p)) (r .permutes3))
+    (p .0 .one .ring-high, c .before .before .before .before .before .before .first-agrees .ensures .1 .0 ∙ p .1, r .sized1, r .sized3, permutes-below (42 * a .n) (entries (answer3Of (a .n) (a .answer3 .now) .p)) (r .permutes3))
 
 third-agrees-requires : tie.Need-third-agrees-requires
 third-agrees-requires c κs =
     let a = c .before .before .before .before .before .before .before .before .before .before .before .before .before .before .before .before .before .before .before .before .args in
     let p = c .before .before .before .before .before .before .before .before .before .before .before .before .before .before .before .before .before .before .before .before .pre in
     let r = p .5 in
-    let some = p .0 .one .some in (
-      (p .0 .one .high, omega arith, p .0 .one .few, r .sized1, r .sized2),
+    let some = p .0 .one .modulus-low in (
+      (p .0 .one .ring-high, omega arith, p .0 .one .modulus-high, r .sized1, r .sized2),
       (both (allBelow 3 (answer1Of (a .n) (a .answer1 .now) .w)) (allBelow (a .q) (vector (answer1Of (a .n) (a .answer1 .now) .t))) (r .below1) .1, r .below2, permutes-below (42 * a .n) (entries (answer2Of (a .n) (a .answer2 .now) .p)) (r .permutes2)),
     )
 

@@ -30,7 +30,7 @@ returns : tie.Need-returns
 returns c =
     let a = c .before .before .before .before .before .before .before .before .before .before .before .before .before .before .args in
     let p = c .before .before .before .before .before .before .before .before .before .before .before .before .before .before .pre .0 in
-    let some = p .0 .one .some in
+    let some = p .0 .one .modulus-low in
     let z : 0 < a .q = omega arith in
     let k = keysOf (a .n) (a .k .now) in
     let s = equationPair (a .q) (a .n) k (a .c .now) true (a .u .now) (2 * a .n) 0 0 in
@@ -48,7 +48,7 @@ returns-2 : tie.Need-returns-2
 returns-2 c =
     let a = c .before .before .before .before .before .before .before .before .before .before .before .before .before .before .before .before .before .before .before .before .before .args in
     let p = c .before .before .before .before .before .before .before .before .before .before .before .before .before .before .before .before .before .before .before .before .before .pre .0 in
-    let some = p .0 .one .some in
+    let some = p .0 .one .modulus-low in
     let z : 0 < a .q = omega arith in
     let k = keysOf (a .n) (a .k .now) in
     let s = equationPair (a .q) (a .n) k (a .c .now) true (a .u .now) (2 * a .n) 0 0 in

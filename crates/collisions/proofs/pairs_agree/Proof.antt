@@ -30,7 +30,7 @@ is-kept-requires : tie.Need-is-kept-requires
 is-kept-requires c κs =
     let a = c .before .before .before .before .before .before .before .before .before .before .before .before .before .before .before .before .before .before .before .before .before .args in
     let p = c .before .before .before .before .before .before .before .before .before .before .before .before .before .before .before .before .before .before .before .before .before .pre .0 in
-    let h = p .0 .one .high in
+    let h = p .0 .one .ring-high in
     let u = equationPair (a .q) (a .n) (keysOf (a .n) (a .k .now)) (a .c .now) true (a .u .now) (a .first) (a .message) (a .from) in
     let s = c .before .before .before .before .before .before .before .before .before .before .before .before .before .equation-pair .ensures in
     let l = kept-length (a .q) (a .n) (a .room .now) _ (a .work .now) _ u (p .2) s (c .before .before .before .before .before .before .before .before .keep-pair .ensures) in

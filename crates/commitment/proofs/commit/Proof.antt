@@ -1,5 +1,4 @@
 -- `commit` meets its contract. Assumes nothing.
-use mathlib.Core.Path.{refl}
 use mathlib.Core.Logic.{inl, inr}
 use Prim.Native.Nat.{_<_}
 use native.Mathlib.Omega.{arith}
@@ -15,9 +14,9 @@ copy-slot-requires c κs =
     let a = c .before .before .before .args in
     let p = c .before .before .before .pre in
     let k = p .0 .0 in
-    let h = k .one .high in
-    let f = k .one .few in
-    let t = k .one .some in
+    let h = k .one .ring-high in
+    let f = k .one .modulus-high in
+    let t = k .one .modulus-low in
     let z : 0 < a .q = omega arith in
     let o : Octets (a .work .now) = λ i l. omega (arith, c .before .before .slice-known .given i) in
     shelf-slots (a .q) (a .n) h z f (shelf0 (a .q) (a .n) h z f (a .k .now) (a .work .now) k o (p .0 .1) (p .1)) 4 2 (omega arith) (omega arith) (inl (omega arith))
@@ -27,9 +26,9 @@ add-product-requires c κs =
     let a = c .before .before .before .before .before .before .before .before .args in
     let p = c .before .before .before .before .before .before .before .before .pre in
     let k = p .0 .0 in
-    let h = k .one .high in
-    let f = k .one .few in
-    let t = k .one .some in
+    let h = k .one .ring-high in
+    let f = k .one .modulus-high in
+    let t = k .one .modulus-low in
     let z : 0 < a .q = omega arith in
     let o : Octets (a .work .now) = λ i l. omega (arith, c .before .before .before .before .before .before .before .slice-known .given i) in
     product-asks (a .q) (a .n) h z f (shelf1 (a .q) (a .n) h z f (a .k .now) (a .work .now) k o (p .0 .1) (p .1) (c .before .before .before .before .copy-slot .last .0) (c .before .before .before .before .copy-slot .ensures)) 3 4 (omega arith) (omega arith) (omega arith) (inr (omega arith)) _ (public3 (a .q) (a .n) h z f (a .k .now) (a .work .now) k o (p .0 .1) (p .1))
@@ -39,9 +38,9 @@ add-slot-requires c κs =
     let a = c .before .before .before .before .before .before .before .before .before .before .before .before .args in
     let p = c .before .before .before .before .before .before .before .before .before .before .before .before .pre in
     let k = p .0 .0 in
-    let h = k .one .high in
-    let f = k .one .few in
-    let t = k .one .some in
+    let h = k .one .ring-high in
+    let f = k .one .modulus-high in
+    let t = k .one .modulus-low in
     let z : 0 < a .q = omega arith in
     let o : Octets (a .work .now) = λ i l. omega (arith, c .before .before .before .before .before .before .before .before .before .before .before .slice-known .given i) in
     let s = shelf2 (a .q) (a .n) h z f (a .k .now) (a .work .now) k o (p .0 .1) (p .1) (c .before .before .before .before .before .before .before .before .copy-slot .last .0) (c .before .before .before .before .before .before .before .before .copy-slot .ensures) (c .before .before .before .add-product .last .0) (c .before .before .before .add-product .ensures) in
@@ -52,9 +51,9 @@ add-product-requires-2 c κs =
     let a = c .before .before .before .before .before .before .before .before .before .before .before .before .before .before .before .before .before .args in
     let p = c .before .before .before .before .before .before .before .before .before .before .before .before .before .before .before .before .before .pre in
     let k = p .0 .0 in
-    let h = k .one .high in
-    let f = k .one .few in
-    let t = k .one .some in
+    let h = k .one .ring-high in
+    let f = k .one .modulus-high in
+    let t = k .one .modulus-low in
     let z : 0 < a .q = omega arith in
     let o : Octets (a .work .now) = λ i l. omega (arith, c .before .before .before .before .before .before .before .before .before .before .before .before .before .before .before .before .slice-known .given i) in
     product-asks (a .q) (a .n) h z f (shelf3 (a .q) (a .n) h z f (a .k .now) (a .work .now) k o (p .0 .1) (p .1) (c .before .before .before .before .before .before .before .before .before .before .before .before .before .copy-slot .last .0) (c .before .before .before .before .before .before .before .before .before .before .before .before .before .copy-slot .ensures) (c .before .before .before .before .before .before .before .before .add-product .last .0) (c .before .before .before .before .before .before .before .before .add-product .ensures) (c .before .before .before .before .add-slot .last .0) (c .before .before .before .before .add-slot .ensures)) 0 1 (omega arith) (omega arith) (omega arith) (inr (omega arith)) _ (public1 (a .q) (a .n) h z f (a .k .now) (a .work .now) k o (p .0 .1) (p .1))
@@ -64,9 +63,9 @@ add-product-requires-3 c κs =
     let a = c .before .before .before .before .before .before .before .before .before .before .before .before .before .before .before .before .before .before .before .before .before .before .args in
     let p = c .before .before .before .before .before .before .before .before .before .before .before .before .before .before .before .before .before .before .before .before .before .before .pre in
     let k = p .0 .0 in
-    let h = k .one .high in
-    let f = k .one .few in
-    let t = k .one .some in
+    let h = k .one .ring-high in
+    let f = k .one .modulus-high in
+    let t = k .one .modulus-low in
     let z : 0 < a .q = omega arith in
     let o : Octets (a .work .now) = λ i l. omega (arith, c .before .before .before .before .before .before .before .before .before .before .before .before .before .before .before .before .before .before .before .before .before .slice-known .given i) in
     product-asks (a .q) (a .n) h z f (shelf4 (a .q) (a .n) h z f (a .k .now) (a .work .now) k o (p .0 .1) (p .1) (c .before .before .before .before .before .before .before .before .before .before .before .before .before .before .before .before .before .before .copy-slot .last .0) (c .before .before .before .before .before .before .before .before .before .before .before .before .before .before .before .before .before .before .copy-slot .ensures) (c .before .before .before .before .before .before .before .before .before .before .before .before .before .add-product .last .0) (c .before .before .before .before .before .before .before .before .before .before .before .before .before .add-product .ensures) (c .before .before .before .before .before .before .before .before .before .add-slot .last .0) (c .before .before .before .before .before .before .before .before .before .add-slot .ensures) (c .before .before .before .before .add-product2 .last .0) (c .before .before .before .before .add-product2 .ensures)) 0 2 (omega arith) (omega arith) (omega arith) (inr (omega arith)) _ (public2 (a .q) (a .n) h z f (a .k .now) (a .work .now) k o (p .0 .1) (p .1))
@@ -76,9 +75,9 @@ returns c =
     let a = c .before .before .before .before .before .before .before .before .before .before .before .before .before .before .before .before .before .before .before .before .before .before .before .before .before .args in
     let p = c .before .before .before .before .before .before .before .before .before .before .before .before .before .before .before .before .before .before .before .before .before .before .before .before .before .pre in
     let k = p .0 .0 in
-    let h = k .one .high in
-    let f = k .one .few in
-    let t = k .one .some in
+    let h = k .one .ring-high in
+    let f = k .one .modulus-high in
+    let t = k .one .modulus-low in
     let z : 0 < a .q = omega arith in
     let o : Octets (a .work .now) = λ i l. omega (arith, c .before .before .before .before .before .before .before .before .before .before .before .before .before .before .before .before .before .before .before .before .before .before .before .before .slice-known .given i) in
     pair-stands (a .q) (a .n) h z f (a .k .now) (a .work .now) k o (p .0 .1) (p .1) (c .before .before .before .before .before .before .before .before .before .before .before .before .before .before .before .before .before .before .before .before .before .copy-slot .last .0) (c .before .before .before .before .before .before .before .before .before .before .before .before .before .before .before .before .before .before .before .before .before .copy-slot .ensures) (c .before .before .before .before .before .before .before .before .before .before .before .before .before .before .before .before .add-product .last .0) (c .before .before .before .before .before .before .before .before .before .before .before .before .before .before .before .before .add-product .ensures) (c .before .before .before .before .before .before .before .before .before .before .before .before .add-slot .last .0) (c .before .before .before .before .before .before .before .before .before .before .before .before .add-slot .ensures) (c .before .before .before .before .before .before .before .add-product2 .last .0) (c .before .before .before .before .before .before .before .add-product2 .ensures) (c .before .before .add-product3 .last .0) (c .before .before .add-product3 .ensures)

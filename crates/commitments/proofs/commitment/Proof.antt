@@ -7,14 +7,14 @@ use Rattle.commitments.proofs.commitment.Statement.{statement}
 use Rattle.commitments.proofs.commitment.Tie as tie
 
 commitment-tests-requires : tie.Need-commitment-tests-requires
-commitment-tests-requires c κs = c .before .before .before .before .before .before .before .pre .one .high
+commitment-tests-requires c κs = c .before .before .before .before .before .before .before .pre .one .ring-high
 
 write-pair-requires : tie.Need-write-pair-requires
 write-pair-requires c κs =
     let a = c .before .before .before .before .before .before .before .before .before .before .before .before .args in
     let k = c .before .before .before .before .before .before .before .before .before .before .before .before .pre in
     let p = k .one in
-    let h = commitment-passed (a .n) (a .q) (p .low) (p .high) (p .some) (p .few) (a .m .now) (a .r .now) (a .pair .now) (a .scratch .now) (c .before .before .before .before .commitment-tests .result) (c .before .before .before .before .commitment-tests .ensures) (c .before .before .enum-told .given .1) in
+    let h = commitment-passed (a .n) (a .q) (p .ring-low) (p .ring-high) (p .modulus-low) (p .modulus-high) (a .m .now) (a .r .now) (a .pair .now) (a .scratch .now) (c .before .before .before .before .commitment-tests .result) (c .before .before .before .before .commitment-tests .ensures) (c .before .before .enum-told .given .1) in
     (k, h .0, h .1, h .2, h .3)
 
 returns : tie.Need-returns

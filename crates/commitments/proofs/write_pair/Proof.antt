@@ -9,19 +9,19 @@ use Rattle.commitments.proofs.write_pair.Tie as tie
 write-out-requires : tie.Need-write-out-requires
 write-out-requires c κs =
     let p = c .before .before .before .before .before .before .before .before .before .before .before .pre in
-    let h = p .1 .high in
+    let h = p .1 .ring-high in
     let l = c .before .before .before .before .pair .ensures .sized in
     (omega (arith, p .3), omega arith)
 
 mul-write-out : tie.Need-mul-write-out
 mul-write-out c =
-    let h = c .before .before .before .before .before .before .before .before .before .before .before .before .before .before .before .pre .1 .high in
+    let h = c .before .before .before .before .before .before .before .before .before .before .before .before .before .before .before .pre .1 .ring-high in
     search needs
 
 write-out-requires-2 : tie.Need-write-out-requires-2
 write-out-requires-2 c κs =
     let p = c .before .before .before .before .before .before .before .before .before .before .before .before .before .before .before .before .pre in
-    let h = p .1 .high in
+    let h = p .1 .ring-high in
     let l = c .before .before .before .before .before .before .before .before .before .pair .ensures .sized in
     (omega (arith, p .3, c .before .before .before .before .write-out .kept .0), omega arith)
 

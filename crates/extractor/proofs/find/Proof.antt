@@ -40,9 +40,9 @@ solve-requires c κs =
     let e = c .before .before .before .before .before .before .before .before .before .collision .ensures .1 in
     let l : 504 * n - 168 * n ≡ 336 * n = omega arith in
     let k = p .0 .one in (
-      k .high,
-      k .some,
-      k .few,
+      k .ring-high,
+      k .modulus-low,
+      k .modulus-high,
       e .0 ∙ p .1,
       e .1 ∙ p .2,
       p .4,

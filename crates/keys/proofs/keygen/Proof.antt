@@ -10,7 +10,7 @@ use Rattle.keys.proofs.keygen.Statement.{statement}
 use Rattle.keys.proofs.keygen.Tie as tie
 
 keygen-tests-requires : tie.Need-keygen-tests-requires
-keygen-tests-requires c κs = c .before .before .before .before .before .before .before .pre .high
+keygen-tests-requires c κs = c .before .before .before .before .before .before .before .pre .ring-high
 
 noisy-requires : tie.Need-noisy-requires
 noisy-requires c κs =

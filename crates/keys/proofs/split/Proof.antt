@@ -7,13 +7,13 @@ use Rattle.keys.proofs.split.Statement.{statement}
 use Rattle.keys.proofs.split.Tie as tie
 
 split-tests-requires : tie.Need-split-tests-requires
-split-tests-requires c κs = c .before .before .before .before .before .before .before .before .before .pre .high
+split-tests-requires c κs = c .before .before .before .before .before .before .before .before .before .pre .ring-high
 
 write-split-requires : tie.Need-write-split-requires
 write-split-requires c κs =
     let a = c .before .before .before .before .before .before .before .before .before .before .before .before .before .before .args in
     let p = c .before .before .before .before .before .before .before .before .before .before .before .before .before .before .pre in
-    let h = split-passed (a .n) (a .q) (p .low) (p .high) (p .some) (p .few) (a .s .now) (a .e .now) (a .s0 .now) (a .e0 .now) (a .out .now) (a .scratch .now) (c .before .before .before .before .split-tests .result) (c .before .before .before .before .split-tests .ensures) (c .before .before .enum-told .given .1) in
+    let h = split-passed (a .n) (a .q) (p .ring-low) (p .ring-high) (p .modulus-low) (p .modulus-high) (a .s .now) (a .e .now) (a .s0 .now) (a .e0 .now) (a .out .now) (a .scratch .now) (c .before .before .before .before .split-tests .result) (c .before .before .before .before .split-tests .ensures) (c .before .before .enum-told .given .1) in
     (p, h .0 .0, h .0 .1, h .1, h .2, h .3, h .4)
 
 returns : tie.Need-returns

@@ -17,7 +17,7 @@ difference-requires c κs =
 
 mul-difference : tie.Need-mul-difference
 mul-difference c =
-    let h = c .before .before .before .before .before .before .before .before .before .before .before .before .before .before .before .pre .0 .high in
+    let h = c .before .before .before .before .before .before .before .before .before .before .before .before .before .before .before .pre .0 .ring-high in
     search needs
 
 difference-requires-2 : tie.Need-difference-requires-2
@@ -27,7 +27,7 @@ difference-requires-2 c κs =
 
 mul-lent-key : tie.Need-mul-lent-key
 mul-lent-key c =
-    let h = c .before .before .before .before .before .before .before .before .before .before .before .before .before .before .before .before .before .before .before .before .before .before .pre .0 .high in
+    let h = c .before .before .before .before .before .before .before .before .before .before .before .before .before .before .before .before .before .before .before .before .before .before .pre .0 .ring-high in
     search needs
 
 lent-key-requires : tie.Need-lent-key-requires
@@ -37,7 +37,7 @@ lent-key-requires c κs =
 
 mul-other-key : tie.Need-mul-other-key
 mul-other-key c =
-    let h = c .before .before .before .before .before .before .before .before .before .before .before .before .before .before .before .before .before .before .before .before .before .before .before .before .before .before .before .before .before .pre .0 .high in
+    let h = c .before .before .before .before .before .before .before .before .before .before .before .before .before .before .before .before .before .before .before .before .before .before .before .before .before .before .before .before .before .pre .0 .ring-high in
     search needs
 
 other-key-requires : tie.Need-other-key-requires

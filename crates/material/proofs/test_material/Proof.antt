@@ -29,10 +29,10 @@ test-each-requires c κs =
     let a = c .before .before .before .before .before .before .before .before .before .before .before .before .before .before .before .before .before .before .args in
     let p = c .before .before .before .before .before .before .before .before .before .before .before .before .before .before .before .before .before .before .pre in
     let s = c .before .before .before .before .before .test-secret in (
-      p .0 .low,
-      p .0 .high,
-      p .0 .some,
-      p .0 .few,
+      p .0 .ring-low,
+      p .0 .ring-high,
+      p .0 .modulus-low,
+      p .0 .modulus-high,
       p .3,
       p .4,
       s .ensures .1 ∙ p .2,

@@ -15,7 +15,7 @@ write-opening-requires : tie.Need-write-opening-requires
 write-opening-requires c κs = let p = c .before .before .before .before .before .before .before .before .before .before .before .before .pre in (p .0, p .1, p .5 .secrets-sized, p .2, p .3, p .7)
 
 write-answers-requires : tie.Need-write-answers-requires
-write-answers-requires c κs = let p = c .before .before .before .before .before .before .before .before .before .before .before .before .before .before .before .before .before .before .pre in (p .0 .high, p .0 .some, p .0 .few, p .4, p .5, p .6, p .8)
+write-answers-requires c κs = let p = c .before .before .before .before .before .before .before .before .before .before .before .before .before .before .before .before .before .before .pre in (p .0 .ring-high, p .0 .modulus-low, p .0 .modulus-high, p .4, p .5, p .6, p .8)
 
 returns : tie.Need-returns
 returns c =

@@ -21,19 +21,19 @@ shared-slice-read-challenge : tie.Need-shared-slice-read-challenge Inv-loop μ-l
 shared-slice-read-challenge c = omega (arith, c .before .before .before .before .before .before .before .before .pre .5 .challenges-sized)
 
 answer-length-requires : tie.Need-answer-length-requires Inv-loop μ-loop
-answer-length-requires c κs = c .before .before .before .before .before .before .before .before .pre .0 .one .high
+answer-length-requires c κs = c .before .before .before .before .before .before .before .before .pre .0 .one .ring-high
 
 cast-test-at : tie.Need-cast-test-at Inv-loop μ-loop
 cast-test-at c = omega (arith, c .before .before .before .before .before .before .before .before .before .before .pre .2, c .before .before .before .before .loop .inv .within)
 
 mul-test-at : tie.Need-mul-test-at Inv-loop μ-loop
-mul-test-at c = omega (arith, c .before .before .before .before .before .before .before .before .before .before .pre .0 .one .high)
+mul-test-at c = omega (arith, c .before .before .before .before .before .before .before .before .before .before .pre .0 .one .ring-high)
 
 mul-test-at-2 : tie.Need-mul-test-at-2 Inv-loop μ-loop
 mul-test-at-2 c = omega (arith, c .before .before .before .before .before .before .before .before .before .before .pre .2, c .before .before .before .before .loop .inv .within)
 
 add-test-at : tie.Need-add-test-at Inv-loop μ-loop
-add-test-at c = omega (arith, c .before .before .before .before .before .before .before .before .before .before .pre .0 .one .high, c .before .before .before .before .before .before .before .before .before .before .pre .2, c .before .before .before .before .loop .inv .within)
+add-test-at c = omega (arith, c .before .before .before .before .before .before .before .before .before .before .pre .0 .one .ring-high, c .before .before .before .before .before .before .before .before .before .before .pre .2, c .before .before .before .before .loop .inv .within)
 
 test-at-requires : tie.Need-test-at-requires Inv-loop μ-loop
 test-at-requires c κs =
@@ -57,7 +57,7 @@ add-at : tie.Need-add-at Inv-loop μ-loop
 add-at c =
     let a = c .before .before .before .before .before .before .before .before .before .before .before .before .before .before .before .args in
     let l = c .before .before .before .before .before .before .before .before .before .loop in
-    omega (arith, c .before .before .before .before .before .before .answer-length .ensures, answer-ends (a .q) (a .n) (keysOf (a .n) (a .k .now)) (a .head .now) (a .challenges .now) (a .answers .now) (a .repeats) (l .i) (l .at) (l .work) (l .inv) (omega arith) (c .before .before .before .before .before .before .before .before .before .before .before .before .before .before .before .pre .5), answer-fits (a .q) (a .n) (keysOf (a .n) (a .k .now)) (a .head .now) (a .challenges .now) (a .answers .now) (a .repeats) (l .i) (l .at) (l .work) (l .inv) (omega arith) (c .before .before .before .before .before .before .before .before .before .before .before .before .before .before .before .pre .5) (c .before .before .before .before .before .before .before .before .before .before .before .before .before .before .before .pre .0 .one .high) (c .before .before .before .before .before .before .before .before .before .before .before .before .before .before .before .pre .2))
+    omega (arith, c .before .before .before .before .before .before .answer-length .ensures, answer-ends (a .q) (a .n) (keysOf (a .n) (a .k .now)) (a .head .now) (a .challenges .now) (a .answers .now) (a .repeats) (l .i) (l .at) (l .work) (l .inv) (omega arith) (c .before .before .before .before .before .before .before .before .before .before .before .before .before .before .before .pre .5), answer-fits (a .q) (a .n) (keysOf (a .n) (a .k .now)) (a .head .now) (a .challenges .now) (a .answers .now) (a .repeats) (l .i) (l .at) (l .work) (l .inv) (omega arith) (c .before .before .before .before .before .before .before .before .before .before .before .before .before .before .before .pre .5) (c .before .before .before .before .before .before .before .before .before .before .before .before .before .before .before .pre .0 .one .ring-high) (c .before .before .before .before .before .before .before .before .before .before .before .before .before .before .before .pre .2))
 
 loop-again : tie.Need-loop-again Inv-loop μ-loop
 loop-again c =

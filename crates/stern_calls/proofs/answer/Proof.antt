@@ -10,7 +10,7 @@ write-answer-requires : tie.Need-write-answer-requires
 write-answer-requires c κs =
     let a = c .before .before .before .before .before .before .before .before .before .before .before .before .before .before .args in
     let h = answer-passed (a .n) (a .q) (a .x .now) (a .r .now) (a .p .now) (a .salts .now) (a .out .now) (a .scratch .now) (a .challenge) (sym (c .before .before .before .before .before .answer-tests .ensures .0) ∙ c .before .enum-told .given .1) in
-    (h .fits .high, h .fits .some, h .fits .few, h .output, h .material)
+    (h .fits .ring-high, h .fits .modulus-low, h .fits .modulus-high, h .output, h .material)
 
 returns : tie.Need-returns
 returns c =

@@ -21,7 +21,7 @@ test-first-requires c κs =
     let s = a .answer .now in
     let w = allBelow 3 (answer1Of (a .n) s .w) in
     let t = allBelow (a .q) (vector (answer1Of (a .n) s .t)) in
-    (p .0 .one .high, p .0 .one .some, p .0 .one .few, p .1, p .2, p .5 ∙ answer-long (a .n) (a .challenge) e, both w t (sym (chosen1 (a .challenge) (w && t) _ _ e) ∙ p .6) .1)
+    (p .0 .one .ring-high, p .0 .one .modulus-low, p .0 .one .modulus-high, p .1, p .2, p .5 ∙ answer-long (a .n) (a .challenge) e, both w t (sym (chosen1 (a .challenge) (w && t) _ _ e) ∙ p .6) .1)
 
 returns : tie.Need-returns
 returns c =

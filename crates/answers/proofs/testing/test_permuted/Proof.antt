@@ -20,7 +20,7 @@ returns : tie.Need-returns
 returns c =
     let a = c .before .before .before .before .before .before .before .before .before .before .before .before .before .before .args in
     let p = c .before .before .before .before .before .before .before .before .before .before .before .before .before .before .pre in
-    let h = p .0 .one .high in (
+    let h = p .0 .one .ring-high in (
       first-fails 9 11 (a .place) _ _ (ap not (sym (c .before .before .before .is-permutation .ensures .0) ∙ not-true (c .before .before .before .is-permutation .result) (c .if1 .taken))),
       written-length (a .work .now) _ (zeros (42 * a .n)) 0 (omega (arith, p .1, length-replicate {A = ℕ} (42 * a .n) 0)) (c .before .before .before .is-permutation .ensures .1),
     )
@@ -29,7 +29,7 @@ equations-digest-requires : tie.Need-equations-digest-requires
 equations-digest-requires c κs =
     let a = c .before .before .before .before .before .before .before .before .before .before .before .before .before .before .before .args in
     let p = c .before .before .before .before .before .before .before .before .before .before .before .before .before .before .before .pre in
-    let h = p .0 .one .high in
+    let h = p .0 .one .ring-high in
     let l = written-length (a .work .now) _ (zeros (42 * a .n)) 0 (omega (arith, p .1, length-replicate {A = ℕ} (42 * a .n) 0)) (c .before .before .before .before .is-permutation .ensures .1) in
     ((p .0, l ∙ p .1, p .3, vector-below (a .q) (a .x .now) (p .6)), ((λ t. (p .7, vector-below (a .q) (a .c .now) (p .8))), p .4))
 
@@ -37,7 +37,7 @@ gathered-digest-requires : tie.Need-gathered-digest-requires
 gathered-digest-requires c κs =
     let a = c .before .before .before .before .before .before .before .before .before .before .before .before .before .before .before .before .before .before .before .args in
     let p = c .before .before .before .before .before .before .before .before .before .before .before .before .before .before .before .before .before .before .before .pre in
-    let h = p .0 .one .high in
+    let h = p .0 .one .ring-high in
     let l = written-length (a .work .now) _ (zeros (42 * a .n)) 0 (omega (arith, p .1, length-replicate {A = ℕ} (42 * a .n) 0)) (c .before .before .before .before .before .before .before .before .is-permutation .ensures .1) in
     let yes : permutes (42 * a .n) (entries (a .p .now)) ≡ true = sym (c .before .before .before .before .before .before .before .before .is-permutation .ensures .0) ∙ not-false (c .before .before .before .before .before .before .before .before .is-permutation .result) (c .before .before .before .before .before .if1 .left) in
     (h, c .before .before .before .equations-digest .ensures .1 ∙ l ∙ p .1, p .2, p .3, p .5, permutes-below (42 * a .n) (entries (a .p .now)) yes)
@@ -46,7 +46,7 @@ returns-2 : tie.Need-returns-2
 returns-2 c =
     let a = c .before .before .before .before .before .before .before .before .before .before .before .before .before .before .before .before .before .before .before .before .before .before .before .before .before .before .args in
     let p = c .before .before .before .before .before .before .before .before .before .before .before .before .before .before .before .before .before .before .before .before .before .before .before .before .before .before .pre in
-    let h = p .0 .one .high in
+    let h = p .0 .one .ring-high in
     let l = written-length (a .work .now) _ (zeros (42 * a .n)) 0 (omega (arith, p .1, length-replicate {A = ℕ} (42 * a .n) 0)) (c .before .before .before .before .before .before .before .before .before .before .before .before .before .before .before .is-permutation .ensures .1) in (
       both-hold 9 11 (a .place) _ _ (ap not (sym (c .before .before .before .before .before .before .before .before .before .before .before .before .before .before .before .is-permutation .ensures .0) ∙ not-false (c .before .before .before .before .before .before .before .before .before .before .before .before .before .before .before .is-permutation .result) (c .before .before .before .before .before .before .before .before .before .before .before .before .if1 .left))) (compared (a .one .now) (a .other .now) _ _ _ _ (c .before .both-equal .result) _ (c .before .both-equal .ensures) (c .before .before .before .before .before .before .before .before .before .before .equations-digest .ensures .0) (c .before .before .before .before .before .before .gathered-digest .ensures .0) (c .if2 .taken)),
       c .before .before .before .before .before .before .gathered-digest .ensures .1 ∙ c .before .before .before .before .before .before .before .before .before .before .equations-digest .ensures .1 ∙ l,
@@ -56,7 +56,7 @@ returns-3 : tie.Need-returns-3
 returns-3 c =
     let a = c .before .before .before .before .before .before .before .before .before .before .before .before .before .before .before .before .before .before .before .before .before .before .before .before .before .before .args in
     let p = c .before .before .before .before .before .before .before .before .before .before .before .before .before .before .before .before .before .before .before .before .before .before .before .before .before .before .pre in
-    let h = p .0 .one .high in
+    let h = p .0 .one .ring-high in
     let l = written-length (a .work .now) _ (zeros (42 * a .n)) 0 (omega (arith, p .1, length-replicate {A = ℕ} (42 * a .n) 0)) (c .before .before .before .before .before .before .before .before .before .before .before .before .before .before .before .is-permutation .ensures .1) in (
       second-fails 9 11 (a .place) _ _ (ap not (sym (c .before .before .before .before .before .before .before .before .before .before .before .before .before .before .before .is-permutation .ensures .0) ∙ not-false (c .before .before .before .before .before .before .before .before .before .before .before .before .before .before .before .is-permutation .result) (c .before .before .before .before .before .before .before .before .before .before .before .before .if1 .left))) (compared (a .one .now) (a .other .now) _ _ _ _ (c .before .both-equal .result) _ (c .before .both-equal .ensures) (c .before .before .before .before .before .before .before .before .before .before .equations-digest .ensures .0) (c .before .before .before .before .before .before .gathered-digest .ensures .0) (c .if2 .left)),
       c .before .before .before .before .before .before .gathered-digest .ensures .1 ∙ c .before .before .before .before .before .before .before .before .before .before .equations-digest .ensures .1 ∙ l,

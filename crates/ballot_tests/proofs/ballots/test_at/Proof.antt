@@ -24,11 +24,11 @@ test-ballot-requires c κs =
     let x = a .at in
     let i = a .share in (
       s,
-      lent-public n (a .q) (a .ballots .now) (x + 4) (x + 4 + 8 * n - (x + 4)) (omega arith) (omega (arith, p .3)) (s .low) (s .high) (s .some) (s .few) (first-below n (a .q) _ (b .0)),
-      lent-public n (a .q) (a .ballots .now) (x + 4 + 8 * n) (x + 4 + 16 * n - (x + 4 + 8 * n)) (omega arith) (omega (arith, p .3)) (s .low) (s .high) (s .some) (s .few) (second-below n (a .q) (a .ballots .now) (x + 4) (b .0)),
-      lent-public n (a .q) (a .shares0 .now) i (i + 8 * n - i) (omega arith) (p .5) (s .low) (s .high) (s .some) (s .few) (b .1),
-      lent-public n (a .q) (a .shares1 .now) i (i + 8 * n - i) (omega arith) (p .6) (s .low) (s .high) (s .some) (s .few) (b .2),
-      lent-public n (a .q) (a .opened .now) i (i + 8 * n - i) (omega arith) (p .7) (s .low) (s .high) (s .some) (s .few) (b .3),
+      lent-public n (a .q) (a .ballots .now) (x + 4) (x + 4 + 8 * n - (x + 4)) (omega arith) (omega (arith, p .3)) (s .ring-low) (s .ring-high) (s .modulus-low) (s .modulus-high) (first-below n (a .q) _ (b .0)),
+      lent-public n (a .q) (a .ballots .now) (x + 4 + 8 * n) (x + 4 + 16 * n - (x + 4 + 8 * n)) (omega arith) (omega (arith, p .3)) (s .ring-low) (s .ring-high) (s .modulus-low) (s .modulus-high) (second-below n (a .q) (a .ballots .now) (x + 4) (b .0)),
+      lent-public n (a .q) (a .shares0 .now) i (i + 8 * n - i) (omega arith) (p .5) (s .ring-low) (s .ring-high) (s .modulus-low) (s .modulus-high) (b .1),
+      lent-public n (a .q) (a .shares1 .now) i (i + 8 * n - i) (omega arith) (p .6) (s .ring-low) (s .ring-high) (s .modulus-low) (s .modulus-high) (b .2),
+      lent-public n (a .q) (a .opened .now) i (i + 8 * n - i) (omega arith) (p .7) (s .ring-low) (s .ring-high) (s .modulus-low) (s .modulus-high) (b .3),
       p .1,
       p .2,
       (let e : a .claim + n - a .claim ≡ n = omega arith in ap (λ (k : ℕ). length (take k (drop (a .claim) (a .claims .now)))) e ∙ length-part (a .claims .now) (a .claim) n (p .4)),

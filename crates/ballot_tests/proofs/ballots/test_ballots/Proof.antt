@@ -39,22 +39,22 @@ returns c =
     (reached-refused (a .q) (a .n) (a .bound) (a .s .now) (a .ballots .now) (a .claims .now) (a .shares0 .now) (a .shares1 .now) (a .opened .now) (a .count) (l .j) (l .at) (l .claim) (l .share) (l .work) (l .inv) (omega arith) (c .before .before .before .before .before .test-at .result) _ _ (c .before .before .before .before .before .test-at .ensures .0) (c .before .reply .given .1), c .before .before .before .before .before .test-at .ensures .1 ∙ l .inv .long ∙ sym (c .before .before .before .before .before .before .before .before .before .before .before .before .before .before .before .before .pre .2))
 
 add-at-2 : tie.Need-add-at-2 Inv-loop μ-loop
-add-at-2 c = let a = c .before .before .before .before .before .before .before .before .before .before .before .before .before .before .before .args in let l = c .before .before .before .before .before .before .before .loop in let x = places-fit (a .q) (a .n) (a .bound) (a .s .now) (a .ballots .now) (a .claims .now) (a .shares0 .now) (a .shares1 .now) (a .opened .now) (a .count) (l .j) (l .at) (l .claim) (l .share) (l .work) (l .inv) (omega arith) (c .before .before .before .before .before .before .before .before .before .before .before .before .before .before .before .pre .0 .high) (c .before .before .before .before .before .before .before .before .before .before .before .before .before .before .before .pre .3) in omega (arith, x .0)
+add-at-2 c = let a = c .before .before .before .before .before .before .before .before .before .before .before .before .before .before .before .args in let l = c .before .before .before .before .before .before .before .loop in let x = places-fit (a .q) (a .n) (a .bound) (a .s .now) (a .ballots .now) (a .claims .now) (a .shares0 .now) (a .shares1 .now) (a .opened .now) (a .count) (l .j) (l .at) (l .claim) (l .share) (l .work) (l .inv) (omega arith) (c .before .before .before .before .before .before .before .before .before .before .before .before .before .before .before .pre .0 .ring-high) (c .before .before .before .before .before .before .before .before .before .before .before .before .before .before .before .pre .3) in omega (arith, x .0)
 
 add-claim : tie.Need-add-claim Inv-loop μ-loop
-add-claim c = let a = c .before .before .before .before .before .before .before .before .before .before .before .before .before .before .before .args in let l = c .before .before .before .before .before .before .before .loop in let x = places-fit (a .q) (a .n) (a .bound) (a .s .now) (a .ballots .now) (a .claims .now) (a .shares0 .now) (a .shares1 .now) (a .opened .now) (a .count) (l .j) (l .at) (l .claim) (l .share) (l .work) (l .inv) (omega arith) (c .before .before .before .before .before .before .before .before .before .before .before .before .before .before .before .pre .0 .high) (c .before .before .before .before .before .before .before .before .before .before .before .before .before .before .before .pre .3) in omega (arith, x .1)
+add-claim c = let a = c .before .before .before .before .before .before .before .before .before .before .before .before .before .before .before .args in let l = c .before .before .before .before .before .before .before .loop in let x = places-fit (a .q) (a .n) (a .bound) (a .s .now) (a .ballots .now) (a .claims .now) (a .shares0 .now) (a .shares1 .now) (a .opened .now) (a .count) (l .j) (l .at) (l .claim) (l .share) (l .work) (l .inv) (omega arith) (c .before .before .before .before .before .before .before .before .before .before .before .before .before .before .before .pre .0 .ring-high) (c .before .before .before .before .before .before .before .before .before .before .before .before .before .before .before .pre .3) in omega (arith, x .1)
 
 add-share : tie.Need-add-share Inv-loop μ-loop
-add-share c = let a = c .before .before .before .before .before .before .before .before .before .before .before .before .before .before .before .args in let l = c .before .before .before .before .before .before .before .loop in let x = places-fit (a .q) (a .n) (a .bound) (a .s .now) (a .ballots .now) (a .claims .now) (a .shares0 .now) (a .shares1 .now) (a .opened .now) (a .count) (l .j) (l .at) (l .claim) (l .share) (l .work) (l .inv) (omega arith) (c .before .before .before .before .before .before .before .before .before .before .before .before .before .before .before .pre .0 .high) (c .before .before .before .before .before .before .before .before .before .before .before .before .before .before .before .pre .3) in omega (arith, x .2)
+add-share c = let a = c .before .before .before .before .before .before .before .before .before .before .before .before .before .before .before .args in let l = c .before .before .before .before .before .before .before .loop in let x = places-fit (a .q) (a .n) (a .bound) (a .s .now) (a .ballots .now) (a .claims .now) (a .shares0 .now) (a .shares1 .now) (a .opened .now) (a .count) (l .j) (l .at) (l .claim) (l .share) (l .work) (l .inv) (omega arith) (c .before .before .before .before .before .before .before .before .before .before .before .before .before .before .before .pre .0 .ring-high) (c .before .before .before .before .before .before .before .before .before .before .before .before .before .before .before .pre .3) in omega (arith, x .2)
 
 mul-at : tie.Need-mul-at Inv-loop μ-loop
-mul-at c = omega (arith, c .before .before .before .before .before .before .before .before .before .before .before .before .before .before .before .pre .0 .high)
+mul-at c = omega (arith, c .before .before .before .before .before .before .before .before .before .before .before .before .before .before .before .pre .0 .ring-high)
 
 add-at : tie.Need-add-at Inv-loop μ-loop
-add-at c = omega (arith, c .before .before .before .before .before .before .before .before .before .before .before .before .before .before .before .pre .0 .high)
+add-at c = omega (arith, c .before .before .before .before .before .before .before .before .before .before .before .before .before .before .before .pre .0 .ring-high)
 
 mul-share : tie.Need-mul-share Inv-loop μ-loop
-mul-share c = omega (arith, c .before .before .before .before .before .before .before .before .before .before .before .before .before .before .before .pre .0 .high)
+mul-share c = omega (arith, c .before .before .before .before .before .before .before .before .before .before .before .before .before .before .before .pre .0 .ring-high)
 
 loop-again : tie.Need-loop-again Inv-loop μ-loop
 loop-again c =

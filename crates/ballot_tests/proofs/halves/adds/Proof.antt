@@ -14,7 +14,7 @@ add-requires c κs =
     let p = c .before .before .before .before .before .before .before .before .before .pre in
     let o : Octets (a .b0 .now) = λ i l. omega (arith, c .before .before .before .before .before .before .before .shared-slice-known .given i) in
     let h = add-asks (a .n) (a .q) (a .work .now) (c .before .before .before .copy .last .0) (a .b0 .now) (p .3) o (p .0) (c .before .before .before .copy .ensures) in
-    (p .0 .few, omega (arith, h .0), omega (arith, p .1 .sized), h .1, p .1 .below)
+    (p .0 .modulus-high, omega (arith, h .0), omega (arith, p .1 .sized), h .1, p .1 .below)
 
 returns : tie.Need-returns
 returns c =

@@ -5,7 +5,7 @@ use native.Mathlib.Omega.{arith}
 use borrow.Author.Needs.{needs}
 use lib.ListN.{take, drop}
 use Rattle.ring.specs.Slots.{poly}
-use Rattle.call.specs.Call.{Public}
+use Rattle.call.specs.Call.{Polynomial}
 use Rattle.call.proofs.Sweeping.{untouched, spent, leaves-taken, leaves-refused}
 use Rattle.scheme.specs.Calls.{encryptWrites}
 use Rattle.encryption.proofs.Passed.{encrypt-passed}
@@ -13,21 +13,21 @@ use Rattle.encryption.proofs.ballots.encrypt.Statement.{statement}
 use Rattle.encryption.proofs.ballots.encrypt.Tie as tie
 
 encrypt-tests-requires : tie.Need-encrypt-tests-requires
-encrypt-tests-requires c κs = c .before .before .before .before .before .before .before .before .before .pre .1 .high
+encrypt-tests-requires c κs = c .before .before .before .before .before .before .before .before .before .pre .1 .ring-high
 
 mul-write-ciphertext : tie.Need-mul-write-ciphertext
 mul-write-ciphertext c =
-    let h = c .before .before .before .before .before .before .before .before .before .before .before .before .pre .1 .high in
+    let h = c .before .before .before .before .before .before .before .before .before .before .before .before .pre .1 .ring-high in
     search needs
 
 mul-write-ciphertext-2 : tie.Need-mul-write-ciphertext-2
 mul-write-ciphertext-2 c =
-    let h = c .before .before .before .before .before .before .before .before .before .before .before .before .before .pre .1 .high in
+    let h = c .before .before .before .before .before .before .before .before .before .before .before .before .before .pre .1 .ring-high in
     search needs
 
 mul-write-ciphertext-3 : tie.Need-mul-write-ciphertext-3
 mul-write-ciphertext-3 c =
-    let h = c .before .before .before .before .before .before .before .before .before .before .before .before .before .pre .1 .high in
+    let h = c .before .before .before .before .before .before .before .before .before .before .before .before .before .pre .1 .ring-high in
     search needs
 
 write-ciphertext-requires : tie.Need-write-ciphertext-requires
@@ -36,9 +36,9 @@ write-ciphertext-requires c κs =
     let p = c .before .before .before .before .before .before .before .before .before .before .before .before .before .before .before .before .pre in
     let x : 8 * a .n - 0 ≡ 8 * a .n = omega arith in
     let y : 16 * a .n - 8 * a .n ≡ 8 * a .n = omega arith in
-    let h = encrypt-passed (a .n) (a .q) (a .r .now) (a .e1 .now) (a .e2 .now) (a .m .now) (a .ciphertext .now) (a .scratch .now) (p .1 .some) (c .before .before .before .before .before .before .encrypt-tests .result) (c .before .before .before .before .before .before .encrypt-tests .ensures) (c .before .before .before .before .enum-told .given .1) in (
-      subst (λ (m : ℕ). Public (a .n) (a .q) (take m (a .public .now))) (sym x) (p .1),
-      subst (λ (m : ℕ). Public (a .n) (a .q) (take m (drop (8 * a .n) (a .public .now)))) (sym y) (p .2),
+    let h = encrypt-passed (a .n) (a .q) (a .r .now) (a .e1 .now) (a .e2 .now) (a .m .now) (a .ciphertext .now) (a .scratch .now) (p .1 .modulus-low) (c .before .before .before .before .before .before .encrypt-tests .result) (c .before .before .before .before .before .before .encrypt-tests .ensures) (c .before .before .before .before .enum-told .given .1) in (
+      subst (λ (m : ℕ). Polynomial (a .n) (a .q) (take m (a .public .now))) (sym x) (p .1),
+      subst (λ (m : ℕ). Polynomial (a .n) (a .q) (take m (drop (8 * a .n) (a .public .now)))) (sym y) (p .2),
       h .0,
       h .1,
       h .2,

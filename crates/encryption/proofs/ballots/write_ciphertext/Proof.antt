@@ -18,7 +18,7 @@ noisy-requires c κs =
 
 mul-cipher-v : tie.Need-mul-cipher-v
 mul-cipher-v c =
-    let h = c .before .before .before .before .before .before .before .before .before .before .before .before .before .before .before .before .pre .0 .high in
+    let h = c .before .before .before .before .before .before .before .before .before .before .before .before .before .before .before .before .pre .0 .ring-high in
     search needs
 
 cipher-v-requires : tie.Need-cipher-v-requires

@@ -18,7 +18,7 @@ abbrev μ-loop : tie.MeasureT-loop
 μ-loop head₀ work₀ k secrets vectors permutations salts repeats n q i₀ at₀ vector₀ permutation₀ salt₀ head work i at vector permutation salt = repeats - i
 
 mul-at : tie.Need-mul-at Inv-loop μ-loop
-mul-at c = omega (arith, c .before .before .before .before .before .before .before .pre .0 .one .high)
+mul-at c = omega (arith, c .before .before .before .before .before .before .before .pre .0 .one .ring-high)
 
 loop-holds : tie.Need-loop-holds Inv-loop μ-loop
 loop-holds c =
@@ -41,22 +41,22 @@ add-at c =
     let a = c .before .before .before .before .before .before .before .before .before .before .before .before .before .before .before .before .args in
     let p = c .before .before .before .before .before .before .before .before .before .before .before .before .before .before .before .before .pre in
     let l = c .before .before .before .before .before .before .before .before .loop in
-    omega (arith, digests-end (a .q) (a .n) (a .repeats) (keysOf (a .n) (a .k .now)) (a .secrets .now) (a .vectors .now) (a .permutations .now) (a .salts .now) (a .head .now) (p .3) (l .i) (l .at) (l .vector) (l .permutation) (l .salt) (l .head) (l .work) (l .inv) (omega arith) .1, p .0 .one .high, p .2)
+    omega (arith, digests-end (a .q) (a .n) (a .repeats) (keysOf (a .n) (a .k .now)) (a .secrets .now) (a .vectors .now) (a .permutations .now) (a .salts .now) (a .head .now) (p .3) (l .i) (l .at) (l .vector) (l .permutation) (l .salt) (l .head) (l .work) (l .inv) (omega arith) .1, p .0 .one .ring-high, p .2)
 
 mul-vector : tie.Need-mul-vector Inv-loop μ-loop
-mul-vector c = omega (arith, c .before .before .before .before .before .before .before .before .before .before .before .before .before .before .before .before .pre .0 .one .high)
+mul-vector c = omega (arith, c .before .before .before .before .before .before .before .before .before .before .before .before .before .before .before .before .pre .0 .one .ring-high)
 
 mul-permutation : tie.Need-mul-permutation Inv-loop μ-loop
-mul-permutation c = omega (arith, c .before .before .before .before .before .before .before .before .before .before .before .before .before .before .before .before .pre .0 .one .high)
+mul-permutation c = omega (arith, c .before .before .before .before .before .before .before .before .before .before .before .before .before .before .before .before .pre .0 .one .ring-high)
 
 add-vector : tie.Need-add-vector Inv-loop μ-loop
-add-vector c = let a = c .before .before .before .before .before .before .before .before .before .before .before .before .before .before .before .before .args in let l = c .before .before .before .before .before .before .before .before .loop in omega (arith, placed-fit (a .n) (a .repeats) (l .i) (l .vector) (l .permutation) (l .salt) (l .inv .placed) (omega arith) (c .before .before .before .before .before .before .before .before .before .before .before .before .before .before .before .before .pre .0 .one .high) (c .before .before .before .before .before .before .before .before .before .before .before .before .before .before .before .before .pre .2) .0)
+add-vector c = let a = c .before .before .before .before .before .before .before .before .before .before .before .before .before .before .before .before .args in let l = c .before .before .before .before .before .before .before .before .loop in omega (arith, placed-fit (a .n) (a .repeats) (l .i) (l .vector) (l .permutation) (l .salt) (l .inv .placed) (omega arith) (c .before .before .before .before .before .before .before .before .before .before .before .before .before .before .before .before .pre .0 .one .ring-high) (c .before .before .before .before .before .before .before .before .before .before .before .before .before .before .before .before .pre .2) .0)
 
 add-permutation : tie.Need-add-permutation Inv-loop μ-loop
-add-permutation c = let a = c .before .before .before .before .before .before .before .before .before .before .before .before .before .before .before .before .args in let l = c .before .before .before .before .before .before .before .before .loop in omega (arith, placed-fit (a .n) (a .repeats) (l .i) (l .vector) (l .permutation) (l .salt) (l .inv .placed) (omega arith) (c .before .before .before .before .before .before .before .before .before .before .before .before .before .before .before .before .pre .0 .one .high) (c .before .before .before .before .before .before .before .before .before .before .before .before .before .before .before .before .pre .2) .1)
+add-permutation c = let a = c .before .before .before .before .before .before .before .before .before .before .before .before .before .before .before .before .args in let l = c .before .before .before .before .before .before .before .before .loop in omega (arith, placed-fit (a .n) (a .repeats) (l .i) (l .vector) (l .permutation) (l .salt) (l .inv .placed) (omega arith) (c .before .before .before .before .before .before .before .before .before .before .before .before .before .before .before .before .pre .0 .one .ring-high) (c .before .before .before .before .before .before .before .before .before .before .before .before .before .before .before .before .pre .2) .1)
 
 add-salt : tie.Need-add-salt Inv-loop μ-loop
-add-salt c = let a = c .before .before .before .before .before .before .before .before .before .before .before .before .before .before .before .before .args in let l = c .before .before .before .before .before .before .before .before .loop in omega (arith, placed-fit (a .n) (a .repeats) (l .i) (l .vector) (l .permutation) (l .salt) (l .inv .placed) (omega arith) (c .before .before .before .before .before .before .before .before .before .before .before .before .before .before .before .before .pre .0 .one .high) (c .before .before .before .before .before .before .before .before .before .before .before .before .before .before .before .before .pre .2) .2)
+add-salt c = let a = c .before .before .before .before .before .before .before .before .before .before .before .before .before .before .before .before .args in let l = c .before .before .before .before .before .before .before .before .loop in omega (arith, placed-fit (a .n) (a .repeats) (l .i) (l .vector) (l .permutation) (l .salt) (l .inv .placed) (omega arith) (c .before .before .before .before .before .before .before .before .before .before .before .before .before .before .before .before .pre .0 .one .ring-high) (c .before .before .before .before .before .before .before .before .before .before .before .before .before .before .before .before .pre .2) .2)
 
 loop-again : tie.Need-loop-again Inv-loop μ-loop
 loop-again c =

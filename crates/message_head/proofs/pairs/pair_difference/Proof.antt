@@ -14,7 +14,7 @@ subtract-requires c κs =
     let l = c .before .before .before .before .before .before .before .load-three in
     let t = c .before .before .before .load-ternary in
     let h = subtract-asks (a .q) (a .n) (a .work .now) (l .last .0) (t .last .0) (a .x .now) (a .x0 .now) (a .r .now) (p .1) (p .4) (l .kept .0 ∙ p .4) (p .2) (l .ensures) (t .ensures) in
-    (p .1 .few, h .0, omega (arith, p .1 .sized), h .1, p .1 .below)
+    (p .1 .modulus-high, h .0, omega (arith, p .1 .sized), h .1, p .1 .below)
 
 commit-requires : tie.Need-commit-requires
 commit-requires c κs =

@@ -24,8 +24,8 @@ write-ballot-requires c κs =
     let x = a .at in
     let i = a .sent in (
       s,
-      lent-public n (a .q) (a .ballots .now) (x + 4) (x + 4 + 8 * n - (x + 4)) (omega arith) (omega (arith, p .3)) (s .low) (s .high) (s .some) (s .few) (first-below n (a .q) _ (p .4)),
-      lent-public n (a .q) (a .ballots .now) (x + 4 + 8 * n) (x + 4 + 16 * n - (x + 4 + 8 * n)) (omega arith) (omega (arith, p .3)) (s .low) (s .high) (s .some) (s .few) (second-below n (a .q) (a .ballots .now) (x + 4) (p .4)),
+      lent-public n (a .q) (a .ballots .now) (x + 4) (x + 4 + 8 * n - (x + 4)) (omega arith) (omega (arith, p .3)) (s .ring-low) (s .ring-high) (s .modulus-low) (s .modulus-high) (first-below n (a .q) _ (p .4)),
+      lent-public n (a .q) (a .ballots .now) (x + 4 + 8 * n) (x + 4 + 16 * n - (x + 4 + 8 * n)) (omega arith) (omega (arith, p .3)) (s .ring-low) (s .ring-high) (s .modulus-low) (s .modulus-high) (second-below n (a .q) (a .ballots .now) (x + 4) (p .4)),
       lent-length (a .secrets .now) 0 (n - 0) n (omega arith) (omega (arith, p .1)),
       lent-length (a .masks0 .now) i (i + 8 * n - i) (8 * n) (omega arith) (m .0),
       lent-length (a .masks1 .now) i (i + 8 * n - i) (8 * n) (omega arith) (m .1),

@@ -11,20 +11,20 @@ multiply-requires c κs =
     let a = c .before .before .before .before .before .before .before .before .before .before .before .before .before .args in
     let p = c .before .before .before .before .before .before .before .before .before .before .before .before .before .pre in
     let o : Octets (a .s0 .now) = λ i l. omega (arith, c .before .before .before .before .before .before .before .before .before .before .shared-slice-known2 .given i) in
-    let some = p .0 .some in
-    let high = p .0 .high in
+    let some = p .0 .modulus-low in
+    let high = p .0 .ring-high in
     let h = first-asks (a .q) (a .n) (a .work .now) (c .before .before .before .before .before .before .before .load-ternary .last .0) (c .before .before .before .copy .last .0) (a .s .now) (a .s0 .now) (a .u .now) (p .0) o (p .2) (p .3) (c .before .before .before .before .before .before .before .load-ternary .ensures) (c .before .before .before .copy .ensures) in
-    ((omega arith, p .0 .few, high, omega arith, h .0, omega (arith, p .1 .sized)), (h .1, p .1 .below))
+    ((omega arith, p .0 .modulus-high, high, omega arith, h .0, omega (arith, p .1 .sized)), (h .1, p .1 .below))
 
 multiply-requires-2 : tie.Need-multiply-requires-2
 multiply-requires-2 c κs =
     let a = c .before .before .before .before .before .before .before .before .before .before .before .before .before .before .before .before .before .args in
     let p = c .before .before .before .before .before .before .before .before .before .before .before .before .before .before .before .before .before .pre in
     let o : Octets (a .s0 .now) = λ i l. omega (arith, c .before .before .before .before .before .before .before .before .before .before .before .before .before .before .shared-slice-known2 .given i) in
-    let some = p .0 .some in
-    let high = p .0 .high in
+    let some = p .0 .modulus-low in
+    let high = p .0 .ring-high in
     let h = second-asks (a .q) (a .n) (a .work .now) (c .before .before .before .before .before .before .before .before .before .before .before .load-ternary .last .0) (c .before .before .before .before .before .before .before .copy .last .0) (a .s .now) (a .s0 .now) (a .u .now) (p .0) o (p .2) (p .3) (c .before .before .before .before .before .before .before .before .before .before .before .load-ternary .ensures) (c .before .before .before .before .before .before .before .copy .ensures) (c .before .before .before .multiply .last .0) (c .before .before .before .multiply .ensures) in
-    ((omega arith, p .0 .few, high, omega arith, h .0, omega (arith, p .1 .sized)), (h .1, p .1 .below))
+    ((omega arith, p .0 .modulus-high, high, omega arith, h .0, omega (arith, p .1 .sized)), (h .1, p .1 .below))
 
 returns : tie.Need-returns
 returns c =

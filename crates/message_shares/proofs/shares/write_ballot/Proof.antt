@@ -18,19 +18,19 @@ write-shares-requires : tie.Need-write-shares-requires
 write-shares-requires c κs =
     let a = c .before .before .before .before .before .before .before .before .before .before .before .before .before .before .before .before .before .args in
     let p = c .before .before .before .before .before .before .before .before .before .before .before .before .before .before .before .before .before .pre in
-    let some = p .0 .some in
+    let some = p .0 .modulus-low in
     let z : 0 < a .q = omega arith in
     let m = c .before .before .before .before .before .products in
     let s = mul (a .q) (a .n) (ternary (a .q) (a .s .now)) (poly (a .u .now)) in
     let t = mul (a .q) (a .n) (poly (a .s0 .now)) (poly (a .u .now)) in (
-      p .0 .high,
+      p .0 .ring-high,
       some,
-      p .0 .few,
+      p .0 .modulus-high,
       p .4,
       p .5,
       m .ensures .sized ∙ p .6,
-      encoded-below (a .q) (a .n) (p .0 .high) z (p .0 .few) (m .last .0) 0 s (m .ensures .one),
-      encoded-below (a .q) (a .n) (p .0 .high) z (p .0 .few) (m .last .0) 16384 t (m .ensures .two),
+      encoded-below (a .q) (a .n) (p .0 .ring-high) z (p .0 .modulus-high) (m .last .0) 0 s (m .ensures .one),
+      encoded-below (a .q) (a .n) (p .0 .ring-high) z (p .0 .modulus-high) (m .last .0) 16384 t (m .ensures .two),
       p .7,
       p .8,
     )
@@ -39,14 +39,14 @@ write-claim-requires : tie.Need-write-claim-requires
 write-claim-requires c κs =
     let a = c .before .before .before .before .before .before .before .before .before .before .before .before .before .before .before .before .before .before .before .before .before .before .before .before .before .before .args in
     let p = c .before .before .before .before .before .before .before .before .before .before .before .before .before .before .before .before .before .before .before .before .before .before .before .before .before .before .pre in
-    let some = p .0 .some in
-    let high = p .0 .high in
+    let some = p .0 .modulus-low in
+    let high = p .0 .ring-high in
     let z : 0 < a .q = omega arith in
     let m = c .before .before .before .before .before .before .before .before .before .before .before .before .before .before .products in
     let w = c .before .before .before .before .before .before .before .before .write-shares in
     let s = mul (a .q) (a .n) (ternary (a .q) (a .s .now)) (poly (a .u .now)) in
     let k = kept-head (m .last .0) (w .last .1 .1 .1 .0) 16384 (8 * a .n) (omega arith) (w .ensures .1 .1 .1) in
-    (p .2, w .ensures .1 .1 .0 ∙ m .ensures .sized ∙ p .6, encoded-below (a .q) (a .n) high z (p .0 .few) (w .last .1 .1 .1 .0) 0 s (k ∙ m .ensures .one), p .9)
+    (p .2, w .ensures .1 .1 .0 ∙ m .ensures .sized ∙ p .6, encoded-below (a .q) (a .n) high z (p .0 .modulus-high) (w .last .1 .1 .1 .0) 0 s (k ∙ m .ensures .one), p .9)
 
 returns : tie.Need-returns
 returns c =
@@ -54,8 +54,8 @@ returns c =
     let p = c .before .before .before .before .before .before .before .before .before .before .before .before .before .before .before .before .before .before .before .before .before .before .before .before .before .before .before .before .before .before .before .pre in
     let q = a .q in
     let n = a .n in
-    let some = p .0 .some in
-    let high = p .0 .high in
+    let some = p .0 .modulus-low in
+    let high = p .0 .ring-high in
     let z : 0 < q = omega arith in
     let m = c .before .before .before .before .before .before .before .before .before .before .before .before .before .before .before .before .before .before .before .products in
     let w = c .before .before .before .before .before .before .before .before .before .before .before .before .before .write-shares in
@@ -64,9 +64,9 @@ returns c =
     let s0 = poly (a .s0 .now) in
     let u = poly (a .u .now) in
     let k = kept-head (m .last .0) (w .last .1 .1 .1 .0) 16384 (8 * n) (omega arith) (w .ensures .1 .1 .1) in
-    let one = encoded-alike q n high z (p .0 .few) (m .last .0) 0 (mul q n s u) (m .ensures .one) in
-    let two = encoded-alike q n high z (p .0 .few) (m .last .0) 16384 (mul q n s0 u) (m .ensures .two) in
-    let last = encoded-alike q n high z (p .0 .few) (w .last .1 .1 .1 .0) 0 (mul q n s u) (k ∙ m .ensures .one) in (
+    let one = encoded-alike q n high z (p .0 .modulus-high) (m .last .0) 0 (mul q n s u) (m .ensures .one) in
+    let two = encoded-alike q n high z (p .0 .modulus-high) (m .last .0) 16384 (mul q n s0 u) (m .ensures .two) in
+    let last = encoded-alike q n high z (p .0 .modulus-high) (w .last .1 .1 .1 .0) 0 (mul q n s u) (k ∙ m .ensures .one) in (
       w .ensures .0 ∙ ap (put (a .shares0 .now) (a .at)) (lent-share q n 2 s s0 u (lentMask (a .mask0 .now)) two),
       (
         w .ensures .1 .0 ∙ ap (put (a .shares1 .now) (a .at)) (other-share q n 2 s s0 u one (lentMask (a .mask1 .now)) two),

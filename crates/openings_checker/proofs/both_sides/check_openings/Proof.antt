@@ -17,7 +17,7 @@ openings-ranged-requires : tie.Need-openings-ranged-requires
 openings-ranged-requires c κs =
     let p = c .before .before .before .before .before .before .before .before .before .before .before .before .before .before .pre .0 in
     let l = c .before .before .before .before .before .before .before .before .before .before .before .before .before .before .pre .1 in
-    (p .0 .high, p .5, l .ballots, omega (arith, l .head), l .opening0, l .opening1, l .answer1, l .answer2, l .answer3)
+    (p .0 .ring-high, p .5, l .ballots, omega (arith, l .head), l .opening0, l .opening1, l .answer1, l .answer2, l .answer3)
 
 returns : tie.Need-returns
 returns c =

@@ -12,7 +12,7 @@ use Rattle.round_parts.proofs.openings.test_opening.Statement.{statemen
 use Rattle.round_parts.proofs.openings.test_opening.Tie as tie
 
 mul-at-2 : tie.Need-mul-at-2
-mul-at-2 c = omega (arith, half-ends (c .before .before .before .before .before .args .n) (c .before .before .before .before .before .args .side) (c .before .before .before .before .before .pre .5), c .before .before .before .before .before .pre .0 .high)
+mul-at-2 c = omega (arith, half-ends (c .before .before .before .before .before .args .n) (c .before .before .before .before .before .args .side) (c .before .before .before .before .before .pre .5), c .before .before .before .before .before .pre .0 .ring-high)
 
 opens-key-requires : tie.Need-opens-key-requires
 opens-key-requires c κs = let p = c .before .before .before .before .before .before .pre in (p .0, p .2, p .3, omega (arith, half-ends (c .before .before .before .before .before .before .args .n) (c .before .before .before .before .before .before .args .side) (p .5), p .4))
@@ -23,10 +23,10 @@ returns c =
     (c .refused .ensures ∙ first-fails 7 8 0 _ _ (ap not (sym (o .ensures .0) ∙ not-true (o .result) (c .before .if1 .taken))), o .ensures .1)
 
 mul-opens-pairs-2 : tie.Need-mul-opens-pairs-2
-mul-opens-pairs-2 c = omega (arith, pairs-end (c .before .before .before .before .before .before .before .before .before .before .before .args .n) (c .before .before .before .before .before .before .before .before .before .before .before .args .side) (c .before .before .before .before .before .before .before .before .before .before .before .pre .5), c .before .before .before .before .before .before .before .before .before .before .before .pre .0 .high)
+mul-opens-pairs-2 c = omega (arith, pairs-end (c .before .before .before .before .before .before .before .before .before .before .before .args .n) (c .before .before .before .before .before .before .before .before .before .before .before .args .side) (c .before .before .before .before .before .before .before .before .before .before .before .pre .5), c .before .before .before .before .before .before .before .before .before .before .before .pre .0 .ring-high)
 
 add-opens-pairs : tie.Need-add-opens-pairs
-add-opens-pairs c = omega (arith, pairs-end (c .before .before .before .before .before .before .before .before .before .before .before .args .n) (c .before .before .before .before .before .before .before .before .before .before .before .args .side) (c .before .before .before .before .before .before .before .before .before .before .before .pre .5), c .before .before .before .before .before .before .before .before .before .before .before .pre .0 .high)
+add-opens-pairs c = omega (arith, pairs-end (c .before .before .before .before .before .before .before .before .before .before .before .args .n) (c .before .before .before .before .before .before .before .before .before .before .before .args .side) (c .before .before .before .before .before .before .before .before .before .before .before .pre .5), c .before .before .before .before .before .before .before .before .before .before .before .pre .0 .ring-high)
 
 opens-pairs-requires : tie.Need-opens-pairs-requires
 opens-pairs-requires c κs = let p = c .before .before .before .before .before .before .before .before .before .before .before .pre in (p .1, p .2, c .before .before .before .before .opens-key .ensures .1 ∙ p .3, omega (arith, pairs-end (c .before .before .before .before .before .before .before .before .before .before .before .args .n) (c .before .before .before .before .before .before .before .before .before .before .before .args .side) (p .5), p .4))

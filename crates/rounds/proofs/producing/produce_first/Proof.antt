@@ -15,7 +15,7 @@ use Rattle.rounds.proofs.producing.produce_first.Statement.{statement}
 use Rattle.rounds.proofs.producing.produce_first.Tie as tie
 
 count-of-requires : tie.Need-count-of-requires
-count-of-requires c κs = c .before .before .before .before .before .before .before .before .before .before .before .before .before .before .before .before .before .before .before .before .before .before .before .before .before .before .before .pre .0 .high
+count-of-requires c κs = c .before .before .before .before .before .before .before .before .before .before .before .before .before .before .before .before .before .before .before .before .before .before .before .before .before .before .before .pre .0 .ring-high
 
 write-first-requires : tie.Need-write-first-requires
 write-first-requires c κs =

@@ -13,14 +13,14 @@ add-message-requires : tie.Need-add-message-requires
 add-message-requires c κs =
     let p = c .before .before .before .before .before .before .before .before .before .before .before .pre in
     let x = c .before .before .before .noisy .ensures in
-    let some = p .0 .some in
-    (p .0 .high, p .0 .some, p .0 .few, x .sized ∙ p .1, p .4, p .5, holds-below (omega arith) (stands-holds (omega arith) (p .0 .few) x))
+    let some = p .0 .modulus-low in
+    (p .0 .ring-high, p .0 .modulus-low, p .0 .modulus-high, x .sized ∙ p .1, p .4, p .5, holds-below (omega arith) (stands-holds (omega arith) (p .0 .modulus-high) x))
 
 write-out-requires : tie.Need-write-out-requires
 write-out-requires c κs =
     let p = c .before .before .before .before .before .before .before .before .before .before .before .before .before .before .before .before .pre in
     let l = c .before .before .before .before .add-message .ensures .sized ∙ c .before .before .before .before .before .before .before .before .noisy .ensures .sized in
-    let h = p .0 .high in
+    let h = p .0 .ring-high in
     (p .6, omega arith)
 
 returns : tie.Need-returns
@@ -28,9 +28,9 @@ unfolding cipher-v
 returns c =
     let a = c .before .before .before .before .before .before .before .before .before .before .before .before .before .before .before .before .before .before .before .args in
     let p = c .before .before .before .before .before .before .before .before .before .before .before .before .before .before .before .before .before .before .before .pre in
-    let some = p .0 .some in
+    let some = p .0 .modulus-low in
     let x = c .before .before .before .before .before .before .before .before .before .before .before .noisy .ensures in
-    let y = stands-alike (c .before .before .before .before .before .before .before .add-message .ensures) (alike-plus (holds-alike (stands-holds (omega arith) (p .0 .few) x)) alike-refl) in
+    let y = stands-alike (c .before .before .before .before .before .before .before .add-message .ensures) (alike-plus (holds-alike (stands-holds (omega arith) (p .0 .modulus-high) x)) alike-refl) in
     (written-at (a .at) (a .out .now) _ y (c .before .before .write-out .ensures), y .sized ∙ x .sized)
 
 pub cipher-v-spec : {M : Type 1} → statement M

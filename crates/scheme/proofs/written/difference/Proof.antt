@@ -13,15 +13,15 @@ write-out-requires : tie.Need-write-out-requires
 write-out-requires c κs =
     let a = c .before .before .before .before .before .before .before .before .before .before .args in
     let p = c .before .before .before .before .before .before .before .before .before .before .pre in
-    let l = stands-put (a .q) (a .n) (p .0 .high) (p .0 .some) (p .0 .few) (other (a .q) (ternary (a .q) (a .x .now)) (poly (a .x0 .now))) (a .scratch .now) (c .before .before .before .before .difference .last .0) (p .1) (c .before .before .before .before .difference .ensures) .sized in
-    let h = p .0 .high in
+    let l = stands-put (a .q) (a .n) (p .0 .ring-high) (p .0 .modulus-low) (p .0 .modulus-high) (other (a .q) (ternary (a .q) (a .x .now)) (poly (a .x0 .now))) (a .scratch .now) (c .before .before .before .before .difference .last .0) (p .1) (c .before .before .before .before .difference .ensures) .sized in
+    let h = p .0 .ring-high in
     (p .3, omega arith)
 
 returns : tie.Need-returns
 returns c =
     let a = c .before .before .before .before .before .before .before .before .before .before .before .before .before .args in
     let p = c .before .before .before .before .before .before .before .before .before .before .before .before .before .pre in
-    let x = stands-put (a .q) (a .n) (p .0 .high) (p .0 .some) (p .0 .few) (other (a .q) (ternary (a .q) (a .x .now)) (poly (a .x0 .now))) (a .scratch .now) (c .before .before .before .before .before .before .before .difference .last .0) (p .1) (c .before .before .before .before .before .before .before .difference .ensures) in
+    let x = stands-put (a .q) (a .n) (p .0 .ring-high) (p .0 .modulus-low) (p .0 .modulus-high) (other (a .q) (ternary (a .q) (a .x .now)) (poly (a .x0 .now))) (a .scratch .now) (c .before .before .before .before .before .before .before .difference .last .0) (p .1) (c .before .before .before .before .before .before .before .difference .ensures) in
     (written-at (a .at) (a .out .now) _ x (c .before .before .write-out .ensures), x .sized)
 
 pub difference-spec : {M : Type 1} → statement M

@@ -9,7 +9,7 @@ write-out-requires : tie.Need-write-out-requires
 write-out-requires c κs =
     let p = c .before .before .before .before .before .before .before .before .before .before .before .pre in
     let l = c .before .before .before .before .noisy .ensures .sized in
-    let h = p .0 .high in
+    let h = p .0 .ring-high in
     (p .4, omega arith)
 
 returns : tie.Need-returns

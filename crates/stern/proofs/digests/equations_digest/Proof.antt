@@ -17,10 +17,10 @@ equation-pair-requires c κs =
     ((p .0 .0, p .0 .1, omega arith, omega arith, p .0 .3), λ t. (omega (arith, p .1 .0 t .0), p .1 .0 t .1))
 
 mul-equation-pair-2 : tie.Need-mul-equation-pair-2
-mul-equation-pair-2 c = let h = c .before .before .before .before .before .before .before .before .before .before .before .before .before .before .before .pre .0 .0 .one .high in omega arith
+mul-equation-pair-2 c = let h = c .before .before .before .before .before .before .before .before .before .before .before .before .before .before .before .pre .0 .0 .one .ring-high in omega arith
 
 mul-equation-pair-3 : tie.Need-mul-equation-pair-3
-mul-equation-pair-3 c = let h = c .before .before .before .before .before .before .before .before .before .before .before .before .before .before .before .pre .0 .0 .one .high in omega arith
+mul-equation-pair-3 c = let h = c .before .before .before .before .before .before .before .before .before .before .before .before .before .before .before .pre .0 .0 .one .ring-high in omega arith
 
 equation-pair-requires-2 : tie.Need-equation-pair-requires-2
 equation-pair-requires-2 c κs =
@@ -31,14 +31,14 @@ equation-pair-requires-2 c κs =
 absorb-pair-requires-2 : tie.Need-absorb-pair-requires-2
 absorb-pair-requires-2 c κs =
     let p = c .before .before .before .before .before .before .before .before .before .before .before .before .before .before .before .before .before .before .before .pre in
-    let h = p .0 .0 .one .high in
+    let h = p .0 .0 .one .ring-high in
     omega (arith, c .before .before .before .equation-pair2 .ensures .sized, c .before .before .before .before .before .before .before .before .before .equation-pair .ensures .sized, p .0 .1)
 
 returns : tie.Need-returns
 returns c =
     let a = c .before .before .before .before .before .before .before .before .before .before .before .before .before .before .before .before .before .before .before .before .before .args in
     let p = c .before .before .before .before .before .before .before .before .before .before .before .before .before .before .before .before .before .before .before .before .before .pre in
-    let t = p .0 .0 .one .some in
+    let t = p .0 .0 .one .modulus-low in
     let z : 0 < a .q = omega arith in
     let k = keysOf (a .n) (a .k .now) in
     let u = equationPair (a .q) (a .n) k (a .c .now) (a .less) (a .x .now) (2 * a .n) 0 0 in

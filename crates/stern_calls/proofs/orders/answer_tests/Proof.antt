@@ -20,12 +20,12 @@ returns c = (stops 5 _ _ (c .before .before .ring-fits .ensures) (c .refused .en
 answer-length-requires : tie.Need-answer-length-requires
 answer-length-requires c κs =
     let a = c .before .before .before .before .before .before .before .before .args in
-    ring (a .n) (a .q) (sym (c .before .ring-fits .ensures) ∙ not-false (c .before .ring-fits .result) (c .if1 .left)) .high
+    ring (a .n) (a .q) (sym (c .before .ring-fits .ensures) ∙ not-false (c .before .ring-fits .result) (c .if1 .left)) .ring-high
 
 material-sized-requires : tie.Need-material-sized-requires
 material-sized-requires c κs =
     let a = c .before .before .before .before .before .before .before .before .before .before .args in
-    ring (a .n) (a .q) (sym (c .before .before .before .ring-fits .ensures) ∙ not-false (c .before .before .before .ring-fits .result) (c .before .before .if1 .left)) .high
+    ring (a .n) (a .q) (sym (c .before .before .before .ring-fits .ensures) ∙ not-false (c .before .before .before .ring-fits .result) (c .before .before .if1 .left)) .ring-high
 
 returns-2 : tie.Need-returns-2
 unfolding answerReply
@@ -40,7 +40,7 @@ material-ranged-requires c κs =
     let at : List ℕ = lengths (a .x .now) (a .r .now) (a .p .now) (a .salts .now) (a .out .now) (a .scratch .now) in
     let to : List ℕ = wanted (a .n) (c .before .before .before .before .answer-length .result) in
     let l : same at to ≡ true = sym (c .before .before .material-sized .ensures) ∙ not-false (c .before .before .material-sized .result) (c .before .if2 .left) in
-    (ring (a .n) (a .q) (sym (c .before .before .before .before .before .before .ring-fits .ensures) ∙ not-false (c .before .before .before .before .before .before .ring-fits .result) (c .before .before .before .before .before .if1 .left)) .high, length-at at to 2 l, length-at at to 5 l)
+    (ring (a .n) (a .q) (sym (c .before .before .before .before .before .before .ring-fits .ensures) ∙ not-false (c .before .before .before .before .before .before .ring-fits .result) (c .before .before .before .before .before .if1 .left)) .ring-high, length-at at to 2 l, length-at at to 5 l)
 
 returns-3 : tie.Need-returns-3
 unfolding answerReply

@@ -34,7 +34,7 @@ returns-2 c =
 material-sized-requires : tie.Need-material-sized-requires
 material-sized-requires c κs =
     let a = c .before .before .before .before .before .before .before .before .before .before .before .args in
-    ring (a .n) (a .q) (sym (c .before .before .before .ring-fits .ensures) ∙ not-false (c .before .before .before .ring-fits .result) (c .before .before .if1 .left)) .high
+    ring (a .n) (a .q) (sym (c .before .before .before .ring-fits .ensures) ∙ not-false (c .before .before .before .ring-fits .result) (c .before .before .if1 .left)) .ring-high
 
 returns-3 : tie.Need-returns-3
 unfolding digestsReply
@@ -54,7 +54,7 @@ material-ranged-requires c κs =
     let at : List ℕ = lengths (a .x .now) (a .r .now) (a .p .now) (a .salts .now) (a .out .now) (a .scratch .now) in
     let to : List ℕ = wanted (a .n) 96 in
     let l : same at to ≡ true = sym (c .before .before .before .before .material-sized .ensures) ∙ not-false (c .before .before .before .before .material-sized .result) (c .before .before .before .if3 .left) in
-    (ring (a .n) (a .q) (sym (c .before .before .before .before .before .before .before .before .ring-fits .ensures) ∙ not-false (c .before .before .before .before .before .before .before .before .ring-fits .result) (c .before .before .before .before .before .before .before .if1 .left)) .high, length-at at to 2 l, length-at at to 5 l)
+    (ring (a .n) (a .q) (sym (c .before .before .before .before .before .before .before .before .ring-fits .ensures) ∙ not-false (c .before .before .before .before .before .before .before .before .ring-fits .result) (c .before .before .before .before .before .before .before .if1 .left)) .ring-high, length-at at to 2 l, length-at at to 5 l)
 
 returns-5 : tie.Need-returns-5
 unfolding digestsReply vector

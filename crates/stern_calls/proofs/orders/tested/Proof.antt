@@ -26,12 +26,12 @@ returns c = (stops 5 _ _ (c .before .before .ring-fits .ensures) (c .refused .en
 answer-length-requires : tie.Need-answer-length-requires
 answer-length-requires c κs =
     let a = c .before .before .before .before .before .before .before .args in
-    ring (a .n) (a .q) (sym (c .before .ring-fits .ensures) ∙ not-false (c .before .ring-fits .result) (c .if1 .left)) .high
+    ring (a .n) (a .q) (sym (c .before .ring-fits .ensures) ∙ not-false (c .before .ring-fits .result) (c .if1 .left)) .ring-high
 
 test-sized-requires : tie.Need-test-sized-requires
 test-sized-requires c κs =
     let a = c .before .before .before .before .before .before .before .before .before .args in
-    ring (a .n) (a .q) (sym (c .before .before .before .ring-fits .ensures) ∙ not-false (c .before .before .before .ring-fits .result) (c .before .before .if1 .left)) .high
+    ring (a .n) (a .q) (sym (c .before .before .before .ring-fits .ensures) ∙ not-false (c .before .before .before .ring-fits .result) (c .before .before .if1 .left)) .ring-high
 
 returns-2 : tie.Need-returns-2
 unfolding testReply
@@ -46,7 +46,7 @@ test-ranged-requires c κs =
     let at : List ℕ = length (a .keys .now) ∷ length (a .pairs .now) ∷ length (a .digests .now) ∷ length (a .answer .now) ∷ length (a .scratch .now) ∷ [] in
     let to : List ℕ = 24 * a .n ∷ 64 * a .n ∷ 96 ∷ c .before .before .before .answer-length .result ∷ 1048576 ∷ [] in
     let l : same at to ≡ true = sym (c .before .test-sized .ensures) ∙ not-false (c .before .test-sized .result) (c .if2 .left) in
-    (ring (a .n) (a .q) (sym (c .before .before .before .before .before .ring-fits .ensures) ∙ not-false (c .before .before .before .before .before .ring-fits .result) (c .before .before .before .before .if1 .left)) .high, length-at at to 3 l ∙ c .before .before .before .answer-length .ensures)
+    (ring (a .n) (a .q) (sym (c .before .before .before .before .before .ring-fits .ensures) ∙ not-false (c .before .before .before .before .before .ring-fits .result) (c .before .before .before .before .if1 .left)) .ring-high, length-at at to 3 l ∙ c .before .before .before .answer-length .ensures)
 
 returns-3 : tie.Need-returns-3
 unfolding testReply

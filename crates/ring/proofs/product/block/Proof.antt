@@ -1,4 +1,4 @@
--- `ring::block` meets its contract. Assumes nothing.
+-- `product::block` meets its contract. Assumes nothing.
 use mathlib.Core.Path.{_≡_, subst}
 use Prim.Native.Nat.{ℕ, _-_, _/_, _%_, _≤_}
 use native.Mathlib.Omega.{arith}
@@ -7,8 +7,8 @@ use Rattle.modular.proofs.Digits.{digits-le}
 use Rattle.ring.proofs.Columns.{columns-none, columns-room, columns-more}
 use Rattle.ring.specs.Method.{Columns}
 use Rattle.ring.specs.Slots.{slot}
-use Rattle.ring.proofs.block.Statement.{statement}
-use Rattle.ring.proofs.block.Tie as tie
+use Rattle.ring.proofs.product.block.Statement.{statement}
+use Rattle.ring.proofs.product.block.Tie as tie
 
 abbrev Inv-loop : tie.InvT-loop
 Inv-loop w x y n lo₀ mid₀ hi₀ j₀ lo mid hi j = (j ≤ n) × Columns (slot w x) (slot w y) j lo mid hi

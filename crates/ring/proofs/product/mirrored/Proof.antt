@@ -1,21 +1,21 @@
--- `ring::mirrored` meets its contract. Assumes nothing.
+-- `product::mirrored` meets its contract. Assumes nothing.
 use mathlib.Core.Path.{_≡_, sym, ap, _∙_}
 use Prim.Native.Nat.{ℕ, _+_, _-_, _*_, _%_, _<_}
-use native.Mathlib.Nat.{mod-eq-of-lt, zero-add}
+use native.Mathlib.Nat.{mod-eq-of-lt}
 use native.Mathlib.Omega.{arith}
 use borrow.Author.Needs.{needs}
 use Rattle.codec.specs.Bytes.{number, part}
-use Rattle.ring.proofs.Product.{turn-low, turn-high}
+use Rattle.ring.proofs.Coefficients.{turn-low, turn-high}
 use Rattle.ring.specs.Slots.{poly}
-use Rattle.ring.proofs.mirrored.Statement.{statement}
-use Rattle.ring.proofs.mirrored.Tie as tie
+use Rattle.ring.proofs.product.mirrored.Statement.{statement}
+use Rattle.ring.proofs.product.mirrored.Tie as tie
 
-subtract-requires : tie.Need-subtract-requires
+negate-requires : tie.Need-negate-requires
 unfolding poly
-subtract-requires c κs =
+negate-requires c κs =
     let a = c .before .before .before .args in
     let l : c .read642 .result < a .q = rw (c .read642 .ensures) (c .before .before .before .pre .3 .at (2 * a .n - 1 - a .j) (omega arith)) in
-    (omega arith, l, omega arith)
+    (l, omega arith)
 
 returns : tie.Need-returns
 unfolding poly
@@ -30,8 +30,8 @@ unfolding poly
 returns-2 c =
     let a = c .before .before .before .before .args in
     let e : 2 * a .n - 1 - a .j ≡ a .n + (a .n - 1) - a .j = omega arith in
-    c .subtract .ensures ∙ ap (λ (x : ℕ). x % a .q) (zero-add ((a .q - 1) * c .before .read642 .result)) ∙ ap (λ (x : ℕ). (a .q - 1) * x % a .q) (c .before .read642 .ensures ∙ ap (λ (k : ℕ). number (part (a .a .now) (8 * k) 8)) e)
+    c .negate .ensures ∙ ap (λ (x : ℕ). (a .q - 1) * x % a .q) (c .before .read642 .ensures ∙ ap (λ (k : ℕ). number (part (a .a .now) (8 * k) 8)) e)
     ∙ ap (λ (x : ℕ). x % a .q) (sym (turn-high (a .q) (a .n) (poly (a .a .now)) (a .n - 1) (a .j) (omega arith)))
 
 pub mirrored-spec : {M : Type 1} → statement M
-mirrored-spec = tie.close (tie.spec (λ c. search needs) (λ c. search needs) (λ c. search needs) (λ c κs. search needs) (λ c. search needs) (λ c. search needs) (λ c. search needs) (λ c. search needs) (λ c κs. search needs) subtract-requires returns returns-2)
+mirrored-spec = tie.close (tie.spec (λ c. search needs) (λ c. search needs) (λ c. search needs) (λ c κs. search needs) (λ c. search needs) (λ c. search needs) (λ c. search needs) (λ c. search needs) (λ c κs. search needs) negate-requires returns returns-2)
