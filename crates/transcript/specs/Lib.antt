@@ -3,6 +3,7 @@ pub mod Round
 pub mod Accepted
 pub mod Method
 pub mod Producer
+pub mod Suitable
 pub mod Extractor
 pub mod Opened
 pub mod Refuses
