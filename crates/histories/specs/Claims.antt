@@ -3,7 +3,7 @@
 use mathlib.Core.Path.{_≡_}
 use mathlib.Core.Logic.{_↔_, _≢_}
 use mathlib.Core.Bool.{Bool, true, false, _&&_}
-use mathlib.Core.List.{List, List·Memᴰ, map}
+use mathlib.Core.List.{List, _∷_, _++_, List·Memᴰ, map}
 use Prim.Native.Nat.{ℕ, _<_}
 use lib.Dec.{eqb, ltb}
 use lib.ListN.{length}
@@ -23,9 +23,9 @@ use Rattle.digests.specs.Digests.{concatenated, ballotDigests}
 use Rattle.drawing.specs.Draw.{drawnSide, drawnChallenges}
 use Rattle.checking.specs.Check.{Inputs}
 use Rattle.session.specs.declared.Session.{Session}
-use Rattle.session.specs.Session.{gathering, closed, claimed, drawn}
-use Rattle.session.specs.Steps.{clearTests, admitTests, withdrawTests, closeTests, claimTests, commitTests, drawTests, checkTests}
-use Rattle.histories.specs.Runs.{Step, clear, admit, withdraw, close, claim, commit, draw, check, State, state, message, Life, Call, born, begun, reply, after, run, Uncleared, tells, lives, calls}
+use Rattle.session.specs.Session.{gathering, closed, claimed, drawn, ended-accepted}
+use Rattle.session.specs.Steps.{storedFor, clearTests, admitTests, withdrawTests, closeTests, claimTests, commitTests, drawTests, checkTests}
+use Rattle.histories.specs.Runs.{Step, clear, admit, withdraw, close, claim, commit, draw, check, State, state, message, Life, Call, call, born, begun, reply, after, run, Uncleared, NoClear, tells, live, lives, calls}
 use Rattle.histories.specs.Conditions.{Valid, Clears, Admits, Withdraws, Closes, Claims, Commits, Draws, Checks}
 
 -- the phase and the round are those of the step
@@ -92,6 +92,32 @@ module _ (p : ℕ) where
       → Uncleared p between (after p (withdraw mark) found)
       → reply p close last ≡ Taken
       → (i : ℕ) → List·Memᴰ i (standing (last .register) (last .session .used)) → markAt (last .register) i ≢ mark
+
+  -- ---- the second demand: no round is waved by. Lists of steps from a newly cleared session, each lent any register
+
+  -- a check of a round that was taken, since the last clear taken: `before` are the calls before it, `later` those behind it
+  pub record Checked (sheet : Bytes) (cs : List Call) (round : ℕ) : Type 0 where
+    pub before : List Call
+    pub register : Bytes
+    pub inputs : Inputs
+    pub later : List Call
+    pub listed : cs ≡ before ++ (call (check round inputs) register ∷ later)
+    pub uncleared : NoClear p later (live p (call (check round inputs) register) (lives p before (born sheet)))
+    -- it was taken, so all that a check of this round asks for was found
+    pub taken : reply p (check round inputs) (state (lives p before (born sheet) .session) register) ≡ Taken
+    pub checks : Octets (inputs .head) → Checks p (lives p before (born sheet) .session) round inputs
+    -- what it was held against is what the session holds at the end: numbers, closed count, the digests of sheet, closing, claims and the round's first message, and the seed
+    pub stored : storedFor (lives p before (born sheet) .session) round ≡ storedFor (lives p cs (born sheet) .session) round
+
+  -- every round that a session counts as checked was checked
+  abbrev pub RoundsChecked : Type 0
+  RoundsChecked = (sheet : Bytes) (cs : List Call) → first (order p sheet) ≡ Taken → (k : ℕ) → k < lives p cs (born sheet) .session .checked → Checked sheet cs k
+
+  -- and of a session that ended accepted every round was
+  abbrev pub EndedAccepted : Type 0
+  EndedAccepted = (sheet : Bytes) (cs : List Call) → first (order p sheet) ≡ Taken
+      → let s = lives p cs (born sheet) .session in
+      s .phase ≡ ended-accepted → (k : ℕ) → k < s .numbers .rounds → Checked sheet cs k
 
   -- ---- the third demand: lists of steps from a newly cleared session, each lent any register
 

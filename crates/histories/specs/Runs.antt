@@ -106,6 +106,9 @@ pub record Call : Type 0 where
   pub step : Step
   pub register : Bytes
 
+abbrev pub call : Step → Bytes → Call
+call x reg = record { step = x; register = reg }
+
 abbrev pub lent : Life → Call → State
 lent l c = state (l .session) (c .register)
 
@@ -189,6 +192,11 @@ module _ (p : ℕ) where
   unfoldable pub lives : List Call → Life → Life
   lives [] l = l
   lives (c ∷ cs) l = lives cs (live c l)
+
+  -- no clear is taken
+  unfoldable pub NoClear : List Call → Life → Type 0
+  NoClear [] l = Unit
+  NoClear (c ∷ cs) l = (clears (c .step) (reply (c .step) (lent l c)) ≡ false) × NoClear cs (live c l)
 
   -- steps as calls that are lent the register that the last step left
   unfoldable pub calls : List Step → State → List Call
