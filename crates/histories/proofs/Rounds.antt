@@ -20,7 +20,7 @@ use Rattle.checking.specs.Check.{Inputs}
 use Rattle.session.specs.declared.Session.{Session}
 use Rattle.session.specs.Session.{trailAt}
 use Rattle.session.specs.Steps.{storedFor, clearTests, cleared, admitTests, admittedBy, withdrawTests, closeTests, closedBy, claimTests, claimedBy, commitTests, committedBy, drawTests, drawnBy, checkEarly, checkLate, checkTests, acceptedBy, refusedBy, checkedBy}
-use Rattle.histories.specs.Runs.{Step, clear, admit, withdraw, close, claim, commit, draw, check, State, state, Life, Call, call, lent, clears, reply, after, NoClear, live, lives, born}
+use Rattle.histories.specs.Runs.{Step, clear, admit, withdraw, close, claim, commit, draw, check, State, state, Trace, Call, call, lent, clears, reply, after, NoClear, extend, trace, initial}
 use Rattle.histories.specs.Claims.{Checked, RoundsChecked, EndedAccepted}
 use Rattle.histories.proofs.Replies.{left}
 use Rattle.histories.proofs.Valid.{ready, on-turn}
@@ -108,29 +108,29 @@ module _ (p : ℕ) where
       accepted true e = unfold acceptedBy in λ l. eqb-true (s .checked + 1) (s .numbers .rounds) e
       accepted false e = unfold acceptedBy in (rw e (λ l. absurd (omega arith)))
 
-  complete-lives : (cs : List Call) (l : Life) → Complete (l .session) → Complete (lives p cs l .session)
-  unfolding lives live
-  complete-lives [] l h = h
-  complete-lives (c ∷ cs) l h = complete-lives cs (live p c l) (complete-step (c .step) (c .register) (l .session) h)
+  complete-trace : (cs : List Call) (l : Trace) → Complete (l .session) → Complete (trace p cs l .session)
+  unfolding trace extend
+  complete-trace [] l h = h
+  complete-trace (c ∷ cs) l h = complete-trace cs (extend p c l) (complete-step (c .step) (c .register) (l .session) h)
 
   -- ---- one call more
 
-  lives-append : (cs ds : List Call) (l : Life) → lives p (cs ++ ds) l ≡ lives p ds (lives p cs l)
-  unfolding lives
-  lives-append [] ds l = refl
-  lives-append (c ∷ cs) ds l = lives-append cs ds (live p c l)
+  trace-append : (cs ds : List Call) (l : Trace) → trace p (cs ++ ds) l ≡ trace p ds (trace p cs l)
+  unfolding trace
+  trace-append [] ds l = refl
+  trace-append (c ∷ cs) ds l = trace-append cs ds (extend p c l)
 
-  no-clear-more : (cs : List Call) (c : Call) (l : Life) → NoClear p cs l → clears (c .step) (reply p (c .step) (lent (lives p cs l) c)) ≡ false → NoClear p (cs ++ (c ∷ [])) l
-  unfolding lives NoClear
+  no-clear-more : (cs : List Call) (c : Call) (l : Trace) → NoClear p cs l → clears (c .step) (reply p (c .step) (lent (trace p cs l) c)) ≡ false → NoClear p (cs ++ (c ∷ [])) l
+  unfolding trace NoClear
   no-clear-more [] c l h e = (e, tt)
-  no-clear-more (d ∷ cs) c l h e = (h .0, no-clear-more cs c (live p d l) (h .1) e)
+  no-clear-more (d ∷ cs) c l h e = (h .0, no-clear-more cs c (extend p d l) (h .1) e)
 
   module _ (sheet : Bytes) (readable : first (order p sheet) ≡ Taken) where
-    abbrev at : List Call → Life
-    at cs = lives p cs (born sheet)
+    abbrev at : List Call → Trace
+    at cs = trace p cs (initial sheet)
 
-    at-more : (cs : List Call) (c : Call) → at (cs ++ (c ∷ [])) ≡ live p c (at cs)
-    at-more cs c = lives-append cs (c ∷ []) (born sheet) ∙ (unfold lives in refl)
+    at-more : (cs : List Call) (c : Call) → at (cs ++ (c ∷ [])) ≡ extend p c (at cs)
+    at-more cs c = trace-append cs (c ∷ []) (initial sheet) ∙ (unfold trace in refl)
 
     record All (cs : List Call) : Type 0 where
       of : (k : ℕ) → k < at cs .session .checked → Checked p sheet cs k
@@ -146,14 +146,14 @@ module _ (p : ℕ) where
       longer : clears (c .step) (reply p (c .step) (lent (at cs) c)) ≡ false → (k : ℕ) → storedFor s k ≡ storedFor t k → Checked p sheet cs k → Checked p sheet (cs ++ (c ∷ [])) k
       longer e k d w =
           let this = call (check k (w .inputs)) (w .register) in
-          let where-at : at cs ≡ lives p (w .later) (live p this (at (w .before))) = ap at (w .listed) ∙ lives-append (w .before) (this ∷ w .later) (born sheet) ∙ (unfold lives in refl) in
+          let where-at : at cs ≡ trace p (w .later) (extend p this (at (w .before))) = ap at (w .listed) ∙ trace-append (w .before) (this ∷ w .later) (initial sheet) ∙ (unfold trace in refl) in
           record {
             before = w .before;
             register = w .register;
             inputs = w .inputs;
             later = w .later ++ (c ∷ []);
             listed = ap (λ (l : List Call). l ++ (c ∷ [])) (w .listed) ∙ append-assoc (w .before) (this ∷ w .later) (c ∷ []);
-            uncleared = no-clear-more (w .later) c (live p this (at (w .before))) (w .uncleared) (ap (λ (l : Life). clears (c .step) (reply p (c .step) (lent l c))) (sym where-at) ∙ e);
+            uncleared = no-clear-more (w .later) c (extend p this (at (w .before))) (w .uncleared) (ap (λ (l : Trace). clears (c .step) (reply p (c .step) (lent l c))) (sym where-at) ∙ e);
             taken = w .taken;
             checks = w .checks;
             stored = w .stored ∙ d;
@@ -174,11 +174,11 @@ module _ (p : ℕ) where
       }
 
       step : All (cs ++ (c ∷ []))
-      unfolding live
+      unfolding extend
       step = record { of = λ k l. go (c .step) refl (moves s (c .register) (kept p sheet cs readable .unchecked) (c .step)) k (rw (at-more cs c) at l) }
         where
           now : after p (c .step) (lent (at cs) c) .session ≡ t
-          now = ap (λ (l : Life). l .session) (sym (at-more cs c))
+          now = ap (λ (l : Trace). l .session) (sym (at-more cs c))
 
           go : (x : Step) → c .step ≡ x → Move s (c .register) x (after p (c .step) (lent (at cs) c) .session) → (k : ℕ) → k < after p (c .step) (lent (at cs) c) .session .checked
               → Checked p sheet (cs ++ (c ∷ [])) k
@@ -196,12 +196,12 @@ module _ (p : ℕ) where
     all cs (d ∷ ds) h = subst All (append-assoc cs (d ∷ []) ds) (all (cs ++ (d ∷ [])) ds (step cs d h))
 
     every : (cs : List Call) → All cs
-    every cs = all [] cs (record { of = λ k l. absurd (unfold lives born cleared in omega arith) })
+    every cs = all [] cs (record { of = λ k l. absurd (unfold trace initial cleared in omega arith) })
 
 pub rounds-checked : (p : ℕ) → RoundsChecked p
 rounds-checked p sheet cs e = every p sheet e cs .of
 
 pub ended-accepted : (p : ℕ) → EndedAccepted p
 ended-accepted p sheet cs e ended k l =
-    let all : Complete p (lives p cs (born sheet) .session) = complete-lives p cs (born sheet) (λ w. absurd (unfold born cleared in omega arith)) in
+    let all : Complete p (trace p cs (initial sheet) .session) = complete-trace p cs (initial sheet) (λ w. absurd (unfold initial cleared in omega arith)) in
     every p sheet e cs .of k (omega (arith, all ended))
