@@ -29,11 +29,12 @@ use Rattle.digests.specs.Digests.{ballotDigests, closingDigest, claimDigest}
 use Rattle.drawing.specs.Draw.{drawnSide, drawnChallenges}
 use Rattle.drawing.proofs.Range.{side-range, length-challenges, challenge-range}
 use Rattle.checking.specs.Check.{Inputs, lateTests, drawnRound}
+use Rattle.checking.specs.Equations.{Sized, Held}
 use Rattle.session.specs.declared.Session.{Session}
 use Rattle.session.specs.Session.{trailAt}
 use Rattle.session.specs.Steps.{storedFor, checkEarly, checkLate, checkTests}
-use Rattle.histories.specs.Runs.{Life, reply, lives, born}
-use Rattle.histories.specs.Conditions.{SheetTaken, Lengths, Matches}
+use Rattle.histories.specs.Runs.{Trace, reply, trace, initial}
+use Rattle.histories.specs.Conditions.{SheetTaken}
 use Rattle.histories.specs.Claims.{Produced, Turn, HonestAccepted}
 use Rattle.histories.proofs.Valid.{sheet-exactly}
 use Rattle.histories.proofs.Kept.{Kept, messageDigest, kept}
@@ -47,7 +48,7 @@ reads : (p : ℕ) (text : Bytes) → SheetTaken p text → reading p text ≡ re
 unfolding reading
 reads p text t = ap (λ (r : Reply). readingBy r (sheetOf text .numbers)) (taken-exactly (order p text) .1 (sheet-exactly p text .1 t))
 
-module _ (p : ℕ) (roomy : Roomy p) (l : Life) (k : Kept p (l .session) (l .history)) (material : Material) (round : ℕ) (x : Inputs) (turn : Turn p l material round x) where
+module _ (p : ℕ) (roomy : Roomy p) (l : Trace) (k : Kept p (l .session) (l .history)) (material : Material) (round : ℕ) (x : Inputs) (turn : Turn p l material round x) where
   abbrev s : Session
   s = l .session
 
@@ -77,7 +78,7 @@ module _ (p : ℕ) (roomy : Roomy p) (l : Life) (k : Kept p (l .session) (l .his
 
   -- ---- the lengths
 
-  lengths : Lengths s round x
+  lengths : Sized (storedFor s round) x
   lengths = rw (closed, ← numbers) (record {
     head = ap length (made .head) ∙ length-producedHead P m material;
     shares0 = ap length (made .shares0) ∙ length-producedShares P m material 0;
@@ -91,7 +92,7 @@ module _ (p : ℕ) (roomy : Roomy p) (l : Life) (k : Kept p (l .session) (l .his
 
   -- ---- what the session holds
 
-  matches : Matches s round x
+  matches : Held (storedFor s round) x
   unfolding trailAt
   matches =
       let phase = turn .phase in
@@ -140,7 +141,7 @@ module _ (p : ℕ) (roomy : Roomy p) (l : Life) (k : Kept p (l .session) (l .his
 
 pub honest-accepted-by : (p : ℕ) → Roomy p → HonestAccepted p
 unfolding reply
-honest-accepted-by p roomy sheet cs e register material round x turn = accepted p roomy (lives p cs (born sheet)) (kept p sheet cs e) material round x turn
+honest-accepted-by p roomy sheet cs e register material round x turn = accepted p roomy (trace p cs (initial sheet)) (kept p sheet cs e) material round x turn
 
 -- for every p that has no factor in common with the modulus of a sheet that is taken, and so for 2
 pub honest-accepted : (p : ℕ) → 0 < p → ((text : Bytes) (k : Numbers) → reading p text ≡ reading.Taken k → Coprime p (k .modulus)) → HonestAccepted p

@@ -25,7 +25,7 @@ use Rattle.checking.specs.Check.{Inputs}
 use Rattle.session.specs.declared.Session.{Session}
 use Rattle.session.specs.Session.{changed}
 use Rattle.session.specs.Steps.{cleared, admittedBy, closedBy, claimedBy, committedBy, drawnBy, checkEarly, checkLate, checkTests, acceptedBy, refusedBy, checkedBy}
-use Rattle.histories.specs.Runs.{Step, clear, admit, withdraw, close, claim, commit, draw, check, State, state, Message, message, Call, History, blank, note, Life, reply, after, live, lives, born}
+use Rattle.histories.specs.Runs.{Step, clear, admit, withdraw, close, claim, commit, draw, check, State, state, Message, message, Call, History, emptyHistory, historyAfter, Trace, reply, after, extend, trace, initial}
 use Rattle.histories.specs.Conditions.{SheetTaken, Valid, Admits, Closes, Claims, Commits, Draws}
 use Rattle.histories.proofs.Replies.{left, left-both, left-alone}
 use Rattle.histories.proofs.Valid.{ready, on-turn, sheet-exactly}
@@ -59,7 +59,7 @@ drawn-now p s round x e =
     (d .0, omega arith)
 
 module _ (p : ℕ) where
-  kept-clear : (text : Bytes) → SheetTaken p text → Kept p (cleared text) (blank text)
+  kept-clear : (text : Bytes) → SheetTaken p text → Kept p (cleared text) (emptyHistory text)
   unfolding cleared
   kept-clear text t = record {
     sound = record { phase = omega arith; inside = t .inside; sound = t .sound; used = omega arith; closed = omega arith; committed = omega arith; checked = omega arith };
@@ -101,8 +101,8 @@ module _ (p : ℕ) where
           next = k .next;
         }
 
-    kept-close : (reg : Bytes) → Closes p s reg → Kept p (closedBy s reg) (note close (state s reg) h)
-    unfolding closedBy note standingDigests
+    kept-close : (reg : Bytes) → Closes p s reg → Kept p (closedBy s reg) (historyAfter close (state s reg) h)
+    unfolding closedBy historyAfter standingDigests
     kept-close reg c =
         let was = c .phase in
         let few = standing-few reg (s .used) in
@@ -131,8 +131,8 @@ module _ (p : ℕ) where
           next = λ l. absurd (omega arith);
         }
 
-    kept-claim : (st : State) (claims : Bytes) → Claims p s claims → Kept p (claimedBy s claims) (note (claim claims) st h)
-    unfolding claimedBy note
+    kept-claim : (st : State) (claims : Bytes) → Claims p s claims → Kept p (claimedBy s claims) (historyAfter (claim claims) st h)
+    unfolding claimedBy historyAfter
     kept-claim st claims c =
         let was = c .phase in
         record {
@@ -196,8 +196,8 @@ module _ (p : ℕ) where
           let due = c .due in
           rw (ne-eqb j r e) (part-put-before (s .trail) (32 * r) new (32 * j) 32 fits (omega arith) ∙ k .trail g j (omega arith))
 
-      kept-commit : (st : State) → Kept p (committedBy s r head shares0 shares1) (note (commit r head shares0 shares1) st h)
-      unfolding committedBy note
+      kept-commit : (st : State) → Kept p (committedBy s r head shares0 shares1) (historyAfter (commit r head shares0 shares1) st h)
+      unfolding committedBy historyAfter
       kept-commit st =
           let was = c .phase in
           let due = c .due in
@@ -264,8 +264,8 @@ module _ (p : ℕ) where
   -- ---- every step, and every list of them
 
   kept-step : (x : Step) (reg : Bytes) (s : Session) (h : History) → Kept p s h
-      → let st = state s reg in Kept p (after p x st .session) (leaves (reply p x st) (note x st h) h)
-  unfolding reply after note
+      → let st = state s reg in Kept p (after p x st .session) (leaves (reply p x st) (historyAfter x st h) h)
+  unfolding reply after historyAfter
   kept-step (clear text) reg s h k = left-both (Kept p) _ (λ e. kept-clear text (cleared-exactly p reg text .0 e .sheet)) k
   kept-step (admit ballot) reg s h k = left-both (Kept p) _ (λ e. kept-admit s h k reg ballot (admitted-exactly p s reg ballot .0 e)) k
   kept-step (withdraw mark) reg s h k = left (Kept p s) _ (λ e. k) k
@@ -276,11 +276,11 @@ module _ (p : ℕ) where
   kept-step (draw seed) reg s h k = left-both (Kept p) _ (λ e. kept-draw s h k seed (drawn-exactly p s seed .0 e)) k
   kept-step (check r x) reg s h k = rw (left-alone (first (checkTests p s r x)) h) (kept-check s h k r x)
 
-  kept-lives : (cs : List Call) (l : Life) → Kept p (l .session) (l .history) → Kept p (lives p cs l .session) (lives p cs l .history)
-  unfolding lives live
-  kept-lives [] l k = k
-  kept-lives (c ∷ cs) l k = kept-lives cs (live p c l) (kept-step (c .step) (c .register) (l .session) (l .history) k)
+  kept-trace : (cs : List Call) (l : Trace) → Kept p (l .session) (l .history) → Kept p (trace p cs l .session) (trace p cs l .history)
+  unfolding trace extend
+  kept-trace [] l k = k
+  kept-trace (c ∷ cs) l k = kept-trace cs (extend p c l) (kept-step (c .step) (c .register) (l .session) (l .history) k)
 
-  pub kept : (sheet : Bytes) (cs : List Call) → first (order p sheet) ≡ Taken → Kept p (lives p cs (born sheet) .session) (lives p cs (born sheet) .history)
-  unfolding born
-  kept sheet cs e = kept-lives cs (born sheet) (kept-clear sheet (sheet-exactly p sheet .0 (taken-exactly (order p sheet) .0 e)))
+  pub kept : (sheet : Bytes) (cs : List Call) → first (order p sheet) ≡ Taken → Kept p (trace p cs (initial sheet) .session) (trace p cs (initial sheet) .history)
+  unfolding initial
+  kept sheet cs e = kept-trace cs (initial sheet) (kept-clear sheet (sheet-exactly p sheet .0 (taken-exactly (order p sheet) .0 e)))

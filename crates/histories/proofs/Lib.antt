@@ -7,3 +7,4 @@ pub mod Reach
 pub mod Honest
 pub mod Withdrawn
 pub mod Roll
+pub mod Rounds

@@ -17,7 +17,7 @@ use Rattle.checking.specs.Check.{Inputs, inputsSized, storedTests, earlyTests, 
 use Rattle.session.specs.declared.Session.{Session}
 use Rattle.session.specs.Session.{valid}
 use Rattle.session.specs.Steps.{storedFor, clearTests, admitTests, withdrawTests, closeTests, claimTests, commitTests, drawTests, checkEarly, checkLate, checkTests}
-use Rattle.histories.specs.Runs.{Step, clear, admit, withdraw, close, claim, commit, draw, check, state, reply, after, begun, born, lives}
+use Rattle.histories.specs.Runs.{Step, clear, admit, withdraw, close, claim, commit, draw, check, state, reply, after, ownInitial, initial, trace}
 use Rattle.histories.specs.Claims.{due, ClearTaken, StaysValid, OnlyPhaseOrRound}
 use Rattle.histories.proofs.Replies.{Others, others, others-append, later-others, head-holds}
 use Rattle.histories.proofs.Valid.{valid-holds, sheet-exactly}
@@ -28,7 +28,7 @@ pub reachable-valid : (p : ℕ) → StaysValid p
 reachable-valid p sheet cs e = let k = kept p sheet cs e in (k .sound, k .numbers)
 
 pub clear-taken : (p : ℕ) → ClearTaken p
-unfolding reply after begun
+unfolding reply after ownInitial
 clear-taken p st sheet e =
     let r = first (clearTests p (st .register) sheet) in (
       taken-exactly (order p sheet) .1 (sheet-exactly p sheet .1 (cleared-exactly p (st .register) sheet .0 e .sheet)),
@@ -62,5 +62,5 @@ module _ (p : ℕ) (s : Session) (reg : Bytes) (place : ℕ) (v : valid p s ≡ 
 
 pub only-phase-or-round : (p : ℕ) → OnlyPhaseOrRound p
 only-phase-or-round p sheet cs e x reg place r =
-    let s = lives p cs (born sheet) .session in
+    let s = trace p cs (initial sheet) .session in
     only-31 p s reg place (valid-holds p s (reachable-valid p sheet cs e .0)) x r

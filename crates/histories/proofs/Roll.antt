@@ -21,7 +21,7 @@ use Rattle.digests.proofs.Laws.{Long, ballotDigests-concatenated}
 use Rattle.checking.specs.Check.{Inputs}
 use Rattle.session.specs.declared.Session.{Session}
 use Rattle.session.specs.Steps.{cleared, admittedBy, closedBy, claimedBy, committedBy, drawnBy, checkEarly, checkLate, checkTests, acceptedBy, refusedBy, checkedBy}
-use Rattle.histories.specs.Runs.{Step, clear, admit, withdraw, close, claim, commit, draw, check, State, state, History, note, without, enrol, Tale, Life, born, begun, reply, after, tell, tells, live, lives, calls}
+use Rattle.histories.specs.Runs.{Step, clear, admit, withdraw, close, claim, commit, draw, check, State, state, History, historyAfter, without, rollAfter, OwnTrace, Trace, initial, ownInitial, reply, after, ownExtend, ownTrace, extend, trace, calls}
 use Rattle.histories.specs.Conditions.{Admits, Withdraws, Claims, Draws}
 use Rattle.histories.specs.Claims.{RollIsBatch, OwnRegister}
 use Rattle.histories.proofs.Replies.{left, left-all, left-four, left-alone}
@@ -159,12 +159,12 @@ module _ (p : ℕ) (st : State) (h : History) (bs : List Bytes) (o : Own st h bs
         noted = λ l. absurd (omega arith);
       }
 
-  own-close : Own (state (closedBy s reg) reg) (note close st h) bs
-  unfolding closedBy note standingDigests
+  own-close : Own (state (closedBy s reg) reg) (historyAfter close st h) bs
+  unfolding closedBy historyAfter standingDigests
   own-close = record { rows = o .rows; long = o .long; noted = λ l. sym (rows-digests (o .rows)) }
 
-  own-claim : (claims : Bytes) → Claims p s claims → Own (state (claimedBy s claims) reg) (note (claim claims) st h) bs
-  unfolding claimedBy note
+  own-claim : (claims : Bytes) → Claims p s claims → Own (state (claimedBy s claims) reg) (historyAfter (claim claims) st h) bs
+  unfolding claimedBy historyAfter
   own-claim claims c = let was = c .phase in record { rows = o .rows; long = o .long; noted = λ l. o .noted (omega arith) }
 
   own-draw : (seed : Bytes) → Draws p s seed → Own (state (drawnBy s seed) reg) h bs
@@ -192,8 +192,8 @@ module _ (p : ℕ) (st : State) (h : History) (bs : List Bytes) (o : Own st h bs
   With t = Own (state t reg)
 
   own-step : Single reg (s .used) → (x : Step)
-      → Own (after p x st) (leaves (reply p x st) (note x st h) h) (leaves (reply p x st) (enrol x bs) bs)
-  unfolding reply after cleared committedBy note enrol
+      → Own (after p x st) (leaves (reply p x st) (historyAfter x st h) h) (leaves (reply p x st) (rollAfter x bs) bs)
+  unfolding reply after cleared committedBy historyAfter rollAfter
   own-step single (clear text) = left-four Whole _ (λ e. record { rows = start; long = tt; noted = λ l. absurd (omega arith) }) o
   own-step single (admit ballot) = left-four Whole _ (λ e. own-admit ballot (admitted-exactly p s reg ballot .0 e)) o
   own-step single (withdraw mark) = left-all (Whole s) _ (λ e. own-withdraw single mark (withdrawn-exactly p s reg mark .0 e)) o
@@ -203,11 +203,11 @@ module _ (p : ℕ) (st : State) (h : History) (bs : List Bytes) (o : Own st h bs
   own-step single (draw seed) = left-all With _ (λ e. own-draw seed (drawn-exactly p s seed .0 e)) o
   own-step single (check k x) = rw (left-alone (first (checkTests p s k x)) h, left-alone (first (checkTests p s k x)) bs) (own-check k x)
 
-own-tells : (p : ℕ) (xs : List Step) (t : Tale) → Single (t .now .register) (t .now .session .used) → Own (t .now) (t .history) (t .roll)
-    → Own (tells p xs t .now) (tells p xs t .history) (tells p xs t .roll)
-unfolding tells tell
-own-tells p [] t single o = o
-own-tells p (x ∷ xs) t single o = own-tells p xs (tell p x t) (single-step p (t .now) x single) (own-step p (t .now) (t .history) (t .roll) o single x)
+own-ownTrace : (p : ℕ) (xs : List Step) (t : OwnTrace) → Single (t .now .register) (t .now .session .used) → Own (t .now) (t .history) (t .roll)
+    → Own (ownTrace p xs t .now) (ownTrace p xs t .history) (ownTrace p xs t .roll)
+unfolding ownTrace ownExtend
+own-ownTrace p [] t single o = o
+own-ownTrace p (x ∷ xs) t single o = own-ownTrace p xs (ownExtend p x t) (single-step p (t .now) x single) (own-step p (t .now) (t .history) (t .roll) o single x)
 
 -- each of them has that length
 each-long : (size : ℕ) (bs : List Bytes) → Long size bs → (b : Bytes) → List·Memᴰ b bs → length b ≡ size
@@ -219,20 +219,20 @@ each-long size (c ∷ cs) h b m = go (List·Memᴰ·append-cases (c ∷ []) m) (
     go (inr n) rest = rest n
 
 pub roll-is-batch : (p : ℕ) → RollIsBatch p
-unfolding begun cleared
+unfolding ownInitial cleared
 roll-is-batch p sheet steps l =
-    let t = tells p steps (begun sheet) in
-    let o = own-tells p steps (begun sheet) (single-none _) (record { rows = start; long = tt; noted = λ q. absurd (omega arith) }) in
+    let t = ownTrace p steps (ownInitial sheet) in
+    let o = own-ownTrace p steps (ownInitial sheet) (single-none _) (record { rows = start; long = tt; noted = λ q. absurd (omega arith) }) in
     (o .noted l, each-long _ (t .roll) (o .long), rw (o .noted l, length-map (t .roll) sha3) (ballotDigests-concatenated _ (t .roll) (o .long)))
 
 -- ---- such a list is one of those in which each step is lent any register
 
-same-lives : (p : ℕ) (xs : List Step) (t : Tale) (l : Life) → l .session ≡ t .now .session → l .history ≡ t .history
-    → (lives p (calls p xs (t .now)) l .session ≡ tells p xs t .now .session) × (lives p (calls p xs (t .now)) l .history ≡ tells p xs t .history)
-unfolding lives live tells tell calls
-same-lives p [] t l es eh = (es, eh)
-same-lives p (x ∷ xs) t l es eh = same-lives p xs (tell p x t) (live p (record { step = x; register = t .now .register }) l) (rw es) (rw (es, eh))
+same-trace : (p : ℕ) (xs : List Step) (t : OwnTrace) (l : Trace) → l .session ≡ t .now .session → l .history ≡ t .history
+    → (trace p (calls p xs (t .now)) l .session ≡ ownTrace p xs t .now .session) × (trace p (calls p xs (t .now)) l .history ≡ ownTrace p xs t .history)
+unfolding trace extend ownTrace ownExtend calls
+same-trace p [] t l es eh = (es, eh)
+same-trace p (x ∷ xs) t l es eh = same-trace p xs (ownExtend p x t) (extend p (record { step = x; register = t .now .register }) l) (rw es) (rw (es, eh))
 
 pub own-register : (p : ℕ) → OwnRegister p
-unfolding begun born
-own-register p sheet steps = same-lives p steps (begun sheet) (born sheet) refl refl
+unfolding ownInitial initial
+own-register p sheet steps = same-trace p steps (ownInitial sheet) (initial sheet) refl refl

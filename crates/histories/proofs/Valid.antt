@@ -9,7 +9,7 @@ use lib.ListN.{length}
 use borrow.Author.Tests.{leb-true, le-leb, le-ltb, ltb-true, ltb-false, lt-ltb, eqb-true, eqb-false, eq-eqb, ne-eqb, not-true, not-false}
 use Rattle.codec.specs.Bytes.{Bytes, same}
 use Rattle.codec.specs.Reply.{None}
-use Rattle.codec.proofs.Laws.{both, same-equal}
+use Rattle.codec.proofs.Laws.{both}
 use Rattle.sheet.specs.Reader.{formed}
 use Rattle.sheet.specs.Sheet.{order}
 use Rattle.transcript.proofs.Tests.{equal-same}
@@ -24,9 +24,6 @@ numbers-match {a} {b} e = eqb-true a b (not-false _ e)
 
 pub numbers-pass : {a b : ℕ} → a ≡ b → not (eqb a b) ≡ false
 numbers-pass {a} {b} e = ap not (eq-eqb a b e)
-
-pub bytes-match : {s t : Bytes} → not (same s t) ≡ false → s ≡ t
-bytes-match {s} {t} e = same-equal s t (not-false _ e)
 
 pub bytes-pass : {s t : Bytes} → s ≡ t → not (same s t) ≡ false
 bytes-pass e = ap not (equal-same e)

@@ -3,7 +3,7 @@
 use mathlib.Core.Path.{_≡_}
 use mathlib.Core.Logic.{_↔_, _≢_}
 use mathlib.Core.Bool.{Bool, true, false, _&&_}
-use mathlib.Core.List.{List, List·Memᴰ, map}
+use mathlib.Core.List.{List, _∷_, _++_, List·Memᴰ, map}
 use Prim.Native.Nat.{ℕ, _<_}
 use lib.Dec.{eqb, ltb}
 use lib.ListN.{length}
@@ -23,9 +23,9 @@ use Rattle.digests.specs.Digests.{concatenated, ballotDigests}
 use Rattle.drawing.specs.Draw.{drawnSide, drawnChallenges}
 use Rattle.checking.specs.Check.{Inputs}
 use Rattle.session.specs.declared.Session.{Session}
-use Rattle.session.specs.Session.{gathering, closed, claimed, drawn}
-use Rattle.session.specs.Steps.{clearTests, admitTests, withdrawTests, closeTests, claimTests, commitTests, drawTests, checkTests}
-use Rattle.histories.specs.Runs.{Step, clear, admit, withdraw, close, claim, commit, draw, check, State, state, message, Life, Call, born, begun, reply, after, run, Uncleared, tells, lives, calls}
+use Rattle.session.specs.Session.{gathering, closed, claimed, drawn, ended-accepted}
+use Rattle.session.specs.Steps.{storedFor, clearTests, admitTests, withdrawTests, closeTests, claimTests, commitTests, drawTests, checkTests}
+use Rattle.histories.specs.Runs.{Step, clear, admit, withdraw, close, claim, commit, draw, check, State, state, message, Trace, Call, call, initial, ownInitial, reply, after, run, Uncleared, NoClear, ownTrace, extend, trace, calls}
 use Rattle.histories.specs.Conditions.{Valid, Clears, Admits, Withdraws, Closes, Claims, Commits, Draws, Checks}
 
 -- the phase and the round are those of the step
@@ -93,28 +93,54 @@ module _ (p : ℕ) where
       → reply p close last ≡ Taken
       → (i : ℕ) → List·Memᴰ i (standing (last .register) (last .session .used)) → markAt (last .register) i ≢ mark
 
+  -- ---- the second demand: no round is waved by. Lists of steps from a newly cleared session, each lent any register
+
+  -- a check of a round that was taken, since the last clear taken: `before` are the calls before it, `later` those behind it
+  pub record Checked (sheet : Bytes) (cs : List Call) (round : ℕ) : Type 0 where
+    pub before : List Call
+    pub register : Bytes
+    pub inputs : Inputs
+    pub later : List Call
+    pub listed : cs ≡ before ++ (call (check round inputs) register ∷ later)
+    pub uncleared : NoClear p later (extend p (call (check round inputs) register) (trace p before (initial sheet)))
+    -- it was taken, so all that a check of this round asks for was found
+    pub taken : reply p (check round inputs) (state (trace p before (initial sheet) .session) register) ≡ Taken
+    pub checks : Octets (inputs .head) → Checks p (trace p before (initial sheet) .session) round inputs
+    -- what it was held against is what the session holds at the end: numbers, closed count, the digests of sheet, closing, claims and the round's first message, and the seed
+    pub stored : storedFor (trace p before (initial sheet) .session) round ≡ storedFor (trace p cs (initial sheet) .session) round
+
+  -- every round that a session counts as checked was checked
+  abbrev pub RoundsChecked : Type 0
+  RoundsChecked = (sheet : Bytes) (cs : List Call) → first (order p sheet) ≡ Taken → (k : ℕ) → k < trace p cs (initial sheet) .session .checked → Checked sheet cs k
+
+  -- and of a session that ended accepted every round was
+  abbrev pub EndedAccepted : Type 0
+  EndedAccepted = (sheet : Bytes) (cs : List Call) → first (order p sheet) ≡ Taken
+      → let s = trace p cs (initial sheet) .session in
+      s .phase ≡ ended-accepted → (k : ℕ) → k < s .numbers .rounds → Checked sheet cs k
+
   -- ---- the third demand: lists of steps from a newly cleared session, each lent any register
 
   -- a clear that is taken leaves what such a list starts from
   abbrev pub ClearTaken : Type 0
   ClearTaken = (start : State) (sheet : Bytes) → reply p (clear sheet) start ≡ Taken
-      → (first (order p sheet) ≡ Taken) × (after p (clear sheet) start ≡ begun sheet .now)
+      → (first (order p sheet) ≡ Taken) × (after p (clear sheet) start ≡ ownInitial sheet .now)
 
   abbrev pub StaysValid : Type 0
   StaysValid = (sheet : Bytes) (cs : List Call) → first (order p sheet) ≡ Taken
-      → let l = lives p cs (born sheet) in
+      → let l = trace p cs (initial sheet) in
       Valid p (l .session) × (l .session .numbers ≡ sheetOf (l .history .sheet) .numbers)
 
   -- so 31 is only ever met for wrong phase or round
   abbrev pub OnlyPhaseOrRound : Type 0
   OnlyPhaseOrRound = (sheet : Bytes) (cs : List Call) → first (order p sheet) ≡ Taken
       → (x : Step) (register : Bytes) (place : ℕ)
-      → let s = lives p cs (born sheet) .session in
+      → let s = trace p cs (initial sheet) .session in
       reply p x (state s register) ≡ Refused 31 place → due x s ≡ false
 
   -- a round's turn: the check of the round next due after draw, lent the session's sheet and batch, the claims and the first message that were lodged (taken since the last clear), all of it
   -- the producer's, and scratch
-  pub record Turn (l : Life) (material : Material) (round : ℕ) (x : Inputs) : Type 0 where
+  pub record Turn (l : Trace) (material : Material) (round : ℕ) (x : Inputs) : Type 0 where
     pub phase : l .session .phase ≡ drawn
     pub due : round ≡ l .session .checked
     pub sheet : x .sheet ≡ l .history .sheet
@@ -127,13 +153,13 @@ module _ (p : ℕ) where
   -- the last sentence: a round that the producer wrote for the session's sheet and batch, lodged, is accepted at its turn, whatever was drawn
   abbrev pub HonestAccepted : Type 0
   HonestAccepted = (sheet : Bytes) (cs : List Call) → first (order p sheet) ≡ Taken
-      → let l = lives p cs (born sheet) in
+      → let l = trace p cs (initial sheet) in
       (register : Bytes) (material : Material) (round : ℕ) (x : Inputs) → Turn l material round x → reply p (check round x) (state (l .session) register) ≡ Taken
 
   -- without host writing, the ballots admitted and not withdrawn are the batch: its digests are theirs, in order, and each has a ballot's length
   abbrev pub RollIsBatch : Type 0
   RollIsBatch = (sheet : Bytes) (steps : List Step)
-      → let t = tells p steps (begun sheet) in
+      → let t = ownTrace p steps (ownInitial sheet) in
       0 < t .now .session .phase
       → (t .history .batch ≡ map sha3 (t .roll)) × ((b : Bytes) → List·Memᴰ b (t .roll) → length b ≡ ballotLength (t .now .session .numbers .ring))
       × (ballotDigests (ballotLength (t .now .session .numbers .ring)) (length (t .history .batch)) (concatenated (t .roll)) ≡ t .history .batch)
@@ -141,6 +167,6 @@ module _ (p : ℕ) where
   -- and a list in which each step is lent the register that the last one left is one of those above, so that a turn's batch can be that roll
   abbrev pub OwnRegister : Type 0
   OwnRegister = (sheet : Bytes) (steps : List Step)
-      → let t = tells p steps (begun sheet) in
-      let l = lives p (calls p steps (begun sheet .now)) (born sheet) in
+      → let t = ownTrace p steps (ownInitial sheet) in
+      let l = trace p (calls p steps (ownInitial sheet .now)) (initial sheet) in
       (l .session ≡ t .now .session) × (l .history ≡ t .history)

@@ -6,41 +6,19 @@ use mathlib.Core.Bool.{true, false}
 use Prim.Native.Nat.{ℕ, _+_, _*_, _≤_, _<_}
 use lib.ListN.{length, drop}
 use Rattle.codec.specs.Bytes.{Bytes}
-use Rattle.sha3.specs.Sponge.{sha3}
 use Rattle.sheet.specs.Reader.{formed, sheetOf}
 use Rattle.sheet_numbers.specs.Rules.{outside, unsound}
 use Rattle.sheet.specs.Sheet.{unfit}
-use Rattle.call.specs.Call.{scratchLength}
 use Rattle.vector.specs.Vector.{vector}
-use Rattle.transcript.specs.Layout.{ballotLength, headLength, answersLength}
+use Rattle.transcript.specs.Layout.{headLength}
 use Rattle.transcript.specs.Accepted.{EachBelow, Accepted}
 use Rattle.lengths.specs.Sheets.{parametersOf}
 use Rattle.register.specs.Register.{markAt, stateAt, markOf}
-use Rattle.digests.specs.Digests.{ballotDigests, closingDigest, claimDigest, roundDigest}
-use Rattle.drawing.specs.Draw.{drawnChallenges}
 use Rattle.checking.specs.Check.{Inputs, drawnRound}
+use Rattle.checking.specs.Equations.{Sized, Held}
 use Rattle.session.specs.declared.Session.{Session}
-use Rattle.session.specs.Session.{gathering, closed, claimed, drawn, trailAt}
+use Rattle.session.specs.Session.{gathering, closed, claimed, drawn}
 use Rattle.session.specs.Steps.{storedFor}
-
--- the lengths of what a check is lent, by the session's numbers and closed count (1)
-pub record Lengths (s : Session) (round : ℕ) (x : Inputs) : Type 0 where
-  pub head : length (x .head) ≡ headLength (s .numbers .ring) (s .numbers .repeats)
-  pub shares0 : length (x .shares0) ≡ 8 * s .numbers .ring * s .closed
-  pub shares1 : length (x .shares1) ≡ 8 * s .numbers .ring * s .closed
-  pub ballots : length (x .ballots) ≡ ballotLength (s .numbers .ring) * s .closed
-  pub claims : length (x .claims) ≡ s .numbers .ring * s .closed
-  pub opening : length (x .opening) ≡ 22 * s .numbers .ring
-  pub answers : length (x .answers) ≡ answersLength (s .numbers .ring) (drawnChallenges (s .seed) round (s .numbers .repeats))
-  pub scratch : length (x .scratch) ≡ scratchLength
-
--- what a check is lent is what the session holds (16)
-pub record Matches (s : Session) (round : ℕ) (x : Inputs) : Type 0 where
-  pub sheet : sha3 (x .sheet) ≡ s .sheet
-  pub numbers : sheetOf (x .sheet) .numbers ≡ s .numbers
-  pub ballots : closingDigest (s .sheet) (ballotDigests (ballotLength (s .numbers .ring)) (s .closed) (x .ballots)) ≡ s .closing
-  pub claims : claimDigest (s .closing) (x .claims) ≡ s .claim
-  pub message : roundDigest (s .claim) round (x .head) (x .shares0) (x .shares1) ≡ trailAt s round
 
 module _ (p : ℕ) where
   -- a sheet that is taken
@@ -116,13 +94,13 @@ module _ (p : ℕ) where
     pub all : s .committed ≡ s .numbers .rounds  -- 31
     pub size : length seed ≡ 32  -- 1
 
-  -- all that an accepted check has found, in any round; what a round is accepted for, in propositions: transcript, specs/Accepted.antt
+  -- all that an accepted check has found, in any round; what a round is accepted for, in propositions: transcript, specs/Accepted.antt; lengths and digests, in equations: checking, specs/Equations.antt
   pub record Checks (s : Session) (round : ℕ) (x : Inputs) : Type 0 where
     pub sound : Valid s  -- 31
     pub phase : s .phase ≡ drawn  -- 31
     pub due : round ≡ s .checked  -- 31
     pub within : round < s .numbers .rounds  -- 31
     pub sheet : SheetTaken (x .sheet)  -- 1 to 5
-    pub lengths : Lengths s round x  -- 1
-    pub matches : Matches s round x  -- 16
+    pub lengths : Sized (storedFor s round) x  -- 1, by the session's numbers and closed count
+    pub matches : Held (storedFor s round) x  -- 16, what is lent is what the session holds the digests of
     pub accepted : Accepted (parametersOf p (x .sheet)) (s .closed) (drawnRound (storedFor s round) x)  -- 5 to 13

@@ -49,40 +49,41 @@ pub record History : Type 0 where
   pub claims : Bytes
   pub firsts : ℕ → Message  -- the first messages, by round
 
-abbrev pub blank : Bytes → History
-blank text = record { sheet = text; batch = []; claims = []; firsts = λ k. message [] [] [] }
+-- nothing but the sheet
+abbrev pub emptyHistory : Bytes → History
+emptyHistory text = record { sheet = text; batch = []; claims = []; firsts = λ k. message [] [] [] }
 
--- a step that is taken, written down
-unfoldable pub note : Step → State → History → History
-note (clear text) st h = blank text
-note (admit ballot) st h = h
-note (withdraw mark) st h = h
-note close st h = record { sheet = h .sheet; batch = standingDigests (st .register) (st .session .used); claims = h .claims; firsts = h .firsts }
-note (claim claims) st h = record { sheet = h .sheet; batch = h .batch; claims = claims; firsts = h .firsts }
-note (commit k head shares0 shares1) st h = record {
+-- the history after a step that is taken
+unfoldable pub historyAfter : Step → State → History → History
+historyAfter (clear text) st h = emptyHistory text
+historyAfter (admit ballot) st h = h
+historyAfter (withdraw mark) st h = h
+historyAfter close st h = record { sheet = h .sheet; batch = standingDigests (st .register) (st .session .used); claims = h .claims; firsts = h .firsts }
+historyAfter (claim claims) st h = record { sheet = h .sheet; batch = h .batch; claims = claims; firsts = h .firsts }
+historyAfter (commit k head shares0 shares1) st h = record {
   sheet = h .sheet;
   batch = h .batch;
   claims = h .claims;
   firsts = λ j. cond (eqb j k) (message head shares0 shares1) (h .firsts j);
 }
-note (draw seed) st h = h
-note (check k x) st h = h
+historyAfter (draw seed) st h = h
+historyAfter (check k x) st h = h
 
 -- the ballots that do not have the mark
 unfoldable pub without : ℕ → List Bytes → List Bytes
 without mark [] = []
 without mark (b ∷ bs) = cond (eqb (markOf b) mark) (without mark bs) (b ∷ without mark bs)
 
--- a step that is taken, entered on the roll of the ballots admitted and not withdrawn
-unfoldable pub enrol : Step → List Bytes → List Bytes
-enrol (clear text) bs = []
-enrol (admit ballot) bs = bs ++ (ballot ∷ [])
-enrol (withdraw mark) bs = without mark bs
-enrol close bs = bs
-enrol (claim claims) bs = bs
-enrol (commit k head shares0 shares1) bs = bs
-enrol (draw seed) bs = bs
-enrol (check k x) bs = bs
+-- the roll, which is the ballots admitted and not withdrawn, after a step that is taken
+unfoldable pub rollAfter : Step → List Bytes → List Bytes
+rollAfter (clear text) bs = []
+rollAfter (admit ballot) bs = bs ++ (ballot ∷ [])
+rollAfter (withdraw mark) bs = without mark bs
+rollAfter close bs = bs
+rollAfter (claim claims) bs = bs
+rollAfter (commit k head shares0 shares1) bs = bs
+rollAfter (draw seed) bs = bs
+rollAfter (check k x) bs = bs
 
 -- a clear that is taken
 abbrev pub clears : Step → Reply → Bool
@@ -97,7 +98,7 @@ clears (draw seed) r = false
 clears (check k x) r = false
 
 -- a session, and what was taken
-pub record Life : Type 0 where
+pub record Trace : Type 0 where
   pub session : Session
   pub history : History
 
@@ -106,22 +107,25 @@ pub record Call : Type 0 where
   pub step : Step
   pub register : Bytes
 
-abbrev pub lent : Life → Call → State
+abbrev pub call : Step → Bytes → Call
+call x reg = record { step = x; register = reg }
+
+abbrev pub lent : Trace → Call → State
 lent l c = state (l .session) (c .register)
 
 -- a session with its register, what was taken, and the roll
-pub record Tale : Type 0 where
+pub record OwnTrace : Type 0 where
   pub now : State
   pub history : History
   pub roll : List Bytes
 
 -- newly cleared, on a sheet
-unfoldable pub born : Bytes → Life
-born text = record { session = cleared text; history = blank text }
+unfoldable pub initial : Bytes → Trace
+initial text = record { session = cleared text; history = emptyHistory text }
 
 -- with the register that clear leaves
-unfoldable pub begun : Bytes → Tale
-begun text = record { now = state (cleared text) (zeros registerLength); history = blank text; roll = [] }
+unfoldable pub ownInitial : Bytes → OwnTrace
+ownInitial text = record { now = state (cleared text) (zeros registerLength); history = emptyHistory text; roll = [] }
 
 module _ (p : ℕ) where
   -- ---- one step
@@ -167,28 +171,33 @@ module _ (p : ℕ) where
     more : {x : Step} {xs : List Step} {st : State} → clears x (reply x st) ≡ false → Uncleared xs (after x st) → Uncleared (x ∷ xs) st
 
   -- the same with the history and the roll
-  unfoldable pub tell : Step → Tale → Tale
-  tell x t = record {
+  unfoldable pub ownExtend : Step → OwnTrace → OwnTrace
+  ownExtend x t = record {
     now = after x (t .now);
-    history = leaves (reply x (t .now)) (note x (t .now) (t .history)) (t .history);
-    roll = leaves (reply x (t .now)) (enrol x (t .roll)) (t .roll);
+    history = leaves (reply x (t .now)) (historyAfter x (t .now) (t .history)) (t .history);
+    roll = leaves (reply x (t .now)) (rollAfter x (t .roll)) (t .roll);
   }
 
-  unfoldable pub tells : List Step → Tale → Tale
-  tells [] t = t
-  tells (x ∷ xs) t = tells xs (tell x t)
+  unfoldable pub ownTrace : List Step → OwnTrace → OwnTrace
+  ownTrace [] t = t
+  ownTrace (x ∷ xs) t = ownTrace xs (ownExtend x t)
 
   -- ---- each step is given the session that the last one left, and any register
 
-  unfoldable pub live : Call → Life → Life
-  live c l = record {
+  unfoldable pub extend : Call → Trace → Trace
+  extend c l = record {
     session = after (c .step) (lent l c) .session;
-    history = leaves (reply (c .step) (lent l c)) (note (c .step) (lent l c) (l .history)) (l .history);
+    history = leaves (reply (c .step) (lent l c)) (historyAfter (c .step) (lent l c) (l .history)) (l .history);
   }
 
-  unfoldable pub lives : List Call → Life → Life
-  lives [] l = l
-  lives (c ∷ cs) l = lives cs (live c l)
+  unfoldable pub trace : List Call → Trace → Trace
+  trace [] l = l
+  trace (c ∷ cs) l = trace cs (extend c l)
+
+  -- no clear is taken
+  unfoldable pub NoClear : List Call → Trace → Type 0
+  NoClear [] l = Unit
+  NoClear (c ∷ cs) l = (clears (c .step) (reply (c .step) (lent l c)) ≡ false) × NoClear cs (extend c l)
 
   -- steps as calls that are lent the register that the last step left
   unfoldable pub calls : List Step → State → List Call

@@ -1,5 +1,6 @@
 -- What is known of the lent slices where a call's lengths are right, and its order after them. Assumes nothing.
-use mathlib.Core.Path.{_≡_, refl, sym, ap, _∙_}
+use mathlib.Core.Path.{_≡_, refl, sym, ap, ap₂, _∙_}
+use mathlib.Core.Logic.{_↔_}
 use mathlib.Core.Bool.{Bool, true, false, _&&_}
 use mathlib.Core.List.{List, [], _∷_}
 use Prim.Native.Nat.{ℕ, _*_, _≤_, _<_}
@@ -19,6 +20,7 @@ use Rattle.stern.specs.Shortness.{answerLength}
 use Rattle.transcript.specs.Layout.{ballotLength, headLength, answersLength}
 use Rattle.transcript.specs.Round.{Parameters, Round, Lengths}
 use Rattle.transcript.specs.Producer.{Material, Sized}
+use Rattle.transcript.proofs.Tests.{equal-same}
 use Rattle.lengths.specs.Calls.{lengthsTest, materialSized, firstSized, secondSized, messageSized, openingsSized}
 
 -- ---- the order: two groups of lengths and then the rest, by the number of ballots
@@ -85,6 +87,13 @@ module _ (P : Parameters) (m : ℕ) (x : Material) (e : materialSized (P .N) (P 
     salts = length-at repeated repeated-wanted 2 (halves .1);
   }
 
+pub material-exactly : (P : Parameters) (m : ℕ) (x : Material) → (materialSized (P .N) (P .repeats) m x ≡ true) ↔ Sized P m x
+unfolding materialSized
+material-exactly P m x = (
+  material-sizes P m x,
+  λ s. ap₂ _&&_ (equal-same (cc (s .secrets, s .s0, s .e0, s .masks0, s .masks1, s .ballots))) (equal-same (cc (s .vectors, s .permutations, s .salts))),
+)
+
 -- what the first call writes
 pub first-sizes : (N repeats m : ℕ) (head shares0 shares1 claims scratch : Bytes) → firstSized N repeats m head shares0 shares1 claims scratch ≡ true
     → (length head ≡ headLength N repeats) × (length shares0 ≡ 8 * N * m) × (length shares1 ≡ 8 * N * m) × (length claims ≡ N * m) × (length scratch ≡ scratchLength)
@@ -94,6 +103,11 @@ first-sizes N repeats m head shares0 shares1 claims scratch e =
     let ys : List ℕ = headLength N repeats ∷ 8 * N * m ∷ 8 * N * m ∷ N * m ∷ scratchLength ∷ [] in
     (length-at xs ys 0 e, length-at xs ys 1 e, length-at xs ys 2 e, length-at xs ys 3 e, length-at xs ys 4 e)
 
+pub first-sized : (N repeats m : ℕ) (head shares0 shares1 claims scratch : Bytes) → length head ≡ headLength N repeats → length shares0 ≡ 8 * N * m → length shares1 ≡ 8 * N * m
+    → length claims ≡ N * m → length scratch ≡ scratchLength → firstSized N repeats m head shares0 shares1 claims scratch ≡ true
+unfolding firstSized
+first-sized N repeats m head shares0 shares1 claims scratch a b c d e = equal-same (cc (a, b, c, d, e))
+
 -- what the second call is given and writes
 pub second-sizes : (N repeats : ℕ) (challenges opening answers scratch : Bytes) → secondSized N repeats challenges opening answers scratch ≡ true
     → (length challenges ≡ repeats) × (length opening ≡ 22 * N) × (length answers ≡ answersLength N challenges) × (length scratch ≡ scratchLength)
@@ -102,6 +116,11 @@ second-sizes N repeats challenges opening answers scratch e =
     let xs : List ℕ = length challenges ∷ length opening ∷ length answers ∷ length scratch ∷ [] in
     let ys : List ℕ = repeats ∷ 22 * N ∷ answersLength N challenges ∷ scratchLength ∷ [] in
     (length-at xs ys 0 e, length-at xs ys 1 e, length-at xs ys 2 e, length-at xs ys 3 e)
+
+pub second-sized : (N repeats : ℕ) (challenges opening answers scratch : Bytes) → length challenges ≡ repeats → length opening ≡ 22 * N
+    → length answers ≡ answersLength N challenges → length scratch ≡ scratchLength → secondSized N repeats challenges opening answers scratch ≡ true
+unfolding secondSized
+second-sized N repeats challenges opening answers scratch a b c d = equal-same (cc (a, b, c, d))
 
 -- the first message, the ballots and the claims
 pub message-sizes : (N repeats m : ℕ) (head shares0 shares1 ballots claims : Bytes) → messageSized N repeats m head shares0 shares1 ballots claims ≡ true

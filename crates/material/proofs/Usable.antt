@@ -16,12 +16,14 @@ use Rattle.call.specs.Call.{Polynomial}
 use Rattle.call.proofs.Ranges.{ranged}
 use Rattle.vector.specs.Vector.{vector}
 use Rattle.vector.specs.Permutation.{entries, permutes}
+use Rattle.vector.proofs.Counts.{permutes-complete}
 use Rattle.transcript.specs.Layout.{uAt}
 use Rattle.transcript.specs.Round.{Parameters, ballotsRanged}
 use Rattle.transcript.specs.Method.{parameters}
 use Rattle.transcript.specs.Producer.{Material, materialRanged, producerTests}
+use Rattle.transcript.specs.Suitable.{Suitable}
 use Rattle.transcript.proofs.Many.{all-sound}
-use Rattle.transcript.proofs.Passed.{Fit, material-fit}
+use Rattle.transcript.proofs.Passed.{producer-exactly}
 use Rattle.material.specs.Lent.{Lengths}
 use Rattle.material.specs.Parts.{materialBelow}
 use Rattle.material.proofs.Sequence.{all-below}
@@ -48,8 +50,8 @@ module _ (p n q B repeats : ℕ) (a b k : Bytes) (count : ℕ) (x : Material) (a
 
   module _ (public : Polynomial n q a) where
     -- it matches b, and masks and noise are within their bounds
-    pub fit : Fit P count x
-    fit = let l = public .modulus-low in let h = public .modulus-high in material-fit P count x (omega arith) (omega arith) (none-refused .1)
+    pub fit : Suitable P count x
+    fit = let l = public .modulus-low in let h = public .modulus-high in producer-exactly P count x (omega arith) (omega arith) .0 (none-refused .1)
 
     pub usable : Lengths n count repeats x → Usable n q count repeats x
     usable sized =
@@ -61,5 +63,5 @@ module _ (p n q B repeats : ℕ) (a b k : Bytes) (count : ℕ) (x : Material) (a
           e0 = ranged n q (public .ring-low) (public .ring-high) (public .modulus-low) (public .modulus-high) (x .e0) (sized .e0) (r .2);
           vectors = r .3;
           ballots = λ j l. below-sound q (2 * n) (uAt n (x .ballots) j) (all-sound count (λ i. allBelow q (list (2 * n) (uAt n (x .ballots) i))) (r .4) j l);
-          permuting = f .permuting;
+          permuting = λ i l. permutes-complete (f .permuting i l);
         }

@@ -8,7 +8,8 @@ use Rattle.ring.proofs.Polynomials.{plus-comm, alike-eq, alike-refl, alike-sym,
 use Rattle.bgv.specs.Scheme.{Small}
 use Rattle.commitment.specs.Commitment.{Keys, Three, Alike3, Pair, threeOf, plus3, minus3, row, second, Opens}
 use Rattle.commitment.proofs.Additive.{row-minus, second-alike, opens-add}
-use Rattle.transcript.proofs.ExtractionSizes.{zero3, small-ternary, small-four}
+use Rattle.transcript.specs.Extractor.{zero3}
+use Rattle.transcript.proofs.ExtractionSizes.{small-ternary, small-four}
 
 -- every centred coefficient of the three is at most K in size
 pub record Small3 (q N K : ℕ) (r : Three) : Type 0 where

@@ -1,10 +1,12 @@
 -- What stands in the extractor's output is itself what was found: polynomials read from it are a short vector, or a key. Assumes nothing.
-use mathlib.Core.Path.{_≡_, sym, ap, _∙_}
+use mathlib.Core.Path.{_≡_, refl, sym, ap, _∙_}
+use mathlib.Core.Bool.{Bool, true, false, not, cond}
 use mathlib.Core.Logic.{_⊎_, inl, inr}
 use Prim.Native.Nat.{ℕ, _*_, _^_, _≤_, _<_}
 use native.Mathlib.Omega.{arith}
 use Rattle.codec.specs.Bytes.{Bytes, part}
 use Rattle.codec.specs.Reply.{None}
+use Rattle.codec.proofs.Laws.{same-equal}
 use Rattle.modular.specs.Modulo.{remainder}
 use Rattle.ring.specs.Poly.{Poly, modulo, Alike}
 use Rattle.ring.specs.Slots.{slot, encode}
@@ -19,14 +21,11 @@ use Rattle.stern.proofs.Honest.{slot-alike}
 use Rattle.stern.proofs.Layouts.{three-read}
 use Rattle.transcript.specs.Layout.{uAt, vAt}
 use Rattle.transcript.specs.Round.{Parameters}
-use Rattle.transcript.specs.Extractor.{Openings, Lent, threeBytes, extractTests, vector-s, vector-e, kind, extracted, Nonzero, ShortVector, Key, short-s, short-e}
-use Rattle.transcript.proofs.ExtractionSizes.{same-centre, small-alike}
+use Rattle.transcript.specs.Extractor.{Openings, Lent, threeBytes, extractTests, vector-s, vector-e, kind, extracted, Nonzero, ShortVector, Key, Found, vectorOf, Output, Lowest}
+use Rattle.transcript.proofs.Ranged.{each-exactly}
+use Rattle.transcript.proofs.ExtractionSizes.{zeros-alike, same-centre, small-alike}
 use Rattle.transcript.proofs.Extraction.{extraction}
-use Rattle.transcript.proofs.ExtractionWritten.{vector-s-written, vector-e-written, found-vector-s, found-vector-e, found-secret, key-written}
-
--- three polynomials in 24N bytes
-abbrev pub vectorOf : ℕ → Bytes → Three
-vectorOf N w = record { r1 = slot w 0; r2 = slot w (8 * N); r3 = slot w (16 * N) }
+use Rattle.transcript.proofs.ExtractionWritten.{length-extracted, collision-written, vector-s-written, vector-e-written, found-vector-s, found-vector-e, found-secret, key-written}
 
 pub vectorOf-threeBytes : {q : ℕ} (N : ℕ) (r : Three) (w : Bytes) → 0 < q → q ≤ 2 ^ 64 → w ≡ threeBytes q N r → Alike3 q N r (vectorOf N w)
 vectorOf-threeBytes {q} N r w positive fits e =
@@ -79,17 +78,45 @@ module _ (P : Parameters) (m : ℕ) (x : Openings) where
   -- ---- what is written
 
   module _ (three : 2 < q) (fits : q ≤ 2 ^ 64) (lent : Lent P m x) (none : None (extractTests P m x)) (ok : Sound q p D B) where
-    pub output-vector-s : kind P m x ≡ 4 → ShortVector P m x (vectorOf N (extracted P m x))
-    output-vector-s e =
-        vector-alike (vectorOf-threeBytes N (vector-s P m x) (extracted P m x) (omega arith) fits (vector-s-written P m x e))
-        (found-vector-s P m x (extraction P m x three fits lent none ok) e)
+    -- polynomials read from the output are alike to the vector that was found
+    read : (z : Three) → extracted P m x ≡ threeBytes q N z → Alike3 q N z (vectorOf N (extracted P m x))
+    read z e = vectorOf-threeBytes N z (extracted P m x) (omega arith) fits e
 
-    pub output-vector-e : kind P m x ≡ 5 → ShortVector P m x (vectorOf N (extracted P m x))
-    output-vector-e e =
-        vector-alike (vectorOf-threeBytes N (vector-e P m x) (extracted P m x) (omega arith) fits (vector-e-written P m x e))
-        (found-vector-e P m x (extraction P m x three fits lent none ok) e)
+    abbrev found : Found P m x (kind P m x)
+    found = extraction P m x three fits lent none ok
 
-    pub output-key : kind P m x ≡ 6 → Key P m x (ternary q (part (extracted P m x) 0 N)) (ternary q (part (extracted P m x) N N))
-    output-key e =
-        let w = key-written P m x three fits lent none ok e in
-        secret-alike (alike-sym (w .means-s)) (alike-sym (w .means-e)) (found-secret P m x (extraction P m x three fits lent none ok) e)
+    pub output : Output P m x (kind P m x) (extracted P m x)
+    output = record {
+      sized = length-extracted P m x;
+      nothing = collision-written P m x;
+      short-s = λ e. let l = read (vector-s P m x) (vector-s-written P m x e) in (vector-alike l (found-vector-s P m x found e), l);
+      short-e = λ e. let l = read (vector-e P m x) (vector-e-written P m x e) in (vector-alike l (found-vector-e P m x found e), l);
+      ternary-s = λ e. each-exactly 3 (part (extracted P m x) 0 N) .0 (key-written P m x three fits lent none ok e .ternary-s);
+      ternary-e = λ e. each-exactly 3 (part (extracted P m x) N N) .0 (key-written P m x three fits lent none ok e .ternary-e);
+      secret = λ e. let w = key-written P m x three fits lent none ok e in secret-alike (alike-sym (w .means-s)) (alike-sym (w .means-e)) (found-secret P m x found e);
+      rest = λ e. key-written P m x three fits lent none ok e .rest;
+    }
+
+  -- ---- the kind is the lowest
+
+  by-tests : (b1 b2 b3 b4 b5 : Bool)
+      → let n : ℕ = cond (not b1) 1 (cond (not b2) 2 (cond (not b3) 3 (cond (not b4) 4 (cond (not b5) 5 6)))) in
+      (1 < n → b1 ≡ true) × (2 < n → b2 ≡ true) × (3 < n → b3 ≡ true) × (4 < n → b4 ≡ true) × (5 < n → b5 ≡ true)
+  by-tests false b2 b3 b4 b5 = (λ l. absurd (omega arith), λ l. absurd (omega arith), λ l. absurd (omega arith), λ l. absurd (omega arith), λ l. absurd (omega arith))
+  by-tests true false b3 b4 b5 = (λ l. refl, λ l. absurd (omega arith), λ l. absurd (omega arith), λ l. absurd (omega arith), λ l. absurd (omega arith))
+  by-tests true true false b4 b5 = (λ l. refl, λ l. refl, λ l. absurd (omega arith), λ l. absurd (omega arith), λ l. absurd (omega arith))
+  by-tests true true true false b5 = (λ l. refl, λ l. refl, λ l. refl, λ l. absurd (omega arith), λ l. absurd (omega arith))
+  by-tests true true true true false = (λ l. refl, λ l. refl, λ l. refl, λ l. refl, λ l. absurd (omega arith))
+  by-tests true true true true true = (λ l. refl, λ l. refl, λ l. refl, λ l. refl, λ l. refl)
+
+  pub lowest : 0 < q → q ≤ 2 ^ 64 → Lowest P m x (kind P m x)
+  unfolding kind
+  lowest positive fits =
+      let t = by-tests _ _ _ _ _ in
+      record {
+        first = λ l. same-equal _ _ (t .0 l);
+        second = λ l. same-equal _ _ (t .1 l);
+        third = λ l. same-equal _ _ (t .2 l);
+        zero-s = λ l. zeros-alike q N positive fits (vector-s P m x) (same-equal _ _ (t .3 l));
+        zero-e = λ l. zeros-alike q N positive fits (vector-e P m x) (same-equal _ _ (t .4 l));
+      }

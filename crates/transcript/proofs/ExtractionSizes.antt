@@ -22,7 +22,7 @@ use Rattle.bgv.specs.Scheme.{Small}
 use Rattle.commitment.specs.Commitment.{Three, Alike3}
 use Rattle.commitment.proofs.Opening.{encode-decides}
 use Rattle.stern.proofs.Sound.{parts}
-use Rattle.transcript.specs.Extractor.{threeBytes}
+use Rattle.transcript.specs.Extractor.{threeBytes, zero3}
 
 -- ---- zero
 
@@ -35,9 +35,6 @@ zero-bytes q (suc n) =
     ap (λ (k : ℕ). encode k (modulo q zero-poly)) (sym (add-one n)) ∙ encode-more n (modulo q zero-poly)
     ∙ ap₂ (λ (s t : Bytes). s ++ t) (zero-bytes q n) (ap (bytes 8) (zero-mod q) ∙ none)
     ∙ replicate-append-replicate (8 * n) 8 0 ∙ ap zeros e
-
-abbrev pub zero3 : Three
-zero3 = record { r1 = zero-poly; r2 = zero-poly; r3 = zero-poly }
 
 module _ (q N : ℕ) where
   zero3-bytes : threeBytes q N zero3 ≡ zeros (24 * N)

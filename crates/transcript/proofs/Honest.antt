@@ -23,17 +23,20 @@ use Rattle.bgv.proofs.Round.{worked-share, reconstructs}
 use Rattle.commitment.specs.Commitment.{Pair, threeOf, committed, pairBytes, opens}
 use Rattle.commitment.proofs.Additive.{second-alike}
 use Rattle.vector.specs.Vector.{vector}
+use Rattle.vector.proofs.Counts.{permutes-complete}
 use Rattle.stern.specs.Shortness.{inRange, honestAnswer, answerTests}
 use Rattle.stern.specs.Claims.{Split}
 use Rattle.stern.proofs.Honest.{honest-range, honest-none}
 use Rattle.transcript.specs.Layout.{Opening, each, uAt, vAt, shareAt, claimAt, pairsOf, pairAt, digestsAt, openingOf, answerAt}
 use Rattle.transcript.specs.Round.{Parameters, Round, challengeAt, sharesOf, openingRanged, headRanged, answersRanged, ranged, splits, opensKey, opensPairs, maskTest, claimTest, roundTests}
 use Rattle.transcript.specs.Producer.{Material, Sized, secret-s, secret-e, half-s, half-e, hides-s, hides-e, maskAt, permutationAt, drawnAt, pairBytesOf, producerTests, producedPairs, producedHead, producedShares, producedClaims, producedOpening, producedAnswers, producedRound}
+use Rattle.transcript.specs.Suitable.{Suitable}
 use Rattle.transcript.proofs.Many.{all-complete, none-append, each-none, stretch}
 use Rattle.transcript.proofs.Written.{Coefficients, below-append, below-joined, below-part, ranged-first, coefficients-written, coefficients-append, coefficients-joined, coefficients-vector, coefficients-part}
 use Rattle.transcript.proofs.Produced.{pairs-written, pair-s-written, pair-e-written, digests-written, key-written, key-alike, share-alike, claim-written, opening-written, opening-s, opening-e, permutation-sized, vector-sized, salts-sized, answer-written}
+use Rattle.transcript.proofs.Ranged.{each-exactly, ballots-exactly}
 use Rattle.transcript.proofs.Tests.{equal-same, within-complete, splits-exactly}
-use Rattle.transcript.proofs.Passed.{Fit, material-fit}
+use Rattle.transcript.proofs.Passed.{producer-exactly}
 
 module _ (P : Parameters) (m : ℕ) (x : Material) where
   open Parameters P using (q, N, p, B, D, repeats, a, k)
@@ -97,11 +100,14 @@ module _ (P : Parameters) (m : ℕ) (x : Material) where
         coefficients-vector (coefficients-joined N m (λ j. written (share q N p (half-s P m x side) (u j) (lentMask (maskAt P m x side j)))) (λ j l. written-below _))
 
     module _ (sized : Sized P m x) (none : None (producerTests P m x true)) where
-      fit : Fit P m x
-      fit = material-fit P m x positive fits none
+      fit : Suitable P m x
+      fit = producer-exactly P m x positive fits .0 none
+
+      secrets-below : allBelow 3 (x .secrets) ≡ true
+      secrets-below = each-exactly 3 (x .secrets) .1 (fit .ternary)
 
       hides-below : (at : ℕ) → at + 3 * N ≤ 14 * N → allBelow 3 (part (x .secrets) at (3 * N)) ≡ true
-      hides-below at h = below-part 3 (x .secrets) at (3 * N) (let e = sized .secrets in omega arith) (fit .secrets)
+      hides-below at h = below-part 3 (x .secrets) at (3 * N) (let e = sized .secrets in omega arith) secrets-below
 
       opening-ranged : (side : ℕ) → side < 2 → openingRanged P m (producedOpening P m x side) ≡ true
       opening-ranged side h = unfold openingRanged in ap₂ _&&_ front back
@@ -133,7 +139,7 @@ module _ (P : Parameters) (m : ℕ) (x : Material) where
       split : Split q N k (x .secrets) (pairsOf N head) (half-s P m x 0) (half-s P m x 1) (half-e P m x 0) (half-e P m x 1)
       split = record {
         sized = sized .secrets;
-        below = fit .secrets;
+        below = secrets-below;
         adds-s = halves (secret-s P m x) (poly (x .s0)) positive;
         adds-e = halves (secret-e P m x) (poly (x .e0)) positive;
         pairs = pairs-written P m x ∙ (unfold producedPairs in
@@ -152,21 +158,21 @@ module _ (P : Parameters) (m : ℕ) (x : Material) where
           let n : 336 * N ≡ 8 * (42 * N) = omega arith in
           let size = sized .vectors in
           ap₂ (λ (j l : ℕ). allBelow q (vector (part (x .vectors) j l))) at n
-          ∙ coefficients-vector (coefficients-part (x .vectors) (42 * N * i) (42 * N) (fit .vectors) (omega (arith, stretch (336 * N) i repeats h)))
+          ∙ coefficients-vector (coefficients-part (x .vectors) (42 * N * i) (42 * N) (each-exactly q (vector (x .vectors)) .1 (fit .vectors)) (omega (arith, stretch (336 * N) i repeats h)))
 
       -- an answer is in range, and meets none of 9, 10, 11
       answer-ranged : (i challenge : ℕ) → i < repeats → inRange q N challenge (honestAnswer q N (x .secrets) (drawnAt P m x i) challenge) ≡ true
       answer-ranged i challenge h =
           honest-range q N k (x .secrets) (pairsOf N head) (half-s P m x 0) (half-s P m x 1) (half-e P m x 0) (half-e P m x 1) split three fits
           (permutationAt P m x i) (part (x .vectors) (336 * N * i) (336 * N)) (part (x .salts) (96 * i) 96)
-          (permutation-sized P m x sized i h) (vector-sized P m x sized i h) (salts-sized P m x sized i h) (fit .permuting i h) (vector-below i h) challenge
+          (permutation-sized P m x sized i h) (vector-sized P m x sized i h) (salts-sized P m x sized i h) (permutes-complete (fit .permuting i h)) (vector-below i h) challenge
 
       answer-none : (i challenge : ℕ) → i < repeats
           → None (answerTests q N k (pairsOf N head) (digestsAt N head i) i challenge (honestAnswer q N (x .secrets) (drawnAt P m x i) challenge))
       answer-none i challenge h =
           honest-none q N k (x .secrets) (pairsOf N head) (half-s P m x 0) (half-s P m x 1) (half-e P m x 0) (half-e P m x 1) split three fits
           (permutationAt P m x i) (part (x .vectors) (336 * N * i) (336 * N)) (part (x .salts) (96 * i) 96)
-          (permutation-sized P m x sized i h) (vector-sized P m x sized i h) (salts-sized P m x sized i h) (fit .permuting i h) (vector-below i h)
+          (permutation-sized P m x sized i h) (vector-sized P m x sized i h) (salts-sized P m x sized i h) (permutes-complete (fit .permuting i h)) (vector-below i h)
           (digestsAt N head i) (digests-written P m x i h) i challenge
 
       -- ---- 6: the halves of the key add up to b
@@ -244,7 +250,7 @@ module _ (P : Parameters) (m : ℕ) (x : Material) where
           round-ranged =
               ap₂ _&&_ (lt-ltb side 2 low)
               (ap₂ _&&_ answers-ranged
-              (ap₂ _&&_ (fit .ballots)
+              (ap₂ _&&_ (ballots-exactly P m (x .ballots) .1 (fit .ballots))
               (ap₂ _&&_ claims-below
               (ap₂ _&&_ head-ranged (ap₂ _&&_ (shares-below 0) (ap₂ _&&_ (shares-below 1) (opening-ranged side low)))))))
 

@@ -6,18 +6,20 @@ use mathlib.Core.List.{List, [], _∷_, _++_}
 use Prim.Native.Nat.{ℕ, _*_, _<_, _%_}
 use lib.Dec.{ltb, eqb}
 use lib.ListN.{length}
-use Rattle.codec.specs.Bytes.{Bytes, Octets, same, zeros}
+use Rattle.codec.specs.Bytes.{Bytes, Octets, part, same, zeros}
 use Rattle.codec.specs.Reply.{Test, test}
 use Rattle.sha3.specs.Sponge.{sha3}
 use Rattle.ring.specs.Poly.{Poly, modulo, zero-poly, Alike}
-use Rattle.ring.specs.Slots.{list, encode, allBelow}
+use Rattle.ring.specs.Slots.{slot, list, encode, allBelow}
+use Rattle.ring.specs.Ternary.{ternary}
 use Rattle.bgv.specs.Scheme.{Small, key, decrypted, opened}
-use Rattle.commitment.specs.Commitment.{Three, threeOf, plus3, minus3, row}
+use Rattle.commitment.specs.Commitment.{Three, Alike3, threeOf, plus3, minus3, row}
 use Rattle.vector.specs.Vector.{vector}
 use Rattle.stern.specs.Argument.{Setting, Answer1, Answer2, Answer3, solution, one-by2, one-by3, two-by1, two-by3, three-by1, three-by2}
 use Rattle.stern.specs.Shortness.{polynomial, threeFrom, setting, answerLength, answer1Of, answer2Of, answer3Of, tests1, tests2, tests3, inRange}
 use Rattle.transcript.specs.Layout.{Opening, each, ballotLength, headLength, uAt, vAt, claimAt, pairsOf, digestsAt, openingOf}
 use Rattle.transcript.specs.Round.{Parameters, ballotsRanged, openingRanged, headRanged, splits, opensKey, opensPairs, maskTest, claimTest}
+use Rattle.transcript.specs.Accepted.{EachBelow}
 
 -- what the extractor is lent: the first message, ballots, claims, both openings, a repetition and its three answers
 pub record Openings : Type 0 where
@@ -52,6 +54,13 @@ pub record Lent (P : Parameters) (m : ℕ) (x : Openings) : Type 0 where
 -- three polynomials modulo q in 24N bytes
 abbrev pub threeBytes : (q N : ℕ) → Three → Bytes
 threeBytes q N r = encode N (modulo q (r .r1)) ++ (encode N (modulo q (r .r2)) ++ encode N (modulo q (r .r3)))
+
+-- and read from them
+abbrev pub vectorOf : ℕ → Bytes → Three
+vectorOf N w = record { r1 = slot w 0; r2 = slot w (8 * N); r3 = slot w (16 * N) }
+
+abbrev pub zero3 : Three
+zero3 = record { r1 = zero-poly; r2 = zero-poly; r3 = zero-poly }
 
 -- whether they are zero modulo q
 abbrev pub isZero : (q N : ℕ) → Three → Bool
@@ -187,3 +196,25 @@ module _ (P : Parameters) (m : ℕ) (x : Openings) where
     short-s : ShortVector vector-s → Found 4
     short-e : ShortVector vector-e → Found 5
     secret : Key (polynomial N unknowns 0) (polynomial N unknowns 1) → Found 6
+
+  -- what the 24N output bytes w are, by the kind
+  pub record Output (n : ℕ) (w : Bytes) : Type 0 where
+    pub sized : length w ≡ 24 * N
+    -- 1, 2, 3: all zeros
+    pub nothing : n < 4 → w ≡ zeros (24 * N)
+    -- 4, 5: a nonzero short vector on which the commitment row is zero, and it is the one for s, or for e
+    pub short-s : n ≡ 4 → ShortVector (vectorOf N w) × Alike3 q N vector-s (vectorOf N w)
+    pub short-e : n ≡ 5 → ShortVector (vectorOf N w) × Alike3 q N vector-e (vectorOf N w)
+    -- 6: s and e as ternary bytes, then zeros
+    pub ternary-s : n ≡ 6 → EachBelow 3 (part w 0 N)
+    pub ternary-e : n ≡ 6 → EachBelow 3 (part w N N)
+    pub secret : n ≡ 6 → Key (ternary q (part w 0 N)) (ternary q (part w N N))
+    pub rest : n ≡ 6 → part w (2 * N) (22 * N) ≡ zeros (22 * N)
+
+  -- nothing that comes before the kind was there: the two strings of every lower digest are equal, and a vector before it is zero
+  pub record Lowest (n : ℕ) : Type 0 where
+    pub first : 1 < n → one-by2 s two ≡ one-by3 s three
+    pub second : 2 < n → two-by1 s one ≡ two-by3 s three
+    pub third : 3 < n → three-by1 s one ≡ three-by2 s two
+    pub zero-s : 4 < n → Alike3 q N vector-s zero3
+    pub zero-e : 5 < n → Alike3 q N vector-e zero3
