@@ -1,9 +1,10 @@
-//! Compares the library, over its C interface, with independent implementations. The last line is `N passed, M failed`.
+//! Compares the library, over its C interface, with independent implementations, and the documents with the tree. The last line is `N passed, M failed`.
 //!
 //! Without arguments all parts run; with names of parts, these alone.
 mod argument;
 mod calls;
 mod digest;
+mod documents;
 mod empty;
 mod polynomials;
 mod random;
@@ -23,7 +24,8 @@ use tally::Tally;
 
 type Part = (&'static str, fn(&mut Tally));
 
-const PARTS: [Part; 9] = [
+const PARTS: [Part; 10] = [
+    ("documents", documents::run),
     ("sha3", sha3::run),
     ("digest", digest::run),
     ("ring", ring::run),
