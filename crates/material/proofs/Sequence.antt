@@ -18,29 +18,14 @@ use Rattle.transcript.specs.Layout.{each}
 use Rattle.transcript.specs.Round.{ballotsRanged}
 use Rattle.transcript.specs.Method.{parameters}
 use Rattle.transcript.specs.Producer.{Material, materialRanged, producerTests}
-use Rattle.transcript.proofs.Many.{each-refused}
+use Rattle.transcript.proofs.Many.{refused-there, continued}
 use Rattle.material.specs.Parts.{ballotsBelow, materialBelow, secretTests, maskTests, permutationTests, noiseTests}
-
--- ---- two lists, one after the other
-
-module _ (rs ts : List Test) {r : Reply} (e : r ≡ first rs) where
-  -- the two lists are the tests of each of two
-  two : ℕ → List Test
-  two zero = rs
-  two (suc i) = ts
-
-  pub then-refused : (number place : ℕ) → r ≡ Refused number place → Refused number place ≡ first (rs ++ ts)
-  unfolding each two
-  then-refused number place t = sym (each-refused 2 two 0 number place (omega arith) tt (sym e ∙ t))
-
-  pub then-goes-on : {z : Reply} → r ≡ Taken → z ≡ first ts → z ≡ first (rs ++ ts)
-  then-goes-on t d = d ∙ sym (first-append rs ts (taken-exactly rs .0 (sym e ∙ t)))
 
 -- the reply of both, where both are worked out
 pub both-decided : (rs ts : List Test) (r t : Reply) → r ≡ first rs → t ≡ first ts → leaves r t r ≡ first (rs ++ ts)
 unfolding leaves
-both-decided rs ts Taken t e f = then-goes-on rs ts e refl f
-both-decided rs ts (Refused number place) t e f = then-refused rs ts e number place refl
+both-decided rs ts Taken t e f = continued rs ts e refl f
+both-decided rs ts (Refused number place) t e f = refused-there rs ts e number place refl
 
 -- ---- the whole order
 

@@ -16,6 +16,7 @@ use Rattle.stern.specs.Argument.{Drawn, First, first}
 use Rattle.stern.specs.Shortness.{Material, setting, drawnOf, firstBytes, honestDigests}
 use Rattle.transcript.specs.Layout.{joined, headLength}
 use Rattle.transcript.proofs.Many.{stretch, length-joined}
+use Rattle.transcript.proofs.Produced.{length-digests}
 use Rattle.transcript.proofs.Written.{coefficients-vector, coefficients-part}
 use Rattle.message_head.specs.Method.{drawnFor, Drawings}
 use Rattle.message_head.proofs.Joining.{Filled, filled-first, filled-more}
@@ -90,15 +91,12 @@ module _ (n repeats : ℕ) where
 
 -- ---- the digests, end to end
 
-three-digests : (f : First) → length (f .d1) ≡ 32 → length (f .d2) ≡ 32 → length (f .d3) ≡ 32 → length (firstBytes f) ≡ 96
-three-digests f e1 e2 e3 = simp length-append (omega arith)
-
 module _ (q n repeats : ℕ) (k : Keys) (secrets vectors permutations salts : Bytes) where
   abbrev pub digestsOf : ℕ → Bytes
   digestsOf i = honestDigests q n k secrets (drawnFor n vectors permutations salts i)
 
   digests-sized : (i : ℕ) → length (digestsOf i) ≡ 96
-  digests-sized i = three-digests (first (setting q n k []) secrets (drawnFor n vectors permutations salts i)) (length-sha3 _) (length-sha3 _) (length-sha3 _)
+  digests-sized i = length-digests (first (setting q n k []) secrets (drawnFor n vectors permutations salts i)) (length-sha3 _) (length-sha3 _) (length-sha3 _)
 
   pub length-digestsOf : (i : ℕ) → length (joined i digestsOf) ≡ 96 * i
   length-digestsOf i = length-joined 96 digestsOf i (λ j l. digests-sized j)

@@ -11,14 +11,10 @@ use Rattle.stern.specs.Shortness.{drawnOf, answerLength, honestAnswer}
 use Rattle.transcript.specs.Layout.{joined, answersLength}
 use Rattle.transcript.specs.Method.{parameters}
 use Rattle.transcript.specs.Producer.{producedAnswers, materialOf}
-use Rattle.transcript.proofs.Answers.{answersLength-append, answersLength-more, length-answers, length-honestAnswer}
+use Rattle.transcript.proofs.Answers.{answersLength-more, prefix-le, length-answers, length-honestAnswer}
 use Rattle.message_head.specs.Method.{drawnFor, Drawings}
 use Rattle.message_head.proofs.Drawing.{Placed, placed-first, placed-more, material, drawn-is}
 use Rattle.message_head.proofs.Joining.{Filled, filled-first, filled-more, filled-all}
-
--- a prefix is no longer than the whole
-prefix-le : (n : ℕ) (cs : Bytes) (m : ℕ) → answersLength n (take m cs) ≤ answersLength n cs
-prefix-le n cs m = omega (arith, ap (answersLength n) (take-append-drop m cs), answersLength-append n (take m cs) (drop m cs))
 
 module _ (q n repeats : ℕ) (secrets vectors permutations salts challenges : Bytes) where
   abbrev answerOf : ℕ → Bytes

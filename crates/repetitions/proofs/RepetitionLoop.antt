@@ -17,23 +17,7 @@ use Rattle.stern.specs.Shortness.{answerLength, inRange, answerTests}
 use Rattle.transcript.specs.Layout.{each, pairsOf, digestsAt, answersLength, answerAt}
 use Rattle.transcript.specs.Method.{Answers}
 use Rattle.transcript.proofs.Many.{each-more, each-refused, each-taken}
-use Rattle.transcript.proofs.Answers.{answersLength-append, answersLength-more}
-
--- a prefix is no longer than the whole, and the whole is no longer than so many of the longer answers
-pub prefix-le : (n : ℕ) (cs : Bytes) (m : ℕ) → answersLength n (take m cs) ≤ answersLength n cs
-prefix-le n cs m = omega (arith, ap (answersLength n) (take-append-drop m cs), answersLength-append n (take m cs) (drop m cs))
-
-pub one-le : (n c : ℕ) → answerLength n c ≤ 504 * n + 64
-one-le n c = go (eqb c 1)
-  where
-    go : (b : Bool) → cond b (378 * n + 64) (504 * n + 64) ≤ 504 * n + 64
-    go true = omega arith
-    go false = omega arith
-
-pub all-le : (n : ℕ) (cs : Bytes) → answersLength n cs ≤ (504 * n + 64) * length cs
-unfolding answersLength
-all-le n [] = omega (arith, mul-zero (504 * n + 64))
-all-le n (c ∷ cs) = omega (arith, all-le n cs, one-le n c, mul-suc (504 * n + 64) (length cs))
+use Rattle.transcript.proofs.Answers.{answersLength-more, prefix-le, all-le}
 
 module _ (q n : ℕ) (k : Keys) (head challenges answers : Bytes) where
   abbrev pub repetitionTests : ℕ → List Test

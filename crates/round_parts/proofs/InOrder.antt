@@ -15,15 +15,7 @@ use Rattle.commitment.specs.Commitment.{keysOf}
 use Rattle.transcript.specs.Layout.{each, openingOf}
 use Rattle.transcript.specs.Round.{Round, sharesOf, ranged, answersRanged, ballotsRanged, headRanged, openingRanged, splits, opensKey, opensPairs, roundTests}
 use Rattle.transcript.specs.Method.{parameters}
-use Rattle.transcript.proofs.Many.{first-refused}
 use Rattle.round_parts.specs.Orders.{rangeParameters, ofSide, splitTest, openingTests, voteTests, answersTests, laterTests}
-
-module _ (rs ts : List Test) {z : Reply} (e : z ≡ first rs) where
-  pub stopped : (number place : ℕ) → z ≡ Refused number place → z ≡ first (rs ++ ts)
-  stopped number place t = t ∙ sym (first-refused rs ts number place (sym e ∙ t))
-
-  pub continued : {y : Reply} → z ≡ Taken → y ≡ first ts → y ≡ first (rs ++ ts)
-  continued t f = f ∙ sym (first-append rs ts (taken-exactly rs .0 (sym e ∙ t)))
 
 -- the tests of each, one by one
 pub each-cong : (n : ℕ) {f g : ℕ → List Test} → ((j : ℕ) → j < n → f j ≡ g j) → each n f ≡ each n g

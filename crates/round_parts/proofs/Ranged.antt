@@ -18,7 +18,7 @@ use Rattle.transcript.specs.Layout.{all, ballotLength, uAt, answersLength, answ
 use Rattle.transcript.specs.Round.{isChallenge}
 use Rattle.transcript.proofs.Many.{all-sound, all-complete, stretch}
 use Rattle.transcript.proofs.Answers.{answersLength-more}
-use Rattle.repetitions.proofs.RepetitionLoop.{prefix-le, all-le}
+use Rattle.transcript.proofs.Answers.{prefix-le, all-le}
 
 -- ---- a part, lent with a length that is a difference of places
 

@@ -4,10 +4,10 @@ use mathlib.Core.Logic.{_⊎_, inl, inr}
 use mathlib.Core.Bool.{Bool, true, false, cond}
 use mathlib.Core.List.{[], _∷_, _++_, append-nil, append-assoc}
 use Prim.Native.Nat.{ℕ, zero, suc, _+_, _*_, _≤_, _<_}
-use native.Mathlib.Nat.{add-zero, add-assoc}
+use native.Mathlib.Nat.{add-zero, add-assoc, mul-zero, mul-suc}
 use native.Mathlib.Omega.{arith}
 use lib.Dec.{eqb}
-use lib.ListN.{length, take, getD, length-append}
+use lib.ListN.{length, take, drop, getD, length-append, take-append-drop}
 use lib.Seq.{take-suc}
 use Rattle.codec.specs.Bytes.{Bytes, part}
 use Rattle.codec.proofs.Laws.{length-part}
@@ -63,6 +63,22 @@ answersLength-more N cs i h = rw (take-suc cs i 0 h) (answersLength-append N (ta
   where
     one : (c : ℕ) → answersLength N (c ∷ []) ≡ answerLength N c
     one c = unfold answersLength in add-zero (answerLength N c)
+
+-- a prefix is no longer than the whole, and the whole is no longer than so many of the longer answers
+pub prefix-le : (n : ℕ) (cs : Bytes) (m : ℕ) → answersLength n (take m cs) ≤ answersLength n cs
+prefix-le n cs m = omega (arith, ap (answersLength n) (take-append-drop m cs), answersLength-append n (take m cs) (drop m cs))
+
+one-le : (n c : ℕ) → answerLength n c ≤ 504 * n + 64
+one-le n c = go (eqb c 1)
+  where
+    go : (b : Bool) → cond b (378 * n + 64) (504 * n + 64) ≤ 504 * n + 64
+    go true = omega arith
+    go false = omega arith
+
+pub all-le : (n : ℕ) (cs : Bytes) → answersLength n cs ≤ (504 * n + 64) * length cs
+unfolding answersLength
+all-le n [] = omega (arith, mul-zero (504 * n + 64))
+all-le n (c ∷ cs) = omega (arith, all-le n cs, one-le n c, mul-suc (504 * n + 64) (length cs))
 
 -- answers to challenges, each of its length
 module _ (N : ℕ) (cs : Bytes) (f : ℕ → Bytes) where

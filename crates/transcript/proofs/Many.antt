@@ -12,6 +12,7 @@ use lib.ListN.{length, take, drop, length-append, length-drop}
 use lib.Seq.{take-all, drop-at, take-append-le, drop-append-le}
 use Rattle.codec.specs.Bytes.{Bytes, part}
 use Rattle.codec.specs.Reply.{Test, first, None}
+use Rattle.codec.specs.declared.Reply.{Reply}
 use Rattle.codec.specs.declared.Reply.the-variants.{Taken, Refused}
 use Rattle.codec.proofs.Replies.{not-taken, taken-exactly, first-append}
 use Rattle.codec.proofs.Laws.{both}
@@ -119,6 +120,17 @@ first-refused (t ∷ rs) ts number place e = go (t .holds) (λ f. first-refused 
         → cond b (Refused (t .number) (t .place)) (first (rs ++ ts)) ≡ Refused number place
     go true later f = f
     go false later f = later f
+
+-- one order after another, by the reply z of the first: a refusal decides, and else the second does
+module _ (rs ts : List Test) {z : Reply} (e : z ≡ first rs) where
+  pub refused-there : (number place : ℕ) → z ≡ Refused number place → Refused number place ≡ first (rs ++ ts)
+  refused-there number place t = sym (first-refused rs ts number place (sym e ∙ t))
+
+  pub stopped : (number place : ℕ) → z ≡ Refused number place → z ≡ first (rs ++ ts)
+  stopped number place t = t ∙ refused-there number place t
+
+  pub continued : {y : Reply} → z ≡ Taken → y ≡ first ts → y ≡ first (rs ++ ts)
+  continued t f = f ∙ sym (first-append rs ts (taken-exactly rs .0 (sym e ∙ t)))
 
 pub each-refused : (n : ℕ) (f : ℕ → List Test) (j number place : ℕ) → j < n → None (each j f) → first (f j) ≡ Refused number place → first (each n f) ≡ Refused number place
 unfolding each

@@ -25,7 +25,7 @@ use Rattle.transcript.proofs.Written.{octets-encode, octets-joined}
 use Rattle.transcript.proofs.Answers.{length-answers, answers-at, length-honestAnswer}
 
 -- three digests are 96 bytes
-length-digests : (f : First) → length (f .d1) ≡ 32 → length (f .d2) ≡ 32 → length (f .d3) ≡ 32 → length (firstBytes f) ≡ 96
+pub length-digests : (f : First) → length (f .d1) ≡ 32 → length (f .d2) ≡ 32 → length (f .d3) ≡ 32 → length (firstBytes f) ≡ 96
 length-digests f e1 e2 e3 = simp length-append (omega arith)
 
 module _ (P : Parameters) (m : ℕ) (x : Material) where

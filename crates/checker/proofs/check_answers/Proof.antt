@@ -1,7 +1,7 @@
 -- `check_answers` meets its contract. Assumes nothing.
 use mathlib.Core.Path.{_∙_}
 use borrow.Author.Needs.{needs}
-use Rattle.round_parts.proofs.InOrder.{stopped, continued}
+use Rattle.transcript.proofs.Many.{stopped, continued}
 use Rattle.checker.proofs.check_answers.Statement.{statement}
 use Rattle.checker.proofs.check_answers.Tie as tie
 

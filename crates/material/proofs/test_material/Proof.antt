@@ -6,7 +6,8 @@ use Rattle.codec.specs.Reply.{first}
 use Rattle.sheet_numbers.specs.Bounds.{noise}
 use Rattle.material.specs.Lent.{lent}
 use Rattle.material.specs.Parts.{secretTests, maskTests, permutationTests, noiseTests}
-use Rattle.material.proofs.Sequence.{then-refused, then-goes-on, in-parts, ballots-passed}
+use Rattle.transcript.proofs.Many.{refused-there, continued}
+use Rattle.material.proofs.Sequence.{in-parts, ballots-passed}
 use Rattle.material.proofs.test_material.Statement.{statement}
 use Rattle.material.proofs.test_material.Tie as tie
 
@@ -22,7 +23,7 @@ returns c =
     let ns = noiseTests (a .q) (a .n) (noise 2 (a .n)) (a .count) (a .secrets .now) (a .ballots .now) in
     let x = lent (a .secrets .now) (a .s0 .now) (a .e0 .now) (a .masks0 .now) (a .masks1 .now) (a .vectors .now) (a .permutations .now) (a .ballots .now) in
     let s = c .before .before .before .before .before .test-secret in
-    (then-refused ss (ms ++ (ps ++ ns)) (s .ensures .0) _ _ (c .before .reply .given .1) ∙ ap first (in-parts 2 (a .n) (a .q) (a .bound) (a .repeats) (a .a .now) (a .b .now) [] (a .count) x (a .asked)), s .ensures .1)
+    (refused-there ss (ms ++ (ps ++ ns)) (s .ensures .0) _ _ (c .before .reply .given .1) ∙ ap first (in-parts 2 (a .n) (a .q) (a .bound) (a .repeats) (a .a .now) (a .b .now) [] (a .count) x (a .asked)), s .ensures .1)
 
 test-each-requires : tie.Need-test-each-requires
 test-each-requires c κs =
@@ -54,7 +55,7 @@ returns-2 c =
     let x = lent (a .secrets .now) (a .s0 .now) (a .e0 .now) (a .masks0 .now) (a .masks1 .now) (a .vectors .now) (a .permutations .now) (a .ballots .now) in
     let s = c .before .before .before .before .before .before .before .before .test-secret in
     let e = c .before .before .test-each in
-    (then-goes-on ss (ms ++ (ps ++ ns)) (s .ensures .0) (c .before .before .before .before .enum-told .given .1) (e .ensures .0) ∙ ap first (in-parts 2 (a .n) (a .q) (a .bound) (a .repeats) (a .a .now) (a .b .now) [] (a .count) x (a .asked)), e .ensures .1 ∙ s .ensures .1)
+    (continued ss (ms ++ (ps ++ ns)) (s .ensures .0) (c .before .before .before .before .enum-told .given .1) (e .ensures .0) ∙ ap first (in-parts 2 (a .n) (a .q) (a .bound) (a .repeats) (a .a .now) (a .b .now) [] (a .count) x (a .asked)), e .ensures .1 ∙ s .ensures .1)
 
 pub test-material-spec : {M : Type 1} → statement M
 test-material-spec = tie.close (tie.spec test-secret-requires (λ c. search needs) (λ c. search needs) (λ c. search needs) returns test-each-requires (λ c. search needs) returns-2)

@@ -5,7 +5,7 @@ use native.Mathlib.Omega.{arith}
 use borrow.Author.Needs.{needs}
 use borrow.Author.Tests.{not-true, not-false}
 use Rattle.call.proofs.Order.{refuses, passes}
-use Rattle.round_parts.proofs.InOrder.{stopped, continued}
+use Rattle.transcript.proofs.Many.{stopped, continued}
 use Rattle.openings_checker.proofs.both_sides.test_ranged.Statement.{statement}
 use Rattle.openings_checker.proofs.both_sides.test_ranged.Tie as tie
 

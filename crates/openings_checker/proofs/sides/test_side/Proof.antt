@@ -1,7 +1,7 @@
 -- `sides::test_side` meets its contract. Assumes nothing.
 use mathlib.Core.Path.{_∙_}
 use borrow.Author.Needs.{needs}
-use Rattle.round_parts.proofs.InOrder.{stopped, continued}
+use Rattle.transcript.proofs.Many.{stopped, continued}
 use Rattle.openings_checker.proofs.sides.test_side.Statement.{statement}
 use Rattle.openings_checker.proofs.sides.test_side.Tie as tie
 

@@ -2,7 +2,7 @@
 use mathlib.Core.Path.{_∙_}
 use native.Mathlib.Omega.{arith}
 use borrow.Author.Needs.{needs}
-use Rattle.round_parts.proofs.InOrder.{stopped, continued}
+use Rattle.transcript.proofs.Many.{stopped, continued}
 use Rattle.openings_checker.proofs.three_answers.test_answers.Statement.{statement}
 use Rattle.openings_checker.proofs.three_answers.test_answers.Tie as tie
 
