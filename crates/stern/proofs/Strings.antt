@@ -9,14 +9,15 @@ use lib.ListN.{length, take, drop, getD, length-append}
 use lib.Seq.{getD-take}
 use Rattle.codec.specs.Bytes.{Bytes, part, words}
 use Rattle.codec.proofs.Numbers.{words-append}
+use Rattle.codec.specs.Lists.{list}
+use Rattle.codec.proofs.Lists.{length-list}
 use Rattle.keccak.specs.Keccak.{State}
 use Rattle.sha3.specs.Sponge.{absorb, zeroState, squeeze, padding, sha3}
 use Rattle.sha3.proofs.Absorbing.{absorb-append}
 use Rattle.sha3.proofs.Parts.{Absorbed, more, done}
 use Rattle.modular.proofs.Congruence.{same-eq}
 use Rattle.ring.specs.Poly.{Poly, plus, minus, modulo, Alike, Below}
-use Rattle.ring.specs.Slots.{slot, list, encode}
-use Rattle.ring.proofs.Bridge.{length-list}
+use Rattle.ring.specs.Slots.{slot, encode}
 use Rattle.ring.proofs.Polynomials.{plus-assoc, plus-comm, plus-left-comm, scale-plus, alike-eq, alike-refl, alike-sym, _so_, alike-plus, alike-cancel, minus-self}
 use Rattle.commitment.specs.Commitment.{Keys, Three, Pair, Alike3, plus3, row, second, committed, pairBytes, PairStands}
 use Rattle.commitment.proofs.Additive.{row-alike, second-alike}
