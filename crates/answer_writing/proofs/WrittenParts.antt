@@ -5,8 +5,7 @@ use Prim.Native.Nat.{ℕ, _+_, _≤_}
 use native.Mathlib.Omega.{arith}
 use lib.ListN.{length, length-append}
 use Rattle.codec.specs.Bytes.{Bytes, put}
-use Rattle.codec.proofs.Laws.{put-whole}
-use Rattle.call.proofs.Writing.{written-behind}
+use Rattle.codec.proofs.Laws.{put-whole, written-behind}
 
 module _ (d d1 d2 d3 a b s t : Bytes) (i j : ℕ) (li : i ≡ length a) (lj : j ≡ length a + length b) (e1 : d1 ≡ put d 0 a) (e2 : d2 ≡ put d1 i b) where
   -- three parts, the last of which is two salts side by side

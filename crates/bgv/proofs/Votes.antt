@@ -9,13 +9,14 @@ use lib.IntN.{natAbs}
 use lib.ListN.{length}
 use Rattle.codec.specs.Bytes.{Bytes, put}
 use Rattle.codec.proofs.Laws.{put-none, put-whole, put-append}
+use Rattle.codec.specs.Lists.{list, allBelow}
+use Rattle.codec.proofs.Lists.{length-list, list-cong}
 use Rattle.modular.specs.Modulo.{centre, remainder}
 use Rattle.modular.specs.Division.{inverse, divide}
 use Rattle.modular.proofs.Congruence.{mod-mul-left}
 use Rattle.modular.proofs.Centring.{centre-mod}
 use Rattle.ring.specs.Poly.{Poly}
-use Rattle.ring.specs.Slots.{poly, list, allBelow}
-use Rattle.ring.proofs.Bridge.{length-list, list-cong}
+use Rattle.ring.specs.Slots.{poly}
 use Rattle.call.specs.Call.{Stands}
 use Rattle.call.proofs.Slots.{stands-poly}
 use Rattle.bgv.specs.Scheme.{plain, within}

@@ -1,18 +1,26 @@
 -- Document 01, "Small ring, by hand", A to J, by computation: N = 4, q = 97, p = 2, with s = 1 - X^2 and e = X. (K is the register's.) Assumes nothing.
 use mathlib.Core.Path.{_≡_, refl}
-use mathlib.Core.Bool.{cond}
+use mathlib.Core.Bool.{not}
 use mathlib.Core.List.{List, [], _∷_, map}
-use Prim.Native.Nat.{ℕ, zero, suc, _%_}
-use lib.Dec.{ltb}
-use lib.IntN.{ℤ, pos, negsuc, natAbs}
+use Prim.Native.Nat.{ℕ, zero, suc, _%_, _^_}
+use lib.IntN.{ℤ, pos, negsuc}
 use lib.ListN.{getD}
+use Rattle.codec.specs.Bytes.{bytes, words, number, signed}
+use Rattle.codec.specs.Lists.{list, allBelow}
+use Rattle.codec.specs.Reply.{numberOf, placeOf, test, first}
+use Rattle.codec.specs.declared.Reply.{Reply}
 use Rattle.modular.specs.Modulo.{centre, remainder}
 use Rattle.modular.specs.Division.{multiplier, inverse, divide}
 use Rattle.ring.specs.Poly.{Poly, sum, turn, coefficient, mul, plus, scale}
+use Rattle.ring.specs.Slots.{poly}
 use Rattle.ring.specs.Ternary.{meaning, ternary}
-use Rattle.sheet_numbers.specs.Bounds.{noise, mask}
-use Rattle.sheet_numbers.specs.Rules.{any, unsound}
-use Rattle.bgv.specs.Scheme.{Wholes, noisy, centred, key, cipher-u, cipher-v, opened, plain, decrypted, other, share, worked, rebuilt, reconstructed}
+use Rattle.sheet_numbers.specs.Bounds.{noise, mask, most, least, power}
+use Rattle.sheet_numbers.specs.Rules.{any, outside, unsound}
+use Rattle.sheet.specs.Form.{decimal, listed, lines, written}
+use Rattle.sheet.specs.Reader.{digit, step, values, line, rows as rowsIn, formed, sheetOf}
+use Rattle.sheet.specs.Sheet.{unfit, reading, replyOf}
+use Rattle.sheet.specs.Examples.{textI}
+use Rattle.bgv.specs.Scheme.{Wholes, noisy, centred, key, cipher-u, cipher-v, opened, plain, decrypted, other, lentMask, share, worked, within, rebuilt, reconstructed}
 
 -- ---- the paper's polynomials and numbers
 
@@ -87,13 +95,13 @@ reduced f = four (λ k. pos (f k % 97))
 abbrev numbers : List ℕ → List ℤ
 numbers l = map pos l
 
--- 1 for each whole number that is above the bound in size
-abbrev exceeding : ℕ → List ℤ → List ℤ
-exceeding bound E = map (λ z. cond (ltb bound (natAbs z)) (pos 1) (pos 0)) E
+-- a reply: document 01's number, 0 for a call that is taken, and the place
+abbrev reply : Reply → List ℤ
+reply r = pos (numberOf r) ∷ pos (placeOf r) ∷ []
 
--- 1 if the sheet above with another modulus is refused 4
-abbrev refused4 : ℕ → ℤ
-refused4 q = cond (unsound 2 (record { ring = 4; modulus = q; drown = 0; rounds = 1; repeats = 1 })) (pos 1) (pos 0)
+-- what the call of a decryption share answers by its test of a mask, which is lent in 64-bit numbers
+abbrev masked : List ℤ → Reply
+masked E = first (test 12 0 (not (within (mask 2 4 0) 4 (lentMask (words (map (remainder (2 ^ 64)) E))))) ∷ [])
 
 -- what is worked out, and what the paper has
 pub record Row : Type 0 where
@@ -118,13 +126,14 @@ rows =
     ∷ row (four (centred 97 (rebuilt 97 v t0 t1))) (- 5 ∷ pos 10 ∷ - 5 ∷ pos 7 ∷ [])  -- G
     ∷ row (four (λ k. pos (reconstructed 97 2 v t0 t1 k))) (numbers (1 ∷ 0 ∷ 1 ∷ 1 ∷ []))
     ∷ row (pos (remainder 2 (centre 97 94)) ∷ pos (remainder 2 (- 3)) ∷ []) (numbers (1 ∷ 1 ∷ []))  -- 94 by 2, which is -3 by 2
-    ∷ row (exceeding (mask 2 4 0) E0) (numbers (0 ∷ 0 ∷ 0 ∷ 0 ∷ []))  -- H
-    ∷ row (exceeding (mask 2 4 0) (pos 5 ∷ - 4 ∷ pos 0 ∷ pos 1 ∷ [])) (numbers (1 ∷ 0 ∷ 0 ∷ 0 ∷ []))
-    ∷ row (refused4 81 ∷ refused4 73 ∷ []) (numbers (0 ∷ 1 ∷ []))  -- I
+    ∷ row (reply (masked E0)) (numbers (0 ∷ 0 ∷ []))  -- E0 is taken
+    ∷ row (reply (masked (pos 5 ∷ - 4 ∷ pos 0 ∷ pos 1 ∷ []))) (numbers (12 ∷ 0 ∷ []))  -- H
+    ∷ row (reply (replyOf (reading 2 (textI 81)))) (numbers (0 ∷ 0 ∷ []))  -- I: the sheet's text, read
+    ∷ row (reply (replyOf (reading 2 (textI 73)))) (numbers (4 ∷ 0 ∷ []))
     ∷ row (pos (noise 2 2048) ∷ pos (mask 2 2048 40) ∷ []) (numbers (8195 ∷ 2252624447406080 ∷ []))  -- J
     ∷ []
 
 -- each row is as the paper says
 pub examples : map (λ (x : Row). x .got) rows ≡ map (λ (x : Row). x .said) rows
-unfolding rows centre remainder divide inverse multiplier sum turn coefficient mul plus scale meaning ternary noisy cipher-v opened plain worked rebuilt any unsound
+unfolding rows centre remainder divide inverse multiplier sum turn coefficient mul plus scale meaning ternary noisy cipher-v opened plain worked rebuilt first within allBelow list poly signed words bytes number reading written lines listed decimal formed sheetOf rowsIn line values step digit any outside unsound unfit power least most
 examples = refl

@@ -5,10 +5,11 @@ use mathlib.Core.Path.{_≡_}
 use mathlib.Core.Bool.{Bool}
 use lib.IntN.{ℤ, natAbs}
 use Rattle.codec.specs.Bytes.{Bytes, signed}
+use Rattle.codec.specs.Lists.{list, allBelow}
 use Rattle.modular.specs.Modulo.{centre, remainder}
 use Rattle.modular.specs.Division.{Coprime, divide}
 use Rattle.ring.specs.Poly.{Poly, plus, minus, scale, mul}
-use Rattle.ring.specs.Slots.{poly, list, allBelow}
+use Rattle.ring.specs.Slots.{poly}
 
 -- a x + p y: a product with p times an error. Keys, ciphertexts and decryption shares have this form
 unfoldable pub noisy : (q N p : ℕ) (a x y : Poly) → Poly

@@ -4,10 +4,11 @@ ghost use mathlib.Core.Path.{_≡_};
 ghost use Prim.Native.Nat.{_+_, _*_, _%_, _≤_, _<_, _^_};
 ghost use lib.ListN.{length};
 ghost use Rattle.codec.specs.Bytes.{put};
+ghost use Rattle.codec.specs.Lists.{list, allBelow};
 ghost use Rattle.modular.specs.Modulo.{centre};
 ghost use Rattle.modular.specs.Division.{divide};
-ghost use Rattle.ring.specs.Poly.{plus, minus, mul, modulo, Below};
-ghost use Rattle.ring.specs.Slots.{poly, slot, list, encode, allBelow};
+ghost use Rattle.ring.specs.Poly.{plus, minus, mul, Below};
+ghost use Rattle.ring.specs.Slots.{coefficientBytes, poly, slot, encode};
 ghost use Rattle.ring.specs.Ternary.{ternary};
 ghost use Rattle.call.specs.Call.{scratchLength, coefficients, Polynomial, Stands};
 ghost use Rattle.bgv.specs.Scheme as scheme;
@@ -94,7 +95,7 @@ pub fn add_message(work: &mut [u8], m: &[u8], n: usize, q: u64)
 // x - x0 in the slot at a place, for ternary bytes x and a lent polynomial x0.
 pub fn difference(work: &mut [u8], at: usize, x: &[u8], x0: &[u8], n: usize, q: u64)
     requires { ⌜ Polynomial n q (now x0) × (length (now work) ≡ scratchLength) × (length (now x) ≡ n) × (at ≤ 16384) ⌝ }
-    ensures { λ _. ⌜ now (work .exit) ≡ put (now (work .entry)) at (encode n (modulo q (scheme.other q (ternary q (now (x .entry))) (poly (now (x0 .entry)))))) ⌝ }
+    ensures { λ _. ⌜ now (work .exit) ≡ put (now (work .entry)) at (coefficientBytes q n (scheme.other q (ternary q (now (x .entry))) (poly (now (x0 .entry))))) ⌝ }
 {
     ring::load_ternary(work, at, x, q);
     ring::subtract(work, at, x0, n, q);

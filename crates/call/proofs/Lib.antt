@@ -6,4 +6,3 @@ pub mod Sheets
 pub mod Lent
 pub mod Ranges
 pub mod Loads
-pub mod Writing

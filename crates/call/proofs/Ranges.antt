@@ -7,9 +7,10 @@ use native.Mathlib.Omega.{arith}
 use lib.ListN.{length, take, drop}
 use Rattle.codec.specs.Bytes.{Bytes, part}
 use Rattle.codec.proofs.Laws.{length-part}
+use Rattle.codec.specs.Lists.{list, allBelow}
 use Rattle.modular.proofs.Congruence.{same-eq}
 use Rattle.ring.specs.Poly.{Alike}
-use Rattle.ring.specs.Slots.{poly, slot, list, allBelow}
+use Rattle.ring.specs.Slots.{poly, slot}
 use Rattle.ring.proofs.Bridge.{poly-part, slot-later, slot-poly}
 use Rattle.ring.proofs.Ranges.{below-sound}
 use Rattle.call.specs.Call.{Polynomial}

@@ -1,6 +1,6 @@
 -- The polynomials of a sheet that is taken, in the bytes that they are put into. Assumes nothing.
 use mathlib.Core.Path.{_≡_, sym, ap, _∙_}
-use mathlib.Core.List.{List, [], _∷_, _++_}
+use mathlib.Core.List.{List, [], _∷_, _++_, flatMap}
 use Prim.Native.Nat.{ℕ, zero, suc, _+_, _*_, _≤_, _<_}
 use native.Mathlib.Nat.{mul-zero, mul-suc, add-comm, zero-add, mul-le-mul}
 use native.Mathlib.Omega.{arith}
@@ -8,12 +8,14 @@ use lib.ListN.{length, take, getD, length-append}
 use lib.Seq.{take-at, drop-append-add}
 use Rattle.codec.specs.Bytes.{Bytes, part, put, words}
 use Rattle.codec.proofs.Laws.{length-put, part-put, part-part}
+use Rattle.codec.proofs.Lists.{list-getD}
+use Rattle.codec.proofs.Numbers.{length-words}
 use Rattle.modular.proofs.Congruence.{same-eq}
 use Rattle.ring.specs.Poly.{Alike}
 use Rattle.ring.specs.Slots.{poly, encode}
-use Rattle.ring.proofs.Bridge.{length-encode, list-getD, poly-encode}
+use Rattle.ring.proofs.Bridge.{length-encode, poly-encode}
 use Rattle.sheet.specs.Reader.{sheetOf}
-use Rattle.sheet.specs.Sheet.{reading, lists, joined, polynomials}
+use Rattle.sheet.specs.Sheet.{reading, lists, polynomials}
 use Rattle.sheet_numbers.specs.declared.Numbers.{Numbers}
 use Rattle.sheet.specs.declared.Reading.the-variants.{Taken}
 use Rattle.sheet.proofs.Taken.{Coefficients, AllCoefficients, taken, lists-taken}
@@ -24,23 +26,20 @@ words-are : (n : ℕ) (xs : List ℕ) → length xs ≡ n → words xs ≡ encod
 unfolding encode
 words-are n xs l = ap words (sym (list-getD xs)) ∙ ap (λ (k : ℕ). encode k (coefficients xs)) l
 
-length-listed : (n : ℕ) (xs : List ℕ) → length xs ≡ n → length (words xs) ≡ 8 * n
-length-listed n xs l = ap length (words-are n xs l) ∙ length-encode n (coefficients xs)
-
 -- lists one after the other
 module _ (n q : ℕ) where
-  length-joined : (ls : List (List ℕ)) → AllCoefficients n q ls → length (joined ls) ≡ 8 * n * length ls
-  unfolding joined
-  length-joined [] a = sym (mul-zero (8 * n))
-  length-joined (l ∷ ls) a = simp length-append (omega (arith, length-listed n l (a .0 .count), length-joined ls (a .1), mul-suc (8 * n) (length ls)))
+  length-lists : (ls : List (List ℕ)) → AllCoefficients n q ls → length (flatMap words ls) ≡ 8 * n * length ls
+  unfolding flatMap
+  length-lists [] a = sym (mul-zero (8 * n))
+  length-lists (l ∷ ls) a = simp length-append (omega (arith, length-words l, a .0 .count, length-lists ls (a .1), mul-suc (8 * n) (length ls)))
 
-  joined-at : (ls : List (List ℕ)) → AllCoefficients n q ls → (i : ℕ) → i < length ls → part (joined ls) (8 * n * i) (8 * n) ≡ words (getD ls i [])
-  unfolding joined
-  joined-at [] a i h = absurd (omega arith)
-  joined-at (l ∷ ls) a zero h = ap (λ (k : ℕ). part (words l ++ joined ls) k (8 * n)) (mul-zero (8 * n)) ∙ take-at (words l) (joined ls) (8 * n) (length-listed n l (a .0 .count))
-  joined-at (l ∷ ls) a (suc i) h =
-      ap (λ (k : ℕ). part (words l ++ joined ls) k (8 * n)) (mul-suc (8 * n) i ∙ add-comm (8 * n * i) (8 * n) ∙ ap (λ (k : ℕ). k + 8 * n * i) (sym (length-listed n l (a .0 .count))))
-      ∙ ap (take (8 * n)) (drop-append-add (words l) (joined ls) (8 * n * i)) ∙ joined-at ls (a .1) i (omega arith)
+  lists-at : (ls : List (List ℕ)) → AllCoefficients n q ls → (i : ℕ) → i < length ls → part (flatMap words ls) (8 * n * i) (8 * n) ≡ words (getD ls i [])
+  unfolding flatMap
+  lists-at [] a i h = absurd (omega arith)
+  lists-at (l ∷ ls) a zero h = ap (λ (k : ℕ). part (words l ++ flatMap words ls) k (8 * n)) (mul-zero (8 * n)) ∙ take-at (words l) (flatMap words ls) (8 * n) (omega (arith, length-words l, a .0 .count))
+  lists-at (l ∷ ls) a (suc i) h =
+      ap (λ (k : ℕ). part (words l ++ flatMap words ls) k (8 * n)) (mul-suc (8 * n) i ∙ add-comm (8 * n * i) (8 * n) ∙ ap (λ (k : ℕ). k + 8 * n * i) (omega (arith, length-words l, a .0 .count)))
+      ∙ ap (take (8 * n)) (drop-append-add (words l) (flatMap words ls) (8 * n * i)) ∙ lists-at ls (a .1) i (omega arith)
 
   polynomial-at : (ls : List (List ℕ)) → AllCoefficients n q ls → (i : ℕ) → i < length ls → Coefficients n q (getD ls i [])
   polynomial-at [] a i h = absurd (omega arith)
@@ -62,21 +61,21 @@ module _ (p : ℕ) (text : Bytes) (k : Numbers) (e : reading p text ≡ Taken k)
   high : n ≤ 2048
   high = taken p text e .ranged .ring-high
 
-  joined-length : length (joined ls) ≡ 8 * n * 5
-  joined-length = length-joined n (k .modulus) ls all
+  all-length : length (flatMap words ls) ≡ 8 * n * 5
+  all-length = length-lists n (k .modulus) ls all
 
   pub put-room : length (put d 0 (polynomials text)) ≡ 81920
   unfolding polynomials
-  put-room = length-put d 0 (joined ls) (omega (arith, joined-length, high)) ∙ room
+  put-room = length-put d 0 (flatMap words ls) (omega (arith, all-length, high)) ∙ room
 
   -- the part of the bytes that holds a list
   part-is : part (put d 0 (polynomials text)) (8 * n * i) (8 * n) ≡ encode n (coefficients (getD ls i []))
   unfolding polynomials
   part-is =
-      ap (λ (j : ℕ). part (put d 0 (joined ls)) j (8 * n)) (sym (zero-add (8 * n * i)))
-      ∙ sym (part-part (put d 0 (joined ls)) 0 (length (joined ls)) (8 * n * i) (8 * n) (omega (arith, joined-length, mul-suc (8 * n) i, mul-le-mul {n₁ = 8 * n} {m₁ = suc i} {n₂ = 8 * n} {m₂ = 5} (omega arith) h)))
-      ∙ ap (λ (t : Bytes). part t (8 * n * i) (8 * n)) (part-put d 0 (joined ls) (omega (arith, joined-length, high)))
-      ∙ joined-at n (k .modulus) ls all i h ∙ words-are n (getD ls i []) (polynomial-at n (k .modulus) ls all i h .count)
+      ap (λ (j : ℕ). part (put d 0 (flatMap words ls)) j (8 * n)) (sym (zero-add (8 * n * i)))
+      ∙ sym (part-part (put d 0 (flatMap words ls)) 0 (length (flatMap words ls)) (8 * n * i) (8 * n) (omega (arith, all-length, mul-suc (8 * n) i, mul-le-mul {n₁ = 8 * n} {m₁ = suc i} {n₂ = 8 * n} {m₂ = 5} (omega arith) h)))
+      ∙ ap (λ (t : Bytes). part t (8 * n * i) (8 * n)) (part-put d 0 (flatMap words ls) (omega (arith, all-length, high)))
+      ∙ lists-at n (k .modulus) ls all i h ∙ words-are n (getD ls i []) (polynomial-at n (k .modulus) ls all i h .count)
 
   -- of any bytes that are that part
   module _ (a : Bytes) (is : a ≡ part (put d 0 (polynomials text)) (8 * n * i) (8 * n)) where

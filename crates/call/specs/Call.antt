@@ -9,8 +9,9 @@ use lib.ListN.{length, getD}
 use Rattle.codec.specs.Bytes.{Bytes, part, zeros, same}
 use Rattle.codec.specs.Reply.{Test, test, numberOf, leaves}
 use Rattle.codec.specs.declared.Reply.{Reply}
-use Rattle.ring.specs.Poly.{Poly, modulo, Below}
-use Rattle.ring.specs.Slots.{poly, list, encode, allBelow}
+use Rattle.codec.specs.Lists.{list, allBelow}
+use Rattle.ring.specs.Poly.{Poly, Below}
+use Rattle.ring.specs.Slots.{coefficientBytes, poly}
 
 -- scratch: 64 slots of 16,384 bytes, each with room for a polynomial of 2048 coefficients
 abbrev pub scratchLength : ℕ
@@ -61,4 +62,4 @@ pub record Polynomial (n q : ℕ) (a : Bytes) : Type 0 where
 -- the polynomial f modulo q stands at the head of scratch, in bytes; the length is as before
 pub record Stands (q n : ℕ) (f : Poly) (w w' : Bytes) : Type 0 where
   pub sized : length w' ≡ length w
-  pub bytes : part w' 0 (8 * n) ≡ encode n (modulo q f)
+  pub bytes : part w' 0 (8 * n) ≡ coefficientBytes q n f

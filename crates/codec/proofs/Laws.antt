@@ -1,9 +1,11 @@
--- Laws of parts, of a part put in place, and of equality as a test. Assumes nothing.
+-- Laws of two cases, of parts, of a part put in place, and of equality as a test. Assumes nothing.
 use mathlib.Core.Path.{_≡_, refl, sym, ap, ap₂, _∙_}
+use mathlib.Core.Logic.{_⊎_, inl, inr}
 use mathlib.Core.Bool.{Bool, true, false, _&&_}
 use mathlib.Core.List.{[], _∷_, _++_, append-nil, append-assoc}
 use Prim.Native.Nat.{ℕ, zero, suc, _+_, _-_, min, _≤_, _<_}
-use native.Mathlib.Nat.{zero-add, add-zero, suc-add}
+use native.Mathlib.Decide.{decLe}
+use native.Mathlib.Nat.{zero-add, add-zero, suc-add, lt-of-not-le}
 use native.Mathlib.Numerals.{add-one}
 use native.Mathlib.Omega.{arith}
 use borrow.Author.Tests.{eqb-true, eq-eqb}
@@ -11,6 +13,20 @@ use lib.Dec.{eqb}
 use lib.ListN.{length, take, drop, set, length-append, length-take, length-drop, take-append-drop, drop-of-length-le, length-replicate, getD-replicate}
 use lib.Seq.{paste, length-take-le, take-length, drop-length, drop-drop, take-take, take-add, take-nil, take-at, drop-at, set-split, getD-take, getD-drop}
 use Rattle.codec.specs.Bytes.{Bytes, Octets, part, put, zeros, same}
+
+-- ---- two cases
+
+pub le-or : (m n : ℕ) → (m ≤ n) ⊎ (n < m)
+le-or m n = go (decLe m n)
+  where
+    go : Dec (m ≤ n) → (m ≤ n) ⊎ (n < m)
+    go (yes h) = inl h
+    go (no h) = inr (lt-of-not-le h)
+
+pub both : (a b : Bool) → (a && b) ≡ true → (a ≡ true) × (b ≡ true)
+both true true e = (refl, refl)
+both true false e = (refl, e)
+both false b e = (e, absurd (let z : _≡_ {A = ℕ} 0 1 = cc in omega arith))
 
 -- ---- parts
 
@@ -133,6 +149,17 @@ put-append d at s t h =
     ∙ append-assoc (take at d) s (t ++ drop (m + length t) d)
     ∙ ap (λ (a : Bytes). take at d ++ a) (sym (append-assoc s t (drop (m + length t) d)) ∙ ap (λ (n : ℕ). (s ++ t) ++ drop n d) (sym e))
 
+-- t behind s, which was written before
+pub put-behind : (d s t : Bytes) (from at : ℕ) → at ≡ from + length s → at + length t ≤ length d → put (put d from s) at t ≡ put d from (s ++ t)
+put-behind d s t from at l h = ap (λ (k : ℕ). put (put d from s) k t) l ∙ put-append d from s t (omega arith)
+
+-- the same step by step
+pub written-behind : (d d1 d2 s t : Bytes) (from at : ℕ) → at ≡ from + length s → at + length t ≤ length d → d1 ≡ put d from s → d2 ≡ put d1 at t → d2 ≡ put d from (s ++ t)
+written-behind d d1 d2 s t from at l h e f = f ∙ ap (λ (x : Bytes). put x at t) e ∙ put-behind d s t from at l h
+
+pub written-length : (d d1 s : Bytes) (from : ℕ) → from + length s ≤ length d → d1 ≡ put d from s → length d1 ≡ length d
+written-length d d1 s from h e = ap length e ∙ length-put d from s h
+
 -- a later write at the same place counts
 pub put-put : (d : Bytes) (at : ℕ) (s t : Bytes) → at + length s ≤ length d → length t ≡ length s → put (put d at s) at t ≡ put d at t
 unfolding put
@@ -167,11 +194,6 @@ pub same-refl : (s : Bytes) → same s s ≡ true
 unfolding same
 same-refl [] = refl
 same-refl (b ∷ s) = rw (eq-eqb b b refl) (same-refl s)
-
-pub both : (a b : Bool) → (a && b) ≡ true → (a ≡ true) × (b ≡ true)
-both true true e = (refl, refl)
-both true false e = (refl, e)
-both false b e = (e, absurd (let z : _≡_ {A = ℕ} 0 1 = cc in omega arith))
 
 pub same-equal : (s t : Bytes) → same s t ≡ true → s ≡ t
 unfolding same

@@ -10,9 +10,8 @@ use borrow.Author.Tests.{eq-eqb, not-true, not-false}
 use lib.ListN.{length, take, drop, getD, length-append}
 use lib.Seq.{ext-getD}
 use Rattle.codec.specs.Bytes.{Bytes, part, put, words, same}
-use Rattle.codec.proofs.Laws.{length-part, part-append, part-put, same-refl, same-equal, not-same}
-use Rattle.ring.specs.Slots.{allBelow}
-use Rattle.call.proofs.Writing.{written-length}
+use Rattle.codec.proofs.Laws.{length-part, part-append, part-put, same-refl, same-equal, not-same, written-length}
+use Rattle.codec.specs.Lists.{allBelow}
 use Rattle.commitment.specs.Commitment.{Keys, Pair, pairBytes, PairStands}
 use Rattle.vector.specs.Vector.{Vector, vector, ternaries, add, subtract}
 use Rattle.vector.specs.Permutation.{entries, apply}

@@ -6,8 +6,8 @@ use mathlib.Core.List.{_++_}
 use Prim.Native.Nat.{ℕ, _*_}
 use lib.ListN.{length}
 use Rattle.codec.specs.Bytes.{Bytes, part, put, zeros, same}
-use Rattle.ring.specs.Poly.{Poly, plus, minus, mul, modulo, Alike}
-use Rattle.ring.specs.Slots.{slot, encode, store}
+use Rattle.ring.specs.Poly.{Poly, plus, minus, mul, Alike}
+use Rattle.ring.specs.Slots.{coefficientBytes, slot, encode, store}
 use Rattle.ring.specs.Ternary.{ternary}
 use Rattle.call.specs.Call.{Polynomial}
 
@@ -59,7 +59,7 @@ committed q N k r m = record { one = row q N k r; two = second q N k r m }
 
 -- a pair in 16N bytes, first half first
 unfoldable pub pairBytes : (q N : ℕ) → Pair → Bytes
-pairBytes q N c = encode N (modulo q (c .one)) ++ encode N (modulo q (c .two))
+pairBytes q N c = coefficientBytes q N (c .one) ++ coefficientBytes q N (c .two)
 
 -- the pair that 16N bytes hold
 abbrev pub pairOf : ℕ → Bytes → Pair
@@ -100,5 +100,5 @@ threeAt w = record { r1 = slot w 0; r2 = slot w 16384; r3 = slot w 32768 }
 -- a pair stands in scratch, in bytes: its first half where r1 stood, its second where m stood; the length is as before
 pub record PairStands (q N : ℕ) (c : Pair) (w w' : Bytes) : Type 0 where
   pub sized : length w' ≡ length w
-  pub one : part w' 0 (8 * N) ≡ encode N (modulo q (c .one))
-  pub two : part w' 49152 (8 * N) ≡ encode N (modulo q (c .two))
+  pub one : part w' 0 (8 * N) ≡ coefficientBytes q N (c .one)
+  pub two : part w' 49152 (8 * N) ≡ coefficientBytes q N (c .two)

@@ -8,8 +8,9 @@ ghost use Prim.Native.Nat.{_*_, _≤_, _<_, _^_};
 ghost use lib.ListN.{length};
 ghost use Rattle.codec.specs.Bytes.{part};
 ghost use Rattle.codec.specs.Reply.{first, leaves};
+ghost use Rattle.codec.specs.Lists.{list, allBelow};
 ghost use Rattle.ring.specs.Poly.{Below};
-ghost use Rattle.ring.specs.Slots.{poly, list, allBelow};
+ghost use Rattle.ring.specs.Slots.{poly};
 ghost use Rattle.call.specs.Call.{scratchLength, bytesBelow, coefficients, Polynomial, Used};
 ghost use Rattle.scheme.specs.Calls.{encryptTests, encryptWrites, decryptTests, decryptWrites};
 

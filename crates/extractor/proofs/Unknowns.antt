@@ -9,15 +9,16 @@ use lib.Dec.{eqb}
 use lib.ListN.{length, take, drop, getD, length-append, length-replicate}
 use lib.Seq.{getD-take, getD-drop}
 use Rattle.codec.specs.Bytes.{Bytes, part, put, words, zeros, same}
-use Rattle.codec.proofs.Laws.{put-whole}
+use Rattle.codec.proofs.Laws.{put-whole, written-behind}
 use Rattle.codec.proofs.Numbers.{words-append}
+use Rattle.codec.specs.Lists.{list}
+use Rattle.codec.proofs.Lists.{length-list, list-cong, getD-list}
 use Rattle.modular.specs.Modulo.{remainder}
 use Rattle.modular.proofs.Congruence.{same-refl, same-sym, same-mod, same-add, same-mul, same-negative}
 use Rattle.ring.specs.Poly.{Poly, plus, minus, scale, modulo}
-use Rattle.ring.specs.Slots.{list, encode}
+use Rattle.ring.specs.Slots.{encode}
 use Rattle.ring.specs.Ternary.{meaning, ternary}
-use Rattle.ring.proofs.Bridge.{length-list, list-cong, getD-list, encode-cong}
-use Rattle.call.proofs.Writing.{written-behind}
+use Rattle.ring.proofs.Bridge.{encode-cong}
 use Rattle.vector.specs.Vector.{vector, subtract}
 use Rattle.vector.proofs.Vectors.{length-vector}
 use Rattle.vector.proofs.Gathers.{component-lt}

@@ -5,8 +5,8 @@ use mathlib.Core.List.{List}
 use Prim.Native.Nat.{ℕ, _+_, _*_}
 use lib.ListN.{length, getD, take}
 use Rattle.codec.specs.Bytes.{Bytes}
+use Rattle.codec.specs.Lists.{allBelow}
 use Rattle.ring.specs.Poly.{Poly, plus, minus}
-use Rattle.ring.specs.Slots.{allBelow}
 use Rattle.ring.specs.Ternary.{ternary}
 use Rattle.commitment.specs.Commitment.{Three, threeOf, plus3, minus3}
 use Rattle.vector.specs.Vector.{vector, subtract}

@@ -6,9 +6,8 @@ use native.Mathlib.Omega.{arith}
 use lib.ListN.{length, getD, length-append}
 use lib.Seq.{take-suc}
 use Rattle.codec.specs.Bytes.{Bytes, Octets, bytes, number, part, put}
-use Rattle.codec.proofs.Laws.{length-part, octets-part, part-whole, put-whole}
+use Rattle.codec.proofs.Laws.{length-part, octets-part, part-whole, put-whole, written-behind}
 use Rattle.codec.proofs.Numbers.{length-bytes, number-bytes, bytes-number}
-use Rattle.call.proofs.Writing.{written-behind}
 use Rattle.digests.specs.Digests.{concatenated}
 use Rattle.digests.proofs.Laws.{concatenated-append}
 use Rattle.session.specs.declared.Session.{Session}

@@ -1,14 +1,13 @@
 -- The lane in column x of row y after each step mapping, for x and y below 5, and that lanes stay below 2^64. Assumes nothing.
 use mathlib.Core.Path.{_≡_, refl, ap, _∙_}
-use mathlib.Core.Bool.{Bool, true, false, _&&_}
-use mathlib.Core.List.{List, [], _∷_}
+use mathlib.Core.List.{[]}
 use Prim.Native.Nat.{ℕ, zero, suc, _+_, _*_, _%_, _^_, _<_}
 use native.Mathlib.Omega.{arith}
-use borrow.Author.Tests.{ltb-true}
 use lib.Bits.{bitXor, bitAnd, xor-lt, and-lt}
-use lib.Dec.{ltb}
 use lib.ListN.{length, getD, set}
 use lib.Seq.{getD-set-same, getD-set-other}
+use Rattle.codec.specs.Lists.{allBelow}
+use Rattle.codec.proofs.Lists.{allBelow-at}
 use Rattle.keccak.specs.Keccak.{Row, State, lane, five, offsets, constants, rotate, complement, xorRow, parity, effect, theta, rho, rhoRow, pi, chi, chiRow, iota, round, rounds}
 use Rattle.keccak.proofs.Bits.{rotate-lt}
 
@@ -37,30 +36,15 @@ pub xor-row-at : (r d : Row) (x : ℕ) → x < 5 → getD (xorRow r d) x 0 ≡ b
 unfolding xorRow
 xor-row-at r d x h = at-five (λ k. bitXor (getD r k 0) (getD d k 0)) 0 x h
 
--- ---- every number of a table is below m: a test that is computed over the whole table
-
-below : ℕ → List ℕ → Bool
-below m [] = true
-below m (n ∷ ns) = ltb n m && below m ns
-
-both : (a b : Bool) → (a && b) ≡ true → (a ≡ true) × (b ≡ true)
-both true true e = (refl, refl)
-both true false e = (refl, e)
-both false b e = (e, absurd (let z : _≡_ {A = ℕ} 0 1 = cc in omega arith))
-
-below-at : (m : ℕ) → 0 < m → (l : List ℕ) → below m l ≡ true → (k : ℕ) → getD l k 0 < m
-unfolding below
-below-at m h [] e k = h
-below-at m h (n ∷ l) e zero = ltb-true n m (both (ltb n m) (below m l) e .0)
-below-at m h (n ∷ l) e (suc k) = below-at m h l (both (ltb n m) (below m l) e .1) k
+-- ---- every offset is below 64: a test that is computed over the whole table
 
 pub offset-lt : (x y : ℕ) → y < 5 → lane offsets x y < 64
-unfolding below
-offset-lt x zero h = below-at 64 (omega arith) (getD offsets 0 []) refl x
-offset-lt x (suc zero) h = below-at 64 (omega arith) (getD offsets 1 []) refl x
-offset-lt x (suc (suc zero)) h = below-at 64 (omega arith) (getD offsets 2 []) refl x
-offset-lt x (suc (suc (suc zero))) h = below-at 64 (omega arith) (getD offsets 3 []) refl x
-offset-lt x (suc (suc (suc (suc zero)))) h = below-at 64 (omega arith) (getD offsets 4 []) refl x
+unfolding allBelow
+offset-lt x zero h = allBelow-at 64 (omega arith) (getD offsets 0 []) refl x
+offset-lt x (suc zero) h = allBelow-at 64 (omega arith) (getD offsets 1 []) refl x
+offset-lt x (suc (suc zero)) h = allBelow-at 64 (omega arith) (getD offsets 2 []) refl x
+offset-lt x (suc (suc (suc zero))) h = allBelow-at 64 (omega arith) (getD offsets 3 []) refl x
+offset-lt x (suc (suc (suc (suc zero)))) h = allBelow-at 64 (omega arith) (getD offsets 4 []) refl x
 offset-lt x (suc (suc (suc (suc (suc y))))) h = absurd (omega arith)
 
 module _ (s : State) (w : Words s) where
@@ -155,8 +139,8 @@ module _ (s : State) (w : Words s) where
 
 -- the constants are below 2^64
 pub constant-lt : (n : ℕ) → getD constants n 0 < 2 ^ 64
-unfolding below
-constant-lt n = below-at (2 ^ 64) (omega arith) constants refl n
+unfolding allBelow
+constant-lt n = allBelow-at (2 ^ 64) (omega arith) constants refl n
 
 -- ---- a round, and all of them
 

@@ -1,8 +1,8 @@
 -- FIPS 202's own rule for the table of constants in `Keccak.antt`, and that the table is what it gives: both sides are computed. Assumes nothing.
 use mathlib.Core.Path.{_≡_, refl}
-use mathlib.Core.List.{List, [], _∷_, _++_}
 use Prim.Native.Nat.{ℕ, zero, suc, _+_, _*_, _/_, _%_, _^_}
 use lib.Bits.{bitXor}
+use Rattle.codec.specs.Lists.{list}
 use Rattle.keccak.specs.Keccak.{constants}
 
 -- ---- 3.2.5, algorithm 5: a register of eight bits, R[0] lowest, that is shifted up; where R[8] is set, R[0], R[4], R[5] and R[6] change
@@ -25,11 +25,6 @@ constant k =
     rc (7 * k) * 2 ^ 0 + rc (1 + 7 * k) * 2 ^ 1 + rc (2 + 7 * k) * 2 ^ 3 + rc (3 + 7 * k) * 2 ^ 7 + rc (4 + 7 * k) * 2 ^ 15
     + rc (5 + 7 * k) * 2 ^ 31 + rc (6 + 7 * k) * 2 ^ 63
 
--- f at 0 .. n - 1
-unfoldable pub upto : ℕ → (ℕ → ℕ) → List ℕ
-upto zero f = []
-upto (suc n) f = upto n f ++ (f n ∷ [])
-
-pub constants-rule : upto 24 constant ≡ constants
-unfolding upto constant rc register reduce
+pub constants-rule : list 24 constant ≡ constants
+unfolding list constant rc register reduce
 constants-rule = refl

@@ -10,9 +10,10 @@ use Rattle.codec.specs.Reply.{first}
 use Rattle.codec.specs.declared.Reply.{Reply}
 use Rattle.codec.specs.declared.Reply.the-variants.{Taken}
 use Rattle.codec.proofs.Laws.{both}
+use Rattle.codec.specs.Lists.{list, allBelow}
+use Rattle.codec.proofs.Lists.{allBelow-sound}
 use Rattle.ring.specs.Poly.{Below}
-use Rattle.ring.specs.Slots.{poly, list, allBelow}
-use Rattle.ring.proofs.Ranges.{allBelow-sound}
+use Rattle.ring.specs.Slots.{poly}
 use Rattle.call.specs.Call.{bytesBelow, coefficientsBelow, Polynomial}
 use Rattle.call.proofs.Order.{length-at, passed}
 use Rattle.scheme.specs.Calls.{keygenTests, splitTests}

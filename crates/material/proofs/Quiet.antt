@@ -4,9 +4,10 @@ use Prim.Native.Nat.{ℕ, suc, _%_, _^_, _<_}
 use native.Mathlib.Nat.{mod-mod}
 use lib.IntN.{natAbs}
 use Rattle.codec.specs.Bytes.{Bytes}
+use Rattle.codec.specs.Lists.{allBelow}
+use Rattle.codec.proofs.Lists.{list-cong}
 use Rattle.ring.specs.Poly.{Poly, Alike}
-use Rattle.ring.specs.Slots.{poly, allBelow}
-use Rattle.ring.proofs.Bridge.{list-cong}
+use Rattle.ring.specs.Slots.{poly}
 use Rattle.call.specs.Call.{Stands}
 use Rattle.call.proofs.Slots.{stands-poly}
 use Rattle.bgv.specs.Scheme.{centred, within}

@@ -9,8 +9,8 @@ use Rattle.codec.specs.Reply.{first, None}
 use Rattle.codec.specs.declared.Reply.the-variants.{Taken}
 use Rattle.codec.proofs.Laws.{both}
 use Rattle.codec.proofs.Replies.{taken-exactly}
+use Rattle.codec.specs.Lists.{list, allBelow}
 use Rattle.ring.specs.Poly.{Below}
-use Rattle.ring.specs.Slots.{list, allBelow}
 use Rattle.ring.proofs.Ranges.{below-sound}
 use Rattle.call.specs.Call.{Polynomial}
 use Rattle.call.proofs.Ranges.{ranged}

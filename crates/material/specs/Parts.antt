@@ -5,8 +5,9 @@ use mathlib.Core.List.{List, [], _∷_}
 use Prim.Native.Nat.{ℕ, _+_, _*_}
 use Rattle.codec.specs.Bytes.{Bytes, part, same}
 use Rattle.codec.specs.Reply.{Test, test}
+use Rattle.codec.specs.Lists.{list, allBelow}
 use Rattle.ring.specs.Poly.{modulo}
-use Rattle.ring.specs.Slots.{poly, list, encode, allBelow}
+use Rattle.ring.specs.Slots.{poly, encode}
 use Rattle.ring.specs.Ternary.{ternary}
 use Rattle.bgv.specs.Scheme.{centred, key, opened, lentMask, within}
 use Rattle.vector.specs.Vector.{vector}

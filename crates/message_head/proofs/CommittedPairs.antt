@@ -5,7 +5,7 @@ use Prim.Native.Nat.{ℕ, _+_, _*_, _^_, _≤_, _<_}
 use native.Mathlib.Omega.{arith}
 use lib.ListN.{length, take, drop, length-append}
 use Rattle.codec.specs.Bytes.{Bytes, part, put}
-use Rattle.codec.proofs.Laws.{part-part}
+use Rattle.codec.proofs.Laws.{part-part, written-behind}
 use Rattle.modular.proofs.Congruence.{same-mod, same-eq, _then_}
 use Rattle.ring.specs.Poly.{Poly, minus, modulo, Alike, Below}
 use Rattle.ring.specs.Slots.{poly, slot, encode, store}
@@ -13,7 +13,6 @@ use Rattle.ring.specs.Ternary.{ternary}
 use Rattle.ring.proofs.Bridge.{encode-alike}
 use Rattle.ring.proofs.Polynomials.{alike-refl}
 use Rattle.call.specs.Call.{Polynomial}
-use Rattle.call.proofs.Writing.{written-behind}
 use Rattle.call.proofs.Loads.{Loaded, ternary-load, loaded-asks, subtracted}
 use Rattle.bgv.specs.Scheme.{other}
 use Rattle.commitment.specs.Commitment.{Keys, Pair, keysOf, threeOf, threeAt, committed, pairBytes, PairStands, withThree}

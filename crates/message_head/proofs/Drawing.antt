@@ -8,8 +8,8 @@ use native.Mathlib.Omega.{arith}
 use lib.ListN.{length, take, drop, length-append}
 use Rattle.codec.specs.Bytes.{Bytes, part, put}
 use Rattle.codec.proofs.Laws.{length-part}
+use Rattle.codec.specs.Lists.{allBelow}
 use Rattle.sha3.proofs.Squeezing.{length-sha3}
-use Rattle.ring.specs.Slots.{allBelow}
 use Rattle.commitment.specs.Commitment.{Keys}
 use Rattle.vector.specs.Vector.{vector}
 use Rattle.stern.specs.Argument.{Drawn, First, first}

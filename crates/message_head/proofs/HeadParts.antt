@@ -5,11 +5,11 @@ use Prim.Native.Nat.{ℕ, _*_, _≤_}
 use native.Mathlib.Omega.{arith}
 use lib.ListN.{length, length-append}
 use Rattle.codec.specs.Bytes.{Bytes, part, put}
+use Rattle.codec.proofs.Laws.{written-behind}
 use Rattle.ring.specs.Poly.{Poly, modulo}
 use Rattle.ring.specs.Slots.{poly}
 use Rattle.ring.specs.Ternary.{ternary}
 use Rattle.ring.proofs.Bridge.{length-encode}
-use Rattle.call.proofs.Writing.{written-behind}
 use Rattle.bgv.specs.Scheme.{key, other}
 use Rattle.commitment.specs.Commitment.{keysOf}
 use Rattle.scheme.specs.Calls.{written}

@@ -6,8 +6,7 @@ use native.Mathlib.Numerals.{add-one}
 use native.Mathlib.Omega.{arith}
 use lib.ListN.{length, take, drop, length-append}
 use Rattle.codec.specs.Bytes.{Bytes, part, put}
-use Rattle.codec.proofs.Laws.{put-none, put-whole}
-use Rattle.call.proofs.Writing.{written-behind}
+use Rattle.codec.proofs.Laws.{put-none, put-whole, written-behind}
 use Rattle.transcript.specs.Layout.{joined}
 
 pub cut : (s : Bytes) (at m n : ℕ) → m ≡ n → take m (drop at s) ≡ part s at n

@@ -6,10 +6,12 @@ use native.Mathlib.Nat.{mul-zero, mul-add, mul-one, mul-le-mul}
 use native.Mathlib.Omega.{arith}
 use lib.ListN.{length}
 use Rattle.codec.specs.Bytes.{Bytes, part, put}
+use Rattle.codec.specs.Lists.{list}
+use Rattle.codec.proofs.Lists.{length-list}
 use Rattle.ring.specs.Poly.{Poly, Below}
-use Rattle.ring.specs.Slots.{poly, slot, list}
+use Rattle.ring.specs.Slots.{poly, slot}
 use Rattle.ring.specs.Ternary.{ternary}
-use Rattle.ring.proofs.Bridge.{length-list, length-encode}
+use Rattle.ring.proofs.Bridge.{length-encode}
 use Rattle.bgv.specs.Scheme.{decrypted, other, lentMask, share}
 use Rattle.scheme.specs.Calls.{written}
 use Rattle.transcript.specs.Layout.{joined, ballotLength, uAt, vAt}

@@ -2,10 +2,12 @@
 use mathlib.Core.Path.{_≡_, sym, ap, ap₂, _∙_}
 use Prim.Native.Nat.{ℕ}
 use Rattle.codec.specs.Bytes.{Bytes}
+use Rattle.codec.specs.Lists.{list}
+use Rattle.codec.proofs.Lists.{list-cong}
 use Rattle.modular.specs.Modulo.{remainder}
 use Rattle.ring.specs.Poly.{Poly, plus, minus, scale, mul, modulo, Alike}
-use Rattle.ring.specs.Slots.{list, encode}
-use Rattle.ring.proofs.Bridge.{list-cong, encode-alike}
+use Rattle.ring.specs.Slots.{encode}
+use Rattle.ring.proofs.Bridge.{encode-alike}
 use Rattle.ring.proofs.Polynomials.{minus-mul, alike-eq, alike-refl, _so_, alike-plus, alike-minus}
 use Rattle.bgv.specs.Scheme.{Wholes, noisy, residues, opened, plain, decrypted, other, lentMask, share}
 use Rattle.bgv.proofs.Form.{noisy-alike, opened-alike}

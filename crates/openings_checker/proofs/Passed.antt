@@ -6,7 +6,7 @@ use borrow.Author.Tests.{ltb-true}
 use lib.Dec.{ltb}
 use Rattle.codec.specs.Bytes.{Bytes}
 use Rattle.codec.proofs.Laws.{both}
-use Rattle.ring.specs.Slots.{allBelow}
+use Rattle.codec.specs.Lists.{allBelow}
 use Rattle.call.specs.Call.{Polynomial}
 use Rattle.vector.specs.Vector.{vector}
 use Rattle.stern.specs.Shortness.{inRange}

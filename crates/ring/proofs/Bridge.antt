@@ -1,47 +1,20 @@
--- The one bridge between a polynomial as coefficients, as a list and as bytes, and the laws of slots. Assumes nothing.
+-- The one bridge between a polynomial as coefficients and as bytes, and the laws of slots. Assumes nothing.
 use mathlib.Core.Path.{_≡_, refl, sym, ap, ap₂, _∙_}
 use mathlib.Core.Logic.{_⊎_, inl, inr}
-use mathlib.Core.List.{List, [], _∷_, _++_, append-nil}
+use mathlib.Core.List.{[], _∷_, _++_, append-nil}
 use Prim.Native.Nat.{ℕ, zero, suc, _+_, _*_, _%_, _^_, _≤_, _<_}
 use native.Mathlib.Nat.{mod-lt, zero-add}
 use native.Mathlib.Numerals.{add-one}
 use native.Mathlib.Omega.{arith}
-use lib.ListN.{length, take, drop, getD, length-append, length-replicate, length-drop}
-use lib.Seq.{take-all, take-add, drop-at, take-append-le, drop-append-le, getD-take, getD-drop, getD-at, ext-getD}
+use lib.ListN.{length, take, drop, length-replicate, length-drop}
+use lib.Seq.{take-all, take-add, drop-at, take-append-le, drop-append-le, getD-take, getD-drop}
 use Rattle.codec.specs.Bytes.{Bytes, Octets, bytes, words, number, part, put, zeros}
-use Rattle.codec.proofs.Laws.{length-part, part-part, length-put, put-put, part-put, part-put-before, part-put-after}
+use Rattle.codec.proofs.Laws.{length-part, part-part, length-put, put-put, part-put, part-put-before, part-put-after, le-or}
+pub use Rattle.codec.proofs.Lists.{length-list, list-cong, getD-list, list-getD}
 use Rattle.codec.proofs.Numbers.{length-bytes, number-bytes, bytes-number, length-words, words-append}
+use Rattle.codec.specs.Lists.{list}
 use Rattle.ring.specs.Poly.{Poly, modulo, Alike, Below}
-use Rattle.ring.specs.Slots.{poly, slot, list, encode, store}
-use Rattle.ring.proofs.Sums.{side}
-
--- ---- coefficients and lists
-
-pub length-list : (n : ℕ) (a : Poly) → length (list n a) ≡ n
-unfolding list
-length-list zero a = refl
-length-list (suc n) a = simp length-append (omega (arith, length-list n a))
-
-pub list-cong : (n : ℕ) {a b : Poly} → ((k : ℕ) → k < n → a k ≡ b k) → list n a ≡ list n b
-unfolding list
-list-cong zero h = refl
-list-cong (suc n) h = ap₂ (λ (l : List ℕ) (x : ℕ). l ++ (x ∷ [])) (list-cong n (λ k l. h k (omega arith))) (h n (omega arith))
-
--- written as a list, then read
-pub getD-list : (n : ℕ) (a : Poly) (k : ℕ) → k < n → getD (list n a) k 0 ≡ a k
-unfolding list
-getD-list zero a k h = absurd (omega arith)
-getD-list (suc n) a k h = go (λ l. getD-list n a k l) (side n k)
-  where
-    go : (k < n → getD (list n a) k 0 ≡ a k) → (n ≤ k) ⊎ (k < n) → getD (list n a ++ (a n ∷ [])) k 0 ≡ a k
-    go r (inl e) = getD-at (list n a) (a n) [] 0 k (omega (arith, length-list n a)) ∙ ap a (omega arith)
-    go r (inr l) = lib.ListN.List·getD-append (list n a) (a n ∷ []) 0 k (omega (arith, length-list n a)) ∙ r l
-
--- read, then written as a list
-pub list-getD : (xs : List ℕ) → list (length xs) (λ k. getD xs k 0) ≡ xs
-list-getD xs =
-    ext-getD 0 (list (length xs) (λ k. getD xs k 0)) xs (length-list (length xs) _)
-    (λ k h. getD-list (length xs) (λ k. getD xs k 0) k (omega (arith, length-list (length xs) (λ k. getD xs k 0))))
+use Rattle.ring.specs.Slots.{poly, slot, encode, store}
 
 -- ---- coefficients and bytes
 
@@ -73,7 +46,7 @@ part-left s t at n h = rw (drop-append-le at s t (omega arith)) (take-append-le 
 -- the 8 bytes of a coefficient
 pub part-encode : (n : ℕ) (a : Poly) (k : ℕ) → k < n → part (encode n a) (8 * k) 8 ≡ bytes 8 (a k)
 part-encode zero a k h = absurd (omega arith)
-part-encode (suc n) a k h = rw (← add-one n, encode-more n a) (go (λ l. part-encode n a k l) (side n k))
+part-encode (suc n) a k h = rw (← add-one n, encode-more n a) (go (λ l. part-encode n a k l) (le-or n k))
   where
     go : (k < n → part (encode n a) (8 * k) 8 ≡ bytes 8 (a k)) → (n ≤ k) ⊎ (k < n) → part (encode n a ++ bytes 8 (a n)) (8 * k) 8 ≡ bytes 8 (a k)
     go r (inl e) =

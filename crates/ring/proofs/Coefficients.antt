@@ -11,7 +11,8 @@ use lib.Dec.{leb}
 use Rattle.modular.specs.Modulo.{Same}
 use Rattle.modular.proofs.Congruence.{same-refl, same-mul}
 use Rattle.ring.specs.Poly.{Poly, sum, turn, coefficient, one-poly}
-use Rattle.ring.proofs.Sums.{side, sum-cong, sum-same, sum-add, sum-scale, sum-swap, sum-only}
+use Rattle.codec.proofs.Laws.{le-or}
+use Rattle.ring.proofs.Sums.{sum-cong, sum-same, sum-add, sum-scale, sum-swap, sum-only}
 
 -- ---- the turn
 
@@ -50,7 +51,7 @@ module _ (q N : ℕ) (c : Poly) (k i j : ℕ) where
 
   twice-one : i < N → j < N → k < i + j → i + j ≤ N + k → twice ≡ (q - 1) * c (N + k - (i + j))
   unfolding twice
-  twice-one hi hj h l = go (side i k)
+  twice-one hi hj h l = go (le-or i k)
     where
       go : (i ≤ k) ⊎ (k < i) → turn q N (λ m. turn q N c m j) k i ≡ (q - 1) * c (N + k - (i + j))
       go (inl e) = turn-low q N _ k i e ∙ turn-high q N c (k - i) j (omega arith) ∙ ap (λ (x : ℕ). (q - 1) * c x) (omega arith)
@@ -62,7 +63,7 @@ module _ (q N : ℕ) (c : Poly) (k i j : ℕ) where
       turn-high q N _ k i (omega arith) ∙ ap (λ (x : ℕ). (q - 1) * x) (turn-high q N c (N + k - i) j (omega arith) ∙ ap (λ (x : ℕ). (q - 1) * c x) (omega arith))
 
 turn-turn : (q N : ℕ) (c : Poly) (k i j : ℕ) → i < N → j < N → twice q N c k i j ≡ twice q N c k j i
-turn-turn q N c k i j hi hj = go (side (i + j) k) (side (i + j) (N + k))
+turn-turn q N c k i j hi hj = go (le-or (i + j) k) (le-or (i + j) (N + k))
   where
     s : i + j ≡ j + i
     s = add-comm i j
@@ -78,7 +79,7 @@ turn-turn q N c k i j hi hj = go (side (i + j) k) (side (i + j) (N + k))
 -- it goes by the N coefficients
 pub coefficient-cong : (q N : ℕ) {a a' b b' : Poly} → ((i : ℕ) → i < N → a i ≡ a' i) → ((i : ℕ) → i < N → b i ≡ b' i) → (k : ℕ) → k < N → coefficient q N a b k ≡ coefficient q N a' b' k
 unfolding coefficient
-coefficient-cong q N {a} {a'} {b} {b'} ha hb k hk = sum-cong N (λ i l. ap₂ (λ (x y : ℕ). x * y) (ha i l) (go i l (side i k)))
+coefficient-cong q N {a} {a'} {b} {b'} ha hb k hk = sum-cong N (λ i l. ap₂ (λ (x y : ℕ). x * y) (ha i l) (go i l (le-or i k)))
   where
     go : (i : ℕ) → i < N → (i ≤ k) ⊎ (k < i) → turn q N b k i ≡ turn q N b' k i
     go i l (inl h) = turn-low q N b k i h ∙ hb (k - i) (omega arith) ∙ sym (turn-low q N b' k i h)
@@ -109,7 +110,7 @@ one-off i e = rw (ne-eqb i 0 e)
 pub coefficient-one : (q N : ℕ) (a : Poly) (k : ℕ) → k < N → coefficient q N a one-poly k ≡ a k
 unfolding coefficient
 coefficient-one q N a k h =
-    sum-only N (λ i. a i * turn q N one-poly k i) k h (λ i l d. ap (λ (x : ℕ). a i * x) (off i l d (side i k)) ∙ mul-zero (a i))
+    sum-only N (λ i. a i * turn q N one-poly k i) k h (λ i l d. ap (λ (x : ℕ). a i * x) (off i l d (le-or i k)) ∙ mul-zero (a i))
     ∙ ap (λ (x : ℕ). a k * x) (turn-low q N one-poly k k (omega arith) ∙ one-at (k - k) (omega arith)) ∙ omega (arith, mul-one (a k))
   where
     off : (i : ℕ) → i < N → i ≢ k → (i ≤ k) ⊎ (k < i) → turn q N one-poly k i ≡ 0
@@ -145,7 +146,7 @@ coefficient-scale q N p a b k = sum-cong N (λ i l. mul-assoc _ _ _) ∙ sum-sca
 -- ---- the product goes by what the N coefficients are modulo q
 
 pub turn-same : (q N : ℕ) {b c : Poly} → ((i : ℕ) → i < N → Same q (b i) (c i)) → (k i : ℕ) → k < N → i < N → Same q (turn q N b k i) (turn q N c k i)
-turn-same q N {b} {c} h k i hk hi = go (side i k)
+turn-same q N {b} {c} h k i hk hi = go (le-or i k)
   where
     go : (i ≤ k) ⊎ (k < i) → Same q (turn q N b k i) (turn q N c k i)
     go (inl e) = rw (turn-low q N b k i e, turn-low q N c k i e) (h (k - i) (omega arith))

@@ -1,44 +1,24 @@
 -- Range tests and counts: what their answers mean, and one number more. Assumes nothing.
-use mathlib.Core.Path.{_≡_, refl, ap, _∙_}
+use mathlib.Core.Path.{_≡_, ap, _∙_}
 use mathlib.Core.Bool.{Bool, true, false, cond}
 use mathlib.Core.List.{List, [], _∷_, _++_}
-use Prim.Native.Nat.{ℕ, zero, suc, _+_, _≤_, _<_}
+use Prim.Native.Nat.{ℕ, suc, _+_, _≤_, _<_}
 use native.Mathlib.Nat.{add-zero}
 use native.Mathlib.Numerals.{add-one}
 use native.Mathlib.Omega.{arith}
-use borrow.Author.Tests.{ltb-true, lt-ltb}
-use lib.Dec.{ltb, eqb}
+use lib.Dec.{eqb}
 use lib.ListN.{length, take, getD}
 use lib.Seq.{take-suc}
 use Rattle.codec.specs.Bytes.{Bytes}
-use Rattle.codec.proofs.Laws.{both}
+pub use Rattle.codec.proofs.Lists.{allBelow-sound, allBelow-complete, not-allBelow}
 use Rattle.modular.proofs.Centring.{remainder-lt}
 use Rattle.ring.specs.Poly.{Poly, Below}
-use Rattle.ring.specs.Slots.{list, allBelow}
 use Rattle.ring.specs.Ternary.{meaning, ternary, count}
-use Rattle.ring.proofs.Bridge.{length-list, getD-list}
+use Rattle.codec.proofs.Lists.{length-list, getD-list}
+use Rattle.codec.specs.Lists.{list, allBelow}
 
--- ---- a range test is sound and complete
+-- ---- the range test of a polynomial
 
-pub allBelow-sound : (v : ℕ) (xs : List ℕ) → allBelow v xs ≡ true → (i : ℕ) → i < length xs → getD xs i 0 < v
-unfolding allBelow
-allBelow-sound v [] e i h = absurd (omega arith)
-allBelow-sound v (x ∷ xs) e zero h = ltb-true x v (both (ltb x v) (allBelow v xs) e .0)
-allBelow-sound v (x ∷ xs) e (suc i) h = allBelow-sound v xs (both (ltb x v) (allBelow v xs) e .1) i (omega arith)
-
-pub allBelow-complete : (v : ℕ) (xs : List ℕ) → ((i : ℕ) → i < length xs → getD xs i 0 < v) → allBelow v xs ≡ true
-unfolding allBelow
-allBelow-complete v [] h = refl
-allBelow-complete v (x ∷ xs) h = rw (lt-ltb x v (h 0 (omega arith))) (allBelow-complete v xs (λ i l. h (suc i) (omega arith)))
-
-pub not-allBelow : (v : ℕ) (xs : List ℕ) (i : ℕ) → i < length xs → v ≤ getD xs i 0 → allBelow v xs ≡ false
-not-allBelow v xs i h l = go (allBelow v xs) refl
-  where
-    go : (b : Bool) → allBelow v xs ≡ b → b ≡ false
-    go true e = absurd (omega (arith, allBelow-sound v xs e i h))
-    go false e = refl
-
--- of a polynomial
 pub below-sound : (q n : ℕ) (a : Poly) → allBelow q (list n a) ≡ true → Below q n a
 below-sound q n a e = record { at = λ k l. rw (← getD-list n a k l) (allBelow-sound q (list n a) e k (omega (arith, length-list n a))) }
 

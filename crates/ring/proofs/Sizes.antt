@@ -9,13 +9,13 @@ use lib.Dec.{eqb}
 use lib.IntN.{natAbs}
 use lib.ListN.{getD}
 use Rattle.codec.specs.Bytes.{Bytes}
+use Rattle.codec.proofs.Laws.{le-or}
 use Rattle.modular.specs.Modulo.{centre, remainder}
 use Rattle.modular.proofs.Congruence.{same-refl, same-eq, _then_, same-more}
 use Rattle.modular.proofs.Centring.{Near, near-centre, near-size}
 use Rattle.modular.proofs.Near.{near-le, near-add, near-negative, near-mul}
 use Rattle.ring.specs.Poly.{Poly, sum, turn, coefficient, mul}
 use Rattle.ring.specs.Ternary.{meaning, ternary}
-use Rattle.ring.proofs.Sums.{side}
 use Rattle.ring.proofs.Coefficients.{turn-low, turn-high}
 use Rattle.ring.proofs.Polynomials.{mul-at}
 
@@ -27,7 +27,7 @@ near-sum {q} {K} (suc n) f h = near-le (omega (arith, suc-mul n K)) (near-add (n
 -- coefficients of size K and L give a product with coefficients of size N K L
 pub near-product : {q N K L : ℕ} (a b : Poly) → 0 < q → ((i : ℕ) → i < N → Near q K (a i)) → ((i : ℕ) → i < N → Near q L (b i)) → (k : ℕ) → k < N → Near q (N * (K * L)) (mul q N a b k)
 unfolding coefficient
-near-product {q} {N} {K} {L} a b h ha hb k l = rw (mul-at q N a b k l) (near-sum N _ (λ i m. near-mul (ha i m) (turned i m (side i k))))
+near-product {q} {N} {K} {L} a b h ha hb k l = rw (mul-at q N a b k l) (near-sum N _ (λ i m. near-mul (ha i m) (turned i m (le-or i k))))
   where
     turned : (i : ℕ) → i < N → (i ≤ k) ⊎ (k < i) → Near q L (turn q N b k i)
     turned i m (inl e) = rw (turn-low q N b k i e) (hb (k - i) (omega arith))

@@ -7,19 +7,19 @@ use native.Mathlib.Nat.{mod-lt}
 use native.Mathlib.Omega.{arith}
 use lib.ListN.{length, length-append, length-replicate}
 use Rattle.codec.specs.Bytes.{Bytes, put, zeros}
-use Rattle.codec.proofs.Laws.{length-put, put-append, put-put}
+use Rattle.codec.proofs.Laws.{length-put, put-append, put-put, le-or}
 use Rattle.modular.proofs.Congruence.{same-eq, _then_, same-mod, same-mul}
 use Rattle.codec.proofs.Apart.{put-comm}
 use Rattle.ring.specs.Poly.{Poly, sum, turn, coefficient, mul, modulo, Alike, Below}
 use Rattle.ring.specs.Slots.{slot, encode, store, Slots}
-use Rattle.ring.proofs.Sums.{side, sum-same}
+use Rattle.ring.proofs.Sums.{sum-same}
 use Rattle.ring.proofs.Coefficients.{turn-low, turn-high}
 use Rattle.ring.proofs.Polynomials.{mul-at}
 use Rattle.ring.proofs.Bridge.{length-encode, poly-encode, slot-later, slot-put, slot-put-before, slot-store, length-store, store-alike}
 
 -- each coefficient takes its terms from one row
 turn-row : (q n : ℕ) (a : Poly) (k i : ℕ) → k < n → i < n → turn q n a (n - 1) (n - 1 - k + i) ≡ turn q n a k i
-turn-row q n a k i hk hi = go (side i k)
+turn-row q n a k i hk hi = go (le-or i k)
   where
     go : (i ≤ k) ⊎ (k < i) → turn q n a (n - 1) (n - 1 - k + i) ≡ turn q n a k i
     go (inl e) =
@@ -63,7 +63,7 @@ module _ (q n : ℕ) (w : Bytes) (at room : ℕ) (a : Poly) (positive : 0 < q) (
       ∙ slot-store q (2 * n) w room (turn q n a (n - 1)) (omega arith) positive (omega arith) j l
 
   pub below-laid : Below q (3 * n) (slot laid room)
-  below-laid = record { at = λ k l. go k l (side (2 * n) k) }
+  below-laid = record { at = λ k l. go k l (le-or (2 * n) k) }
     where
       go : (k : ℕ) → k < 3 * n → (2 * n ≤ k) ⊎ (k < 2 * n) → slot laid room k < q
       go k l (inl e) =

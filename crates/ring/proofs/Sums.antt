@@ -2,19 +2,12 @@
 use mathlib.Core.Path.{_≡_, refl, sym, ap, ap₂, _∙_}
 use mathlib.Core.Logic.{_⊎_, inl, inr, _≢_}
 use Prim.Native.Nat.{ℕ, zero, suc, _+_, _*_, _≤_, _<_}
-use native.Mathlib.Nat.{add-assoc, mul-add, add-zero, zero-add, add-suc, mul-zero, lt-of-not-le}
-use native.Mathlib.Decide.{decLe}
+use native.Mathlib.Nat.{add-assoc, mul-add, add-zero, zero-add, add-suc, mul-zero}
 use native.Mathlib.Omega.{arith}
+use Rattle.codec.proofs.Laws.{le-or}
 use Rattle.modular.specs.Modulo.{Same}
 use Rattle.modular.proofs.Congruence.{same-refl, same-add}
 use Rattle.ring.specs.Poly.{sum}
-
-pub side : (m n : ℕ) → (m ≤ n) ⊎ (n < m)
-side m n = go (decLe m n)
-  where
-    go : Dec (m ≤ n) → (m ≤ n) ⊎ (n < m)
-    go (yes h) = inl h
-    go (no h) = inr (lt-of-not-le h)
 
 pub sum-cong : (n : ℕ) {f g : ℕ → ℕ} → ((i : ℕ) → i < n → f i ≡ g i) → sum n f ≡ sum n g
 unfolding sum
@@ -55,7 +48,7 @@ sum-swap (suc n) m f = ap (λ (x : ℕ). x + sum m (λ j. f n j)) (sum-swap n m 
 pub sum-only : (n : ℕ) (f : ℕ → ℕ) (k : ℕ) → k < n → ((i : ℕ) → i < n → i ≢ k → f i ≡ 0) → sum n f ≡ f k
 unfolding sum
 sum-only zero f k h z = absurd (omega arith)
-sum-only (suc n) f k h z = go (λ e. sum-only n f k e (λ i l d. z i (omega arith) d)) (side n k)
+sum-only (suc n) f k h z = go (λ e. sum-only n f k e (λ i l d. z i (omega arith) d)) (le-or n k)
   where
     go : (k < n → sum n f ≡ f k) → (n ≤ k) ⊎ (k < n) → sum n f + f n ≡ f k
     go r (inl e) = ap₂ (λ (x y : ℕ). x + y) (sum-cong n (λ i l. z i (omega arith) (λ d. omega arith)) ∙ sum-zero n) (ap f (omega arith)) ∙ zero-add (f k)

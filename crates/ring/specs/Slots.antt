@@ -1,11 +1,9 @@
 -- The polynomial as coefficients, as a list and as bytes, and slots of 8N bytes in scratch (document 01, "Layouts"). Assumes nothing.
-use mathlib.Core.Bool.{Bool, true, _&&_}
-use mathlib.Core.List.{List, [], _∷_, _++_}
 use mathlib.Core.Logic.{_⊎_}
-use Prim.Native.Nat.{ℕ, zero, suc, _+_, _*_, _≤_}
-use lib.Dec.{ltb}
+use Prim.Native.Nat.{ℕ, _+_, _*_, _≤_}
 use lib.ListN.{length}
 use Rattle.codec.specs.Bytes.{Bytes, words, number, signed, part, put}
+unfoldable pub use Rattle.codec.specs.Lists.{list, allBelow}
 use Rattle.modular.specs.Modulo.{remainder}
 use Rattle.ring.specs.Poly.{Poly, modulo}
 
@@ -21,26 +19,20 @@ fromSigned q s i = remainder q (signed (poly s i))
 unfoldable pub slot : Bytes → ℕ → Poly
 slot w at i = number (part w (at + 8 * i) 8)
 
--- the first n coefficients as a list
-unfoldable pub list : ℕ → Poly → List ℕ
-list zero a = []
-list (suc n) a = list n a ++ (a n ∷ [])
-
 -- the 8n bytes of a polynomial
 unfoldable pub encode : ℕ → Poly → Bytes
 encode n a = words (list n a)
 
+-- the 8n bytes of a polynomial modulo q: how every polynomial is written
+abbrev pub coefficientBytes : (q n : ℕ) → Poly → Bytes
+coefficientBytes q n a = encode n (modulo q a)
+
 -- scratch w with a modulo q in the slot at a place
 unfoldable pub store : (q n : ℕ) → Bytes → ℕ → Poly → Bytes
-store q n w at a = put w at (encode n (modulo q a))
+store q n w at a = put w at (coefficientBytes q n a)
 
 -- two slots of 8n bytes lie in scratch w and do not meet
 pub record Slots (n at from : ℕ) (w : Bytes) : Type 0 where
   pub one : at + 8 * n ≤ length w
   pub other : from + 8 * n ≤ length w
   pub apart : (from + 8 * n ≤ at) ⊎ (at + 8 * n ≤ from)
-
--- whether each number of a list is below v: the range test of coefficients (v = q) and of ternary bytes (v = 3)
-unfoldable pub allBelow : ℕ → List ℕ → Bool
-allBelow v [] = true
-allBelow v (x ∷ xs) = ltb x v && allBelow v xs

@@ -7,9 +7,10 @@ ghost use mathlib.Core.Path.{_≡_};
 ghost use Prim.Native.Nat.{_+_, _-_, _*_, _/_, _%_, _^_, _≤_, _<_};
 ghost use lib.ListN.{length};
 ghost use Rattle.codec.specs.Bytes.{put, zeros};
+ghost use Rattle.codec.specs.Lists.{list, allBelow};
 ghost use Rattle.modular.specs.Modulo.{remainder};
 ghost use Rattle.ring.specs.Poly.{mul, plus, minus, scale, Below};
-ghost use Rattle.ring.specs.Slots.{poly, fromSigned, slot, list, encode, store, Slots, allBelow};
+ghost use Rattle.ring.specs.Slots.{poly, fromSigned, slot, encode, store, Slots};
 ghost use Rattle.ring.specs.Ternary.{meaning, ternary, count};
 ghost use Rattle.ring.specs.Method.{sign};
 

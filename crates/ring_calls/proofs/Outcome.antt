@@ -13,9 +13,10 @@ use Rattle.codec.specs.declared.Reply.{Reply}
 use Rattle.codec.specs.declared.Reply.the-variants.{Taken, Refused}
 use Rattle.codec.proofs.Laws.{put-put}
 use Rattle.codec.proofs.Replies.{taken-exactly}
+use Rattle.codec.specs.Lists.{list, allBelow}
 use Rattle.modular.proofs.Congruence.{same-eq}
 use Rattle.ring.specs.Poly.{Poly, modulo, Alike, Below}
-use Rattle.ring.specs.Slots.{poly, slot, list, encode, store, allBelow}
+use Rattle.ring.specs.Slots.{poly, slot, encode, store}
 use Rattle.ring.proofs.Bridge.{length-encode, slot-put, encode-alike}
 use Rattle.ring.proofs.Ranges.{below-sound}
 use Rattle.ring_calls.specs.Calls.{polynomialsReply}

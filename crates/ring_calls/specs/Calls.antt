@@ -9,10 +9,11 @@ use lib.ListN.{length}
 use Rattle.codec.specs.Bytes.{Bytes, zeros}
 use Rattle.codec.specs.Reply.{test, first, leaves, packed}
 use Rattle.codec.specs.declared.Reply.{Reply}
+use Rattle.codec.specs.Lists.{list, allBelow}
 use Rattle.modular.specs.Modulo.{centre, remainder}
 use Rattle.modular.specs.Division.{divide}
-use Rattle.ring.specs.Poly.{Poly, mul, plus, minus, modulo}
-use Rattle.ring.specs.Slots.{poly, list, encode, allBelow}
+use Rattle.ring.specs.Poly.{Poly, mul, plus, minus}
+use Rattle.ring.specs.Slots.{coefficientBytes, poly}
 
 -- a number that is answered, or its refusal
 unfoldable pub answer : Reply → ℕ → ℕ
@@ -59,7 +60,7 @@ polynomialsReply operation n q w a b =
 -- the result in the first slot, and zeros in the others
 unfoldable pub polynomialsOut : (operation n q : ℕ) → Bytes → Bytes → Bytes → Bytes
 polynomialsOut operation n q w a b =
-    leaves (polynomialsReply operation n q w a b) (encode n (modulo q (onPolynomials operation n q (poly a) (poly b))) ++ zeros (24 * n)) w
+    leaves (polynomialsReply operation n q w a b) (coefficientBytes q n (onPolynomials operation n q (poly a) (poly b)) ++ zeros (24 * n)) w
 
 -- ternary bytes modulo q, and scratch of one slot
 unfoldable pub ternaryReply : ℕ → Bytes → Bytes → Reply

@@ -11,8 +11,8 @@ ghost use Rattle.codec.specs.Bytes.{zeros};
 ghost use lib.ListN.{length};
 ghost use Rattle.codec.specs.Reply.{packed, leaves, first, test};
 ghost use Rattle.modular.specs.Modulo.{centre, remainder};
-ghost use Rattle.ring.specs.Poly.{modulo, Below};
-ghost use Rattle.ring.specs.Slots.{poly, encode};
+ghost use Rattle.ring.specs.Poly.{Below};
+ghost use Rattle.ring.specs.Slots.{coefficientBytes, poly, encode};
 ghost use Rattle.ring.specs.Ternary.{ternary, count};
 ghost use Rattle.ring_calls.specs.Calls.{answer, onNumbers, numbersReply, onPolynomials, polynomialsReply, polynomialsOut, ternaryReply};
 
@@ -166,7 +166,7 @@ fn judge(operation: u64, work: &[u8], a: &[u8], b: &[u8], n: usize, q: u64) -> u
 fn compute(operation: u64, work: &mut [u8], a: &[u8], b: &[u8], n: usize, q: u64)
     requires { ⌜ (n ≤ 2048) × (0 < q) × (q < 2 ^ 56) × (length (now work) ≡ 32 * n) × (length (now a) ≡ 8 * n) × (length (now b) ≡ 8 * n) ⌝ }
     requires { ⌜ Below q n (poly (now a)) × Below q n (poly (now b)) ⌝ }
-    ensures { λ _. ⌜ now (work .exit) ≡ encode n (modulo q (onPolynomials operation n q (poly (now (a .entry))) (poly (now (b .entry))))) ++ zeros (24 * n) ⌝ }
+    ensures { λ _. ⌜ now (work .exit) ≡ coefficientBytes q n (onPolynomials operation n q (poly (now (a .entry))) (poly (now (b .entry)))) ++ zeros (24 * n) ⌝ }
 {
     codec::wipe(work);
     codec::copy(work, 0, a);

@@ -8,10 +8,11 @@ use native.Mathlib.Omega.{arith}
 use lib.ListN.{take, drop}
 use Rattle.codec.specs.Bytes.{Bytes, part, same}
 use Rattle.codec.specs.Reply.{test}
+use Rattle.codec.specs.Lists.{list}
 use Rattle.modular.specs.Modulo.{centre}
 use Rattle.modular.specs.Division.{divide}
 use Rattle.ring.specs.Poly.{Poly, plus, minus, modulo, Alike}
-use Rattle.ring.specs.Slots.{poly, slot, list, encode}
+use Rattle.ring.specs.Slots.{poly, slot, encode}
 use Rattle.ring.proofs.Bridge.{encode-alike}
 use Rattle.ring.proofs.Polynomials.{mul-poly-comm, alike-refl, alike-plus}
 use Rattle.call.specs.Call.{Polynomial}

@@ -9,8 +9,9 @@ use lib.Dec.{ltb}
 use lib.ListN.{length}
 use Rattle.codec.specs.Bytes.{Bytes, part}
 use Rattle.codec.proofs.Laws.{length-part, both}
+use Rattle.codec.specs.Lists.{list, allBelow}
 use Rattle.ring.specs.Poly.{Below}
-use Rattle.ring.specs.Slots.{poly, list, allBelow}
+use Rattle.ring.specs.Slots.{poly}
 use Rattle.ring.proofs.Bridge.{poly-part}
 use Rattle.ring.proofs.Ranges.{below-sound}
 use Rattle.call.specs.Call.{Polynomial}

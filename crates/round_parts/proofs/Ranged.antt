@@ -9,8 +9,10 @@ use borrow.Author.Count.{below-none, below-more}
 use lib.ListN.{length, take, drop, getD}
 use Rattle.codec.specs.Bytes.{Bytes, part}
 use Rattle.codec.proofs.Laws.{length-part}
-use Rattle.ring.specs.Slots.{poly, slot, list, allBelow}
-use Rattle.ring.proofs.Bridge.{list-cong, poly-part, slot-poly}
+use Rattle.codec.specs.Lists.{list, allBelow}
+use Rattle.codec.proofs.Lists.{list-cong}
+use Rattle.ring.specs.Slots.{poly, slot}
+use Rattle.ring.proofs.Bridge.{poly-part, slot-poly}
 use Rattle.call.proofs.Order.{fails, goes-on}
 use Rattle.vector.specs.Vector.{vector}
 use Rattle.stern.specs.Shortness.{answerLength, inRange}

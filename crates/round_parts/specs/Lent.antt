@@ -4,7 +4,7 @@ use mathlib.Core.Bool.{true}
 use Prim.Native.Nat.{ℕ, _*_, _<_}
 use lib.ListN.{length}
 use Rattle.codec.specs.Bytes.{Bytes, part}
-use Rattle.ring.specs.Slots.{allBelow}
+use Rattle.codec.specs.Lists.{allBelow}
 use Rattle.call.specs.Call.{Polynomial}
 use Rattle.vector.specs.Vector.{vector}
 use Rattle.transcript.specs.Layout.{headLength, pairsOf}

@@ -6,8 +6,9 @@ use Prim.Native.Nat.{ℕ, zero, suc, _+_, _*_}
 use lib.ListN.{getD}
 use Rattle.codec.specs.Bytes.{Bytes, part, same}
 use Rattle.codec.specs.Reply.{Test, test}
+use Rattle.codec.specs.Lists.{list}
 use Rattle.ring.specs.Poly.{Poly, plus, modulo}
-use Rattle.ring.specs.Slots.{slot, list, encode}
+use Rattle.ring.specs.Slots.{slot, encode}
 use Rattle.bgv.specs.Scheme.{key, worked, within, reconstructed}
 use Rattle.commitment.specs.Commitment.{Keys, threeOf, opens}
 use Rattle.stern.specs.Shortness.{answerTests}

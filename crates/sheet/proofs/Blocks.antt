@@ -13,7 +13,7 @@ use Rattle.sheet.specs.Reader.{Found, missing, found, line, Block, broke
 use Rattle.sheet.specs.Seen.{largest, bad, sum, summed, none, outline, outlined, seen}
 use Rattle.sheet.specs.declared.Lines.{Lines}
 use Rattle.sheet.proofs.Steps.{unroll}
-use Rattle.sheet.proofs.Form.{never-block}
+use Rattle.sheet.proofs.LineForm.{never-block}
 
 after-none : (b : Block) → after [] b ≡ b
 after-none broken = refl

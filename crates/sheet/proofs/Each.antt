@@ -7,7 +7,7 @@ use native.Mathlib.Nat.{le-of-suc-le-suc, not-suc-le-zero}
 use native.Mathlib.Numerals.{add-one}
 use lib.ListN.{length, take, getD}
 use lib.Seq.{take-all}
-use Rattle.sheet.specs.Reader.{every}
+use Rattle.codec.specs.Lists.{every}
 
 -- the rest decides
 rest-false : (b r : Bool) → false ≡ r → false ≡ (b && r)

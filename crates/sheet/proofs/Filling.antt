@@ -2,24 +2,26 @@
 use mathlib.Core.Path.{_≡_, refl, sym, ap, ap₂, _∙_}
 use mathlib.Core.Logic.{⊎-elim}
 use mathlib.Core.Bool.{Bool, true, false, cond}
-use mathlib.Core.List.{List, [], _∷_, _++_, append-assoc, append-nil}
+use mathlib.Core.List.{List, [], _∷_, _++_, flatMap, append-assoc, append-nil}
 use Prim.Native.Nat.{ℕ, zero, suc, _+_, _*_, _≤_, _<_}
 use native.Mathlib.Numerals.{add-one}
 use native.Mathlib.Omega.{arith}
 use borrow.Author.Tests.{eqb-true, not-false}
-use lib.Dec.{eqb, ltb}
+use lib.Dec.{eqb}
 use lib.ListN.{length, take, drop, getD, length-append, take-append-drop, drop-of-length-le}
 use lib.Seq.{take-suc, take-all, drop-cons, drop-drop, drop-at}
 use Rattle.codec.specs.Bytes.{Bytes, words, put}
-use Rattle.codec.proofs.Laws.{both, length-put, put-none, put-append}
+use Rattle.codec.proofs.Laws.{both, length-put, put-none, put-append, le-or}
 use Rattle.sheet.specs.Form.{numberKeys, listKeys, rowsOf}
-use Rattle.sheet.specs.Reader.{Found, missing, found, fresh, values, line, Block, broken, block, after, onward, rows, every, formed, sheetOf}
+use Rattle.sheet.specs.Reader.{Found, missing, found, fresh, values, line, Block, broken, block, after, onward, rows, formed, sheetOf}
 use Rattle.sheet.specs.Seen.{none, outline, outlined, seen, Ready, Writes, Fitting}
 use Rattle.codec.proofs.Numbers.{length-words}
-use Rattle.sheet.specs.Sheet.{joined, polynomials, fits, lists, unfit}
+use Rattle.codec.specs.Lists.{allBelow}
+use Rattle.sheet.specs.Sheet.{polynomials, fits, lists, unfit}
 use Rattle.sheet.specs.declared.Lines.{Lines}
-use Rattle.sheet.proofs.Steps.{unroll, le-or, never-found}
-use Rattle.sheet.proofs.Form.{no-more, lined, never-block, has-rows}
+use Rattle.sheet.proofs.Steps.{unroll, never-found}
+use Rattle.sheet.proofs.LineForm.{no-more, lined, never-block}
+use Rattle.sheet.proofs.Form.{has-rows}
 use Rattle.sheet.proofs.Blocks.{rows-append, rows-broken}
 use Rattle.sheet.proofs.Order.{every-at}
 
@@ -98,20 +100,20 @@ lists-from-rows text (block rs u) e f head s = go (head .whole) s (rows listKeys
 
 -- ---- polynomials one after the other
 
-joined-append : (xs ys : List (List ℕ)) → joined (xs ++ ys) ≡ joined xs ++ joined ys
-unfolding joined
-joined-append [] ys = refl
-joined-append (x ∷ xs) ys = rw (joined-append xs ys) (sym (append-assoc (words x) (joined xs) (joined ys)))
+bytes-append : (xs ys : List (List ℕ)) → flatMap words (xs ++ ys) ≡ flatMap words xs ++ flatMap words ys
+unfolding flatMap
+bytes-append [] ys = refl
+bytes-append (x ∷ xs) ys = rw (bytes-append xs ys) (sym (append-assoc (words x) (flatMap words xs) (flatMap words ys)))
 
-joined-one : (x : List ℕ) → joined (x ∷ []) ≡ words x
-unfolding joined
-joined-one x = append-nil (words x)
+bytes-one : (x : List ℕ) → flatMap words (x ∷ []) ≡ words x
+unfolding flatMap
+bytes-one x = append-nil (words x)
 
 -- i lists of the text were put into d, up to o, and the text goes on at `at`
 pub record Filling (text d : Bytes) (i at o : ℕ) (out : Bytes) : Type 0 where
   pub ahead : rows (drop i listKeys) (drop at text) ≡ block (drop i (lists (sheetOf text))) []
-  pub place : o ≡ length (joined (take i (lists (sheetOf text))))
-  pub wrote : out ≡ put d 0 (joined (take i (lists (sheetOf text))))
+  pub place : o ≡ length (flatMap words (take i (lists (sheetOf text))))
+  pub wrote : out ≡ put d 0 (flatMap words (take i (lists (sheetOf text))))
 
 module _ (text : Bytes) (n : ℕ) (d : Bytes) (ok : Fitting text n d) where
   abbrev ls : List (List ℕ)
@@ -123,26 +125,26 @@ module _ (text : Bytes) (n : ℕ) (d : Bytes) (ok : Fitting text n d) where
   count i h =
       let e = every-at (fits (sheetOf text .numbers .ring) (sheetOf text .numbers .modulus)) ls i (not-false _ (ok .fit)) h in
       eqb-true (length (getD ls i [])) (sheetOf text .numbers .ring)
-      (both (eqb (length (getD ls i [])) (sheetOf text .numbers .ring)) (every (λ x. ltb x (sheetOf text .numbers .modulus)) (getD ls i [])) e .0)
+      (both (eqb (length (getD ls i [])) (sheetOf text .numbers .ring)) (allBelow (sheetOf text .numbers .modulus) (getD ls i [])) e .0)
       ∙ ok .ring
 
   size : (i : ℕ) → i < 5 → length (words (getD ls i [])) ≡ 8 * n
   size i h = length-words (getD ls i []) ∙ omega (arith, count i h)
 
-  pub all-size : length (joined ls) ≡ 40 * n
-  unfolding joined
+  pub all-size : length (flatMap words ls) ≡ 40 * n
+  unfolding flatMap
   all-size =
       simp length-append
       (omega (arith, size 0 (omega arith), size 1 (omega arith), size 2 (omega arith), size 3 (omega arith), size 4 (omega arith)))
 
   pub begins : (head : Lines) → seen text head ≡ outlined (rows numberKeys text) → Filling text d 0 (head .next) 0 d
-  unfolding joined
+  unfolding flatMap
   begins head s = record { ahead = lists-from-rows text (rows numberKeys text) refl (ok .form) head s; place = refl; wrote = sym (put-none d 0) }
 
   module _ (i at o : ℕ) (out : Bytes) (f : Filling text d i at o out) where
     pub ends : 5 ≤ i → out ≡ put d 0 (polynomials text)
     unfolding polynomials
-    ends h = f .wrote ∙ ap (λ (l : List (List ℕ)). put d 0 (joined l)) (take-all i ls h)
+    ends h = f .wrote ∙ ap (λ (l : List (List ℕ)). put d 0 (flatMap words l)) (take-all i ls h)
 
     module _ (h : i < 5) where
       abbrev key : Bytes
@@ -170,17 +172,17 @@ module _ (text : Bytes) (n : ℕ) (d : Bytes) (ok : Fitting text n d) where
 
       -- room for this list, and for those before it
       room : o + 8 * n ≤ length d
-      unfolding joined
+      unfolding flatMap
       room =
-          let e : length (joined (take i ls)) + length (joined (drop i ls)) ≡ 40 * n =
-          sym (length-append (joined (take i ls)) (joined (drop i ls))) ∙ ap length (sym (joined-append (take i ls) (drop i ls)))
-          ∙ ap (λ (x : List (List ℕ)). length (joined x)) (take-append-drop i ls) ∙ all-size in
-          let g : length (joined (drop i ls)) ≡ length (words l) + length (joined (drop (suc i) ls)) =
-          ap (λ (x : List (List ℕ)). length (joined x)) (drop-cons ls i [] h) ∙ length-append (words l) (joined (drop (suc i) ls)) in
+          let e : length (flatMap words (take i ls)) + length (flatMap words (drop i ls)) ≡ 40 * n =
+          sym (length-append (flatMap words (take i ls)) (flatMap words (drop i ls))) ∙ ap length (sym (bytes-append (take i ls) (drop i ls)))
+          ∙ ap (λ (x : List (List ℕ)). length (flatMap words x)) (take-append-drop i ls) ∙ all-size in
+          let g : length (flatMap words (drop i ls)) ≡ length (words l) + length (flatMap words (drop (suc i) ls)) =
+          ap (λ (x : List (List ℕ)). length (flatMap words x)) (drop-cons ls i [] h) ∙ length-append (words l) (flatMap words (drop (suc i) ls)) in
           omega (arith, f .place, size i h, ok .space)
 
       same-size : length out ≡ length d
-      same-size = ap length (f .wrote) ∙ length-put d 0 (joined (take i ls)) (omega (arith, f .place, room))
+      same-size = ap length (f .wrote) ∙ length-put d 0 (flatMap words (take i ls)) (omega (arith, f .place, room))
 
       pub ready : (k : ℕ) → k ≡ length key → Ready (values [] fresh (drop (at + k) text)) o out
       ready k e = rw (e, found-at)
@@ -196,20 +198,20 @@ module _ (text : Bytes) (n : ℕ) (d : Bytes) (ok : Fitting text n d) where
           w' : Writes (found l (row .next)) o out (drop r text) s
           w' = rw (e, found-at) at w
 
-          one-more : joined (take (i + 1) ls) ≡ joined (take i ls) ++ words l
-          one-more = rw (add-one, take-suc ls i [] h) (joined-append (take i ls) (l ∷ []) ∙ rw (joined-one l))
+          one-more : flatMap words (take (i + 1) ls) ≡ flatMap words (take i ls) ++ words l
+          one-more = rw (add-one, take-suc ls i [] h) (bytes-append (take i ls) (l ∷ []) ∙ rw (bytes-one l))
 
-          wrote : s ≡ put d 0 (joined (take (i + 1) ls))
+          wrote : s ≡ put d 0 (flatMap words (take (i + 1) ls))
           wrote =
-              let z : o ≡ 0 + length (joined (take i ls)) = omega (arith, f .place) in
+              let z : o ≡ 0 + length (flatMap words (take i ls)) = omega (arith, f .place) in
               w' .wrote ∙ rw (f .wrote, z, one-more)
-              (put-append d 0 (joined (take i ls)) (words l) (omega (arith, f .place, room, size i h)))
+              (put-append d 0 (flatMap words (take i ls)) (words l) (omega (arith, f .place, room, size i h)))
 
           ahead : rows (drop (i + 1) listKeys) (drop r text) ≡ block (drop (i + 1) ls) []
           ahead = rw (w' .goes-on) (row .others)
 
-          place : o + 8 * n ≡ length (joined (take (i + 1) ls))
-          place = rw (one-more, length-append (joined (take i ls)) (words l)) (omega (arith, f .place, size i h))
+          place : o + 8 * n ≡ length (flatMap words (take (i + 1) ls))
+          place = rw (one-more, length-append (flatMap words (take i ls)) (words l)) (omega (arith, f .place, size i h))
 
           size-kept : length s ≡ length d
           size-kept =

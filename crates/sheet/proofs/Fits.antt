@@ -7,7 +7,7 @@ use native.Mathlib.Omega.{arith}
 use borrow.Author.Tests.{lt-ltb, ltb-true, ltb-false}
 use lib.Dec.{ltb, eqb}
 use lib.ListN.{length}
-use Rattle.sheet.specs.Reader.{every}
+use Rattle.codec.specs.Lists.{every, allBelow}
 use Rattle.sheet.specs.Seen.{bigger, largest}
 use Rattle.sheet.specs.Sheet.{fits}
 
@@ -36,17 +36,17 @@ module _ (q : ℕ) where
           by true f = sym (lt-ltb b q (omega (arith, ltb-false a b e, ltb-true a q f)))
           by false f = refl
 
-  largest-below : (m : ℕ) (xs : List ℕ) → ltb (largest m xs) q ≡ (ltb m q && every (λ x. ltb x q) xs)
-  unfolding largest
+  largest-below : (m : ℕ) (xs : List ℕ) → ltb (largest m xs) q ≡ (ltb m q && allBelow q xs)
+  unfolding largest allBelow
   largest-below m [] = last (ltb m q)
     where
       last : (w : Bool) → w ≡ (w && true)
       last true = refl
       last false = refl
   largest-below m (x ∷ xs) =
-      largest-below (bigger m x) xs ∙ rw (bigger-below m x) (and-assoc (ltb m q) (ltb x q) (every (λ y. ltb y q) xs))
+      largest-below (bigger m x) xs ∙ rw (bigger-below m x) (and-assoc (ltb m q) (ltb x q) (allBelow q xs))
 
-  pub below-largest : 0 < q → (xs : List ℕ) → ltb (largest 0 xs) q ≡ every (λ x. ltb x q) xs
+  pub below-largest : 0 < q → (xs : List ℕ) → ltb (largest 0 xs) q ≡ allBelow q xs
   below-largest h xs = largest-below 0 xs ∙ rw (lt-ltb 0 q h)
 
 swap : (a b c d : Bool) → (a && c && (b && d)) ≡ (a && b && (c && d))
@@ -60,8 +60,9 @@ swap false b c d = refl
 
 -- lists fit exactly if their counts are n and their largest numbers are below q
 pub fits-all : (n q : ℕ) → 0 < q → (ls : List (List ℕ))
-    → (every (λ c. eqb c n) (map length ls) && every (λ x. ltb x q) (map (largest 0) ls)) ≡ every (fits n q) ls
+    → (every (λ c. eqb c n) (map length ls) && allBelow q (map (largest 0) ls)) ≡ every (fits n q) ls
+unfolding allBelow
 fits-all n q h [] = refl
 fits-all n q h (l ∷ ls) =
-    swap (eqb (length l) n) (ltb (largest 0 l) q) (every (λ c. eqb c n) (map length ls)) (every (λ x. ltb x q) (map (largest 0) ls))
+    swap (eqb (length l) n) (ltb (largest 0 l) q) (every (λ c. eqb c n) (map length ls)) (allBelow q (map (largest 0) ls))
     ∙ rw (below-largest q h l, fits-all n q h ls)

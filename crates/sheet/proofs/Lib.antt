@@ -1,5 +1,6 @@
 pub mod Steps
 pub mod Each
+pub mod LineForm
 pub mod Form
 pub mod Scanning
 pub mod Blocks

@@ -6,14 +6,14 @@ use Prim.Native.Nat.{ℕ, zero, suc, _+_, _≤_, _<_}
 use native.Mathlib.Nat.{le-of-suc-le-suc, not-suc-le-zero}
 use native.Mathlib.Omega.{arith}
 use borrow.Author.Tests.{eq-eqb, ne-eqb, le-ltb, lt-ltb}
-use lib.Dec.{ltb, eqb}
+use lib.Dec.{eqb}
 use lib.ListN.{length, drop, getD, drop-of-length-le, List·getD-append, List·getD-map}
 use lib.Seq.{take-at, getD-append-add}
 use Rattle.codec.specs.Bytes.{Bytes}
 use Rattle.codec.specs.Reply.{first}
 use Rattle.codec.specs.declared.Reply.the-variants as reply
 use Rattle.sheet.specs.Form.{Sheet, numberKeys, listKeys}
-use Rattle.sheet.specs.Reader.{block, after, rows, every, whole, formed, sheetFrom, sheetOf}
+use Rattle.sheet.specs.Reader.{block, after, rows, whole, formed, sheetFrom, sheetOf}
 use Rattle.sheet.specs.Seen.{largest, outlined, seen, judged}
 use Rattle.sheet_numbers.specs.Rules.{outside, unsound}
 use Rattle.sheet.specs.Sheet.{fits, lists, unfit, readingBy, reading}
@@ -23,7 +23,9 @@ use Rattle.sheet.specs.declared.Reading.{Reading}
 use Rattle.sheet.specs.declared.Reading.the-variants.{Taken, Refused}
 use Rattle.sheet.proofs.Steps.{unroll}
 use Rattle.codec.proofs.Laws.{both}
-use Rattle.sheet.proofs.Form.{single, one, lined}
+use Rattle.codec.specs.Lists.{every, allBelow}
+use Rattle.sheet.proofs.LineForm.{lined}
+use Rattle.sheet.proofs.Form.{single, one}
 use Rattle.sheet.proofs.Blocks.{rows-append, rows-broken, Five, five, not-five}
 use Rattle.sheet_numbers.proofs.Ranges.{in-range}
 use Rattle.sheet.proofs.Fits.{fits-all}
@@ -182,7 +184,7 @@ judged-by p s counts tops c t = go (outside (s .numbers)) refl
   where
     go : (o : Bool) → outside (s .numbers) ≡ o
         → cond o (Refused 3) (cond (unsound p (s .numbers)) (Refused 4)
-        (cond (every (λ n. eqb n (s .numbers .ring)) counts && every (λ x. ltb x (s .numbers .modulus)) tops) (Taken (s .numbers)) (Refused 5)))
+        (cond (every (λ n. eqb n (s .numbers .ring)) counts && allBelow (s .numbers .modulus) tops) (Taken (s .numbers)) (Refused 5)))
         ≡ after-form (s .numbers) o (unsound p (s .numbers)) (not (every (fits (s .numbers .ring) (s .numbers .modulus)) (lists s)))
     go true o = refl
     go false o =

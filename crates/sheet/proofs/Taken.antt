@@ -2,9 +2,9 @@
 use mathlib.Core.Path.{_≡_, refl, sym, ap, ap₂, _∙_}
 use mathlib.Core.Bool.{Bool, true, false, _||_}
 use mathlib.Core.List.{List, [], _∷_, _++_}
-use Prim.Native.Nat.{ℕ, zero, suc, _*_, _≤_, _<_}
+use Prim.Native.Nat.{ℕ, _*_, _≤_, _<_}
 use native.Mathlib.Omega.{arith}
-use borrow.Author.Tests.{eqb-true, eqb-false, ltb-true, ltb-false, not-false}
+use borrow.Author.Tests.{eqb-true, eqb-false, ltb-false, not-false}
 use lib.Dec.{ltb, eqb}
 use lib.ListN.{length, getD, length-replicate}
 use Rattle.codec.specs.Bytes.{Bytes, zeros}
@@ -13,13 +13,15 @@ use Rattle.codec.specs.declared.Reply.{Reply}
 use Rattle.codec.specs.declared.Reply.the-variants as reply
 use Rattle.codec.proofs.Replies.{taken-exactly}
 use Rattle.sheet.specs.Form.{Sheet, written}
-use Rattle.sheet.specs.Reader.{every, formed, sheetOf}
+use Rattle.sheet.specs.Reader.{formed, sheetOf}
 use Rattle.sheet_numbers.specs.Rules.{outside}
 use Rattle.sheet.specs.Sheet.{fits, lists, unfit, order, replyOf, readingBy, reading, polynomials}
 use Rattle.sheet_numbers.specs.declared.Numbers.{Numbers}
 use Rattle.sheet.specs.declared.Reading.{Reading}
 use Rattle.sheet.specs.declared.Reading.the-variants.{Taken, Refused}
 use Rattle.codec.proofs.Laws.{both}
+use Rattle.codec.proofs.Lists.{allBelow-at}
+use Rattle.codec.specs.Lists.{every, allBelow}
 use Rattle.sheet.proofs.Form.{written-is}
 use Rattle.sheet_numbers.proofs.Ranges.{InRange, in-range, Sound, is-sound}
 use Rattle.sheet.proofs.Filling.{all-size}
@@ -103,15 +105,10 @@ taken p text {k} e = by (first (order p text)) refl e
 
 -- ---- its lists are polynomials
 
-each-below : (q : ℕ) → 0 < q → (xs : List ℕ) → every (λ x. ltb x q) xs ≡ true → (i : ℕ) → getD xs i 0 < q
-each-below q h [] e i = h
-each-below q h (x ∷ xs) e zero = ltb-true x q (both (ltb x q) (every (λ y. ltb y q) xs) e .0)
-each-below q h (x ∷ xs) e (suc i) = each-below q h xs (both (ltb x q) (every (λ y. ltb y q) xs) e .1) i
-
 polynomial : (n q : ℕ) → 0 < q → (xs : List ℕ) → fits n q xs ≡ true → Coefficients n q xs
 polynomial n q h xs e =
-    let p = both (eqb (length xs) n) (every (λ x. ltb x q) xs) e in
-    record { count = eqb-true (length xs) n (p .0); below = each-below q h xs (p .1) }
+    let p = both (eqb (length xs) n) (allBelow q xs) e in
+    record { count = eqb-true (length xs) n (p .0); below = allBelow-at q h xs (p .1) }
 
 abbrev pub AllCoefficients : ℕ → ℕ → List (List ℕ) → Type 0
 AllCoefficients n q [] = Unit

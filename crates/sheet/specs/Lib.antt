@@ -2,3 +2,4 @@ pub mod Form
 pub mod Reader
 pub mod Sheet
 pub mod Seen
+pub mod Examples

@@ -1,10 +1,11 @@
 -- Document 01, "Sheet": the reader of a text, byte by byte. It undoes `written` of specs/Form.antt and refuses any other text. Assumes nothing.
-use mathlib.Core.Bool.{Bool, true, false, cond, _&&_}
+use mathlib.Core.Bool.{Bool, false, cond}
 use mathlib.Core.List.{List, [], _∷_, _++_}
 use Prim.Native.Nat.{ℕ, _+_, _*_, _-_, _^_}
 use lib.Dec.{ltb, leb, eqb}
 use lib.ListN.{length, take, getD}
 use Rattle.codec.specs.Bytes.{Bytes}
+use Rattle.codec.specs.Lists.{every}
 use Rattle.sheet.specs.Form.{Sheet, numberKeys, listKeys}
 
 -- a digit's value; 10 for any other byte
@@ -70,11 +71,6 @@ onward (found xs t) f = after (xs ∷ []) (f t)
 unfoldable pub rows : List Bytes → Bytes → Block
 rows [] t = block [] t
 rows (k ∷ ks) t = onward (line k t) (rows ks)
-
--- whether each has the property
-abbrev pub every : {A : Type 0} → (A → Bool) → List A → Bool
-every f [] = true
-every f (x ∷ xs) = f x && every f xs
 
 -- the whole text is the ten lines, the first five of one number each
 abbrev pub whole : Block → Bool

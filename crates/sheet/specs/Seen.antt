@@ -7,7 +7,8 @@ use Prim.Native.Nat.{ℕ, _+_, _*_, _≤_}
 use lib.Dec.{ltb, eqb}
 use lib.ListN.{length, drop}
 use Rattle.codec.specs.Bytes.{Bytes, words, put}
-use Rattle.sheet.specs.Reader.{Found, missing, found, Block, broken, block, every, formed, sheetOf}
+use Rattle.codec.specs.Lists.{every, allBelow}
+use Rattle.sheet.specs.Reader.{Found, missing, found, Block, broken, block, formed, sheetOf}
 use Rattle.sheet_numbers.specs.Rules.{outside, unsound}
 use Rattle.sheet.specs.Sheet.{unfit}
 use Rattle.sheet.specs.declared.Scan.{Scan}
@@ -79,5 +80,5 @@ abbrev pub judged : ℕ → Numbers → List ℕ → List ℕ → Reading
 judged p k counts tops =
     cond (outside k) (Refused 3)
     (cond (unsound p k) (Refused 4)
-    (cond (every (λ c. eqb c (k .ring)) counts && every (λ x. ltb x (k .modulus)) tops) (Taken k)
+    (cond (every (λ c. eqb c (k .ring)) counts && allBelow (k .modulus) tops) (Taken k)
     (Refused 5)))

@@ -1,6 +1,6 @@
 -- Document 01, "Sheet" and the refusals 1 to 5: which sheet is taken, and what is handed out of it, for the plaintext modulus p. Assumes nothing.
 use mathlib.Core.Bool.{Bool, not, _&&_, _||_}
-use mathlib.Core.List.{List, [], _∷_, _++_}
+use mathlib.Core.List.{List, [], _∷_, flatMap}
 use Prim.Native.Nat.{ℕ}
 use lib.Dec.{ltb, eqb}
 use lib.ListN.{length}
@@ -8,8 +8,9 @@ use Rattle.codec.specs.Bytes.{Bytes, words, put}
 use Rattle.codec.specs.Reply.{Test, test, first}
 use Rattle.codec.specs.declared.Reply.{Reply}
 use Rattle.codec.specs.declared.Reply.the-variants as reply
+use Rattle.codec.specs.Lists.{every, allBelow}
 use Rattle.sheet.specs.Form.{Sheet}
-use Rattle.sheet.specs.Reader.{formed, sheetOf, every}
+use Rattle.sheet.specs.Reader.{formed, sheetOf}
 use Rattle.sheet_numbers.specs.Rules.{outside, unsound}
 use Rattle.sheet_numbers.specs.declared.Numbers.{Numbers}
 use Rattle.sheet.specs.declared.Reading.{Reading}
@@ -17,7 +18,7 @@ use Rattle.sheet.specs.declared.Reading.the-variants.{Taken, Refused}
 
 -- 5: a list of another count than n, or with a coefficient that is not below q
 abbrev pub fits : ℕ → ℕ → List ℕ → Bool
-fits n q xs = eqb (length xs) n && every (λ x. ltb x q) xs
+fits n q xs = eqb (length xs) n && allBelow q xs
 
 abbrev pub lists : Sheet → List (List ℕ)
 lists s = s .a ∷ s .b ∷ s .k1 ∷ s .k2 ∷ s .k3 ∷ []
@@ -48,14 +49,9 @@ readingBy (reply.Refused n place) k = Refused n
 unfoldable pub reading : ℕ → Bytes → Reading
 reading p text = readingBy (first (order p text)) (sheetOf text .numbers)
 
--- lists in bytes, 8 to a coefficient
-unfoldable pub joined : List (List ℕ) → Bytes
-joined [] = []
-joined (xs ∷ xss) = words xs ++ joined xss
-
--- a, b, k1, k2, k3 in 40N bytes
+-- a, b, k1, k2, k3 in 40N bytes, 8 to a coefficient
 unfoldable pub polynomials : Bytes → Bytes
-polynomials text = joined (lists (sheetOf text))
+polynomials text = flatMap words (lists (sheetOf text))
 
 -- what a lent buffer holds after a reading: the polynomials at its head, or what it held if the sheet is refused
 abbrev pub filled : Reading → Bytes → Bytes → Bytes

@@ -4,10 +4,11 @@ use crate::Scan;
 ghost use mathlib.Core.Path.{_≡_};
 ghost use Prim.Native.Nat.{_+_, _≤_, _<_};
 ghost use mathlib.Core.List.{[], _++_};
-ghost use lib.Dec.{eqb, ltb};
+ghost use lib.Dec.{eqb};
 ghost use lib.ListN.{drop, take, getD};
 ghost use Rattle.sheet.specs.Form.{numberKeys, listKeys};
-ghost use Rattle.sheet.specs.Reader.{digit, fresh, values, line, rows, every};
+ghost use Rattle.codec.specs.Lists.{every, allBelow};
+ghost use Rattle.sheet.specs.Reader.{digit, fresh, values, line, rows};
 ghost use Rattle.sheet.specs.Seen.{bigger, summed, scanned, outlined, seen};
 
 // The value of a digit; 10 for any other byte.
@@ -173,7 +174,7 @@ pub fn all_are(xs: [u64; 5], v: u64) -> bool
 
 // Whether each of the numbers is below v.
 pub fn all_below(xs: [u64; 5], v: u64) -> bool
-    ensures { λ r. ⌜ r ≡ every (λ x. ltb x v) xs ⌝ }
+    ensures { λ r. ⌜ r ≡ allBelow v xs ⌝ }
 {
     let mut i = 0;
     while i < 5 {

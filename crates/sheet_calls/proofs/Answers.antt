@@ -9,9 +9,8 @@ use lib.Dec.{eqb}
 use lib.ListN.{length, take, length-append}
 use Rattle.codec.specs.Bytes.{Bytes, put}
 use Rattle.codec.specs.Reply.{Test, test, first}
-use Rattle.codec.specs.declared.Reply.{Reply}
 use Rattle.codec.specs.declared.Reply.the-variants as reply
-use Rattle.codec.proofs.Laws.{length-put, part-put, put-append, put-whole}
+use Rattle.codec.proofs.Laws.{put-behind, length-put, part-put, put-whole}
 use Rattle.sheet.specs.Reader.{sheetOf}
 use Rattle.sheet.specs.Sheet.{reading, replyOf, polynomials, loaded}
 use Rattle.sheet_numbers.specs.declared.Numbers.{Numbers}
@@ -75,11 +74,6 @@ load-taken p text {k} d b t g h =
     record { fits = rw (w, length-put d 0 (polynomials text) m) (omega arith); head = a; size = ap length a ∙ l }
 
 -- one more part, after those that were put at the head
-put-next : (d s t : Bytes) (i : ℕ) → i ≡ length s → i + length t ≤ length d → put (put d 0 s) i t ≡ put d 0 (s ++ t)
-put-next d s t i e h =
-    let f : i ≡ 0 + length s = omega arith in
-    rw f (put-append d 0 s t (omega arith))
-
 pub four-words : (d a b c e : Bytes) → length a ≡ 8 → length b ≡ 8 → length c ≡ 8 → length e ≡ 8 → length d ≡ 32
     → put (put (put (put d 0 a) 8 b) 16 c) 24 e ≡ a ++ b ++ c ++ e
 four-words d a b c e ha hb hc he hd =
@@ -87,8 +81,8 @@ four-words d a b c e ha hb hc he hd =
     let l3 = length-append (a ++ b) c in
     let l4 = length-append (a ++ b ++ c) e in
     rw (
-      put-next d a b 8 (omega arith) (omega arith),
-      put-next d (a ++ b) c 16 (omega arith) (omega arith),
-      put-next d (a ++ b ++ c) e 24 (omega arith) (omega arith),
+      put-behind d a b 0 8 (omega arith) (omega arith),
+      put-behind d (a ++ b) c 0 16 (omega arith) (omega arith),
+      put-behind d (a ++ b ++ c) e 0 24 (omega arith) (omega arith),
     )
     (put-whole d (a ++ b ++ c ++ e) (omega arith))

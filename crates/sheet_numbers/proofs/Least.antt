@@ -11,7 +11,8 @@ use lib.Dec.{leb}
 use lib.ListN.{getD}
 use Rattle.sheet_numbers.specs.Bounds.{most, least}
 use Rattle.codec.proofs.Laws.{both}
-use Rattle.sheet_numbers.proofs.Below.{below, holds}
+use Rattle.codec.specs.Lists.{all}
+use Rattle.codec.proofs.Lists.{all-sound}
 
 -- for the rounds k + 1: met at m, missed at m + 1; and m is at most 256
 abbrev met : ℕ → ℕ → Bool
@@ -55,8 +56,8 @@ table =
     182 ∷ 184 ∷ 186 ∷ 188 ∷ 189 ∷ 191 ∷ 193 ∷ 194 ∷ 196 ∷ 198 ∷ 200 ∷ 201 ∷ 203 ∷ 205 ∷ 206 ∷ 208 ∷ 210 ∷ 211 ∷ 213 ∷
     215 ∷ 217 ∷ 218 ∷ []
 
-passes : below (λ k. right k (getD table k 0)) 128 ≡ true
-unfolding table right
+passes : all 128 (λ k. right k (getD table k 0)) ≡ true
+unfolding table right all
 passes = refl
 
 module _ (k : ℕ) (h : k < 128) where
@@ -64,7 +65,7 @@ module _ (k : ℕ) (h : k < 128) where
   m = getD table k 0
 
   tested : right k m ≡ true
-  tested = holds (λ j. right j (getD table j 0)) 128 k passes h
+  tested = all-sound 128 (λ j. right j (getD table j 0)) passes k h
 
   table-met : 3 ^ m ≤ 2 ^ (k + 1 + m)
   unfolding right

@@ -1,3 +1,2 @@
-pub mod Below
 pub mod Least
 pub mod Ranges

@@ -8,10 +8,11 @@ use native.Mathlib.Omega.{arith}
 use borrow.Author.Tests.{eqb-true, le-ltb, ltb-true, ltb-false, leb-false, not-false}
 use lib.Dec.{ltb, eqb}
 use lib.ListN.{getD}
+use Rattle.codec.specs.Lists.{all}
+use Rattle.codec.proofs.Lists.{all-sound}
 use Rattle.sheet_numbers.specs.Bounds.{noise, power}
 use Rattle.sheet_numbers.specs.Rules.{any, ranges, outside, conditions, unsound}
 use Rattle.sheet_numbers.specs.declared.Numbers.{Numbers}
-use Rattle.sheet_numbers.proofs.Below.{below, holds}
 
 -- (1 + 2^d) D at its largest
 pub times : (x y : ℕ) → x ≤ 1099511627777 → y ≤ 8195 → x * y ≤ 1099511627777 * 8195
@@ -23,13 +24,13 @@ times x y h k = mul-le-mul h k
 alike : ℕ → Bool
 alike n = ltb n 4 || cond (eqb (2048 % n) 0) (power 12 n) (not (power 12 n))
 
-alike-below : below alike 2049 ≡ true
-unfolding alike power
+alike-below : all 2049 alike ≡ true
+unfolding alike power all
 alike-below = refl
 
 pub divides : (n : ℕ) → 4 ≤ n → n ≤ 2048 → power 12 n ≡ eqb (2048 % n) 0
 unfolding alike
-divides n low high = go (eqb (2048 % n) 0) (power 12 n) (rw (le-ltb n 4 low) at (holds alike 2049 n alike-below (omega arith)))
+divides n low high = go (eqb (2048 % n) 0) (power 12 n) (rw (le-ltb n 4 low) at (all-sound 2049 alike alike-below n (omega arith)))
   where
     go : (d p : Bool) → cond d p (not p) ≡ true → p ≡ d
     go true p e = e

@@ -8,12 +8,11 @@ use native.Mathlib.Omega.{arith}
 use borrow.Author.Tests.{lt-ltb}
 use lib.ListN.{length, take, length-append}
 use Rattle.codec.specs.Bytes.{Bytes, put}
-use Rattle.codec.proofs.Laws.{length-put, put-append, part-put}
+use Rattle.codec.proofs.Laws.{length-put, put-append, part-put, le-or}
 use Rattle.io.specs.Counts.{Counts}
 use Rattle.io.specs.Digits.{digits, Fewest}
 use Rattle.sheet.specs.Form.{decimal}
-use Rattle.sheet.proofs.Steps.{le-or}
-use Rattle.sheet.proofs.Form.{decimal-small, decimal-large}
+use Rattle.sheet.proofs.LineForm.{decimal-small, decimal-large}
 use Rattle.sheet_program.specs.Print.{line, Puts}
 
 -- the fewest digits are those of `decimal`

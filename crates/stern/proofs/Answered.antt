@@ -11,7 +11,7 @@ use Rattle.codec.specs.Bytes.{Bytes, part}
 use Rattle.codec.proofs.Laws.{length-part}
 use Rattle.codec.specs.Reply.{test, first}
 use Rattle.codec.specs.declared.Reply.the-variants.{Taken, Refused}
-use Rattle.ring.specs.Slots.{allBelow}
+use Rattle.codec.specs.Lists.{allBelow}
 use Rattle.vector.specs.Vector.{vector}
 use Rattle.stern.specs.Shortness.{answerLength}
 

@@ -6,7 +6,7 @@ use native.Mathlib.Omega.{arith}
 use lib.ListN.{length, take}
 use Rattle.codec.specs.Bytes.{Bytes, words}
 use Rattle.codec.proofs.Numbers.{length-words}
-use Rattle.ring.specs.Slots.{allBelow}
+use Rattle.codec.specs.Lists.{allBelow}
 use Rattle.vector.specs.Vector.{Each, Vector, vector, ternaries, add, subtract}
 use Rattle.vector.specs.Permutation.{entries, apply, extend}
 use Rattle.vector.proofs.Vectors.{each-length, take-each, add-vector, add-subtract, commute, add-take, apply-add, apply-each, length-apply, vector-words, ternaries-vector, ternaries-apply, take-extend}

@@ -13,12 +13,13 @@ use lib.ListN.{length}
 use Rattle.codec.specs.Bytes.{Bytes, same}
 use Rattle.codec.specs.Reply.{None}
 use Rattle.codec.proofs.Laws.{length-part, both, same-equal}
+use Rattle.codec.specs.Lists.{allBelow}
+use Rattle.codec.proofs.Lists.{length-list}
 use Rattle.sha3.specs.Sponge.{sha3}
 use Rattle.modular.specs.Modulo.{centre}
 use Rattle.modular.proofs.Centring.{centre-low, centre-high}
 use Rattle.ring.specs.Poly.{Poly, plus, modulo, Alike}
-use Rattle.ring.specs.Slots.{slot, allBelow}
-use Rattle.ring.proofs.Bridge.{length-list}
+use Rattle.ring.specs.Slots.{slot}
 use Rattle.vector.specs.Vector.{vector}
 use Rattle.vector.specs.Permutation.{entries, permutes, balanced}
 use Rattle.vector.proofs.Vectors.{at-each}

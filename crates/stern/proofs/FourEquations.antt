@@ -8,12 +8,12 @@ use native.Mathlib.Omega.{arith}
 use lib.ListN.{length, getD, drop}
 use lib.Seq.{ext-getD, getD-take, getD-drop}
 use Rattle.codec.specs.Bytes.{Bytes, number, part}
+use Rattle.codec.proofs.Lists.{length-list, list-cong, getD-list}
 use Rattle.modular.specs.Modulo.{remainder}
 use Rattle.modular.proofs.Congruence.{same-eq, _then_, same-mod}
 use Rattle.ring.specs.Poly.{Poly, plus, modulo, Alike}
 use Rattle.ring.specs.Slots.{poly, slot}
 use Rattle.ring.specs.Ternary.{meaning, ternary}
-use Rattle.ring.proofs.Bridge.{length-list, list-cong, getD-list}
 use Rattle.ring.proofs.Polynomials.{plus-assoc, plus-left-comm, alike-eq, _so_, alike-plus, below-modulo}
 use Rattle.ring.proofs.Ranges.{below-complete}
 use Rattle.vector.specs.Vector.{Vector, Linear, vector, ternaries, add}

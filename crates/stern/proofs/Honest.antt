@@ -11,10 +11,11 @@ use Rattle.codec.specs.Bytes.{Bytes, part, same}
 use Rattle.codec.specs.Reply.{None}
 use Rattle.codec.proofs.Laws.{length-part, part-part, same-refl}
 use Rattle.codec.proofs.Numbers.{length-words}
+use Rattle.codec.specs.Lists.{allBelow}
 use Rattle.sha3.proofs.Squeezing.{length-sha3}
 use Rattle.modular.proofs.Congruence.{same-eq, _then_, same-mod}
 use Rattle.ring.specs.Poly.{Poly, plus, modulo, Alike}
-use Rattle.ring.specs.Slots.{poly, slot, encode, allBelow}
+use Rattle.ring.specs.Slots.{poly, slot, encode}
 use Rattle.ring.specs.Ternary.{ternary}
 use Rattle.ring.proofs.Bridge.{length-encode, poly-part}
 use Rattle.ring.proofs.Polynomials.{alike-eq, alike-sym, _so_, alike-plus}

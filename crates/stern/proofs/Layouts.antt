@@ -9,7 +9,7 @@ use lib.ListN.{length, take, drop, length-append}
 use lib.Seq.{take-all, take-at, drop-at, drop-drop}
 use Rattle.codec.specs.Bytes.{Bytes, part}
 use Rattle.codec.proofs.Laws.{part-append}
-use Rattle.ring.specs.Slots.{allBelow}
+use Rattle.codec.specs.Lists.{allBelow}
 use Rattle.vector.specs.Vector.{Vector, vector}
 use Rattle.vector.specs.Permutation.{Permutes, permutes}
 use Rattle.vector.proofs.Vectors.{vector-sound}

@@ -4,8 +4,9 @@ use mathlib.Core.Bool.{true}
 use Prim.Native.Nat.{ℕ, _/_}
 use lib.ListN.{length}
 use Rattle.codec.specs.Bytes.{Bytes}
+use Rattle.codec.specs.Lists.{allBelow}
 use Rattle.ring.specs.Poly.{Below}
-use Rattle.ring.specs.Slots.{poly, allBelow}
+use Rattle.ring.specs.Slots.{poly}
 use Rattle.ring.proofs.Ranges.{below-sound}
 use Rattle.vector.specs.Vector.{vector}
 

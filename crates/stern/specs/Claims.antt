@@ -6,9 +6,10 @@ use Prim.Native.Nat.{ℕ, _+_, _*_, _≤_, _<_}
 use lib.IntN.{natAbs}
 use lib.ListN.{length}
 use Rattle.codec.specs.Bytes.{Bytes, part}
+use Rattle.codec.specs.Lists.{allBelow}
 use Rattle.modular.specs.Modulo.{centre}
 use Rattle.ring.specs.Poly.{Poly, plus, Alike}
-use Rattle.ring.specs.Slots.{slot, allBelow}
+use Rattle.ring.specs.Slots.{slot}
 use Rattle.ring.specs.Ternary.{ternary}
 use Rattle.commitment.specs.Commitment.{Keys, threeOf, plus3, row, second, committed, pairBytes}
 use Rattle.stern.specs.Argument.{Short}

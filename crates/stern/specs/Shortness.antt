@@ -8,9 +8,10 @@ use lib.Dec.{eqb}
 use lib.ListN.{length, getD}
 use Rattle.codec.specs.Bytes.{Bytes, part, same}
 use Rattle.codec.specs.Reply.{Test, test}
+use Rattle.codec.specs.Lists.{list, allBelow}
 use Rattle.sha3.specs.Sponge.{sha3}
 use Rattle.ring.specs.Poly.{Poly, plus, modulo}
-use Rattle.ring.specs.Slots.{slot, list, allBelow}
+use Rattle.ring.specs.Slots.{slot}
 use Rattle.commitment.specs.Commitment.{Keys, Three, Pair, plus3, row, second}
 use Rattle.vector.specs.Vector.{vector}
 use Rattle.vector.specs.Permutation.{entries, permutes, balanced}

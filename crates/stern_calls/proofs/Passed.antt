@@ -12,9 +12,10 @@ use Rattle.codec.specs.Bytes.{Bytes, part, same}
 use Rattle.codec.specs.declared.Reply.the-variants.{Taken}
 use Rattle.codec.proofs.Laws.{both, length-part}
 use Rattle.codec.proofs.Replies.{taken-exactly}
+use Rattle.codec.specs.Lists.{allBelow}
 use Rattle.sha3.proofs.Squeezing.{length-sha3}
 use Rattle.ring.specs.Poly.{Below}
-use Rattle.ring.specs.Slots.{poly, slot, allBelow}
+use Rattle.ring.specs.Slots.{poly, slot}
 use Rattle.ring.proofs.Bridge.{poly-part, slot-later, slot-poly}
 use Rattle.ring.proofs.Ranges.{below-sound}
 use Rattle.call.specs.Call.{Polynomial}

@@ -8,7 +8,7 @@ ghost use lib.ListN.{length};
 ghost use Rattle.codec.specs.Bytes.{same};
 ghost use Rattle.codec.specs.Reply.{first};
 ghost use Rattle.codec.specs.declared.Reply.the-variants.{Refused};
-ghost use Rattle.ring.specs.Slots.{allBelow};
+ghost use Rattle.codec.specs.Lists.{allBelow};
 ghost use Rattle.call.specs.Call.{scratchLength, swept};
 ghost use Rattle.vector.specs.Vector.{vector};
 ghost use Rattle.stern.specs.Shortness.{answerLength, inRange};

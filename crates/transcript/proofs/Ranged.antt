@@ -9,12 +9,11 @@ use native.Mathlib.Omega.{arith}
 use borrow.Author.Tests.{ltb-true, lt-ltb, leb-true, le-leb}
 use lib.Dec.{ltb, leb}
 use Rattle.codec.specs.Bytes.{Bytes, part}
-use Rattle.codec.proofs.Laws.{part-append, both}
+use Rattle.codec.proofs.Laws.{le-or, both, part-append}
 use Rattle.ring.specs.Poly.{Below}
 use Rattle.ring.specs.Slots.{poly, slot, list, allBelow}
 use Rattle.ring.proofs.Bridge.{slot-poly, slot-later}
 use Rattle.ring.proofs.Ranges.{allBelow-sound, allBelow-complete, below-sound, below-complete}
-use Rattle.ring.proofs.Sums.{side}
 use Rattle.vector.specs.Vector.{vector}
 use Rattle.stern.specs.Shortness.{inRange, answer1Of, answer2Of, answer3Of}
 use Rattle.transcript.specs.Layout.{all, uAt, pairAt, openingOf, answerAt}
@@ -47,7 +46,7 @@ module _ (q : ℕ) (w : Bytes) where
 
   -- l coefficients behind n others
   beside : (at n l : ℕ) → Below q n (slot w at) → Below q l (slot w (at + 8 * n)) → Below q (n + l) (slot w at)
-  beside at n l b c = record { at = λ i h. go i h (side n i) }
+  beside at n l b c = record { at = λ i h. go i h (le-or n i) }
     where
       go : (i : ℕ) → i < n + l → (n ≤ i) ⊎ (i < n) → slot w at i < q
       go i h (inl f) =

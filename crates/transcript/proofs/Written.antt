@@ -8,13 +8,12 @@ use native.Mathlib.Nat.{mod-lt, add-assoc, mul-zero, mul-suc}
 use native.Mathlib.Omega.{arith}
 use lib.ListN.{length, length-append}
 use Rattle.codec.specs.Bytes.{Bytes, Octets, bytes, words, number, part}
-use Rattle.codec.proofs.Laws.{length-part, part-part, octets-append}
+use Rattle.codec.proofs.Laws.{le-or, length-part, part-part, octets-append}
 use Rattle.codec.proofs.Numbers.{bytes-octets}
 use Rattle.ring.specs.Poly.{Poly, modulo, Below}
 use Rattle.ring.specs.Slots.{poly, slot, list, encode, allBelow}
 use Rattle.ring.proofs.Bridge.{length-encode, poly-part, slot-poly}
 use Rattle.ring.proofs.Ranges.{below-complete}
-use Rattle.ring.proofs.Sums.{side}
 use Rattle.vector.specs.Vector.{vector}
 use Rattle.vector.proofs.Vectors.{allBelow-each, each-allBelow, append-each, take-each, drop-each}
 use Rattle.commitment.proofs.Opening.{poly-modulo}
@@ -103,7 +102,7 @@ module _ {q : ℕ} where
   pub coefficients-append : {n m : ℕ} (a b : Bytes) → Coefficients q n a → Coefficients q m b → Coefficients q (n + m) (a ++ b)
   coefficients-append {n} {m} a b c d = record {
     sized = let x = c .sized in let y = d .sized in length-append a b ∙ omega arith;
-    below = record { at = λ k l. go k l (side n k) };
+    below = record { at = λ k l. go k l (le-or n k) };
   }
     where
       go : (k : ℕ) → k < n + m → (n ≤ k) ⊎ (k < n) → poly (a ++ b) k < q

@@ -11,8 +11,8 @@ use lib.ListN.{length, getD, replicate, length-append, length-replicate, getD-re
 use lib.Seq.{getD-append-add}
 use Rattle.codec.specs.Bytes.{Bytes}
 use Rattle.codec.proofs.Laws.{both}
+use Rattle.codec.specs.Lists.{allBelow}
 use Rattle.ring.specs.Poly.{sum}
-use Rattle.ring.specs.Slots.{allBelow}
 use Rattle.ring.specs.Ternary.{count}
 use Rattle.ring.proofs.Ranges.{count-append}
 use Rattle.vector.specs.Permutation.{Permutes, apply, extend, balanced}

@@ -14,12 +14,12 @@ use lib.Dec.{eqb, ltb}
 use lib.ListN.{length, getD, take, replicate, length-replicate, getD-replicate}
 use lib.Seq.{take-length, ext-getD}
 use Rattle.codec.specs.Bytes.{same}
-use Rattle.codec.proofs.Laws.{both, same-refl, same-equal}
+use Rattle.codec.proofs.Laws.{both, same-refl, same-equal, le-or}
+use Rattle.codec.specs.Lists.{list, allBelow}
+use Rattle.codec.proofs.Lists.{length-list, list-cong, getD-list}
 use Rattle.ring.specs.Poly.{sum}
-use Rattle.ring.specs.Slots.{list, allBelow}
 use Rattle.ring.specs.Ternary.{count}
-use Rattle.ring.proofs.Sums.{side, sum-cong, sum-zero, sum-add, sum-only}
-use Rattle.ring.proofs.Bridge.{length-list, list-cong, getD-list}
+use Rattle.ring.proofs.Sums.{sum-cong, sum-zero, sum-add, sum-only}
 use Rattle.ring.proofs.Ranges.{count-more}
 use Rattle.vector.specs.Vector.{Each, none, more}
 use Rattle.vector.specs.Permutation.{Permutes, permutes, apply}
@@ -44,7 +44,7 @@ abbrev below : ℕ → (ℕ → ℕ) → ℕ → ℕ
 below n f i = cond (ltb i n) (f i) 0
 
 one-term : (n : ℕ) (f : ℕ → ℕ) (k : ℕ) → sum n (λ i. f i * cond (eqb k i) 1 0) ≡ below n f k
-one-term n f k = go (side n k)
+one-term n f k = go (le-or n k)
   where
     go : (n ≤ k) ⊎ (k < n) → sum n (λ i. f i * cond (eqb k i) 1 0) ≡ below n f k
     go (inl h) = rw (le-ltb k n h) (sum-cong n (λ i l. rw (miss {v = i} {x = k} (omega arith)) (mul-zero (f i))) ∙ sum-zero n)
@@ -90,7 +90,7 @@ gather-le n (k ∷ p) = go (ltb k n) (gather-le n p)
 all-below : (n : ℕ) (p : List ℕ) → gather (below n (λ i. 1)) p ≡ length p → Each (λ i. i < n) (length p) p
 unfolding gather
 all-below n [] e = none
-all-below n (k ∷ p) e = go (side n k) (λ h. all-below n p h)
+all-below n (k ∷ p) e = go (le-or n k) (λ h. all-below n p h)
   where
     go : (n ≤ k) ⊎ (k < n) → (gather (below n (λ i. 1)) p ≡ length p → Each (λ i. i < n) (length p) p) → Each (λ i. i < n) (suc (length p)) (k ∷ p)
     go (inl h) r = absurd (omega (arith, gather-le n p, rw (le-ltb k n h) at e))
@@ -115,7 +115,7 @@ unfolding sum
 full zero f h e i l = absurd (omega arith)
 full (suc n) f h e i l =
     let last : f n ≡ 1 = omega (arith, h n (omega arith), sum-le n f (λ k m. h k (omega arith))) in
-    go last (λ m. full n f (λ k b. h k (omega arith)) (omega arith) i m) (side n i)
+    go last (λ m. full n f (λ k b. h k (omega arith)) (omega arith) i m) (le-or n i)
   where
     go : f n ≡ 1 → (i < n → f i ≡ 1) → (n ≤ i) ⊎ (i < n) → f i ≡ 1
     go last r (inl m) = let k : i ≡ n = omega arith in rw k last

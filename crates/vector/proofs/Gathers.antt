@@ -11,13 +11,13 @@ use lib.Dec.{ltb}
 use lib.ListN.{length, getD, set}
 use lib.Seq.{paste, paste-suc}
 use Rattle.codec.specs.Bytes.{Bytes, words, put}
+use Rattle.codec.specs.Lists.{list, allBelow}
+use Rattle.codec.proofs.Lists.{list-getD, allBelow-sound}
+use Rattle.codec.proofs.Laws.{le-or}
 use Rattle.modular.specs.Modulo.{remainder}
-use Rattle.ring.specs.Slots.{list, encode, allBelow}
+use Rattle.ring.specs.Slots.{encode}
 use Rattle.ring.specs.Ternary.{meaning, ternary, count}
-use Rattle.ring.proofs.Sums.{side}
-use Rattle.ring.proofs.Bridge.{list-getD}
 use Rattle.ring.proofs.Filling.{filled, filled-all}
-use Rattle.ring.proofs.Ranges.{allBelow-sound}
 use Rattle.vector.specs.Vector.{vector, ternaries, add}
 use Rattle.vector.specs.Permutation.{entries, apply, extend}
 use Rattle.vector.proofs.Vectors.{add-within, length-add, apply-at, length-vector, length-entries, length-ternaries, getD-ternaries}
@@ -68,7 +68,7 @@ if-le true v = omega arith
 if-le false v = omega arith
 
 pub if-index : (j n : ℕ) → 0 < n → cond (ltb j n) j 0 < n
-if-index j n h = go (side n j)
+if-index j n h = go (le-or n j)
   where
     go : (n ≤ j) ⊎ (j < n) → cond (ltb j n) j 0 < n
     go (inl l) = rw (le-ltb j n l) h
@@ -86,7 +86,7 @@ chosen n m z j v = cond (ltb j n) v 0 + (cond (ltb j m) 2 0 - cond (ltb j n) 2 0
 
 module _ (n m z j v : ℕ) (h : n ≤ m) (l : m ≤ z) where
   pub if-within : cond (ltb j n) 2 0 ≤ cond (ltb j m) 2 0
-  if-within = go (side n j)
+  if-within = go (le-or n j)
     where
       go : (n ≤ j) ⊎ (j < n) → cond (ltb j n) 2 0 ≤ cond (ltb j m) 2 0
       go (inl k) = rw (le-ltb j n k) (omega arith)
@@ -96,7 +96,7 @@ module _ (n m z j v : ℕ) (h : n ≤ m) (l : m ≤ z) where
   chosen-first k = rw (lt-ltb j n k, lt-ltb j m (omega arith), lt-ltb j z (omega arith)) (omega arith)
 
   pub chosen-lt : v < 256 → chosen n m z j v < 256
-  chosen-lt b = go (side n j)
+  chosen-lt b = go (le-or n j)
     where
       go : (n ≤ j) ⊎ (j < n) → chosen n m z j v < 256
       go (inl k) = rw (le-ltb j n k) (omega (arith, if-le (ltb j m) 2))
@@ -104,7 +104,7 @@ module _ (n m z j v : ℕ) (h : n ≤ m) (l : m ≤ z) where
 
 module _ (x : Bytes) (m z j : ℕ) (em : m ≡ length x + (length x - count 2 x)) (ez : z ≡ m + (length x - count 0 x)) (h : j < 3 * length x) where
   pub extend-chosen : chosen (length x) m z j (getD x j 0) ≡ getD (extend (length x) x) j 0
-  extend-chosen = go (side (length x) j) (side m j) (side z j)
+  extend-chosen = go (le-or (length x) j) (le-or m j) (le-or z j)
     where
       go : (length x ≤ j) ⊎ (j < length x) → (m ≤ j) ⊎ (j < m) → (z ≤ j) ⊎ (j < z) → chosen (length x) m z j (getD x j 0) ≡ getD (extend (length x) x) j 0
       go (inr a) b c = chosen-first (length x) m z j (getD x j 0) (omega arith) (omega arith) a ∙ sym (extend-given (length x) x refl j a)

@@ -11,12 +11,13 @@ use lib.ListN.{length, getD, take, drop, length-append, length-map, List·getD-a
 use lib.Seq.{length-take-le, getD-take, ext-getD}
 use Rattle.codec.specs.Bytes.{Bytes, words, number, part}
 use Rattle.codec.proofs.Numbers.{length-words}
+use Rattle.codec.specs.Lists.{list, allBelow}
+use Rattle.codec.proofs.Lists.{length-list, list-cong, getD-list, list-getD, allBelow-sound, allBelow-complete}
 use Rattle.modular.specs.Modulo.{remainder}
 use Rattle.modular.proofs.Centring.{remainder-lt}
-use Rattle.ring.specs.Slots.{poly, list, encode, allBelow}
+use Rattle.ring.specs.Slots.{poly, encode}
 use Rattle.ring.specs.Ternary.{meaning, ternary}
-use Rattle.ring.proofs.Bridge.{length-list, list-cong, getD-list, list-getD, poly-encode}
-use Rattle.ring.proofs.Ranges.{allBelow-sound, allBelow-complete}
+use Rattle.ring.proofs.Bridge.{poly-encode}
 use Rattle.ring.proofs.Sizes.{ternary-value}
 use Rattle.vector.specs.Vector.{Each, none, more, Vector, vector, ternaries, add, subtract}
 use Rattle.vector.specs.Permutation.{entries, apply, extend}

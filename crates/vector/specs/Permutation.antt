@@ -6,7 +6,7 @@ use Prim.Native.Nat.{ℕ, _+_, _-_, _*_, _/_, _<_}
 use lib.Dec.{eqb}
 use lib.ListN.{length, getD, replicate}
 use Rattle.codec.specs.Bytes.{Bytes, number, part, same}
-use Rattle.ring.specs.Slots.{list}
+use Rattle.codec.specs.Lists.{list}
 use Rattle.ring.specs.Ternary.{count}
 use Rattle.vector.specs.Vector.{Each}
 

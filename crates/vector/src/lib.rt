@@ -7,7 +7,7 @@ ghost use Prim.Native.Nat.{_+_, _-_, _*_, _^_, _≤_, _<_};
 ghost use lib.Dec.{ltb};
 ghost use lib.ListN.{length, getD};
 ghost use Rattle.codec.specs.Bytes.{part, put, words, zeros};
-ghost use Rattle.ring.specs.Slots.{allBelow};
+ghost use Rattle.codec.specs.Lists.{allBelow};
 ghost use Rattle.ring.specs.Ternary.{count};
 ghost use Rattle.vector.specs.Vector.{vector, ternaries, add};
 ghost use Rattle.vector.specs.Permutation.{entries, permutes, apply, extend, balanced};

@@ -9,7 +9,7 @@ use Rattle.codec.specs.Bytes.{Bytes, Octets}
 use Rattle.codec.specs.Reply.{first, None}
 use Rattle.codec.specs.declared.Reply.the-variants.{Taken}
 use Rattle.codec.proofs.Replies.{taken-exactly}
-use Rattle.ring.specs.Slots.{allBelow}
+use Rattle.codec.specs.Lists.{allBelow}
 use Rattle.call.specs.Call.{scratchLength, Polynomial}
 use Rattle.vector.specs.Vector.{vector}
 use Rattle.vector.specs.Permutation.{entries, permutes}

@@ -6,9 +6,8 @@ use native.Mathlib.Omega.{arith}
 use borrow.Author.Needs.{needs}
 use lib.ListN.{length, length-append}
 use Rattle.codec.specs.Bytes.{Bytes, part, put, words}
-use Rattle.codec.proofs.Laws.{length-part, part-append}
+use Rattle.codec.proofs.Laws.{length-part, part-append, written-length}
 use Rattle.ring.proofs.Ranges.{count-le}
-use Rattle.call.proofs.Writing.{written-length}
 use Rattle.vector.specs.Vector.{vector}
 use Rattle.vector.specs.Permutation.{entries, apply, extend}
 use Rattle.vector.proofs.Vectors.{length-apply, length-entries}

@@ -6,10 +6,9 @@ use native.Mathlib.Omega.{arith}
 use borrow.Author.Needs.{needs}
 use lib.ListN.{length}
 use Rattle.codec.specs.Bytes.{Bytes, part, put, words}
-use Rattle.codec.proofs.Laws.{length-part}
+use Rattle.codec.proofs.Laws.{length-part, written-length}
 use Rattle.codec.proofs.Numbers.{length-words}
 use Rattle.ring.proofs.Ranges.{count-le}
-use Rattle.call.proofs.Writing.{written-length}
 use Rattle.vector.specs.Vector.{vector, ternaries, add}
 use Rattle.vector.specs.Permutation.{extend}
 use Rattle.vector.proofs.Vectors.{length-add, length-vector, length-ternaries}

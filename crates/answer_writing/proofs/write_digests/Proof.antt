@@ -6,9 +6,8 @@ use native.Mathlib.Omega.{arith}
 use borrow.Author.Needs.{needs}
 use lib.ListN.{length}
 use Rattle.codec.specs.Bytes.{Bytes, part, put}
-use Rattle.codec.proofs.Laws.{length-part}
+use Rattle.codec.proofs.Laws.{length-part, written-length}
 use Rattle.sha3.proofs.Squeezing.{length-sha3}
-use Rattle.call.proofs.Writing.{written-length}
 use Rattle.vector.specs.Permutation.{entries}
 use Rattle.vector.proofs.Counts.{permutes-below}
 use Rattle.stern.proofs.Written.{vector-below}

@@ -1,7 +1,8 @@
 -- `call::both_in_range` meets its contract. Assumes nothing.
 use mathlib.Core.Bool.{true, _&&_}
 use borrow.Author.Needs.{needs}
-use Rattle.ring.specs.Slots.{poly, list, allBelow}
+use Rattle.codec.specs.Lists.{list, allBelow}
+use Rattle.ring.specs.Slots.{poly}
 use Rattle.call.proofs.Order.{fails, goes-on, last}
 use Rattle.call.proofs.Ranges.{whole-range}
 use Rattle.call.proofs.both_in_range.Statement.{statement}

@@ -1,7 +1,7 @@
 -- `call::both_ternary` meets its contract. Assumes nothing.
 use mathlib.Core.Bool.{true, _&&_}
 use borrow.Author.Needs.{needs}
-use Rattle.ring.specs.Slots.{allBelow}
+use Rattle.codec.specs.Lists.{allBelow}
 use Rattle.call.proofs.Order.{fails, goes-on, last}
 use Rattle.call.proofs.both_ternary.Statement.{statement}
 use Rattle.call.proofs.both_ternary.Tie as tie

@@ -2,7 +2,8 @@
 use mathlib.Core.Bool.{true, _&&_}
 use mathlib.Core.List.{[], _∷_}
 use borrow.Author.Needs.{needs}
-use Rattle.ring.specs.Slots.{poly, list, allBelow}
+use Rattle.codec.specs.Lists.{list, allBelow}
+use Rattle.ring.specs.Slots.{poly}
 use Rattle.call.specs.Call.{coefficientsBelow}
 use Rattle.call.proofs.Order.{fails, goes-on, last}
 use Rattle.call.proofs.Ranges.{whole-range}

@@ -6,7 +6,8 @@ use borrow.Author.Needs.{needs}
 use borrow.Author.Tests.{not-true, not-false, lt-ltb, le-ltb}
 use lib.Dec.{ltb}
 use Rattle.codec.specs.Bytes.{part}
-use Rattle.ring.specs.Slots.{poly, list, allBelow}
+use Rattle.codec.specs.Lists.{list, allBelow}
+use Rattle.ring.specs.Slots.{poly}
 use Rattle.call.proofs.Order.{fails, goes-on}
 use Rattle.transcript.specs.Round.{ranged, answersRanged, ballotsRanged, headRanged, openingRanged}
 use Rattle.round_parts.proofs.Ranged.{message-fails, message-passes}

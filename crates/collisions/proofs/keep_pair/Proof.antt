@@ -6,7 +6,7 @@ use native.Mathlib.Omega.{arith}
 use borrow.Author.Needs.{needs}
 use lib.ListN.{take, drop}
 use Rattle.codec.specs.Bytes.{put}
-use Rattle.call.proofs.Writing.{written-behind}
+use Rattle.codec.proofs.Laws.{written-behind}
 use Rattle.stern.proofs.Answered.{lent-length}
 use Rattle.collisions.proofs.keep_pair.Statement.{statement}
 use Rattle.collisions.proofs.keep_pair.Tie as tie

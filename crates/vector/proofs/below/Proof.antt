@@ -7,13 +7,13 @@ use native.Mathlib.Omega.{arith}
 use borrow.Author.Needs.{needs}
 use borrow.Author.Tests.{lt-ltb, le-ltb}
 use lib.Dec.{ltb}
-use Rattle.ring.proofs.Sums.{side}
+use Rattle.codec.proofs.Laws.{le-or}
 use Rattle.vector.proofs.Gathers.{if-le}
 use Rattle.vector.proofs.below.Statement.{statement}
 use Rattle.vector.proofs.below.Tie as tie
 
 product : (j m v : ℕ) → j < 2 ^ 62 → m < 2 ^ 62 → (m + 4611686018427387903 - j) / 4611686018427387904 * v ≡ cond (ltb j m) v 0
-product j m v h l = go (side m j)
+product j m v h l = go (le-or m j)
   where
     go : (m ≤ j) ⊎ (j < m) → (m + 4611686018427387903 - j) / 4611686018427387904 * v ≡ cond (ltb j m) v 0
     go (inl k) = let e : (m + 4611686018427387903 - j) / 4611686018427387904 ≡ 0 = omega arith in rw (e, le-ltb j m k) (omega arith)

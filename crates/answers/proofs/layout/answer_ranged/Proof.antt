@@ -8,7 +8,7 @@ use borrow.Author.Tests.{ne-eqb, not-true, not-false}
 use lib.Dec.{eqb}
 use lib.ListN.{take, drop}
 use Rattle.call.proofs.Order.{fails, goes-on}
-use Rattle.ring.specs.Slots.{allBelow}
+use Rattle.codec.specs.Lists.{allBelow}
 use Rattle.vector.specs.Vector.{vector}
 use Rattle.stern.specs.Shortness.{answer1Of, answer2Of}
 use Rattle.stern.proofs.Answered.{chosen1, answer-long, answer-longer}

@@ -5,7 +5,7 @@ use mathlib.Core.List.{List}
 use borrow.Author.Needs.{needs}
 use Rattle.codec.specs.Reply.{Test, first}
 use Rattle.codec.proofs.Laws.{both}
-use Rattle.ring.specs.Slots.{allBelow}
+use Rattle.codec.specs.Lists.{allBelow}
 use Rattle.commitment.specs.Commitment.{keysOf}
 use Rattle.vector.specs.Vector.{vector}
 use Rattle.stern.specs.Shortness.{answer1Of, answer2Of, answer3Of, tests1, tests2, tests3}

@@ -7,7 +7,7 @@ use borrow.Author.Needs.{needs}
 use borrow.Author.Tests.{not-true, not-false}
 use lib.ListN.{length, length-replicate}
 use Rattle.codec.specs.Bytes.{Bytes, zeros}
-use Rattle.call.proofs.Writing.{written-length}
+use Rattle.codec.proofs.Laws.{written-length}
 use Rattle.vector.specs.Permutation.{entries, permutes}
 use Rattle.vector.proofs.Counts.{permutes-below}
 use Rattle.stern.proofs.Answered.{first-fails, second-fails, both-hold}

@@ -4,7 +4,7 @@ use mathlib.Core.Bool.{true, false}
 use mathlib.Core.List.{[], _∷_}
 use borrow.Author.Needs.{needs}
 use borrow.Author.Tests.{not-true, not-false}
-use Rattle.ring.specs.Slots.{allBelow}
+use Rattle.codec.specs.Lists.{allBelow}
 use Rattle.call.specs.Call.{bytesBelow}
 use Rattle.call.proofs.Order.{last}
 use Rattle.encryption.proofs.ballots.encrypt_ranged.Statement.{statement}

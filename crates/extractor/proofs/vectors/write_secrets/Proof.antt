@@ -7,7 +7,7 @@ use borrow.Author.Needs.{needs}
 use lib.ListN.{length, set, length-set}
 use lib.Seq.{paste, paste-zero}
 use Rattle.codec.proofs.Laws.{paste-all}
-use Rattle.ring.proofs.Bridge.{length-list}
+use Rattle.codec.proofs.Lists.{length-list}
 use Rattle.vector.proofs.Gathers.{paste-more}
 use Rattle.transcript.specs.Extractor.{ternaryBytes}
 use Rattle.extractor.specs.Method.{unknownsOf, from}

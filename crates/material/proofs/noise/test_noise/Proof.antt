@@ -7,7 +7,8 @@ use borrow.Author.Needs.{needs}
 use borrow.Author.Tests.{not-true, not-false}
 use lib.ListN.{length}
 use Rattle.codec.specs.Bytes.{Bytes, part}
-use Rattle.ring.specs.Slots.{slot, list, allBelow}
+use Rattle.codec.specs.Lists.{list, allBelow}
+use Rattle.ring.specs.Slots.{slot}
 use Rattle.ring.specs.Ternary.{ternary}
 use Rattle.ring.proofs.Ranges.{below-sound}
 use Rattle.bgv.specs.Scheme.{centred, opened, within}

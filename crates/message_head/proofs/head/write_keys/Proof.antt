@@ -5,11 +5,11 @@ use native.Mathlib.Omega.{arith}
 use borrow.Author.Needs.{needs}
 use lib.ListN.{length}
 use Rattle.codec.specs.Bytes.{Bytes, part, put}
+use Rattle.codec.proofs.Laws.{written-behind}
 use Rattle.ring.specs.Poly.{modulo}
 use Rattle.ring.specs.Slots.{poly}
 use Rattle.ring.specs.Ternary.{ternary}
 use Rattle.ring.proofs.Bridge.{length-encode}
-use Rattle.call.proofs.Writing.{written-behind}
 use Rattle.bgv.specs.Scheme.{key, other}
 use Rattle.scheme.specs.Calls.{written}
 use Rattle.stern.proofs.Answered.{lent-length}

@@ -4,8 +4,7 @@ use native.Mathlib.Omega.{arith}
 use borrow.Author.Needs.{needs}
 use lib.ListN.{length}
 use Rattle.codec.specs.Bytes.{part}
-use Rattle.codec.proofs.Laws.{length-part}
-use Rattle.call.proofs.Writing.{written-behind}
+use Rattle.codec.proofs.Laws.{length-part, written-behind}
 use Rattle.message_head.proofs.pairs.write_halves.Statement.{statement}
 use Rattle.message_head.proofs.pairs.write_halves.Tie as tie
 

@@ -6,9 +6,10 @@ use borrow.Author.Needs.{needs}
 use lib.ListN.{length}
 use Rattle.codec.specs.Bytes.{put}
 use Rattle.codec.proofs.Laws.{put-between}
+use Rattle.codec.specs.Lists.{list}
+use Rattle.codec.proofs.Lists.{length-list}
 use Rattle.ring.specs.Poly.{minus}
-use Rattle.ring.specs.Slots.{poly, slot, list}
-use Rattle.ring.proofs.Bridge.{length-list}
+use Rattle.ring.specs.Slots.{poly, slot}
 use Rattle.call.proofs.Slots.{stands-below}
 use Rattle.bgv.specs.Scheme.{plain}
 use Rattle.bgv.proofs.Votes.{plain-stands}

@@ -4,8 +4,7 @@ use Prim.Native.Nat.{_+_, _-_, _*_}
 use native.Mathlib.Omega.{arith}
 use borrow.Author.Needs.{needs}
 use Rattle.codec.specs.Bytes.{part, put}
-use Rattle.codec.proofs.Laws.{length-part}
-use Rattle.call.proofs.Writing.{written-behind}
+use Rattle.codec.proofs.Laws.{length-part, written-behind}
 use Rattle.message_head.proofs.Joining.{cut}
 use Rattle.producer.proofs.opening.hiding.Statement.{statement}
 use Rattle.producer.proofs.opening.hiding.Tie as tie

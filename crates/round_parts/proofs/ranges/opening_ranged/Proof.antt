@@ -6,7 +6,8 @@ use borrow.Author.Needs.{needs}
 use borrow.Author.Tests.{not-true, not-false}
 use lib.ListN.{take, drop}
 use Rattle.codec.specs.Bytes.{part}
-use Rattle.ring.specs.Slots.{poly, list, allBelow}
+use Rattle.codec.specs.Lists.{list, allBelow}
+use Rattle.ring.specs.Slots.{poly}
 use Rattle.call.proofs.Order.{fails, goes-on}
 use Rattle.round_parts.proofs.Ranged.{front-range}
 use Rattle.round_parts.proofs.ranges.opening_ranged.Statement.{statement}

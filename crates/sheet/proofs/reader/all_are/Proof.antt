@@ -7,7 +7,7 @@ use borrow.Author.Needs.{needs}
 use borrow.Author.Tests.{ne-eqb, eq-eqb}
 use lib.Dec.{eqb}
 use lib.ListN.{take}
-use Rattle.sheet.specs.Reader.{every}
+use Rattle.codec.specs.Lists.{every}
 use Rattle.sheet.proofs.Each.{not-each, one-more, each}
 use Rattle.sheet.proofs.reader.all_are.Statement.{statement}
 use Rattle.sheet.proofs.reader.all_are.Tie as tie

@@ -7,7 +7,7 @@ use borrow.Author.Needs.{needs}
 use borrow.Author.Tests.{le-ltb, lt-ltb}
 use lib.Dec.{ltb}
 use lib.ListN.{take}
-use Rattle.sheet.specs.Reader.{every}
+use Rattle.codec.specs.Lists.{every, allBelow}
 use Rattle.sheet.proofs.Each.{not-each, one-more, each}
 use Rattle.sheet.proofs.reader.all_below.Statement.{statement}
 use Rattle.sheet.proofs.reader.all_below.Tie as tie
@@ -22,6 +22,7 @@ loop-holds : tie.Need-loop-holds Inv-loop μ-loop
 loop-holds c = (omega arith, refl)
 
 returns : tie.Need-returns Inv-loop μ-loop
+unfolding allBelow
 returns c =
     let a = c .before .before .before .args in
     not-each (λ x. ltb x (a .v)) (a .t1) (c .before .before .loop .i) (omega arith) (le-ltb _ _ (c .if1 .taken))
@@ -33,6 +34,7 @@ loop-again c =
     (omega arith, one-more (λ x. ltb x (a .v)) (a .t1) (l .i) (omega arith) (lt-ltb _ _ (c .if1 .left)) (l .inv .1))
 
 returns-2 : tie.Need-returns-2 Inv-loop μ-loop
+unfolding allBelow
 returns-2 c =
     let a = c .before .before .args in
     each (λ x. ltb x (a .v)) (a .t1) (c .before .loop .i) (omega arith) (c .before .loop .inv .1)

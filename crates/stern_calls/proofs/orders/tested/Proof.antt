@@ -8,7 +8,7 @@ use borrow.Author.Tests.{not-true, not-false}
 use lib.ListN.{length}
 use Rattle.codec.specs.Bytes.{same}
 use Rattle.codec.proofs.Laws.{both}
-use Rattle.ring.specs.Slots.{allBelow}
+use Rattle.codec.specs.Lists.{allBelow}
 use Rattle.call.proofs.Order.{length-at}
 use Rattle.commitment.specs.Commitment.{keysOf}
 use Rattle.vector.specs.Vector.{vector}
