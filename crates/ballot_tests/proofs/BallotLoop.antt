@@ -10,8 +10,9 @@ use Rattle.codec.specs.Bytes.{Bytes, part, same}
 use Rattle.codec.specs.Reply.{Test, test, first, None}
 use Rattle.codec.specs.declared.Reply.{Reply}
 use Rattle.codec.specs.declared.Reply.the-variants.{Taken, Refused}
+use Rattle.codec.specs.Lists.{list}
 use Rattle.ring.specs.Poly.{Below}
-use Rattle.ring.specs.Slots.{poly, slot, list}
+use Rattle.ring.specs.Slots.{poly, slot}
 use Rattle.bgv.specs.Scheme.{worked, within, reconstructed}
 use Rattle.transcript.specs.Layout.{each, ballotLength}
 use Rattle.transcript.specs.Method.{Batch, Shares}

@@ -1,7 +1,7 @@
 -- Laws of lists of values and of tests of every element. Assumes nothing.
 use mathlib.Core.Path.{_≡_, refl, ap, ap₂, _∙_}
 use mathlib.Core.Logic.{_⊎_, inl, inr}
-use mathlib.Core.Bool.{Bool, true, false}
+use mathlib.Core.Bool.{Bool, true, false, _&&_}
 use mathlib.Core.List.{List, [], _∷_, _++_}
 use Prim.Native.Nat.{ℕ, zero, suc, _≤_, _<_}
 use native.Mathlib.Omega.{arith}
@@ -77,3 +77,8 @@ all-sound (suc n) f e j h = go (λ l. all-sound n f (both (all n f) (f n) e .0) 
     go : (j < n → f j ≡ true) → (n ≤ j) ⊎ (j < n) → f j ≡ true
     go before (inl l) = let p : j ≡ n = omega arith in rw p (both (all n f) (f n) e .1)
     go before (inr l) = before l
+
+pub all-complete : (n : ℕ) (f : ℕ → Bool) → ((j : ℕ) → j < n → f j ≡ true) → all n f ≡ true
+unfolding all
+all-complete zero f h = refl
+all-complete (suc n) f h = ap₂ _&&_ (all-complete n f (λ j l. h j (omega arith))) (h n (omega arith))

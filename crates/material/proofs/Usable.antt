@@ -10,6 +10,7 @@ use Rattle.codec.specs.declared.Reply.the-variants.{Taken}
 use Rattle.codec.proofs.Laws.{both}
 use Rattle.codec.proofs.Replies.{taken-exactly}
 use Rattle.codec.specs.Lists.{list, allBelow}
+use Rattle.codec.proofs.Lists.{all-sound}
 use Rattle.ring.specs.Poly.{Below}
 use Rattle.ring.proofs.Ranges.{below-sound}
 use Rattle.call.specs.Call.{Polynomial}
@@ -22,7 +23,6 @@ use Rattle.transcript.specs.Round.{Parameters, ballotsRanged}
 use Rattle.transcript.specs.Method.{parameters}
 use Rattle.transcript.specs.Producer.{Material, materialRanged, producerTests}
 use Rattle.transcript.specs.Suitable.{Suitable}
-use Rattle.transcript.proofs.Many.{all-sound}
 use Rattle.transcript.proofs.Passed.{producer-exactly}
 use Rattle.material.specs.Lent.{Lengths}
 use Rattle.material.specs.Parts.{materialBelow}

@@ -5,14 +5,14 @@ use mathlib.Core.List.{List, [], _∷_}
 use Prim.Native.Nat.{ℕ, _+_, _*_}
 use Rattle.codec.specs.Bytes.{Bytes, part, same}
 use Rattle.codec.specs.Reply.{Test, test}
-use Rattle.codec.specs.Lists.{list, allBelow}
+use Rattle.codec.specs.Lists.{list, allBelow, all}
 use Rattle.ring.specs.Poly.{modulo}
 use Rattle.ring.specs.Slots.{poly, encode}
 use Rattle.ring.specs.Ternary.{ternary}
 use Rattle.bgv.specs.Scheme.{centred, key, opened, lentMask, within}
 use Rattle.vector.specs.Vector.{vector}
 use Rattle.vector.specs.Permutation.{entries, permutes}
-use Rattle.transcript.specs.Layout.{all, each, uAt, vAt}
+use Rattle.transcript.specs.Layout.{each, uAt, vAt}
 
 -- 5: u and v of every ballot
 abbrev pub ballotsBelow : (q N count : ℕ) (ballots : Bytes) → Bool

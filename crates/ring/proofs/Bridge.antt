@@ -10,9 +10,9 @@ use lib.ListN.{length, take, drop, length-replicate, length-drop}
 use lib.Seq.{take-all, take-add, drop-at, take-append-le, drop-append-le, getD-take, getD-drop}
 use Rattle.codec.specs.Bytes.{Bytes, Octets, bytes, words, number, part, put, zeros}
 use Rattle.codec.proofs.Laws.{length-part, part-part, length-put, put-put, part-put, part-put-before, part-put-after, le-or}
-pub use Rattle.codec.proofs.Lists.{length-list, list-cong, getD-list, list-getD}
 use Rattle.codec.proofs.Numbers.{length-bytes, number-bytes, bytes-number, length-words, words-append}
 use Rattle.codec.specs.Lists.{list}
+use Rattle.codec.proofs.Lists.{length-list, list-cong}
 use Rattle.ring.specs.Poly.{Poly, modulo, Alike, Below}
 use Rattle.ring.specs.Slots.{poly, slot, encode, store}
 

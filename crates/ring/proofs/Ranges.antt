@@ -10,11 +10,10 @@ use lib.Dec.{eqb}
 use lib.ListN.{length, take, getD}
 use lib.Seq.{take-suc}
 use Rattle.codec.specs.Bytes.{Bytes}
-pub use Rattle.codec.proofs.Lists.{allBelow-sound, allBelow-complete, not-allBelow}
 use Rattle.modular.proofs.Centring.{remainder-lt}
 use Rattle.ring.specs.Poly.{Poly, Below}
 use Rattle.ring.specs.Ternary.{meaning, ternary, count}
-use Rattle.codec.proofs.Lists.{length-list, getD-list}
+use Rattle.codec.proofs.Lists.{length-list, getD-list, allBelow-sound, allBelow-complete, not-allBelow}
 use Rattle.codec.specs.Lists.{list, allBelow}
 
 -- ---- the range test of a polynomial

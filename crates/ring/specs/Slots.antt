@@ -3,7 +3,7 @@ use mathlib.Core.Logic.{_⊎_}
 use Prim.Native.Nat.{ℕ, _+_, _*_, _≤_}
 use lib.ListN.{length}
 use Rattle.codec.specs.Bytes.{Bytes, words, number, signed, part, put}
-unfoldable pub use Rattle.codec.specs.Lists.{list, allBelow}
+use Rattle.codec.specs.Lists.{list}
 use Rattle.modular.specs.Modulo.{remainder}
 use Rattle.ring.specs.Poly.{Poly, modulo}
 

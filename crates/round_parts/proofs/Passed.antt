@@ -10,6 +10,7 @@ use lib.ListN.{length}
 use Rattle.codec.specs.Bytes.{Bytes, part}
 use Rattle.codec.proofs.Laws.{length-part, both}
 use Rattle.codec.specs.Lists.{list, allBelow}
+use Rattle.codec.proofs.Lists.{all-sound}
 use Rattle.ring.specs.Poly.{Below}
 use Rattle.ring.specs.Slots.{poly}
 use Rattle.ring.proofs.Bridge.{poly-part}
@@ -21,7 +22,7 @@ use Rattle.stern.proofs.Written.{vector-below}
 use Rattle.transcript.specs.Layout.{ballotLength, headLength, uAt, pairsOf, answerAt}
 use Rattle.transcript.specs.Round.{Parameters, Round, Lengths, challengeAt, isChallenge, ballotsRanged, openingRanged, headRanged, answersRanged, ranged}
 use Rattle.transcript.specs.Method.{Batch, Shares}
-use Rattle.transcript.proofs.Many.{all-sound, stretch}
+use Rattle.transcript.proofs.Many.{stretch}
 use Rattle.transcript.proofs.Written.{below-slot, coefficients-vector}
 use Rattle.transcript.proofs.Compared.{lent-public}
 use Rattle.round_parts.specs.Lent.{Opened, Head, RoundInRange}

@@ -9,16 +9,16 @@ use borrow.Author.Count.{below-none, below-more}
 use lib.ListN.{length, take, drop, getD}
 use Rattle.codec.specs.Bytes.{Bytes, part}
 use Rattle.codec.proofs.Laws.{length-part}
-use Rattle.codec.specs.Lists.{list, allBelow}
-use Rattle.codec.proofs.Lists.{list-cong}
+use Rattle.codec.specs.Lists.{list, allBelow, all}
+use Rattle.codec.proofs.Lists.{list-cong, all-sound, all-complete}
 use Rattle.ring.specs.Slots.{poly, slot}
 use Rattle.ring.proofs.Bridge.{poly-part, slot-poly}
 use Rattle.call.proofs.Order.{fails, goes-on}
 use Rattle.vector.specs.Vector.{vector}
 use Rattle.stern.specs.Shortness.{answerLength, inRange}
-use Rattle.transcript.specs.Layout.{all, ballotLength, uAt, answersLength, answerAt}
+use Rattle.transcript.specs.Layout.{ballotLength, uAt, answersLength, answerAt}
 use Rattle.transcript.specs.Round.{isChallenge}
-use Rattle.transcript.proofs.Many.{all-sound, all-complete, stretch}
+use Rattle.transcript.proofs.Many.{stretch}
 use Rattle.transcript.proofs.Answers.{answersLength-more}
 use Rattle.transcript.proofs.Answers.{prefix-le, all-le}
 

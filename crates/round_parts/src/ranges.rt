@@ -4,11 +4,11 @@ ghost use mathlib.Core.Bool.{_&&_};
 ghost use Prim.Native.Nat.{_+_, _*_, _≤_};
 ghost use lib.ListN.{length, getD};
 ghost use Rattle.codec.specs.Bytes.{part};
-ghost use Rattle.codec.specs.Lists.{list, allBelow};
+ghost use Rattle.codec.specs.Lists.{list, allBelow, all};
 ghost use Rattle.ring.specs.Slots.{poly};
 ghost use Rattle.vector.specs.Vector.{vector};
 ghost use Rattle.stern.specs.Shortness.{answerLength, inRange};
-ghost use Rattle.transcript.specs.Layout.{all, ballotLength, uAt, answersLength, answerAt};
+ghost use Rattle.transcript.specs.Layout.{ballotLength, uAt, answersLength, answerAt};
 ghost use Rattle.transcript.specs.Round.{isChallenge};
 
 // Whether b0, b1 and the committed pairs, with which the head of a first message begins, are below q.

@@ -3,7 +3,7 @@ ghost use mathlib.Core.Path.{_≡_};
 ghost use mathlib.Core.Bool.{_&&_};
 ghost use lib.Dec.{ltb};
 ghost use lib.ListN.{length, getD};
-ghost use Rattle.transcript.specs.Layout.{all};
+ghost use Rattle.codec.specs.Lists.{all};
 ghost use Rattle.transcript.specs.Round.{isChallenge};
 
 // A challenge is 1, 2 or 3.

@@ -9,7 +9,8 @@ use Rattle.codec.specs.Reply.{test, first}
 use Rattle.codec.specs.declared.Reply.{Reply}
 use Rattle.codec.specs.declared.Reply.the-variants.{Taken}
 use Rattle.codec.proofs.Laws.{both}
-use Rattle.ring.specs.Slots.{poly, list, allBelow}
+use Rattle.codec.specs.Lists.{list, allBelow}
+use Rattle.ring.specs.Slots.{poly}
 use Rattle.call.specs.Call.{bytesBelow, coefficientsBelow, Polynomial}
 use Rattle.call.proofs.Order.{length-at, passed}
 use Rattle.call.proofs.Ranges.{ranged}

@@ -6,8 +6,9 @@ use Prim.Native.Nat.{ℕ, _*_}
 use lib.ListN.{length}
 use Rattle.codec.specs.Bytes.{Bytes}
 use Rattle.codec.specs.Reply.{Test, test}
+use Rattle.codec.specs.Lists.{list}
 use Rattle.ring.specs.Poly.{Poly, modulo}
-use Rattle.ring.specs.Slots.{poly, slot, list, encode}
+use Rattle.ring.specs.Slots.{poly, slot, encode}
 use Rattle.ring.specs.Ternary.{ternary}
 use Rattle.call.specs.Call.{scratchLength, lengthTest, bytesBelow, coefficientsBelow, coefficients}
 use Rattle.bgv.specs.Scheme.{within, key, cipher-u, cipher-v, decrypted, other, lentMask, share, reconstructed}

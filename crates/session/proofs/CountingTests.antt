@@ -10,7 +10,7 @@ use borrow.Author.Tests.{eq-eqb, ne-eqb, lt-ltb, le-ltb}
 use Rattle.codec.specs.Bytes.{Bytes, same}
 use Rattle.codec.specs.Reply.{first}
 use Rattle.codec.specs.declared.Reply.the-variants.{Taken, Refused}
-use Rattle.ring.specs.Slots.{allBelow}
+use Rattle.codec.specs.Lists.{allBelow}
 use Rattle.transcript.specs.Layout.{headLength}
 use Rattle.session.specs.Session.{closed, claimed, valid}
 use Rattle.session.specs.Steps.{claimTests, commitTests, drawTests}

@@ -11,7 +11,8 @@ use borrow.Author.Tests.{eq-eqb, ne-eqb, lt-ltb, le-ltb}
 use Rattle.codec.specs.Bytes.{Bytes, same}
 use Rattle.codec.specs.Reply.{first}
 use Rattle.codec.specs.declared.Reply.the-variants.{Taken, Refused}
-use Rattle.ring.specs.Slots.{poly, list, allBelow}
+use Rattle.codec.specs.Lists.{list, allBelow}
+use Rattle.ring.specs.Slots.{poly}
 use Rattle.sheet.specs.Sheet.{reading, replyOf}
 use Rattle.sheet_numbers.specs.declared.Numbers.{Numbers}
 use Rattle.sheet.specs.declared.Reading.the-variants as reading

@@ -9,8 +9,8 @@ use Rattle.codec.specs.Bytes.{Bytes, put, zeros, same}
 use Rattle.codec.specs.Reply.{Test, test, first, leaves}
 use Rattle.codec.specs.declared.Reply.{Reply}
 use Rattle.codec.specs.declared.Reply.the-variants as reply
+use Rattle.codec.specs.Lists.{allBelow}
 use Rattle.sha3.specs.Sponge.{sha3}
-use Rattle.ring.specs.Slots.{allBelow}
 use Rattle.sheet.specs.Reader.{sheetOf}
 use Rattle.sheet.specs.Sheet.{order}
 use Rattle.vector.specs.Vector.{vector}

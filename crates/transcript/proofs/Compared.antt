@@ -11,12 +11,14 @@ use lib.Seq.{ext-getD}
 use Rattle.codec.specs.Bytes.{Bytes, Octets, part, put, same}
 use Rattle.codec.proofs.Laws as Laws
 use Rattle.codec.proofs.Laws.{not-same, length-part}
+use Rattle.codec.specs.Lists.{list, allBelow}
+use Rattle.codec.proofs.Lists.{length-list, list-cong, getD-list}
 use Rattle.modular.specs.Modulo.{Same, remainder}
 use Rattle.modular.specs.Division.{inverse, divide}
 use Rattle.modular.proofs.Congruence.{same-eq, same-refl, same-mul}
 use Rattle.ring.specs.Poly.{Poly, plus, modulo, Alike, Below}
-use Rattle.ring.specs.Slots.{poly, slot, list, encode, store, allBelow}
-use Rattle.ring.proofs.Bridge.{length-list, list-cong, getD-list, poly-part, slot-later}
+use Rattle.ring.specs.Slots.{poly, slot, encode, store}
+use Rattle.ring.proofs.Bridge.{poly-part, slot-later}
 use Rattle.ring.proofs.Polynomials.{alike-refl, alike-minus, alike-mul}
 use Rattle.call.specs.Call.{Polynomial}
 use Rattle.bgv.specs.Scheme.{worked, within, plain, rebuilt, reconstructed}

@@ -10,9 +10,10 @@ use lib.Dec.{ltb}
 use Rattle.codec.specs.Bytes.{Bytes, same}
 use Rattle.codec.specs.Reply.{Test, None}
 use Rattle.codec.proofs.Laws.{both, same-equal}
+use Rattle.codec.specs.Lists.{list, allBelow}
+use Rattle.codec.proofs.Lists.{list-cong}
 use Rattle.ring.specs.Poly.{Poly, plus, Alike}
-use Rattle.ring.specs.Slots.{slot, list, allBelow}
-use Rattle.ring.proofs.Bridge.{list-cong}
+use Rattle.ring.specs.Slots.{slot}
 use Rattle.ring.proofs.Polynomials.{alike-eq, alike-sym, alike-refl, _so_, alike-plus}
 use Rattle.bgv.specs.Scheme.{Bounded, Small, key, opened, decrypted, worked, within, reconstructed, Sound}
 use Rattle.bgv.proofs.Form.{noisy-adds, noisy-alike}

@@ -13,13 +13,14 @@ use lib.IntN.{natAbs}
 use lib.ListN.{length, length-append, length-replicate}
 use Rattle.codec.specs.Bytes.{Bytes, part, zeros}
 use Rattle.codec.specs.Reply.{None}
+use Rattle.codec.specs.Lists.{allBelow}
+use Rattle.codec.proofs.Lists.{length-list, getD-list}
 use Rattle.modular.specs.Modulo.{centre}
 use Rattle.modular.proofs.Congruence.{same-eq, _then_, same-mod}
 use Rattle.modular.proofs.Centring.{centre-low, centre-high}
 use Rattle.ring.specs.Poly.{Poly, Alike}
-use Rattle.ring.specs.Slots.{allBelow}
 use Rattle.ring.specs.Ternary.{ternary}
-use Rattle.ring.proofs.Bridge.{length-list, getD-list, length-encode}
+use Rattle.ring.proofs.Bridge.{length-encode}
 use Rattle.ring.proofs.Ranges.{below-complete}
 use Rattle.ring.proofs.Sizes.{ternary-value}
 use Rattle.bgv.specs.Scheme.{Small, Sound}

@@ -11,10 +11,12 @@ use lib.ListN.{length, getD}
 use Rattle.codec.specs.Bytes.{Bytes, part}
 use Rattle.codec.specs.Reply.{None}
 use Rattle.codec.proofs.Laws.{part-append}
+use Rattle.codec.specs.Lists.{list, allBelow}
+use Rattle.codec.proofs.Lists.{list-cong, all-complete}
 use Rattle.modular.proofs.Centring.{remainder-lt}
 use Rattle.ring.specs.Poly.{Poly, plus, modulo, Alike}
-use Rattle.ring.specs.Slots.{poly, list, encode, allBelow}
-use Rattle.ring.proofs.Bridge.{list-cong, encode-alike}
+use Rattle.ring.specs.Slots.{poly, encode}
+use Rattle.ring.proofs.Bridge.{encode-alike}
 use Rattle.ring.proofs.Polynomials.{alike-refl, alike-sym, _so_, alike-plus}
 use Rattle.ring.proofs.Ranges.{below-complete}
 use Rattle.bgv.specs.Scheme.{plain, decrypted, share, worked, within, lentMask, reconstructed, Sound}
@@ -31,7 +33,7 @@ use Rattle.transcript.specs.Layout.{Opening, each, uAt, vAt, shareAt, cl
 use Rattle.transcript.specs.Round.{Parameters, Round, challengeAt, sharesOf, openingRanged, headRanged, answersRanged, ranged, splits, opensKey, opensPairs, maskTest, claimTest, roundTests}
 use Rattle.transcript.specs.Producer.{Material, Sized, secret-s, secret-e, half-s, half-e, hides-s, hides-e, maskAt, permutationAt, drawnAt, pairBytesOf, producerTests, producedPairs, producedHead, producedShares, producedClaims, producedOpening, producedAnswers, producedRound}
 use Rattle.transcript.specs.Suitable.{Suitable}
-use Rattle.transcript.proofs.Many.{all-complete, none-append, each-none, stretch}
+use Rattle.transcript.proofs.Many.{none-append, each-none, stretch}
 use Rattle.transcript.proofs.Written.{Coefficients, below-append, below-joined, below-part, ranged-first, coefficients-written, coefficients-append, coefficients-joined, coefficients-vector, coefficients-part}
 use Rattle.transcript.proofs.Produced.{pairs-written, pair-s-written, pair-e-written, digests-written, key-written, key-alike, share-alike, claim-written, opening-written, opening-s, opening-e, permutation-sized, vector-sized, salts-sized, answer-written}
 use Rattle.transcript.proofs.Ranged.{each-exactly, ballots-exactly}

@@ -1,4 +1,4 @@
--- What holds for each of n: laws of `all`, `each` and `joined`. Assumes nothing.
+-- What holds for each of n: laws of `each` and `joined`, and of orders of tests. Assumes nothing.
 use mathlib.Core.Path.{_≡_, refl, sym, ap, ap₂, _∙_}
 use mathlib.Core.Logic.{_⊎_, inl, inr}
 use mathlib.Core.Bool.{Bool, true, false, cond, _&&_}
@@ -16,7 +16,7 @@ use Rattle.codec.specs.declared.Reply.{Reply}
 use Rattle.codec.specs.declared.Reply.the-variants.{Taken, Refused}
 use Rattle.codec.proofs.Replies.{not-taken, taken-exactly, first-append}
 use Rattle.codec.proofs.Laws.{both}
-use Rattle.transcript.specs.Layout.{all, each, joined}
+use Rattle.transcript.specs.Layout.{each, joined}
 
 -- below n + 1: below n, or n
 pub last : (n j : ℕ) → j < suc n → (j < n) ⊎ (j ≡ n)
@@ -40,20 +40,6 @@ for-challenges A a b d (suc (suc (suc zero))) low high = d
 for-challenges A a b d (suc (suc (suc (suc c)))) low high = absurd (omega arith)
 
 -- ---- tests of each
-
-pub all-sound : (n : ℕ) (f : ℕ → Bool) → all n f ≡ true → (j : ℕ) → j < n → f j ≡ true
-unfolding all
-all-sound zero f e j h = absurd (omega arith)
-all-sound (suc n) f e j h = go (λ l. all-sound n f (both (all n f) (f n) e .0) j l) (last n j h)
-  where
-    go : (j < n → f j ≡ true) → (j < n) ⊎ (j ≡ n) → f j ≡ true
-    go before (inl l) = before l
-    go before (inr i) = ap f i ∙ both (all n f) (f n) e .1
-
-pub all-complete : (n : ℕ) (f : ℕ → Bool) → ((j : ℕ) → j < n → f j ≡ true) → all n f ≡ true
-unfolding all
-all-complete zero f h = refl
-all-complete (suc n) f h = ap₂ _&&_ (all-complete n f (λ j l. h j (omega arith))) (h n (omega arith))
 
 pub none-append : (rs ts : List Test) → None rs → None ts → None (rs ++ ts)
 none-append [] ts ha hb = hb

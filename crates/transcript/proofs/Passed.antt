@@ -11,8 +11,10 @@ use lib.ListN.{getD}
 use Rattle.codec.specs.Bytes.{Bytes}
 use Rattle.codec.specs.Reply.{Test, test, None}
 use Rattle.codec.proofs.Laws.{both, same-equal}
+use Rattle.codec.specs.Lists.{list, allBelow, all}
+use Rattle.codec.proofs.Lists.{all-sound, all-complete}
 use Rattle.ring.specs.Poly.{Alike, Below}
-use Rattle.ring.specs.Slots.{poly, list, allBelow}
+use Rattle.ring.specs.Slots.{poly}
 use Rattle.ring.proofs.Bridge.{encode-alike}
 use Rattle.ring.proofs.Ranges.{below-sound, below-complete}
 use Rattle.bgv.specs.Scheme.{Wholes, centred, Bounded, within, opened, lentMask}
@@ -20,12 +22,12 @@ use Rattle.commitment.proofs.Opening.{encode-decides}
 use Rattle.vector.specs.Vector.{vector}
 use Rattle.vector.specs.Permutation.{entries, permutes}
 use Rattle.vector.proofs.Counts.{permutes-sound, permutes-complete}
-use Rattle.transcript.specs.Layout.{all, each, uAt, vAt}
+use Rattle.transcript.specs.Layout.{each, uAt, vAt}
 use Rattle.transcript.specs.Round.{Parameters, isChallenge, ballotsRanged}
 use Rattle.transcript.specs.Accepted.{EachBelow, BallotsRanged}
 use Rattle.transcript.specs.Producer.{Material, secret-s, maskAt, permutationAt, materialRanged, askedRanged, producerTests}
 use Rattle.transcript.specs.Suitable.{Suitable, Asked}
-use Rattle.transcript.proofs.Many.{for-sides, all-sound, all-complete, append-none, none-append, each-none, none-each}
+use Rattle.transcript.proofs.Many.{for-sides, append-none, none-append, each-none, none-each}
 use Rattle.transcript.proofs.Ranged.{each-exactly, ballots-exactly}
 use Rattle.transcript.proofs.Tests.{equal-same, within-sound, within-complete}
 

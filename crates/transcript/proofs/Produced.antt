@@ -7,10 +7,12 @@ use lib.ListN.{length, getD, length-append}
 use lib.Seq.{take-all}
 use Rattle.codec.specs.Bytes.{Bytes, Octets, part}
 use Rattle.codec.proofs.Laws.{length-part, part-part, octets-append}
+use Rattle.codec.specs.Lists.{list}
+use Rattle.codec.proofs.Lists.{length-list}
 use Rattle.sha3.proofs.Squeezing.{length-sha3, octets-sha3}
 use Rattle.ring.specs.Poly.{Poly, modulo, Alike}
-use Rattle.ring.specs.Slots.{list, encode}
-use Rattle.ring.proofs.Bridge.{length-list, length-encode}
+use Rattle.ring.specs.Slots.{encode}
+use Rattle.ring.proofs.Bridge.{length-encode}
 use Rattle.bgv.specs.Scheme.{key, decrypted, share, lentMask}
 use Rattle.commitment.specs.Commitment.{Pair, pairBytes}
 use Rattle.stern.specs.Argument.{First, first}

@@ -10,16 +10,18 @@ use borrow.Author.Tests.{ltb-true, lt-ltb, leb-true, le-leb}
 use lib.Dec.{ltb, leb}
 use Rattle.codec.specs.Bytes.{Bytes, part}
 use Rattle.codec.proofs.Laws.{le-or, both, part-append}
+use Rattle.codec.specs.Lists.{list, allBelow, all}
+use Rattle.codec.proofs.Lists.{allBelow-sound, allBelow-complete, all-sound, all-complete}
 use Rattle.ring.specs.Poly.{Below}
-use Rattle.ring.specs.Slots.{poly, slot, list, allBelow}
+use Rattle.ring.specs.Slots.{poly, slot}
 use Rattle.ring.proofs.Bridge.{slot-poly, slot-later}
-use Rattle.ring.proofs.Ranges.{allBelow-sound, allBelow-complete, below-sound, below-complete}
+use Rattle.ring.proofs.Ranges.{below-sound, below-complete}
 use Rattle.vector.specs.Vector.{vector}
 use Rattle.stern.specs.Shortness.{inRange, answer1Of, answer2Of, answer3Of}
-use Rattle.transcript.specs.Layout.{all, uAt, pairAt, openingOf, answerAt}
+use Rattle.transcript.specs.Layout.{uAt, pairAt, openingOf, answerAt}
 use Rattle.transcript.specs.Round.{Parameters, Round, challengeAt, isChallenge, ballotsRanged, openingRanged, headRanged, answersRanged, ranged}
 use Rattle.transcript.specs.Accepted.{EachBelow, AnswerRanged, BallotsRanged, HeadRanged, OpeningRanged, InRange}
-use Rattle.transcript.proofs.Many.{for-challenges, all-sound, all-complete, stretch}
+use Rattle.transcript.proofs.Many.{for-challenges, stretch}
 use Rattle.transcript.proofs.Written.{slot-part, below-slot, below-append}
 use Rattle.transcript.proofs.Compared.{first-below, second-below}
 

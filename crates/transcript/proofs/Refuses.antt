@@ -12,7 +12,8 @@ use lib.ListN.{length, getD, replicate, length-replicate, getD-replicate}
 use Rattle.codec.specs.Reply.{Test, test, first, None}
 use Rattle.codec.specs.declared.Reply.the-variants.{Refused}
 use Rattle.codec.proofs.Laws.{both}
-use Rattle.ring.specs.Slots.{allBelow}
+use Rattle.codec.specs.Lists.{allBelow}
+use Rattle.codec.proofs.Lists.{all-sound, all-complete}
 use Rattle.vector.specs.Vector.{vector}
 use Rattle.stern.specs.Shortness.{answerLength, inRange, answerTests}
 use Rattle.transcript.specs.Layout.{each, answerAt}
@@ -22,7 +23,7 @@ use Rattle.transcript.specs.Refuses.{openedRanged, openingTests, repetit
 use Rattle.transcript.proofs.Answers.{answers-at}
 use Rattle.transcript.proofs.Orders.{swap, front, opening-order, answer-order, one-order, order-parts, parts-order, order-first}
 use Rattle.transcript.proofs.Tests.{answer-tests, ballot-tests}
-use Rattle.transcript.proofs.Many.{for-challenges, all-sound, all-complete, none-append, append-none, each-none, none-each}
+use Rattle.transcript.proofs.Many.{for-challenges, none-append, append-none, each-none, none-each}
 
 -- ---- a check is its two parts
 

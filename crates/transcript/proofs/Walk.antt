@@ -8,9 +8,11 @@ use native.Mathlib.Omega.{arith}
 use borrow.Author.Count.{below-none, below-more}
 use Rattle.codec.specs.Reply.{Test, test, first}
 use Rattle.codec.specs.declared.Reply.the-variants.{Taken, Refused}
+use Rattle.codec.specs.Lists.{all}
+use Rattle.codec.proofs.Lists.{all-sound, all-complete}
 use Rattle.call.proofs.Order.{refuses}
-use Rattle.transcript.specs.Layout.{all, each}
-use Rattle.transcript.proofs.Many.{all-sound, all-complete, each-none, each-refused, each-taken, stretch}
+use Rattle.transcript.specs.Layout.{each}
+use Rattle.transcript.proofs.Many.{each-none, each-refused, each-taken, stretch}
 
 -- number i must pass f; the loop stands before number j, whose bytes begin at a place
 pub record Walked (f : ℕ → Bool) (step count j at : ℕ) : Type 0 where

@@ -10,8 +10,9 @@ use lib.ListN.{length, length-append}
 use Rattle.codec.specs.Bytes.{Bytes, Octets, bytes, words, number, part}
 use Rattle.codec.proofs.Laws.{le-or, length-part, part-part, octets-append}
 use Rattle.codec.proofs.Numbers.{bytes-octets}
+use Rattle.codec.specs.Lists.{list, allBelow}
 use Rattle.ring.specs.Poly.{Poly, modulo, Below}
-use Rattle.ring.specs.Slots.{poly, slot, list, encode, allBelow}
+use Rattle.ring.specs.Slots.{poly, slot, encode}
 use Rattle.ring.proofs.Bridge.{length-encode, poly-part, slot-poly}
 use Rattle.ring.proofs.Ranges.{below-complete}
 use Rattle.vector.specs.Vector.{vector}

@@ -5,9 +5,9 @@ use mathlib.Core.List.{List}
 use Prim.Native.Nat.{ℕ, _+_, _*_, _≤_, _<_}
 use lib.ListN.{length, getD}
 use Rattle.codec.specs.Bytes.{Bytes}
+use Rattle.codec.specs.Lists.{list}
 use Rattle.sha3.specs.Sponge.{sha3}
 use Rattle.ring.specs.Poly.{plus, Alike, Below}
-use Rattle.ring.specs.Slots.{list}
 use Rattle.ring.specs.Ternary.{count}
 use Rattle.bgv.specs.Scheme.{Bounded, key, worked, reconstructed}
 use Rattle.commitment.specs.Commitment.{Keys, threeOf, pairOf, Opens}

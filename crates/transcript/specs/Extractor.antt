@@ -8,9 +8,10 @@ use lib.Dec.{ltb, eqb}
 use lib.ListN.{length}
 use Rattle.codec.specs.Bytes.{Bytes, Octets, part, same, zeros}
 use Rattle.codec.specs.Reply.{Test, test}
+use Rattle.codec.specs.Lists.{list, allBelow}
 use Rattle.sha3.specs.Sponge.{sha3}
 use Rattle.ring.specs.Poly.{Poly, modulo, zero-poly, Alike}
-use Rattle.ring.specs.Slots.{slot, list, encode, allBelow}
+use Rattle.ring.specs.Slots.{slot, encode}
 use Rattle.ring.specs.Ternary.{ternary}
 use Rattle.bgv.specs.Scheme.{Small, key, decrypted, opened}
 use Rattle.commitment.specs.Commitment.{Three, Alike3, threeOf, plus3, minus3, row}

@@ -11,11 +11,6 @@ use Rattle.stern.specs.Shortness.{answerLength}
 
 -- ---- for each of n
 
--- whether a test is passed by each of 0 .. n - 1
-unfoldable pub all : ℕ → (ℕ → Bool) → Bool
-all zero f = true
-all (suc n) f = all n f && f n
-
 -- the tests of each, in order
 unfoldable pub each : ℕ → (ℕ → List Test) → List Test
 each zero f = []

@@ -8,8 +8,9 @@ use lib.Dec.{ltb}
 use lib.ListN.{length, getD}
 use Rattle.codec.specs.Bytes.{Bytes, part, same}
 use Rattle.codec.specs.Reply.{Test, test}
+use Rattle.codec.specs.Lists.{list, allBelow, all}
 use Rattle.ring.specs.Poly.{Poly, modulo}
-use Rattle.ring.specs.Slots.{poly, list, encode, allBelow}
+use Rattle.ring.specs.Slots.{poly, encode}
 use Rattle.ring.specs.Ternary.{ternary}
 use Rattle.bgv.specs.Scheme.{centred, key, opened, decrypted, other, share, lentMask, within}
 use Rattle.commitment.specs.Commitment.{threeOf, committed, pairBytes}
@@ -17,7 +18,7 @@ use Rattle.vector.specs.Vector.{vector}
 use Rattle.vector.specs.Permutation.{entries, permutes}
 use Rattle.stern.specs.Argument.{Drawn}
 use Rattle.stern.specs.Shortness.{drawnOf, honestDigests, honestAnswer}
-use Rattle.transcript.specs.Layout.{all, each, joined, ballotLength, uAt, vAt}
+use Rattle.transcript.specs.Layout.{each, joined, ballotLength, uAt, vAt}
 use Rattle.transcript.specs.Round.{Parameters, Round, isChallenge, ballotsRanged}
 
 -- what both calls are lent: s, e and the three r of s0, of s1, of e0, of e1 in ternary bytes; s0, e0; E of both sides; every R, P and salt; the ballots

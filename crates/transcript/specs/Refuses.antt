@@ -9,7 +9,7 @@ use lib.ListN.{replicate}
 use Rattle.codec.specs.Bytes.{Bytes}
 use Rattle.codec.specs.Reply.{Test, test, first, None}
 use Rattle.codec.specs.declared.Reply.the-variants.{Refused}
-use Rattle.ring.specs.Slots.{allBelow}
+use Rattle.codec.specs.Lists.{allBelow}
 use Rattle.vector.specs.Vector.{vector}
 use Rattle.stern.specs.Shortness.{inRange, answerTests}
 use Rattle.transcript.specs.Layout.{each, joined, pairsOf, digestsAt, openingOf, answerAt}

@@ -8,13 +8,14 @@ use lib.Dec.{leb, ltb}
 use lib.ListN.{length, getD}
 use Rattle.codec.specs.Bytes.{Bytes, part, same}
 use Rattle.codec.specs.Reply.{Test, test}
+use Rattle.codec.specs.Lists.{list, allBelow, all}
 use Rattle.ring.specs.Poly.{Poly, plus, modulo}
-use Rattle.ring.specs.Slots.{poly, list, encode, allBelow}
+use Rattle.ring.specs.Slots.{poly, encode}
 use Rattle.bgv.specs.Scheme.{key, worked, within, reconstructed}
 use Rattle.commitment.specs.Commitment.{Keys, threeOf, opens}
 use Rattle.vector.specs.Vector.{vector}
 use Rattle.stern.specs.Shortness.{inRange, answerTests}
-use Rattle.transcript.specs.Layout.{Opening, all, each, ballotLength, uAt, vAt, shareAt, claimAt, headLength, keyAt, pairsOf, pairAt, digestsAt, openingOf, answersLength, answerAt}
+use Rattle.transcript.specs.Layout.{Opening, each, ballotLength, uAt, vAt, shareAt, claimAt, headLength, keyAt, pairsOf, pairAt, digestsAt, openingOf, answersLength, answerAt}
 
 -- what a sheet gives: modulus, ring size, plaintext modulus, mask bound, noise bound, repetitions, and its polynomials
 pub record Parameters : Type 0 where

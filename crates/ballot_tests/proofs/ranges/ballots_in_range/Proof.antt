@@ -7,8 +7,10 @@ use borrow.Author.Needs.{needs}
 use borrow.Author.Tests.{not-true, not-false}
 use lib.ListN.{length, take, drop}
 use Rattle.codec.specs.Bytes.{Bytes}
-use Rattle.ring.specs.Slots.{poly, slot, list, allBelow}
-use Rattle.ring.proofs.Bridge.{list-cong, poly-part}
+use Rattle.codec.specs.Lists.{list, allBelow}
+use Rattle.codec.proofs.Lists.{list-cong}
+use Rattle.ring.specs.Slots.{poly, slot}
+use Rattle.ring.proofs.Bridge.{poly-part}
 use Rattle.call.proofs.Ranges.{whole-range}
 use Rattle.stern.proofs.Answered.{lent-length}
 use Rattle.transcript.specs.Layout.{ballotLength, uAt}

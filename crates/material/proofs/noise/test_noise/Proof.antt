@@ -8,12 +8,12 @@ use borrow.Author.Tests.{not-true, not-false}
 use lib.ListN.{length}
 use Rattle.codec.specs.Bytes.{Bytes, part}
 use Rattle.codec.specs.Lists.{list, allBelow}
+use Rattle.codec.proofs.Lists.{all-sound}
 use Rattle.ring.specs.Slots.{slot}
 use Rattle.ring.specs.Ternary.{ternary}
 use Rattle.ring.proofs.Ranges.{below-sound}
 use Rattle.bgv.specs.Scheme.{centred, opened, within}
 use Rattle.transcript.specs.Layout.{ballotLength, uAt}
-use Rattle.transcript.proofs.Many.{all-sound}
 use Rattle.transcript.proofs.Walk.{Walked, walked-first, walked-more, walked-ends, walked-refused, walked-taken}
 use Rattle.material.proofs.noise.test_noise.Statement.{statement}
 use Rattle.material.proofs.noise.test_noise.Tie as tie

@@ -7,9 +7,9 @@ use native.Mathlib.Omega.{arith}
 use borrow.Author.Needs.{needs}
 use borrow.Author.Tests.{not-true, not-false}
 use Rattle.codec.specs.Reply.{Test, first}
+use Rattle.codec.specs.Lists.{all}
 use lib.Dec.{ltb}
 use lib.ListN.{getD}
-use Rattle.transcript.specs.Layout.{all}
 use Rattle.transcript.specs.Round.{Parameters, isChallenge}
 use Rattle.transcript.specs.Producer.{Material, askedRanged, producerTests, materialOf}
 use Rattle.transcript.specs.Method.{parameters}

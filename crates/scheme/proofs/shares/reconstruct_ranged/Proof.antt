@@ -1,7 +1,8 @@
 -- `shares::reconstruct_ranged` meets its contract. Assumes nothing.
 use mathlib.Core.List.{[], _∷_}
 use borrow.Author.Needs.{needs}
-use Rattle.ring.specs.Slots.{poly, list, allBelow}
+use Rattle.codec.specs.Lists.{list, allBelow}
+use Rattle.ring.specs.Slots.{poly}
 use Rattle.call.specs.Call.{coefficientsBelow}
 use Rattle.call.proofs.Order.{fails, goes-on}
 use Rattle.call.proofs.Ranges.{whole-range}
