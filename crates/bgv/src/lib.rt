@@ -24,7 +24,7 @@ pub fn combine(work: &mut [u8], a: &[u8], n: usize, q: u64)
     requires { ⌜ Below q n (slot (now work) 0) × Below q n (slot (now work) 16384) ⌝ }
     ensures { λ _. ⌜ Stands q n (scheme.noisy q n 2 (poly (now (a .entry))) (slot (now (work .entry)) 0) (slot (now (work .entry)) 16384)) (now (work .entry)) (now (work .exit)) ⌝ }
 {
-    ring::multiply(work, 0, ROOM, a, n, q);
+    product::multiply(work, 0, ROOM, a, n, q);
     ring::scale_slot(work, ERROR, 2, n, q);
     ring::add_slot(work, 0, ERROR, n, q);
 }
@@ -125,7 +125,7 @@ fn less_product(work: &mut [u8], u: &[u8], v: &[u8], n: usize, q: u64)
     requires { ⌜ Polynomial n q (now u) × Polynomial n q (now v) × (length (now work) ≡ scratchLength) × Below q n (slot (now work) 0) ⌝ }
     ensures { λ _. ⌜ Stands q n (minus q (poly (now (v .entry))) (mul q n (slot (now (work .entry)) 0) (poly (now (u .entry))))) (now (work .entry)) (now (work .exit)) ⌝ }
 {
-    ring::multiply(work, 0, ROOM, u, n, q);
+    product::multiply(work, 0, ROOM, u, n, q);
     ring::scale_slot(work, 0, q - 1, n, q);
     ring::add(work, 0, v, n, q);
 }

@@ -1,4 +1,6 @@
 // The check of a round: 5, 6, 7, 8; by repetition 9, 10, 11; by ballot 12, 13.
+use codec::Reply;
+use repetitions::test_repetitions;
 use round_parts::openings::refused;
 use round_parts::openings::splits;
 use round_parts::openings::test_opening;
@@ -6,8 +8,6 @@ use round_parts::openings::test_votes;
 use round_parts::ranges::answers_ranged;
 use round_parts::ranges::message_ranged;
 use round_parts::ranges::opening_ranged;
-use codec::Reply;
-use repetitions::test_repetitions;
 ghost use mathlib.Core.Path.{_≡_};
 ghost use mathlib.Core.List.{_++_};
 ghost use Prim.Native.Nat.{_*_, _%_, _≤_};

@@ -24,7 +24,7 @@ fn add_product(work: &mut [u8], to: usize, from: usize, a: &[u8], n: usize, q: u
     requires { ⌜ Polynomial n q (now a) × (length (now work) ≡ scratchLength) × Slots n to from (now work) × (to + 8 * n ≤ 81920) × (from + 8 * n ≤ 81920) × Below q n (slot (now work) to) × Below q n (slot (now work) from) ⌝ }
     ensures { λ _. ⌜ now (work .exit) ≡ withProduct q n (now (work .entry)) to from (poly (now (a .entry))) ⌝ }
 {
-    ring::multiply(work, from, ROOM, a, n, q);
+    product::multiply(work, from, ROOM, a, n, q);
     ring::add_slot(work, to, from, n, q);
 }
 

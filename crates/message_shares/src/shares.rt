@@ -31,8 +31,8 @@ fn products(work: &mut [u8], s: &[u8], s0: &[u8], u: &[u8], n: usize, q: u64)
 {
     ring::load_ternary(work, 0, s, q);
     codec::copy(work, LENT, s0);
-    ring::multiply(work, 0, ROOM, u, n, q);
-    ring::multiply(work, LENT, ROOM, u, n, q);
+    product::multiply(work, 0, ROOM, u, n, q);
+    product::multiply(work, LENT, ROOM, u, n, q);
 }
 
 // Adds 2 E to what stands in a slot, for a lent mask E, and writes the sum out. The slots before it are kept.

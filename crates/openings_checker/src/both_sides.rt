@@ -2,11 +2,11 @@
 use crate::sides::test_sides;
 use crate::three_answers::answers_ranged;
 use crate::three_answers::test_answers;
+use codec::Reply;
 use round_parts::openings::refused;
 use round_parts::openings::splits;
 use round_parts::ranges::message_ranged;
 use round_parts::ranges::opening_ranged;
-use codec::Reply;
 ghost use mathlib.Core.Path.{_≡_};
 ghost use mathlib.Core.List.{_∷_, _++_};
 ghost use Prim.Native.Nat.{_+_, _*_, _%_, _≤_, _<_};

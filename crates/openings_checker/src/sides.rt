@@ -1,7 +1,7 @@
 // The openings of both sides, as the extractor is lent them: for side 0 and then side 1 7, 8 and by ballot 12, 13.
+use codec::Reply;
 use round_parts::openings::test_opening;
 use round_parts::openings::test_votes;
-use codec::Reply;
 ghost use mathlib.Core.Path.{_≡_};
 ghost use Prim.Native.Nat.{_*_, _%_, _≤_, _<_};
 ghost use lib.ListN.{length};

@@ -5,5 +5,3 @@ pub mod Sizes
 pub mod Bridge
 pub mod Ranges
 pub mod Filling
-pub mod Columns
-pub mod Steps

@@ -1,15 +1,13 @@
 // Polynomials modulo X^n + 1 and q over lent bytes (document 01, "Ring and scheme"), for q below 2^56 and n at most 2048.
 // A polynomial is 8n bytes. Scratch is a row of slots of 8n bytes, and a slot is named by its place in bytes: at, from, room.
-// A lent polynomial is loaded into a slot by `codec::copy`.
-mod product;
-
+// A lent polynomial is loaded into a slot by `codec::copy`; the product has a crate of its own.
 ghost use mathlib.Core.Path.{_≡_};
 ghost use Prim.Native.Nat.{_+_, _-_, _*_, _/_, _%_, _^_, _≤_, _<_};
 ghost use lib.ListN.{length};
-ghost use Rattle.codec.specs.Bytes.{put, zeros};
+ghost use Rattle.codec.specs.Bytes.{put};
 ghost use Rattle.codec.specs.Lists.{list, allBelow};
 ghost use Rattle.modular.specs.Modulo.{remainder};
-ghost use Rattle.ring.specs.Poly.{mul, plus, minus, scale, Below};
+ghost use Rattle.ring.specs.Poly.{plus, minus, scale, Below};
 ghost use Rattle.ring.specs.Slots.{poly, fromSigned, slot, encode, store, Slots};
 ghost use Rattle.ring.specs.Ternary.{meaning, ternary, count};
 ghost use Rattle.ring.specs.Method.{sign};
@@ -202,19 +200,4 @@ pub fn scale_slot(work: &mut [u8], at: usize, p: u64, n: usize, q: u64)
         codec::write64(work, at + 8 * i, v);
         i += 1;
     }
-}
-
-// ---- the product
-
-// Multiplies a slot by a lent polynomial modulo X^n + 1: the one place where polynomials are multiplied. The room is three slots
-// behind the slot; it is zero afterwards. What the contract says is independent of the method.
-pub fn multiply(work: &mut [u8], at: usize, room: usize, a: &[u8], n: usize, q: u64)
-    requires { ⌜ (0 < q) × (q < 2 ^ 56) × (n ≤ 2048) × (at + 8 * n ≤ room) × (room + 24 * n ≤ length (now work)) × (8 * n ≤ length (now a)) ⌝ }
-    requires { ⌜ Below q n (slot (now work) at) × Below q n (poly (now a)) ⌝ }
-    ensures { λ _. ⌜ now (work .exit) ≡ put (store q n (now (work .entry)) at (mul q n (slot (now (work .entry)) at) (poly (now (a .entry))))) room (zeros (24 * n)) ⌝ }
-{
-    product::mirror(work, room, a, n, q);
-    copy_slot(work, room + 16 * n, at, n);
-    product::products(work, at, room, n, q);
-    codec::wipe(&mut work[room..room + 24 * n]);
 }

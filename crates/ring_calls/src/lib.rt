@@ -178,7 +178,7 @@ fn compute(operation: u64, work: &mut [u8], a: &[u8], b: &[u8], n: usize, q: u64
         ring::subtract(work, 0, b, n, q);
         return;
     }
-    ring::multiply(work, 0, 8 * n, b, n, q);
+    product::multiply(work, 0, 8 * n, b, n, q);
 }
 
 // uint64_t ring_polynomials(uint64_t operation, uint8_t *work, size_t, const uint8_t *a, size_t, const uint8_t *b, size_t, size_t n, uint64_t q);

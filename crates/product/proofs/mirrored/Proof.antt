@@ -1,14 +1,14 @@
--- `product::mirrored` meets its contract. Assumes nothing.
+-- `mirrored` meets its contract. Assumes nothing.
 use mathlib.Core.Path.{_≡_, sym, ap, _∙_}
 use Prim.Native.Nat.{ℕ, _+_, _-_, _*_, _%_, _<_}
 use native.Mathlib.Nat.{mod-eq-of-lt}
 use native.Mathlib.Omega.{arith}
 use borrow.Author.Needs.{needs}
 use Rattle.codec.specs.Bytes.{number, part}
 use Rattle.ring.proofs.Coefficients.{turn-low, turn-high}
 use Rattle.ring.specs.Slots.{poly}
-use Rattle.ring.proofs.product.mirrored.Statement.{statement}
-use Rattle.ring.proofs.product.mirrored.Tie as tie
+use Rattle.product.proofs.mirrored.Statement.{statement}
+use Rattle.product.proofs.mirrored.Tie as tie
 
 negate-requires : tie.Need-negate-requires
 unfolding poly

@@ -1,10 +1,12 @@
-// How a product is worked out: every coefficient is a sum of n products of a factor by a stretch of a row, with one reduction at its end.
+// The product of polynomials modulo X^n + 1 and q: the one place where polynomials are multiplied.
+// Every coefficient is a sum of n products of a factor by a stretch of a row, with one reduction at its end.
 ghost use mathlib.Core.Path.{_≡_};
 ghost use Prim.Native.Nat.{_+_, _-_, _*_, _%_, _^_, _≤_, _<_};
 ghost use lib.ListN.{length};
-ghost use Rattle.ring.specs.Poly.{sum, turn, Below};
+ghost use Rattle.codec.specs.Bytes.{put, zeros};
+ghost use Rattle.ring.specs.Poly.{sum, turn, mul, Below};
 ghost use Rattle.ring.specs.Slots.{poly, slot, store};
-ghost use Rattle.ring.specs.Method.{Columns};
+ghost use Rattle.product.specs.Method.{Columns};
 
 // Coefficient j of the row from which every coefficient of a product by a is taken: a backwards, and then -a backwards.
 fn mirrored(a: &[u8], j: usize, n: usize, q: u64) -> u64
@@ -19,7 +21,7 @@ fn mirrored(a: &[u8], j: usize, n: usize, q: u64) -> u64
 }
 
 // Writes that row of 2n coefficients into the first two slots of the room.
-pub fn mirror(work: &mut [u8], room: usize, a: &[u8], n: usize, q: u64)
+fn mirror(work: &mut [u8], room: usize, a: &[u8], n: usize, q: u64)
     requires { ⌜ (room + 16 * n ≤ length (now work)) × (8 * n ≤ length (now a)) × (q < 2 ^ 56) × Below q n (poly (now a)) ⌝ }
     ensures { λ _. ⌜ now (work .exit) ≡ store q (2 * n) (now (work .entry)) room (turn q n (poly (now (a .entry))) (n - 1)) ⌝ }
 {
@@ -98,7 +100,7 @@ fn dot(w: &[u8], x: usize, y: usize, n: usize, q: u64) -> u64
 }
 
 // Fills the slot at `at` with the n coefficients of a product, from the row and the factor that stand in the room.
-pub fn products(work: &mut [u8], at: usize, room: usize, n: usize, q: u64)
+fn products(work: &mut [u8], at: usize, room: usize, n: usize, q: u64)
     requires { ⌜ (0 < q) × (q < 2 ^ 56) × (n ≤ 2048) × (at + 8 * n ≤ room) × (room + 24 * n ≤ length (now work)) × Below q (3 * n) (slot (now work) room) ⌝ }
     ensures { λ _. ⌜ now (work .exit) ≡ store q n (now (work .entry)) at (λ k. sum n (λ i. slot (now (work .entry)) room (2 * n + i) * slot (now (work .entry)) room (n - 1 - k + i))) ⌝ }
 {
@@ -108,4 +110,17 @@ pub fn products(work: &mut [u8], at: usize, room: usize, n: usize, q: u64)
         codec::write64(work, at + 8 * k, v);
         k += 1;
     }
+}
+
+// Multiplies a slot by a lent polynomial modulo X^n + 1: the room is three slots
+// behind the slot; it is zero afterwards. What the contract says is independent of the method.
+pub fn multiply(work: &mut [u8], at: usize, room: usize, a: &[u8], n: usize, q: u64)
+    requires { ⌜ (0 < q) × (q < 2 ^ 56) × (n ≤ 2048) × (at + 8 * n ≤ room) × (room + 24 * n ≤ length (now work)) × (8 * n ≤ length (now a)) ⌝ }
+    requires { ⌜ Below q n (slot (now work) at) × Below q n (poly (now a)) ⌝ }
+    ensures { λ _. ⌜ now (work .exit) ≡ put (store q n (now (work .entry)) at (mul q n (slot (now (work .entry)) at) (poly (now (a .entry))))) room (zeros (24 * n)) ⌝ }
+{
+    mirror(work, room, a, n, q);
+    ring::copy_slot(work, room + 16 * n, at, n);
+    products(work, at, room, n, q);
+    codec::wipe(&mut work[room..room + 24 * n]);
 }

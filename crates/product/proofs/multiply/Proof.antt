@@ -1,4 +1,4 @@
--- `ring::multiply` meets its contract. Assumes nothing.
+-- `multiply` meets its contract. Assumes nothing.
 use mathlib.Core.Path.{_≡_, ap, _∙_}
 use Prim.Native.Nat.{_+_, _-_, _*_}
 use native.Mathlib.Omega.{arith}
@@ -6,10 +6,10 @@ use borrow.Author.Needs.{needs}
 use lib.ListN.{length, length-replicate}
 use Rattle.codec.proofs.Laws.{length-part, put-between}
 use Rattle.codec.specs.Bytes.{zeros, put, part}
-use Rattle.ring.proofs.Steps.{copied, below-room, multiplied}
+use Rattle.product.proofs.Steps.{copied, below-room, multiplied}
 use Rattle.ring.specs.Slots.{poly}
-use Rattle.ring.proofs.multiply.Statement.{statement}
-use Rattle.ring.proofs.multiply.Tie as tie
+use Rattle.product.proofs.multiply.Statement.{statement}
+use Rattle.product.proofs.multiply.Tie as tie
 
 copy-slot-requires : tie.Need-copy-slot-requires
 copy-slot-requires c κs =

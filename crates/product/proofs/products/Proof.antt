@@ -1,16 +1,16 @@
--- `product::products` meets its contract. Assumes nothing.
+-- `products` meets its contract. Assumes nothing.
 use mathlib.Core.Path.{_≡_, refl, ap, ap₂, _∙_}
 use Prim.Native.Nat.{ℕ, _+_, _-_, _*_, _%_, _^_, _≤_}
 use native.Mathlib.Omega.{arith}
 use borrow.Author.Needs.{needs}
 use lib.ListN.{length}
 use Rattle.ring.proofs.Bridge.{slot-later}
 use Rattle.ring.proofs.Filling.{filled, filled-none, filled-all, filled-more, read-later}
 use Rattle.ring.proofs.Sums.{sum-cong}
 use Rattle.ring.specs.Poly.{sum, modulo, Below}
 use Rattle.ring.specs.Slots.{slot, store}
-use Rattle.ring.proofs.product.products.Statement.{statement}
-use Rattle.ring.proofs.product.products.Tie as tie
+use Rattle.product.proofs.products.Statement.{statement}
+use Rattle.product.proofs.products.Tie as tie
 
 abbrev Inv-loop : tie.InvT-loop
 Inv-loop work₀ at room n q k₀ work k = (k ≤ n) × (length work ≡ length work₀) × (work ≡ filled work₀ at (modulo q (λ k. sum n (λ i. slot work₀ room (2 * n + i) * slot work₀ room (n - 1 - k + i)))) k)

@@ -1,14 +1,14 @@
--- `product::mirror` meets its contract. Assumes nothing.
+-- `mirror` meets its contract. Assumes nothing.
 use mathlib.Core.Path.{_≡_, refl, ap, _∙_}
 use Prim.Native.Nat.{_-_, _*_, _≤_}
 use native.Mathlib.Omega.{arith}
 use borrow.Author.Needs.{needs}
 use lib.ListN.{length}
 use Rattle.ring.proofs.Filling.{filled, filled-none, filled-all, filled-more}
 use Rattle.ring.specs.Poly.{turn, modulo}
 use Rattle.ring.specs.Slots.{poly, store}
-use Rattle.ring.proofs.product.mirror.Statement.{statement}
-use Rattle.ring.proofs.product.mirror.Tie as tie
+use Rattle.product.proofs.mirror.Statement.{statement}
+use Rattle.product.proofs.mirror.Tie as tie
 
 abbrev Inv-loop : tie.InvT-loop
 Inv-loop work₀ room a n q j₀ work j = (j ≤ 2 * n) × (length work ≡ length work₀) × (work ≡ filled work₀ room (modulo q (turn q n (poly a) (n - 1))) j)

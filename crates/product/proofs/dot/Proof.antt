@@ -1,16 +1,16 @@
--- `product::dot` meets its contract. Assumes nothing.
+-- `dot` meets its contract. Assumes nothing.
 use mathlib.Core.Path.{_≡_, ap, subst, _∙_}
 use Prim.Native.Nat.{ℕ, _+_, _-_, _*_, _/_, _%_, _^_, _≤_, _<_}
 use native.Mathlib.Omega.{arith}
 use borrow.Author.Needs.{needs}
 use Rattle.ring.proofs.Bridge.{slot-later}
-use Rattle.ring.proofs.Columns.{digits-none, digits-value, first-room, second-room, third-room, last-room, last-fits, carried}
+use Rattle.product.proofs.Columns.{digits-none, digits-value, first-room, second-room, third-room, last-room, last-fits, carried}
 use Rattle.ring.proofs.Polynomials.{ext}
-use Rattle.ring.specs.Method.{Columns, Digits}
+use Rattle.product.specs.Method.{Columns, Digits}
 use Rattle.ring.specs.Poly.{Poly, sum, Below}
 use Rattle.ring.specs.Slots.{slot}
-use Rattle.ring.proofs.product.dot.Statement.{statement}
-use Rattle.ring.proofs.product.dot.Tie as tie
+use Rattle.product.proofs.dot.Statement.{statement}
+use Rattle.product.proofs.dot.Tie as tie
 
 abbrev Inv-loop : tie.InvT-loop
 Inv-loop w x y n q d0₀ d1₀ d2₀ d3₀ done₀ d0 d1 d2 d3 done = (done ≤ n) × Digits (slot w x) (slot w y) done d0 d1 d2 d3
