@@ -23,6 +23,7 @@ use Rattle.transcript.specs.Round.{Parameters}
 use Rattle.transcript.specs.Producer.{Material, producedRound}
 use Rattle.transcript.proofs.Many.{none-append}
 use Rattle.transcript.proofs.Produced.{length-producedHead, length-producedShares, length-producedClaims, length-producedOpening, length-producedAnswers}
+use Rattle.transcript.proofs.Passed.{producer-exactly}
 use Rattle.transcript.proofs.Honest.{honest-round}
 use Rattle.lengths.specs.Sheets.{parametersOf}
 use Rattle.digests.specs.Digests.{ballotDigests, closingDigest, claimDigest}
@@ -128,7 +129,8 @@ module _ (p : ℕ) (roomy : Roomy p) (l : Trace) (k : Kept p (l .session) (l .hi
   late-none =
       let r = in-range (sheetOf (x .sheet) .numbers) (sheet-taken .inside) in
       rw (closed, round-is)
-      (honest-round P m material (roomy (x .sheet) (sheetOf (x .sheet) .numbers) (reads p (x .sheet) sheet-taken)) (omega (arith, r .modulus-low)) (omega (arith, r .modulus-high)) (made .sized) (made .taken)
+      (honest-round P m material (roomy (x .sheet) (sheetOf (x .sheet) .numbers) (reads p (x .sheet) sheet-taken)) (omega (arith, r .modulus-low)) (omega (arith, r .modulus-high)) (made .sized)
+      (producer-exactly P m material (omega (arith, r .modulus-low)) (omega (arith, r .modulus-high)) .1 (made .suitable))
       side (side-range (s .seed) round) challenges (length-challenges (s .seed) round (P .repeats)) (challenge-range (s .seed) round (P .repeats)))
 
   accepted : first (checkTests p s round x) ≡ Taken
