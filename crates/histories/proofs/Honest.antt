@@ -15,7 +15,6 @@ use Rattle.sheet_numbers.specs.Bounds.{noise, mask}
 use Rattle.sheet.specs.Sheet.{order, readingBy, reading}
 use Rattle.sheet_numbers.specs.declared.Numbers.{Numbers}
 use Rattle.sheet.specs.declared.Reading.the-variants as reading
-use Rattle.sheet_numbers.proofs.Ranges.{in-range}
 use Rattle.bgv.specs.Scheme.{Sound}
 use Rattle.bgv.proofs.Sheets.{sheet-sound, two-sound}
 use Rattle.transcript.specs.Layout.{ballotLength}
@@ -127,7 +126,7 @@ module _ (p : ℕ) (roomy : Roomy p) (l : Trace) (k : Kept p (l .session) (l .hi
   late-none : None (checkLate p s round x)
   unfolding checkLate lateTests
   late-none =
-      let r = in-range (sheetOf (x .sheet) .numbers) (sheet-taken .inside) in
+      let r = sheet-taken .inside in
       rw (closed, round-is)
       (honest-round P m material (roomy (x .sheet) (sheetOf (x .sheet) .numbers) (reads p (x .sheet) sheet-taken)) (omega (arith, r .modulus-low)) (omega (arith, r .modulus-high)) (made .sized)
       (producer-exactly P m material (omega (arith, r .modulus-low)) (omega (arith, r .modulus-high)) .1 (made .suitable))

@@ -17,7 +17,6 @@ use Rattle.codec.proofs.Replies.{not-taken, taken-exactly}
 use Rattle.sheet.specs.Reader.{sheetOf}
 use Rattle.sheet.specs.Sheet.{order, readingBy, reading}
 use Rattle.sheet.specs.declared.Reading.the-variants as reading
-use Rattle.sheet_numbers.proofs.Ranges.{in-range}
 use Rattle.bgv.proofs.Sheets.{two-sound}
 use Rattle.bgv.proofs.Ballot.{honest-noise, honest-decrypts}
 use Rattle.transcript.specs.Extractor.{Openings}
@@ -89,7 +88,7 @@ honest-ballots text sheet s e r e1 e2 m ss se sr s1 s2 message matches =
 
 honest-rounds : HonestRounds
 honest-rounds text sheet m x sized suitable side low challenges size valid =
-    let r = in-range (sheetOf text .numbers) (sheet-exactly 2 text .0 (taken-exactly (order 2 text) .0 sheet) .inside) in
+    let r = sheet-exactly 2 text .0 (taken-exactly (order 2 text) .0 sheet) .inside in
     let none = producer-exactly (parametersOf 2 text) m x (omega (arith, r .modulus-low)) (omega (arith, r .modulus-high)) .1 suitable in
     honest-round (parametersOf 2 text) m x (two-sound text (sheetOf text .numbers) (read text sheet)) (omega (arith, r .modulus-low)) (omega (arith, r .modulus-high)) sized none side low
     challenges size valid
@@ -104,7 +103,7 @@ extracts text x out scratch octets e =
     let m = ballotsIn text (x .ballots) in
     let parts = append-none (order 2 text) (openingsTests P x out scratch) (taken-exactly _ .0 e) in
     let sheet = taken-exactly (order 2 text) .1 (parts .0) in
-    let r = in-range (sheetOf text .numbers) (sheet-exactly 2 text .0 (parts .0) .inside) in
+    let r = sheet-exactly 2 text .0 (parts .0) .inside in
     let message = lent-message P x out scratch m in
     let openings = lent-openings P x out scratch m in
     let sized = both message openings (both (leb m 4096) (message && openings) (not-false (leb m 4096 && (message && openings)) (parts .1 .0)) .1) in

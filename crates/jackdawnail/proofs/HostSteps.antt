@@ -14,8 +14,6 @@ use Rattle.codec.specs.declared.Reply.the-variants.{Taken, Refused}
 use Rattle.codec.proofs.Numbers.{number-lt}
 use Rattle.codec.proofs.Laws.{length-part, octets-part, length-put}
 use Rattle.sha3.proofs.Squeezing.{length-sha3}
-use Rattle.sheet.specs.Reader.{sheetOf}
-use Rattle.sheet_numbers.proofs.Ranges.{in-range}
 use Rattle.register.specs.Register.{registerLength, digestAt, find, standing, standingDigests, admitted, withdrawn}
 use Rattle.register.proofs.Entries.{standing-few}
 use Rattle.digests.specs.Digests.{roundDigest}
@@ -87,7 +85,7 @@ module _ (p : ℕ) where
   typed-cleared : (reg text : Bytes) → Clears p reg text → Typed (cleared text)
   unfolding cleared
   typed-cleared reg text c =
-      let r = in-range (sheetOf text .numbers) (c .sheet .inside) in
+      let r = c .sheet .inside in
       record {
         phase-fits = omega arith;
         ring-fits = omega (arith, r .ring-high);
@@ -129,7 +127,7 @@ module _ (p : ℕ) where
     typed-committed : (k : ℕ) (head shares0 shares1 : Bytes) → Commits p s k head shares0 shares1 → Typed (committedBy s k head shares0 shares1)
     unfolding committedBy
     typed-committed k head shares0 shares1 c =
-        let few = in-range (s .numbers) (c .sound .inside) .rounds-high in
+        let few = c .sound .inside .rounds-high in
         let low = c .within in
         let due = c .due in
         let long = t .trail-long in

@@ -12,9 +12,7 @@ use Rattle.codec.specs.Reply.{Test, None}
 use Rattle.codec.specs.declared.Reply.the-variants.{Taken}
 use Rattle.codec.proofs.Laws.{both}
 use Rattle.codec.proofs.Replies.{taken-exactly}
-use Rattle.sheet.specs.Reader.{sheetOf}
 use Rattle.sheet.specs.Sheet.{order}
-use Rattle.sheet_numbers.proofs.Ranges.{in-range}
 use Rattle.transcript.specs.Round.{Parameters}
 use Rattle.transcript.specs.Producer.{Material, Sized, askedRanged, producerTests}
 use Rattle.transcript.specs.Suitable.{Suitable, Asked}
@@ -49,10 +47,10 @@ module _ (text : Bytes) (x : Material) where
 
   -- the modulus of a sheet that is taken
   positive : SheetTaken 2 text → 0 < P .q
-  positive t = omega (arith, in-range (sheetOf text .numbers) (t .inside) .modulus-low)
+  positive t = omega (arith, t .inside .modulus-low)
 
   fits : SheetTaken 2 text → P .q ≤ 2 ^ 64
-  fits t = omega (arith, in-range (sheetOf text .numbers) (t .inside) .modulus-high)
+  fits t = omega (arith, t .inside .modulus-high)
 
   abbrev material : Bool
   material = materialSized (P .N) (P .repeats) m x
