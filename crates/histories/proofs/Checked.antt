@@ -7,7 +7,6 @@ use Rattle.codec.specs.Bytes.{Octets}
 use Rattle.codec.specs.Reply.{None}
 use Rattle.codec.proofs.Replies.{taken-exactly}
 use Rattle.sheet.specs.Reader.{sheetOf}
-use Rattle.sheet_numbers.proofs.Ranges.{in-range}
 use Rattle.transcript.specs.Accepted.{Accepted}
 use Rattle.transcript.proofs.Many.{none-append, append-none}
 use Rattle.transcript.proofs.Accepted.{none-exactly}
@@ -41,7 +40,7 @@ module _ (s : Session) (round : ℕ) (x : Inputs) where
       late-exactly : SheetTaken p (x .sheet) → Sized (storedFor s round) x → Held (storedFor s round) x → None (checkLate p s round x) ↔ Round
       unfolding checkLate lateTests
       late-exactly sheet lengths matches =
-          let r = in-range (sheetOf (x .sheet) .numbers) (sheet .inside) in
+          let r = sheet .inside in
           none-exactly (parametersOf p (x .sheet)) (s .closed) (omega (arith, r .modulus-low)) (omega (arith, r .modulus-high)) (drawnRound (storedFor s round) x)
           (rw (matches .numbers) (lengths .head)) octets
 

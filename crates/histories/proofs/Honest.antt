@@ -15,7 +15,6 @@ use Rattle.sheet_numbers.specs.Bounds.{noise, mask}
 use Rattle.sheet.specs.Sheet.{order, readingBy, reading}
 use Rattle.sheet_numbers.specs.declared.Numbers.{Numbers}
 use Rattle.sheet.specs.declared.Reading.the-variants as reading
-use Rattle.sheet_numbers.proofs.Ranges.{in-range}
 use Rattle.bgv.specs.Scheme.{Sound}
 use Rattle.bgv.proofs.Sheets.{sheet-sound, two-sound}
 use Rattle.transcript.specs.Layout.{ballotLength}
@@ -23,6 +22,7 @@ use Rattle.transcript.specs.Round.{Parameters}
 use Rattle.transcript.specs.Producer.{Material, producedRound}
 use Rattle.transcript.proofs.Many.{none-append}
 use Rattle.transcript.proofs.Produced.{length-producedHead, length-producedShares, length-producedClaims, length-producedOpening, length-producedAnswers}
+use Rattle.transcript.proofs.Passed.{producer-exactly}
 use Rattle.transcript.proofs.Honest.{honest-round}
 use Rattle.lengths.specs.Sheets.{parametersOf}
 use Rattle.digests.specs.Digests.{ballotDigests, closingDigest, claimDigest}
@@ -126,9 +126,10 @@ module _ (p : ℕ) (roomy : Roomy p) (l : Trace) (k : Kept p (l .session) (l .hi
   late-none : None (checkLate p s round x)
   unfolding checkLate lateTests
   late-none =
-      let r = in-range (sheetOf (x .sheet) .numbers) (sheet-taken .inside) in
+      let r = sheet-taken .inside in
       rw (closed, round-is)
-      (honest-round P m material (roomy (x .sheet) (sheetOf (x .sheet) .numbers) (reads p (x .sheet) sheet-taken)) (omega (arith, r .modulus-low)) (omega (arith, r .modulus-high)) (made .sized) (made .taken)
+      (honest-round P m material (roomy (x .sheet) (sheetOf (x .sheet) .numbers) (reads p (x .sheet) sheet-taken)) (omega (arith, r .modulus-low)) (omega (arith, r .modulus-high)) (made .sized)
+      (producer-exactly P m material (omega (arith, r .modulus-low)) (omega (arith, r .modulus-high)) .1 (made .suitable))
       side (side-range (s .seed) round) challenges (length-challenges (s .seed) round (P .repeats)) (challenge-range (s .seed) round (P .repeats)))
 
   accepted : first (checkTests p s round x) ≡ Taken

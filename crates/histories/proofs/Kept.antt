@@ -16,7 +16,6 @@ use Rattle.codec.proofs.Replies.{taken-exactly}
 use Rattle.sha3.specs.Sponge.{sha3}
 use Rattle.sheet.specs.Reader.{sheetOf}
 use Rattle.sheet.specs.Sheet.{order}
-use Rattle.sheet_numbers.proofs.Ranges.{in-range}
 use Rattle.register.specs.Register.{digestAt, standing, standingDigests}
 use Rattle.register.proofs.Entries.{standing-few}
 use Rattle.digests.specs.Digests.{closingDigest, claimDigest, roundDigest}
@@ -155,7 +154,7 @@ module _ (p : ℕ) where
     unfolding drawnBy
     kept-draw seed d =
         let was = d .phase in
-        let some = in-range (s .numbers) (v .inside) .rounds-low in
+        let some = v .inside .rounds-low in
         record {
           sound = record { phase = omega arith; inside = v .inside; sound = v .sound; used = v .used; closed = v .closed; committed = v .committed; checked = v .checked };
           taken = k .taken;
@@ -185,7 +184,7 @@ module _ (p : ℕ) where
       fits =
           let long = k .long in
           let low = c .within in
-          let few = in-range (s .numbers) (v .inside) .rounds-high in
+          let few = v .inside .rounds-high in
           omega (arith, size)
 
       -- the new digest stands at its place, and the earlier ones stay

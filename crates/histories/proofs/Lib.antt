@@ -1,4 +1,5 @@
 pub mod Replies
+pub mod Sheets
 pub mod Valid
 pub mod Exact
 pub mod Checked

@@ -10,12 +10,14 @@ use borrow.Author.Tests.{leb-true, le-leb, le-ltb, ltb-true, ltb-false, lt-ltb, 
 use Rattle.codec.specs.Bytes.{Bytes, same}
 use Rattle.codec.specs.Reply.{None}
 use Rattle.codec.proofs.Laws.{both}
-use Rattle.sheet.specs.Reader.{formed}
+use Rattle.sheet.specs.Reader.{formed, sheetOf}
 use Rattle.sheet.specs.Sheet.{order}
+use Rattle.sheet.proofs.Form.{form-exactly}
 use Rattle.transcript.proofs.Tests.{equal-same}
 use Rattle.session.specs.declared.Session.{Session}
 use Rattle.session.specs.Session.{valid}
 use Rattle.histories.specs.Conditions.{SheetTaken, Valid}
+use Rattle.histories.proofs.Sheets.{range-exactly, sound-exactly, lists-exactly}
 
 -- ---- tests that something is not as it must be
 
@@ -46,8 +48,8 @@ valid-says p s e =
     let g = both _ _ (f .1) in
     record {
       phase = leb-true _ _ (a .0);
-      inside = not-true _ (b .0);
-      sound = not-true _ (c .0);
+      inside = range-exactly (s .numbers) .0 (not-true _ (b .0));
+      sound = sound-exactly p (s .numbers) .0 (not-true _ (c .0));
       used = leb-true _ _ (d .0);
       closed = leb-true _ _ (f .0);
       committed = leb-true _ _ (g .0);
@@ -59,8 +61,8 @@ unfolding valid
 valid-holds p s v =
     rw (
       le-leb (s .phase) 5 (v .phase),
-      v .inside,
-      v .sound,
+      range-exactly (s .numbers) .1 (v .inside),
+      sound-exactly p (s .numbers) .1 (v .sound),
       le-leb (s .used) 4096 (v .used),
       le-leb (s .closed) 4096 (v .closed),
       le-leb (s .committed) (s .numbers .rounds) (v .committed),
@@ -94,18 +96,23 @@ sheet-exactly p text = (says, holds)
     says n =
         let l = neither (eqb (length text) 0) (ltb 262144 (length text)) (n .0) in
         let some = eqb-false (length text) 0 (l .0) in
+        let form = form-exactly text (sheetOf text) .0 (not-false (formed text) (n .1 .0), refl) in
         record {
           some = omega arith;
           few = ltb-false 262144 (length text) (l .1);
-          form = not-false (formed text) (n .1 .0);
-          inside = n .1 .1 .0;
-          sound = n .1 .1 .1 .0;
-          fit = n .1 .1 .1 .1 .0;
+          form = form .0;
+          decimals = form .1;
+          inside = range-exactly (sheetOf text .numbers) .0 (n .1 .1 .0);
+          sound = sound-exactly p (sheetOf text .numbers) .0 (n .1 .1 .1 .0);
+          fit = lists-exactly (sheetOf text) .0 (n .1 .1 .1 .1 .0);
         }
 
     holds : SheetTaken p text → None (order p text)
     holds t =
         let some = t .some in (
           ap₂ _||_ (ne-eqb (length text) 0 (λ e. omega arith)) (le-ltb 262144 (length text) (t .few)),
-          (ap not (t .form), (t .inside, (t .sound, (t .fit, tt)))),
+          (
+            ap not (form-exactly text (sheetOf text) .1 (t .form, t .decimals) .0),
+            (range-exactly (sheetOf text .numbers) .1 (t .inside), (sound-exactly p (sheetOf text .numbers) .1 (t .sound), (lists-exactly (sheetOf text) .1 (t .fit), tt))),
+          ),
         )

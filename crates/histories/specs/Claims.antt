@@ -8,7 +8,7 @@ use Prim.Native.Nat.{ℕ, _<_}
 use lib.Dec.{eqb, ltb}
 use lib.ListN.{length}
 use Rattle.codec.specs.Bytes.{Bytes, Octets}
-use Rattle.codec.specs.Reply.{None, first}
+use Rattle.codec.specs.Reply.{first}
 use Rattle.codec.specs.declared.Reply.the-variants.{Taken, Refused}
 use Rattle.sha3.specs.Sponge.{sha3}
 use Rattle.sheet.specs.Reader.{sheetOf}
@@ -16,7 +16,8 @@ use Rattle.sheet.specs.Sheet.{order}
 use Rattle.call.specs.Call.{scratchLength}
 use Rattle.transcript.specs.Layout.{ballotLength}
 use Rattle.transcript.specs.Round.{Parameters}
-use Rattle.transcript.specs.Producer.{Material, Sized, producerTests, producedHead, producedShares, producedClaims, producedOpening, producedAnswers}
+use Rattle.transcript.specs.Producer.{Material, Sized, producedHead, producedShares, producedClaims, producedOpening, producedAnswers}
+use Rattle.transcript.specs.Suitable.{Suitable}
 use Rattle.lengths.specs.Sheets.{parametersOf}
 use Rattle.register.specs.Register.{markAt, standing}
 use Rattle.digests.specs.Digests.{concatenated, ballotDigests}
@@ -43,7 +44,7 @@ due (check k x) s = eqb (s .phase) drawn && (eqb k (s .checked) && ltb k (s .num
 module _ (P : Parameters) (m : ℕ) (material : Material) (seed : Bytes) (k : ℕ) where
   pub record Produced (x : Inputs) : Type 0 where
     pub sized : Sized P m material  -- 1
-    pub taken : None (producerTests P m material true)  -- 5, 14, 12, 9, 15
+    pub suitable : Suitable P m material  -- 5, 14, 12, 9, 15
     pub ballots : x .ballots ≡ material .ballots
     pub claims : x .claims ≡ producedClaims P m material
     pub head : x .head ≡ producedHead P m material

@@ -1,14 +1,12 @@
 -- When each step of a session is taken (document 01, the orders under "Refused because of the state"), for the plaintext modulus p, in conditions to hold against the
--- paper and not as its order again (the form, ranges and conditions of a sheet are the sheet's own tests); the numbers beside them are those of the refusals that they exclude. Assumes nothing.
+-- paper and not as its order again; the numbers beside them are those of the refusals that they exclude. Assumes nothing.
 use mathlib.Core.Path.{_≡_}
 use mathlib.Core.Logic.{_≢_}
-use mathlib.Core.Bool.{true, false}
 use Prim.Native.Nat.{ℕ, _+_, _*_, _≤_, _<_}
 use lib.ListN.{length, drop}
 use Rattle.codec.specs.Bytes.{Bytes}
-use Rattle.sheet.specs.Reader.{formed, sheetOf}
-use Rattle.sheet_numbers.specs.Rules.{outside, unsound}
-use Rattle.sheet.specs.Sheet.{unfit}
+use Rattle.sheet.specs.Form.{rowsOf, written, AllPlain}
+use Rattle.sheet.specs.Reader.{sheetOf}
 use Rattle.vector.specs.Vector.{vector}
 use Rattle.transcript.specs.Layout.{headLength}
 use Rattle.transcript.specs.Accepted.{EachBelow, Accepted}
@@ -19,22 +17,24 @@ use Rattle.checking.specs.Equations.{Sized, Held}
 use Rattle.session.specs.declared.Session.{Session}
 use Rattle.session.specs.Session.{gathering, closed, claimed, drawn}
 use Rattle.session.specs.Steps.{storedFor}
+use Rattle.histories.specs.Sheets.{InRange, Sound, ListsFit}
 
 module _ (p : ℕ) where
   -- a sheet that is taken
   pub record SheetTaken (text : Bytes) : Type 0 where
     pub some : 0 < length text  -- 1
     pub few : length text ≤ 262144  -- 1
-    pub form : formed text ≡ true  -- 2
-    pub inside : outside (sheetOf text .numbers) ≡ false  -- 3
-    pub sound : unsound p (sheetOf text .numbers) ≡ false  -- 4
-    pub fit : unfit (sheetOf text) ≡ false  -- 5
+    pub form : text ≡ written (sheetOf text)  -- 2, the ten lines
+    pub decimals : AllPlain (rowsOf (sheetOf text))  -- 2, at least one number in each, of at most 17 digits
+    pub inside : InRange (sheetOf text .numbers)  -- 3
+    pub sound : Sound p (sheetOf text .numbers)  -- 4
+    pub fit : ListsFit (sheetOf text)  -- 5
 
   -- a session with a known phase, counts within their limits, and numbers that 3 and 4 take
   pub record Valid (s : Session) : Type 0 where
     pub phase : s .phase ≤ 5
-    pub inside : outside (s .numbers) ≡ false
-    pub sound : unsound p (s .numbers) ≡ false
+    pub inside : InRange (s .numbers)
+    pub sound : Sound p (s .numbers)
     pub used : s .used ≤ 4096
     pub closed : s .closed ≤ 4096
     pub committed : s .committed ≤ s .numbers .rounds

@@ -1,4 +1,5 @@
 pub mod Runs
+pub mod Sheets
 pub mod Conditions
 pub mod Claims
 pub mod Examples

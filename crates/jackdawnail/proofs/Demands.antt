@@ -3,7 +3,7 @@ use mathlib.Core.Path.{_≡_, refl, ap, _∙_}
 use mathlib.Core.Logic.{_↔_}
 use mathlib.Core.Bool.{Bool, true, false, cond, _&&_}
 use mathlib.Core.List.{_++_}
-use Prim.Native.Nat.{ℕ}
+use Prim.Native.Nat.{ℕ, _^_, _≤_, _<_}
 use native.Mathlib.Omega.{arith}
 use lib.Dec.{eqb, leb}
 use lib.ListN.{length}
@@ -17,18 +17,18 @@ use Rattle.codec.proofs.Replies.{not-taken, taken-exactly}
 use Rattle.sheet.specs.Reader.{sheetOf}
 use Rattle.sheet.specs.Sheet.{order, readingBy, reading}
 use Rattle.sheet.specs.declared.Reading.the-variants as reading
-use Rattle.sheet_numbers.proofs.Ranges.{in-range}
 use Rattle.bgv.proofs.Sheets.{two-sound}
 use Rattle.bgv.proofs.Ballot.{honest-noise, honest-decrypts}
 use Rattle.transcript.specs.Extractor.{Openings}
 use Rattle.transcript.proofs.Many.{append-none}
+use Rattle.transcript.proofs.Passed.{producer-exactly}
 use Rattle.transcript.proofs.Honest.{honest-round}
 use Rattle.transcript.proofs.Extraction.{extraction}
-use Rattle.transcript.proofs.Refuses.{refuses-exactly, refuses-alike}
+use Rattle.transcript.proofs.ExtractionOutput.{output, lowest}
+use Rattle.transcript.proofs.Refuses.{parts-exactly, refuses-exactly, takes-accepted, refuses-alike, lending}
 use Rattle.lengths.specs.Calls.{openingsTests}
 use Rattle.lengths.specs.Sheets.{parametersOf, ballotsIn}
 use Rattle.verification.proofs.Tested.{lent-message, lent-openings, extract-lengths}
-use Rattle.round_calls.specs.Replies.{firstReply, secondReply}
 use Rattle.verification_calls.specs.Replies.{extractReply}
 use Rattle.session.specs.declared.Session.{Session}
 use Rattle.session.specs.Steps.{admitTests, checkTests}
@@ -39,9 +39,12 @@ use Rattle.histories.proofs.Valid.{sheet-exactly}
 use Rattle.histories.proofs.Exact.{admitted-exactly}
 use Rattle.histories.proofs.Checked.{accepted-exactly}
 use Rattle.histories.proofs.Withdrawn.{withdrawn-stays-out}
+use Rattle.histories.proofs.Rounds.{rounds-checked, ended-accepted}
 use Rattle.histories.proofs.Reach.{clear-taken, reachable-valid, only-phase-or-round}
 use Rattle.histories.proofs.Honest.{two-accepted}
 use Rattle.histories.proofs.Roll.{roll-is-batch, own-register}
+use Rattle.jackdawnail.proofs.HostSteps.{over-images}
+use Rattle.jackdawnail.proofs.Produces.{first-exactly, second-call-exactly}
 use Rattle.jackdawnail.specs.Demands.{AcceptedExactly, AdmittedExactly, HonestBallots, Demand2, Extracts, RefusesAsChecks, ProducerWrites, HonestRounds, Demand3}
 
 -- ---- over an image
@@ -84,14 +87,14 @@ honest-ballots text sheet s e r e1 e2 m ss se sr s1 s2 message matches =
     )
 
 honest-rounds : HonestRounds
-honest-rounds text sheet m x sized none side low challenges size valid =
-    let r = in-range (sheetOf text .numbers) (sheet-exactly 2 text .0 (taken-exactly (order 2 text) .0 sheet) .inside) in
+honest-rounds text sheet m x sized suitable side low challenges size valid =
+    let r = sheet-exactly 2 text .0 (taken-exactly (order 2 text) .0 sheet) .inside in
+    let none = producer-exactly (parametersOf 2 text) m x (omega (arith, r .modulus-low)) (omega (arith, r .modulus-high)) .1 suitable in
     honest-round (parametersOf 2 text) m x (two-sound text (sheetOf text .numbers) (read text sheet)) (omega (arith, r .modulus-low)) (omega (arith, r .modulus-high)) sized none side low
     challenges size valid
 
 producer-writes : ProducerWrites
-unfolding firstReply secondReply
-producer-writes text x = (λ head shares0 shares1 claims scratch. taken-exactly _, λ side challenges opening answers scratch. taken-exactly _)
+producer-writes text x = (first-exactly text x, second-call-exactly text x)
 
 extracts : Extracts
 unfolding extractReply openingsTests
@@ -100,12 +103,15 @@ extracts text x out scratch octets e =
     let m = ballotsIn text (x .ballots) in
     let parts = append-none (order 2 text) (openingsTests P x out scratch) (taken-exactly _ .0 e) in
     let sheet = taken-exactly (order 2 text) .1 (parts .0) in
-    let r = in-range (sheetOf text .numbers) (sheet-exactly 2 text .0 (parts .0) .inside) in
+    let r = sheet-exactly 2 text .0 (parts .0) .inside in
     let message = lent-message P x out scratch m in
     let openings = lent-openings P x out scratch m in
     let sized = both message openings (both (leb m 4096) (message && openings) (not-false (leb m 4096 && (message && openings)) (parts .1 .0)) .1) in
-    extraction P m x (omega (arith, r .modulus-low)) (omega (arith, r .modulus-high)) (extract-lengths P x out scratch m octets (sized .0) (sized .1) .0) (parts .1 .1)
-    (two-sound text (sheetOf text .numbers) (read text sheet))
+    let three : 2 < P .q = omega (arith, r .modulus-low) in
+    let fits : P .q ≤ 2 ^ 64 = omega (arith, r .modulus-high) in
+    let lent = extract-lengths P x out scratch m octets (sized .0) (sized .1) .0 in
+    let ok = two-sound text (sheetOf text .numbers) (read text sheet) in
+    (extraction P m x three fits lent (parts .1 .1) ok, lowest P m x (omega arith) fits, output P m x three fits lent (parts .1 .1) ok)
 
 refuses-as-checks : RefusesAsChecks
 refuses-as-checks P m x opens answers lending = (refuses-exactly P m x opens answers lending, refuses-alike P m x opens answers lending)
@@ -115,16 +121,22 @@ refuses-as-checks P m x opens answers lending = (refuses-exactly P m x opens ans
 pub demand2 : Demand2
 demand2 = record {
   accepted-exactly = accepted;
+  rounds-checked = rounds-checked 2;
+  ended-accepted = ended-accepted 2;
   admitted-exactly = admitted;
   withdrawn-stays-out = withdrawn-stays-out 2;
   honest-ballots = honest-ballots;
   examples = all-examples;
+  over-images = over-images 2;
 }
 
 pub demand3 : Demand3
 demand3 = record {
   extracts = extracts;
   refuses-as-checks = refuses-as-checks;
+  check-parts = parts-exactly;
+  lent-rounds = lending;
+  takes-accepted = takes-accepted;
   honest-accepted = two-accepted;
   honest-rounds = honest-rounds;
   producer-writes = producer-writes;

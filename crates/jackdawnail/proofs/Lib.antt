@@ -1,1 +1,3 @@
+pub mod HostSteps
+pub mod Produces
 pub mod Demands

@@ -4,8 +4,7 @@
 --    that every contract is proved is this demand.
 use mathlib.Core.Path.{_≡_}
 use mathlib.Core.Logic.{_↔_}
-use mathlib.Core.Bool.{true}
-use mathlib.Core.List.{_++_, map}
+use mathlib.Core.List.{map}
 use Prim.Native.Nat.{ℕ, _≤_, _<_}
 use lib.ListN.{length, getD}
 use Rattle.codec.specs.Bytes.{Bytes, Octets}
@@ -16,10 +15,10 @@ use Rattle.sheet.specs.Sheet.{order}
 use Rattle.bgv.specs.Scheme.{Small, key, cipher-u, cipher-v, opened, decrypted}
 use Rattle.bgv.specs.Examples.{Row}
 use Rattle.transcript.specs.Round.{Parameters, Round, roundTests}
-use Rattle.transcript.specs.Producer.{Material, Sized, producerTests, producedRound}
-use Rattle.transcript.specs.Extractor.{Openings, extractTests, kind, Found}
-use Rattle.transcript.specs.Refuses.{Lending, ChecksTake, ChecksRefuse}
-use Rattle.lengths.specs.Calls.{firstTests, secondTests}
+use Rattle.transcript.specs.Producer.{Material, Sized, producedRound}
+use Rattle.transcript.specs.Suitable.{Suitable}
+use Rattle.transcript.specs.Extractor.{Openings, Lent, extractTests, kind, extracted, Found, Lowest, Output}
+use Rattle.transcript.specs.Refuses.{openingTests, repetitionTests, lentRound, Lending, ChecksTake, ChecksRefuse}
 use Rattle.lengths.specs.Sheets.{parametersOf, ballotsIn}
 use Rattle.round_calls.specs.Replies.{firstReply, secondReply}
 use Rattle.verification_calls.specs.Replies.{extractReply}
@@ -27,8 +26,10 @@ use Rattle.checking.specs.Check.{Inputs}
 use Rattle.image.specs.Image.{imageLength, decode}
 use Rattle.session_calls.specs.Images.{admitReply, checkReply}
 use Rattle.histories.specs.Conditions.{Admits, Checks}
-use Rattle.histories.specs.Claims.{StaysOut, ClearTaken, StaysValid, OnlyPhaseOrRound, HonestAccepted, RollIsBatch, OwnRegister}
+use Rattle.histories.specs.Claims.{StaysOut, RoundsChecked, EndedAccepted, ClearTaken, StaysValid, OnlyPhaseOrRound, HonestAccepted, RollIsBatch, OwnRegister}
 use Rattle.histories.specs.Examples.{all-rows}
+use Rattle.jackdawnail.specs.Produces.{WritesFirst, WritesSecond}
+use Rattle.jackdawnail.specs.HostSteps.{OverImages}
 
 -- ---- 2. Everything equals the papers, a round is accepted exactly if every listed check holds, and a withdrawn mark is in no closed batch.
 
@@ -57,19 +58,24 @@ Examples = map (λ (x : Row). x .got) all-rows ≡ map (λ (x : Row). x .said) a
 
 pub record Demand2 : Type 0 where
   pub accepted-exactly : AcceptedExactly
+  -- over every list of steps from a newly cleared session: a round that a session counts as checked has had its check, and of a session that ended accepted every round has
+  pub rounds-checked : RoundsChecked 2
+  pub ended-accepted : EndedAccepted 2
   pub admitted-exactly : AdmittedExactly
   pub withdrawn-stays-out : StaysOut 2
   pub honest-ballots : HonestBallots
   pub examples : Examples
+  -- what is shown of steps and of lists of steps over sessions holds of the exported calls over images
+  pub over-images : OverImages 2
 
 -- ---- 3. Two accepted openings and three accepted answers yield a hash collision, a short commitment vector or the key, and every honest round is accepted whatever is drawn.
 
--- where the extractor does not refuse, it finds one of the three, as its kind says
+-- where the extractor does not refuse, it finds one of the three, as its kind says; nothing that comes before that kind was there; and its output is what it found
 abbrev pub Extracts : Type 0
 Extracts = (text : Bytes) (x : Openings) (out scratch : Bytes) → Octets (x .head) → extractReply 2 text x out scratch ≡ Taken
     → let P = parametersOf 2 text in
     let m = ballotsIn text (x .ballots) in
-    Found P m x (kind P m x)
+    Found P m x (kind P m x) × Lowest P m x (kind P m x) × Output P m x (kind P m x) (extracted P m x)
 
 -- it refuses exactly where the checks of those openings and answers would, and then as one of them does
 abbrev pub RefusesAsChecks : Type 0
@@ -77,25 +83,39 @@ RefusesAsChecks = (P : Parameters) (m : ℕ) (x : Openings) (opens answers : ℕ
     → (None (extractTests P m x) ↔ ChecksTake P m x opens answers)
     × ((number place : ℕ) → first (extractTests P m x) ≡ Refused number place → ChecksRefuse P m x opens answers number place)
 
+-- those tests of openings and answers are the parts of a check: it refuses nothing exactly if it refuses nothing of the opening and nothing of any repetition's answer
+abbrev pub CheckParts : Type 0
+CheckParts = (P : Parameters) (m : ℕ) (r : Round) → None (roundTests P m r) ↔ (None (openingTests P m r) × ((i : ℕ) → i < P .repeats → None (repetitionTests P m r i)))
+
+-- there are such checks, of whatever is lent in the right lengths
+abbrev pub LentRounds : Type 0
+LentRounds = (P : Parameters) (m : ℕ) (x : Openings) → Lent P m x → x .repetition < P .repeats → Lending P m x (λ i. lentRound P x i 1) (λ c. lentRound P x 0 c)
+
+-- and so the extractor takes openings and answers that checks accepted
+abbrev pub TakesAccepted : Type 0
+TakesAccepted = (P : Parameters) (m : ℕ) (x : Openings) (opens answers : ℕ → Round) → Lending P m x opens answers → x .repetition < P .repeats
+    → ((i : ℕ) → i < 2 → None (roundTests P m (opens i))) → ((c : ℕ) → 1 ≤ c → c ≤ 3 → None (roundTests P m (answers c))) → None (extractTests P m x)
+
 -- the producer writes a round from all material that meets none of its refusals: its first message, and what answers a side and challenges
 abbrev pub ProducerWrites : Type 0
 ProducerWrites = (text : Bytes) (x : Material)
-    → let P = parametersOf 2 text in
-    ((head shares0 shares1 claims scratch : Bytes)
-    → (firstReply 2 text x head shares0 shares1 claims scratch ≡ Taken) ↔ None (order 2 text ++ firstTests P x head shares0 shares1 claims scratch))
+    → ((head shares0 shares1 claims scratch : Bytes) → (firstReply 2 text x head shares0 shares1 claims scratch ≡ Taken) ↔ WritesFirst text x head shares0 shares1 claims scratch)
     × ((side : ℕ) (challenges opening answers scratch : Bytes)
-    → (secondReply 2 text x side challenges opening answers scratch ≡ Taken) ↔ None (order 2 text ++ secondTests P x side challenges opening answers scratch))
+    → (secondReply 2 text x side challenges opening answers scratch ≡ Taken) ↔ WritesSecond text x side challenges opening answers scratch)
 
 -- its round meets none of 5 to 13, with any side and challenges in range
 abbrev pub HonestRounds : Type 0
 HonestRounds = (text : Bytes) → first (order 2 text) ≡ Taken
     → let P = parametersOf 2 text in
-    (m : ℕ) (x : Material) → Sized P m x → None (producerTests P m x true) → (side : ℕ) → side < 2 → (challenges : Bytes) → length challenges ≡ P .repeats
+    (m : ℕ) (x : Material) → Sized P m x → Suitable P m x → (side : ℕ) → side < 2 → (challenges : Bytes) → length challenges ≡ P .repeats
     → ((i : ℕ) → i < P .repeats → (1 ≤ getD challenges i 0) × (getD challenges i 0 ≤ 3)) → None (roundTests P m (producedRound P m x side challenges))
 
 pub record Demand3 : Type 0 where
   pub extracts : Extracts
   pub refuses-as-checks : RefusesAsChecks
+  pub check-parts : CheckParts
+  pub lent-rounds : LentRounds
+  pub takes-accepted : TakesAccepted
   -- over every list of steps from a newly cleared session, each lent any register: a round of the producer's that is lodged is accepted at its turn
   pub honest-accepted : HonestAccepted 2
   pub honest-rounds : HonestRounds

@@ -1,0 +1,269 @@
+-- The steps over images do to the session in the image what the steps over sessions do, one by one and in lists: `OverImages` of specs/HostSteps.antt. Assumes nothing.
+use mathlib.Core.Path.{_≡_, refl, sym, ap, ap₂, subst, _∙_}
+use mathlib.Core.Bool.{Bool, true, false, cond}
+use mathlib.Core.List.{List, [], _∷_}
+use Prim.Native.Nat.{ℕ, _+_, _*_, _^_, _≤_, _<_}
+use native.Mathlib.Omega.{arith}
+use lib.Dec.{eqb}
+use lib.ListN.{length, length-map, length-replicate}
+use borrow.Author.Tests.{eq-eqb}
+use Rattle.codec.specs.Bytes.{Bytes, Octets, number, part, zeros}
+use Rattle.codec.specs.Reply.{first, leaves}
+use Rattle.codec.specs.declared.Reply.{Reply}
+use Rattle.codec.specs.declared.Reply.the-variants.{Taken, Refused}
+use Rattle.codec.proofs.Numbers.{number-lt}
+use Rattle.codec.proofs.Laws.{length-part, octets-part, length-put}
+use Rattle.sha3.proofs.Squeezing.{length-sha3}
+use Rattle.register.specs.Register.{registerLength, digestAt, find, standing, standingDigests, admitted, withdrawn}
+use Rattle.register.proofs.Entries.{standing-few}
+use Rattle.digests.specs.Digests.{roundDigest}
+use Rattle.digests.proofs.Laws.{length-closingDigest, length-claimDigest, length-roundDigest}
+use Rattle.checking.specs.Check.{Inputs}
+use Rattle.session.specs.declared.Session.{Session}
+use Rattle.session.specs.Session.{changed}
+use Rattle.session.specs.Steps.{cleared, admittedBy, closedBy, claimedBy, committedBy, drawnBy, checkEarly, checkLate, acceptedBy, refusedBy, checkedBy}
+use Rattle.image.specs.Image.{imageLength, encode, decode, Typed}
+use Rattle.image.proofs.Law.{length-encode, load-store}
+use Rattle.session_calls.specs.Images.{lentReply, clearReply, admitReply, withdrawReply, closeReply, claimReply, commitReply, drawReply, checkReply, checkImage}
+use Rattle.histories.specs.Runs.{Step, clear, admit, withdraw, close, claim, commit, draw, check, State, state, History, Trace, Call, lent, reply, after, run, extend, trace}
+use Rattle.histories.specs.Conditions.{Clears, Admits, Closes, Claims, Commits, Draws}
+use Rattle.histories.proofs.Replies.{left}
+use Rattle.histories.proofs.Exact.{cleared-exactly, admitted-exactly, closed-exactly, claimed-exactly, committed-exactly, drawn-exactly}
+use Rattle.histories.proofs.Kept.{drawn-now}
+use Rattle.jackdawnail.specs.HostSteps.{Host, host, held, hostReply, hostAfter, hostRun, hostTrace, Holds, StepOverImage, RunOverImage, TraceOverImage, OverImages}
+
+-- ---- the fields of a session fit in their places
+
+module _ (b : Bytes) (l : length b ≡ imageLength) (o : Octets b) where
+  eight : (at : ℕ) → at + 8 ≤ length b → number (part b at 8) < 2 ^ 64
+  eight at h = rw (length-part b at 8 h) at (number-lt (part b at 8) (octets-part b at 8 o))
+
+  -- of a session that is read from bytes they do
+  typed-decode : Typed (decode b)
+  unfolding decode
+  typed-decode = record {
+    phase-fits = o 0 (omega arith);
+    ring-fits = eight 1 (omega arith);
+    modulus-fits = eight 9 (omega arith);
+    drown-fits = eight 17 (omega arith);
+    rounds-fits = eight 25 (omega arith);
+    repeats-fits = eight 33 (omega arith);
+    sheet-long = length-part b 41 32 (omega arith);
+    used-fits = eight 73 (omega arith);
+    closed-fits = eight 81 (omega arith);
+    closing-long = length-part b 89 32 (omega arith);
+    claim-long = length-part b 121 32 (omega arith);
+    committed-fits = eight 153 (omega arith);
+    seed-long = length-part b 161 32 (omega arith);
+    checked-fits = eight 193 (omega arith);
+    trail-long = length-part b 201 4096 (omega arith);
+  }
+
+-- of one that a step changes they do if what is changed fits
+typed-changed : (s : Session) (phase used closed : ℕ) (closing claimed : Bytes) (committed : ℕ) (seed : Bytes) (checked : ℕ) (trail : Bytes) → Typed s
+    → phase < 256 → used < 2 ^ 64 → closed < 2 ^ 64 → length closing ≡ 32 → length claimed ≡ 32 → committed < 2 ^ 64 → length seed ≡ 32 → checked < 2 ^ 64 → length trail ≡ 4096
+    → Typed (changed s phase used closed closing claimed committed seed checked trail)
+typed-changed s phase used closed closing claimed committed seed checked trail t a b c d e f g h i = record {
+  phase-fits = a;
+  ring-fits = t .ring-fits;
+  modulus-fits = t .modulus-fits;
+  drown-fits = t .drown-fits;
+  rounds-fits = t .rounds-fits;
+  repeats-fits = t .repeats-fits;
+  sheet-long = t .sheet-long;
+  used-fits = b;
+  closed-fits = c;
+  closing-long = d;
+  claim-long = e;
+  committed-fits = f;
+  seed-long = g;
+  checked-fits = h;
+  trail-long = i;
+}
+
+module _ (p : ℕ) where
+  typed-cleared : (reg text : Bytes) → Clears p reg text → Typed (cleared text)
+  unfolding cleared
+  typed-cleared reg text c =
+      let r = c .sheet .inside in
+      record {
+        phase-fits = omega arith;
+        ring-fits = omega (arith, r .ring-high);
+        modulus-fits = omega (arith, r .modulus-high);
+        drown-fits = omega (arith, r .drown-high);
+        rounds-fits = omega (arith, r .rounds-high);
+        repeats-fits = omega (arith, r .repeats-high);
+        sheet-long = length-sha3 text;
+        used-fits = omega arith;
+        closed-fits = omega arith;
+        closing-long = length-replicate {A = ℕ} 32 0;
+        claim-long = length-replicate {A = ℕ} 32 0;
+        committed-fits = omega arith;
+        seed-long = length-replicate {A = ℕ} 32 0;
+        checked-fits = omega arith;
+        trail-long = length-replicate {A = ℕ} 4096 0;
+      }
+
+  module _ (s : Session) (reg : Bytes) (t : Typed s) where
+    typed-admitted : (ballot : Bytes) → Admits p s reg ballot → Typed (admittedBy s)
+    unfolding admittedBy
+    typed-admitted ballot a =
+        typed-changed s (s .phase) (s .used + 1) (s .closed) (s .closing) (s .claim) (s .committed) (s .seed) (s .checked) (s .trail) t (t .phase-fits) (omega (arith, a .room)) (t .closed-fits)
+        (t .closing-long) (t .claim-long) (t .committed-fits) (t .seed-long) (t .checked-fits) (t .trail-long)
+
+    typed-closed : Closes p s reg → Typed (closedBy s reg)
+    unfolding closedBy standingDigests
+    typed-closed c =
+        typed-changed s 1 (s .used) _ _ (s .claim) (s .committed) (s .seed) (s .checked) (s .trail) t (omega arith) (t .used-fits)
+        (rw (length-map (standing reg (s .used)) (digestAt reg)) (omega (arith, standing-few reg (s .used), c .sound .used))) (length-closingDigest (s .sheet) _) (t .claim-long) (t .committed-fits)
+        (t .seed-long) (t .checked-fits) (t .trail-long)
+
+    typed-claimed : (claims : Bytes) → Typed (claimedBy s claims)
+    unfolding claimedBy
+    typed-claimed claims =
+        typed-changed s 2 (s .used) (s .closed) (s .closing) _ (s .committed) (s .seed) (s .checked) (s .trail) t (omega arith) (t .used-fits) (t .closed-fits) (t .closing-long)
+        (length-claimDigest (s .closing) claims) (t .committed-fits) (t .seed-long) (t .checked-fits) (t .trail-long)
+
+    typed-committed : (k : ℕ) (head shares0 shares1 : Bytes) → Commits p s k head shares0 shares1 → Typed (committedBy s k head shares0 shares1)
+    unfolding committedBy
+    typed-committed k head shares0 shares1 c =
+        let few = c .sound .inside .rounds-high in
+        let low = c .within in
+        let due = c .due in
+        let long = t .trail-long in
+        let new = roundDigest (s .claim) k head shares0 shares1 in
+        let size : length new ≡ 32 = length-roundDigest (s .claim) k head shares0 shares1 in
+        typed-changed s (s .phase) (s .used) (s .closed) (s .closing) (s .claim) (s .committed + 1) (s .seed) (s .checked) _ t (t .phase-fits) (t .used-fits) (t .closed-fits) (t .closing-long)
+        (t .claim-long) (omega arith) (t .seed-long) (t .checked-fits) (length-put (s .trail) (32 * k) new (omega (arith, size)) ∙ t .trail-long)
+
+    typed-drawn : (seed : Bytes) → Draws p s seed → Typed (drawnBy s seed)
+    unfolding drawnBy
+    typed-drawn seed d =
+        typed-changed s 3 (s .used) (s .closed) (s .closing) (s .claim) (s .committed) seed (s .checked) (s .trail) t (omega arith) (t .used-fits) (t .closed-fits) (t .closing-long) (t .claim-long)
+        (t .committed-fits) (d .size) (t .checked-fits) (t .trail-long)
+
+    -- a check that is not stopped early
+    typed-phase : (phase checked : ℕ) → phase < 256 → checked < 2 ^ 64 → Typed (changed s phase (s .used) (s .closed) (s .closing) (s .claim) (s .committed) (s .seed) checked (s .trail))
+    typed-phase phase checked a b =
+        typed-changed s phase (s .used) (s .closed) (s .closing) (s .claim) (s .committed) (s .seed) checked (s .trail) t a (t .used-fits) (t .closed-fits) (t .closing-long) (t .claim-long)
+        (t .committed-fits) (t .seed-long) b (t .trail-long)
+
+    typed-checked : (k : ℕ) (x : Inputs) → Typed (checkedBy p s k x)
+    unfolding checkedBy acceptedBy refusedBy
+    typed-checked k x =
+        left Typed (first (checkEarly p s k x))
+        (λ e. left Typed (first (checkLate p s k x)) (λ f. accepted (drawn-now p s k x e .1) (eqb (s .checked + 1) (s .numbers .rounds))) (typed-phase 4 (s .checked) (omega arith) (t .checked-fits))) t
+      where
+        accepted : s .checked < s .numbers .rounds → (b : Bool) → Typed (changed s (cond b 5 3) (s .used) (s .closed) (s .closing) (s .claim) (s .committed) (s .seed) (s .checked + 1) (s .trail))
+        accepted l true = typed-phase 5 (s .checked + 1) (omega arith) (omega (arith, t .rounds-fits))
+        accepted l false = typed-phase 3 (s .checked + 1) (omega arith) (omega (arith, t .rounds-fits))
+
+  typed-after : (x : Step) (st : State) → Typed (st .session) → Typed (after p x st .session)
+  unfolding reply after
+  typed-after (clear text) st t = left Typed _ (λ e. typed-cleared (st .register) text (cleared-exactly p (st .register) text .0 e)) t
+  typed-after (admit ballot) st t = left Typed _ (λ e. typed-admitted (st .session) (st .register) t ballot (admitted-exactly p (st .session) (st .register) ballot .0 e)) t
+  typed-after (withdraw mark) st t = t
+  typed-after close st t = left Typed _ (λ e. typed-closed (st .session) (st .register) t (closed-exactly p (st .session) (st .register) .0 e)) t
+  typed-after (claim claims) st t = left Typed _ (λ e. typed-claimed (st .session) (st .register) t claims) t
+  typed-after (commit k head shares0 shares1) st t =
+      left Typed _ (λ e. typed-committed (st .session) (st .register) t k head shares0 shares1 (committed-exactly p (st .session) k head shares0 shares1 .0 e)) t
+  typed-after (draw seed) st t = left Typed _ (λ e. typed-drawn (st .session) (st .register) t seed (drawn-exactly p (st .session) seed .0 e)) t
+  typed-after (check k x) st t = typed-checked (st .session) (st .register) t k x
+
+  -- ---- one call
+
+  -- an image of the right length: the session in it is answered
+  answers : (image : Bytes) → length image ≡ imageLength → (R : Session → Reply) → lentReply image R ≡ R (decode image)
+  answers image l R = rw (eq-eqb (length image) imageLength l) refl
+
+  module _ (h : Host) (sized : length (h .image) ≡ imageLength) (typed : Typed (decode (h .image))) where
+    replies : (x : Step) → hostReply p x h ≡ reply p x (held h)
+    unfolding hostReply reply clearReply admitReply withdrawReply closeReply claimReply commitReply drawReply checkReply
+    replies (clear text) = answers (h .image) sized (λ s. reply p (clear text) (state s (h .register)))
+    replies (admit ballot) = answers (h .image) sized (λ s. reply p (admit ballot) (state s (h .register)))
+    replies (withdraw mark) = answers (h .image) sized (λ s. reply p (withdraw mark) (state s (h .register)))
+    replies close = answers (h .image) sized (λ s. reply p close (state s (h .register)))
+    replies (claim claims) = answers (h .image) sized (λ s. reply p (claim claims) (state s (h .register)))
+    replies (commit k head shares0 shares1) = answers (h .image) sized (λ s. reply p (commit k head shares0 shares1) (state s (h .register)))
+    replies (draw seed) = answers (h .image) sized (λ s. reply p (draw seed) (state s (h .register)))
+    replies (check k x) = answers (h .image) sized (λ s. reply p (check k x) (state s (h .register)))
+
+    -- an image that is left holds the session that is left
+    Image : Bytes → Session → Type 0
+    Image image s = (length image ≡ imageLength) × (decode image ≡ s)
+
+    stored : (s : Session) → Typed s → Image (encode s) s
+    unfolding Image
+    stored s t = (length-encode s t, load-store s t)
+
+    as-left : (r r' : Reply) (s : Session) → r ≡ r' → Typed (leaves r' s (decode (h .image))) → Image (leaves r (encode s) (h .image)) (leaves r' s (decode (h .image)))
+    unfolding leaves Image
+    as-left r Taken s e t = rw e (stored s t)
+    as-left r (Refused number place) s e t = rw e (sized, refl)
+
+    image-left : (x : Step) → Image (hostAfter p x h .image) (after p x (held h) .session)
+    image-left x = go x (replies x) (typed-after x (held h) typed)
+      where
+        go : (x : Step) → hostReply p x h ≡ reply p x (held h) → Typed (after p x (held h) .session) → Image (hostAfter p x h .image) (after p x (held h) .session)
+        go (clear text) e t = unfold hostReply hostAfter reply after in as-left (hostReply p (clear text) h) (reply p (clear text) (held h)) (cleared text) e t
+        go (admit ballot) e t = unfold hostReply hostAfter reply after in as-left (hostReply p (admit ballot) h) (reply p (admit ballot) (held h)) (admittedBy (decode (h .image))) e t
+        go (withdraw mark) e t = unfold hostAfter after Image in (sized, refl)
+        go close e t = unfold hostReply hostAfter reply after in as-left (hostReply p close h) (reply p close (held h)) (closedBy (decode (h .image)) (h .register)) e t
+        go (claim claims) e t = unfold hostReply hostAfter reply after in as-left (hostReply p (claim claims) h) (reply p (claim claims) (held h)) (claimedBy (decode (h .image)) claims) e t
+        go (commit k head shares0 shares1) e t = unfold hostReply hostAfter reply after in as-left (hostReply p (commit k head shares0 shares1) h) (reply p (commit k head shares0 shares1) (held h)) (committedBy (decode (h .image)) k head shares0 shares1) e t
+        go (draw seed) e t = unfold hostReply hostAfter reply after in as-left (hostReply p (draw seed) h) (reply p (draw seed) (held h)) (drawnBy (decode (h .image)) seed) e t
+        go (check k x) e t = unfold hostAfter after checkImage in (rw (eq-eqb (length (h .image)) imageLength sized) (stored (checkedBy p (decode (h .image)) k x) t))
+
+    register-left : (x : Step) → hostAfter p x h .register ≡ after p x (held h) .register
+    register-left x = go x (replies x)
+      where
+        go : (x : Step) → hostReply p x h ≡ reply p x (held h) → hostAfter p x h .register ≡ after p x (held h) .register
+        go (clear text) e = unfold hostReply hostAfter reply after in ap (λ (r : Reply). leaves r (zeros registerLength) (h .register)) e
+        go (admit ballot) e = unfold hostReply hostAfter reply after in ap (λ (r : Reply). leaves r (admitted (h .register) (decode (h .image) .used) ballot) (h .register)) e
+        go (withdraw mark) e = unfold hostReply hostAfter reply after in
+            ap (λ (r : Reply). leaves r (withdrawn (h .register) (find (h .register) mark (decode (h .image) .used))) (h .register)) e
+        go close e = unfold hostAfter after in refl
+        go (claim claims) e = unfold hostAfter after in refl
+        go (commit k head shares0 shares1) e = unfold hostAfter after in refl
+        go (draw seed) e = unfold hostAfter after in refl
+        go (check k x) e = unfold hostAfter after in refl
+
+    holds-after : (x : Step) → Holds p (hostAfter p x h) (after p x (held h))
+    unfolding Image
+    holds-after x = record { sized = image-left x .0; session = image-left x .1; register = register-left x }
+
+    typed-next : (x : Step) → Typed (decode (hostAfter p x h .image))
+    typed-next x = subst Typed (sym (holds-after x .session)) (typed-after x (held h) typed)
+
+  -- ---- lists of calls
+
+  next : (h : Host) (st : State) → Holds p h st → held h ≡ st
+  next h st e = ap₂ state (e .session) (e .register)
+
+  holds-run : (xs : List Step) (h : Host) → length (h .image) ≡ imageLength → Typed (decode (h .image))
+      → Holds p (hostRun p xs h) (run p xs (held h)) × ((x : Step) → hostReply p x (hostRun p xs h) ≡ reply p x (run p xs (held h)))
+  unfolding hostRun run
+  holds-run [] h sized typed = (record { sized = sized; session = refl; register = refl }, replies h sized typed)
+  holds-run (x ∷ xs) h sized typed =
+      let a = holds-after h sized typed x in
+      subst (λ (st : State). Holds p (hostRun p xs (hostAfter p x h)) (run p xs st) × ((y : Step) → hostReply p y (hostRun p xs (hostAfter p x h)) ≡ reply p y (run p xs st)))
+      (next (hostAfter p x h) (after p x (held h)) a) (holds-run xs (hostAfter p x h) (a .sized) (typed-next h sized typed x))
+
+  holds-trace : (cs : List Call) (image : Bytes) (l : Trace) → decode image ≡ l .session → length image ≡ imageLength → Typed (decode image)
+      → (length (hostTrace p cs image) ≡ imageLength) × (decode (hostTrace p cs image) ≡ trace p cs l .session)
+      × ((c : Call) → hostReply p (c .step) (host (hostTrace p cs image) (c .register)) ≡ reply p (c .step) (lent (trace p cs l) c))
+  unfolding hostTrace trace
+  holds-trace [] image l e sized typed =
+      (sized, e, λ c. replies (host image (c .register)) sized typed (c .step) ∙ ap (λ (s : Session). reply p (c .step) (state s (c .register))) e)
+  holds-trace (c ∷ cs) image l e sized typed =
+      let h = host image (c .register) in
+      let a = holds-after h sized typed (c .step) in
+      holds-trace cs (hostAfter p (c .step) h .image) (extend p c l) (a .session ∙ (unfold extend in ap (λ (s : Session). after p (c .step) (state s (c .register)) .session) e)) (a .sized)
+      (typed-next h sized typed (c .step))
+
+pub over-images : (p : ℕ) → OverImages p
+over-images p = record {
+  one-step = λ x h sized octets. let t = typed-decode (h .image) sized octets in (replies p h sized t x, holds-after p h sized t x);
+  own-register = λ xs h sized octets. holds-run p xs h sized (typed-decode (h .image) sized octets);
+  any-register = λ cs image past sized octets. holds-trace p cs image (record { session = decode image; history = past }) refl sized (typed-decode image sized octets);
+}
