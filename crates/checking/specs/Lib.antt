@@ -1,3 +1,2 @@
 pub mod Check
-pub mod Equations
 pub mod Parts
