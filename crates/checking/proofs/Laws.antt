@@ -20,7 +20,9 @@ use Rattle.transcript.proofs.Many.{none-append, append-none}
 use Rattle.lengths.specs.Calls.{messageSized, secondSized}
 use Rattle.lengths.proofs.Sizes.{message-sizes, second-sizes}
 use Rattle.drawing.proofs.Range.{length-challenges}
-use Rattle.checking.specs.Check.{Stored, Inputs, challengesOf, drawnRound, inputsSized, storedTests, earlyTests, verdict}
+use Rattle.stored.specs.declared.Stored.{Stored}
+use Rattle.stored.specs.Stored.{Inputs, challengesOf, drawnRound, inputsSized, storedTests}
+use Rattle.checking.specs.Check.{earlyTests, verdict}
 use Rattle.checking.specs.Equations.{Sized, Held}
 use Rattle.checking.specs.declared.Verdict.the-variants.{Stopped, Failed, Passed}
 use Rattle.checking.proofs.Numbers.{same-numbers}

@@ -7,7 +7,7 @@ use Prim.Native.Nat.{ℕ}
 use lib.ListN.{getD}
 use Rattle.codec.proofs.Laws.{same-refl, same-equal}
 use Rattle.sheet_numbers.specs.declared.Numbers.{Numbers}
-use Rattle.checking.specs.Check.{sameNumbers}
+use Rattle.stored.specs.Stored.{sameNumbers}
 
 abbrev listed : Numbers → List ℕ
 listed k = k .ring ∷ k .modulus ∷ k .drown ∷ k .rounds ∷ k .repeats ∷ []

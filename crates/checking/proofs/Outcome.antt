@@ -1,12 +1,10 @@
 -- What a check comes to, from the replies of its two parts, and the same over the sheet. Assumes nothing.
 use mathlib.Core.Path.{_≡_, refl, sym, ap, ap₂, _∙_}
-use mathlib.Core.Bool.{not}
-use mathlib.Core.List.{[], _∷_}
 use Prim.Native.Nat.{ℕ, _-_, _*_}
 use native.Mathlib.Omega.{arith}
 use lib.ListN.{length, take, drop}
 use Rattle.codec.specs.Bytes.{Bytes, part}
-use Rattle.codec.specs.Reply.{test, first}
+use Rattle.codec.specs.Reply.{first}
 use Rattle.codec.specs.declared.Reply.{Reply}
 use Rattle.codec.specs.declared.Reply.the-variants as reply
 use Rattle.sheet_numbers.specs.Bounds.{mask}
@@ -24,10 +22,12 @@ use Rattle.round_parts.specs.Orders.{roundOf}
 use Rattle.lengths.specs.Sheets.{given, parametersOf}
 use Rattle.lengths.proofs.Swept.{later-round, swept-alike}
 use Rattle.lengths.proofs.OverSheet.{lent-keyed, over, refused-over}
-use Rattle.checking.specs.Check.{Stored, Inputs, storedOf, sideOf, challengesOf, inputsSized, storedTests, drawnRound, earlyTests, lateTests, verdict, replyOf}
+use Rattle.stored.specs.declared.Stored.{Stored}
+use Rattle.stored.specs.Stored.{Inputs, sideOf, challengesOf, drawnRound, lentTests}
+use Rattle.checking.specs.Check.{earlyTests, lateTests, verdict, replyOf, outcome}
 use Rattle.checking.specs.declared.Verdict.{Verdict}
 use Rattle.checking.specs.declared.Verdict.the-variants.{Stopped}
-use Rattle.checking.specs.Parts.{Loaded, lentTests}
+use Rattle.checking.specs.Parts.{Loaded, takenOutcome}
 
 -- ---- from the two replies
 
@@ -49,16 +49,9 @@ module _ (P : Parameters) (m : ℕ) (r : Round) {v : Verdict} {late : Reply} (is
 
 -- ---- with what was drawn
 
-module _ (k : Numbers) (m : ℕ) (sheet closing claim message seed : Bytes) (round : ℕ) (x : Inputs) (P : Parameters) where
-  abbrev s : Stored
-  s = storedOf k m sheet closing claim message seed round
-
-  pub drawn-are : {v : Verdict} {side : ℕ} {challenges : Bytes} → side ≡ sideOf s → challenges ≡ challengesOf s
-      → v ≡ verdict (first (lentTests (storedOf k m sheet closing claim message [] round) challenges x)) (first (roundTests P m (roundOf side challenges (x .ballots) (x .claims) (x .head) (x .shares0) (x .shares1) (x .opening) (x .answers))))
-      → v ≡ verdict (first (test 1 0 (not (inputsSized s x)) ∷ storedTests s x)) (first (roundTests P m (drawnRound s x)))
-  unfolding inputsSized storedTests
-  drawn-are e f g =
-      g ∙ ap₂ (λ (i : ℕ) (c : Bytes). verdict (first (lentTests s c x)) (first (roundTests P m (roundOf i c (x .ballots) (x .claims) (x .head) (x .shares0) (x .shares1) (x .opening) (x .answers))))) e f
+pub drawn-round : (s : Stored) (x : Inputs) {side : ℕ} {challenges : Bytes} → side ≡ sideOf s → challenges ≡ challengesOf s
+    → roundOf side challenges (x .ballots) (x .claims) (x .head) (x .shares0) (x .shares1) (x .opening) (x .answers) ≡ drawnRound s x
+drawn-round s x e f = ap₂ (λ (i : ℕ) (d : Bytes). roundOf i d (x .ballots) (x .claims) (x .head) (x .shares0) (x .shares1) (x .opening) (x .answers)) e f
 
 -- ---- over the sheet
 
@@ -86,15 +79,14 @@ sheet-loaded {text} {public} {k} h =
 
 module _ (s : Stored) (x : Inputs) where
   abbrev pub Checked : Verdict → Bytes → Type 0
-  Checked v w = (v ≡ verdict (first (earlyTests s 2 x)) (first (lateTests s 2 x))) × (w ≡ swept (replyOf v) (x .scratch))
+  Checked v w = (v ≡ outcome 2 s x) × (w ≡ swept (replyOf v) (x .scratch))
 
   pub checked-over : {k : Numbers} {P : Parameters} {v : Verdict} {r : Reply} (w' : Bytes) {w'' : Bytes} → reading 2 (x .sheet) ≡ Taken k → P ≡ parametersOf 2 (x .sheet)
-      → (v ≡ verdict (first (test 1 0 (not (inputsSized s x)) ∷ storedTests s x)) (first (roundTests P (s .closed) (drawnRound s x)))) × (swept (replyOf v) w' ≡ swept (replyOf v) (x .scratch))
-      → r ≡ replyOf v → w'' ≡ swept r w' → Checked v w''
+      → (v ≡ takenOutcome P s x) × (swept (replyOf v) w' ≡ swept (replyOf v) (x .scratch)) → r ≡ replyOf v → w'' ≡ swept r w' → Checked v w''
   unfolding earlyTests lateTests
   checked-over w' said e f g z =
-      (f .0 ∙ ap₂ verdict (over 2 (x .sheet) (test 1 0 (not (inputsSized s x)) ∷ storedTests s x) said refl) (ap (λ (P : Parameters). first (roundTests P (s .closed) (drawnRound s x))) e), z ∙ ap (λ (r : Reply). swept r w') g ∙ f .1)
+      (f .0 ∙ ap₂ verdict (over 2 (x .sheet) (lentTests s x) said refl) (ap (λ (P : Parameters). first (roundTests P (s .closed) (drawnRound s x))) e), z ∙ ap (λ (r : Reply). swept r w') g ∙ f .1)
 
   pub checked-refused : {read : Reading} {i : ℕ} {w'' : Bytes} → read ≡ reading 2 (x .sheet) → read ≡ Refused i → w'' ≡ swept (reply.Refused i 0) (x .scratch) → Checked (Stopped i 0) w''
   unfolding earlyTests lateTests
-  checked-refused f e z = (stopped (first (lateTests s 2 x)) (refused-over 2 (x .sheet) (test 1 0 (not (inputsSized s x)) ∷ storedTests s x) f e) refl, z)
+  checked-refused f e z = (stopped (first (lateTests s 2 x)) (refused-over 2 (x .sheet) (lentTests s x) f e) refl, z)

@@ -7,7 +7,8 @@ use Rattle.sheet.specs.Reader.{sheetOf}
 use Rattle.call.specs.Call.{scratchLength}
 use Rattle.transcript.specs.Layout.{ballotLength, headLength, answersLength}
 use Rattle.digests.specs.Digests.{ballotDigests, closingDigest, claimDigest, roundDigest}
-use Rattle.checking.specs.Check.{Stored, Inputs, challengesOf}
+use Rattle.stored.specs.declared.Stored.{Stored}
+use Rattle.stored.specs.Stored.{Inputs, challengesOf}
 
 module _ (s : Stored) (x : Inputs) where
   -- the lengths, by the session's numbers and closed count

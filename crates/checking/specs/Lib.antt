@@ -1,3 +1,3 @@
 pub mod Check
-pub mod Equations
 pub mod Parts
+pub mod Equations

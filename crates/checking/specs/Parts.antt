@@ -1,16 +1,17 @@
--- What the parts of the check are given (specs/Check.antt): the sheet's polynomials in lent bytes, and challenges that were drawn before. Assumes nothing.
+-- What the parts of the check are given (specs/Check.antt): the sheet's polynomials in lent bytes. Assumes nothing.
 use mathlib.Core.Path.{_≡_}
-use mathlib.Core.Bool.{Bool, not, _&&_}
-use mathlib.Core.List.{List, _∷_}
-use Prim.Native.Nat.{ℕ, _*_, _%_, _≤_}
+use Prim.Native.Nat.{_*_, _%_, _≤_}
 use lib.ListN.{length}
 use Rattle.codec.specs.Bytes.{Bytes, part}
-use Rattle.codec.specs.Reply.{Test, test}
+use Rattle.codec.specs.Reply.{first}
 use Rattle.sheet_numbers.specs.declared.Numbers.{Numbers}
 use Rattle.call.specs.Call.{Polynomial}
 use Rattle.commitment.specs.Commitment.{PublicKeys}
-use Rattle.lengths.specs.Calls.{messageSized, secondSized}
-use Rattle.checking.specs.Check.{Stored, Inputs, storedTests}
+use Rattle.transcript.specs.Round.{Parameters, roundTests}
+use Rattle.stored.specs.declared.Stored.{Stored}
+use Rattle.stored.specs.Stored.{Inputs, drawnRound, lentTests}
+use Rattle.checking.specs.declared.Verdict.{Verdict}
+use Rattle.checking.specs.Check.{verdict}
 
 -- a sheet that was taken with the numbers k, and the bytes that its polynomials were put into
 pub record Loaded (k : Numbers) (public : Bytes) : Type 0 where
@@ -22,12 +23,6 @@ pub record Loaded (k : Numbers) (public : Bytes) : Type 0 where
   pub repeats-high : k .repeats ≤ 256
   pub sized : 40 * k .ring ≤ length public
 
--- the lengths, for challenges that are lent
-abbrev pub lentSized : Numbers → (closed : ℕ) → (challenges : Bytes) → Inputs → Bool
-lentSized k closed challenges x =
-    messageSized (k .ring) (k .repeats) closed (x .head) (x .shares0) (x .shares1) (x .ballots) (x .claims)
-    && secondSized (k .ring) (k .repeats) challenges (x .opening) (x .answers) (x .scratch)
-
--- 1, then 16, for challenges that are lent
-abbrev pub lentTests : Stored → (challenges : Bytes) → Inputs → List Test
-lentTests s challenges x = test 1 0 (not (lentSized (s .numbers) (s .closed) challenges x)) ∷ storedTests s x
+-- what a check comes to once the sheet is taken, with the parameters of its round
+abbrev pub takenOutcome : Parameters → Stored → Inputs → Verdict
+takenOutcome P s x = verdict (first (lentTests s x)) (first (roundTests P (s .closed) (drawnRound s x)))

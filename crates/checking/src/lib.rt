@@ -1,16 +1,12 @@
 // The check of a round against what a session holds (document 01, the order of check after 31). p is 2.
-mod stored;
 mod verdicts;
 
 use codec::Reply;
-use sheet_numbers::Numbers;
+use stored::Stored;
 ghost use mathlib.Core.Path.{_≡_};
-ghost use mathlib.Core.Bool.{false};
-ghost use Prim.Native.Nat.{_≤_};
-ghost use Rattle.codec.specs.Reply.{first};
 ghost use Rattle.call.specs.Call.{swept};
-ghost use Rattle.sheet_numbers.specs.Rules.{outside};
-ghost use Rattle.checking.specs.Check.{storedOf, inputsOf, earlyTests, lateTests, verdict, replyOf};
+ghost use Rattle.stored.specs.Stored.{Within, inputsOf};
+ghost use Rattle.checking.specs.Check.{outcome, replyOf};
 
 // What a check comes to: stopped before the round was looked at, failed by the round itself, or passed.
 pub enum Verdict {
@@ -30,16 +26,9 @@ pub fn reply_of(verdict: Verdict) -> Reply
     }
 }
 
-// Checks a round. The parameters up to `round` are what the session holds, `digest` that of its sheet; the others are lent.
+// Checks a round against what the session holds.
 pub fn check(
-    numbers: Numbers,
-    closed: usize,
-    digest: &[u8; 32],
-    closing: &[u8; 32],
-    claim: &[u8; 32],
-    message: &[u8; 32],
-    seed: &[u8; 32],
-    round: u16,
+    held: Stored,
     sheet: &[u8],
     ballots: &[u8],
     claims: &[u8],
@@ -50,8 +39,8 @@ pub fn check(
     answers: &[u8],
     scratch: &mut [u8],
 ) -> Verdict
-    requires { ⌜ (outside numbers ≡ false) × (closed ≤ 4096) ⌝ }
-    ensures { λ v. ⌜ v ≡ verdict (first (earlyTests (storedOf numbers closed (now (digest .entry)) (now (closing .entry)) (now (claim .entry)) (now (message .entry)) (now (seed .entry)) round) 2 (inputsOf (now (sheet .entry)) (now (ballots .entry)) (now (claims .entry)) (now (head .entry)) (now (shares0 .entry)) (now (shares1 .entry)) (now (opening .entry)) (now (answers .entry)) (now (scratch .entry))))) (first (lateTests (storedOf numbers closed (now (digest .entry)) (now (closing .entry)) (now (claim .entry)) (now (message .entry)) (now (seed .entry)) round) 2 (inputsOf (now (sheet .entry)) (now (ballots .entry)) (now (claims .entry)) (now (head .entry)) (now (shares0 .entry)) (now (shares1 .entry)) (now (opening .entry)) (now (answers .entry)) (now (scratch .entry))))) ⌝ }
+    requires { ⌜ Within held ⌝ }
+    ensures { λ v. ⌜ v ≡ outcome 2 held (inputsOf (now (sheet .entry)) (now (ballots .entry)) (now (claims .entry)) (now (head .entry)) (now (shares0 .entry)) (now (shares1 .entry)) (now (opening .entry)) (now (answers .entry)) (now (scratch .entry))) ⌝ }
     ensures { λ v. ⌜ now (scratch .exit) ≡ swept (replyOf v) (now (scratch .entry)) ⌝ }
 {
     let mut public = [0u8; 81920];
@@ -61,14 +50,7 @@ pub fn check(
             let checked = verdicts::check_taken(
                 &public,
                 k,
-                numbers,
-                closed,
-                digest,
-                closing,
-                claim,
-                message,
-                seed,
-                round,
+                held,
                 sheet,
                 ballots,
                 claims,

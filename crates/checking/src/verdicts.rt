@@ -1,24 +1,22 @@
 // What a check comes to once the sheet is taken, with its numbers k: stopped before the round was looked at, failed by the round itself, or passed.
 use crate::Verdict;
-use crate::stored::test_lent;
 use codec::Reply;
 use sheet_numbers::Numbers;
+use stored::Stored;
 ghost use mathlib.Core.Path.{_≡_};
-ghost use mathlib.Core.Bool.{false, not};
-ghost use mathlib.Core.List.{[], _∷_};
 ghost use Prim.Native.Nat.{_≤_};
 ghost use lib.ListN.{length, take};
-ghost use Rattle.codec.specs.Reply.{first, test};
+ghost use Rattle.codec.specs.Reply.{first};
 ghost use Rattle.codec.specs.declared.Reply.the-variants.{Taken};
 ghost use Rattle.sheet.specs.Reader.{sheetOf};
-ghost use Rattle.sheet_numbers.specs.Rules.{outside};
 ghost use Rattle.call.specs.Call.{scratchLength, swept};
 ghost use Rattle.transcript.specs.Round.{Lengths, roundTests};
 ghost use Rattle.round_parts.specs.Orders.{roundOf};
 ghost use Rattle.lengths.specs.Sheets.{given};
 ghost use Rattle.drawing.specs.Draw.{drawnChallenges};
-ghost use Rattle.checking.specs.Check.{storedOf, inputsOf, inputsSized, storedTests, drawnRound, verdict, replyOf};
-ghost use Rattle.checking.specs.Parts.{Loaded, lentTests};
+ghost use Rattle.stored.specs.Stored.{Within, sideOf, challengesOf, inputsOf};
+ghost use Rattle.checking.specs.Check.{verdict, replyOf};
+ghost use Rattle.checking.specs.Parts.{Loaded, takenOutcome};
 
 // The challenges that are drawn for a round, at the head of room for as many as there can be.
 fn challenges_of(seed: &[u8; 32], round: u16, repeats: usize) -> [u8; 256]
@@ -89,13 +87,7 @@ fn test_round(
 fn check_drawn(
     public: &[u8],
     k: Numbers,
-    numbers: Numbers,
-    closed: usize,
-    digest: &[u8; 32],
-    closing: &[u8; 32],
-    claim: &[u8; 32],
-    message: &[u8; 32],
-    round: u16,
+    held: Stored,
     side: u64,
     challenges: &[u8],
     sheet: &[u8],
@@ -108,18 +100,12 @@ fn check_drawn(
     answers: &[u8],
     scratch: &mut [u8],
 ) -> Verdict
-    requires { ⌜ (outside numbers ≡ false) × (closed ≤ 4096) × (sheetOf (now sheet) .numbers ≡ k) × Loaded k (now public) ⌝ }
-    ensures { λ v. ⌜ v ≡ verdict (first (lentTests (storedOf numbers closed (now (digest .entry)) (now (closing .entry)) (now (claim .entry)) (now (message .entry)) [] round) (now (challenges .entry)) (inputsOf (now (sheet .entry)) (now (ballots .entry)) (now (claims .entry)) (now (head .entry)) (now (shares0 .entry)) (now (shares1 .entry)) (now (opening .entry)) (now (answers .entry)) (now (scratch .entry))))) (first (roundTests (given 2 k (now (public .entry))) closed (roundOf side (now (challenges .entry)) (now (ballots .entry)) (now (claims .entry)) (now (head .entry)) (now (shares0 .entry)) (now (shares1 .entry)) (now (opening .entry)) (now (answers .entry))))) ⌝ }
+    requires { ⌜ Within held × (sheetOf (now sheet) .numbers ≡ k) × Loaded k (now public) × (side ≡ sideOf held) × (now challenges ≡ challengesOf held) ⌝ }
+    ensures { λ v. ⌜ v ≡ takenOutcome (given 2 k (now (public .entry))) held (inputsOf (now (sheet .entry)) (now (ballots .entry)) (now (claims .entry)) (now (head .entry)) (now (shares0 .entry)) (now (shares1 .entry)) (now (opening .entry)) (now (answers .entry)) (now (scratch .entry))) ⌝ }
     ensures { λ v. ⌜ swept (replyOf v) (now (scratch .exit)) ≡ swept (replyOf v) (now (scratch .entry)) ⌝ }
 {
-    let early = test_lent(
-        numbers,
-        closed,
-        digest,
-        closing,
-        claim,
-        message,
-        round,
+    let early = stored::test_lent(
+        held,
         k,
         challenges,
         sheet,
@@ -137,7 +123,7 @@ fn check_drawn(
         Reply::Taken => verdict_of(test_round(
             public,
             k,
-            closed,
+            held.closed,
             side,
             challenges,
             ballots,
@@ -156,14 +142,7 @@ fn check_drawn(
 pub fn check_taken(
     public: &[u8],
     k: Numbers,
-    numbers: Numbers,
-    closed: usize,
-    digest: &[u8; 32],
-    closing: &[u8; 32],
-    claim: &[u8; 32],
-    message: &[u8; 32],
-    seed: &[u8; 32],
-    round: u16,
+    held: Stored,
     sheet: &[u8],
     ballots: &[u8],
     claims: &[u8],
@@ -174,23 +153,17 @@ pub fn check_taken(
     answers: &[u8],
     scratch: &mut [u8],
 ) -> Verdict
-    requires { ⌜ (outside numbers ≡ false) × (closed ≤ 4096) × (sheetOf (now sheet) .numbers ≡ k) × Loaded k (now public) ⌝ }
-    ensures { λ v. ⌜ v ≡ verdict (first (test 1 0 (not (inputsSized (storedOf numbers closed (now (digest .entry)) (now (closing .entry)) (now (claim .entry)) (now (message .entry)) (now (seed .entry)) round) (inputsOf (now (sheet .entry)) (now (ballots .entry)) (now (claims .entry)) (now (head .entry)) (now (shares0 .entry)) (now (shares1 .entry)) (now (opening .entry)) (now (answers .entry)) (now (scratch .entry))))) ∷ storedTests (storedOf numbers closed (now (digest .entry)) (now (closing .entry)) (now (claim .entry)) (now (message .entry)) (now (seed .entry)) round) (inputsOf (now (sheet .entry)) (now (ballots .entry)) (now (claims .entry)) (now (head .entry)) (now (shares0 .entry)) (now (shares1 .entry)) (now (opening .entry)) (now (answers .entry)) (now (scratch .entry))))) (first (roundTests (given 2 k (now (public .entry))) closed (drawnRound (storedOf numbers closed (now (digest .entry)) (now (closing .entry)) (now (claim .entry)) (now (message .entry)) (now (seed .entry)) round) (inputsOf (now (sheet .entry)) (now (ballots .entry)) (now (claims .entry)) (now (head .entry)) (now (shares0 .entry)) (now (shares1 .entry)) (now (opening .entry)) (now (answers .entry)) (now (scratch .entry)))))) ⌝ }
+    requires { ⌜ Within held × (sheetOf (now sheet) .numbers ≡ k) × Loaded k (now public) ⌝ }
+    ensures { λ v. ⌜ v ≡ takenOutcome (given 2 k (now (public .entry))) held (inputsOf (now (sheet .entry)) (now (ballots .entry)) (now (claims .entry)) (now (head .entry)) (now (shares0 .entry)) (now (shares1 .entry)) (now (opening .entry)) (now (answers .entry)) (now (scratch .entry))) ⌝ }
     ensures { λ v. ⌜ swept (replyOf v) (now (scratch .exit)) ≡ swept (replyOf v) (now (scratch .entry)) ⌝ }
 {
-    let repeats = numbers.repeats as usize;
-    let drawn = challenges_of(seed, round, repeats);
-    let side = drawing::side(seed, round);
+    let repeats = held.numbers.repeats as usize;
+    let drawn = challenges_of(&held.seed, held.round, repeats);
+    let side = drawing::side(&held.seed, held.round);
     check_drawn(
         public,
         k,
-        numbers,
-        closed,
-        digest,
-        closing,
-        claim,
-        message,
-        round,
+        held,
         side,
         &drawn[0..repeats],
         sheet,

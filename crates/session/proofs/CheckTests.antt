@@ -13,11 +13,11 @@ use Rattle.codec.specs.Reply.{Test, first, leaves}
 use Rattle.codec.specs.declared.Reply.{Reply}
 use Rattle.codec.specs.declared.Reply.the-variants.{Taken, Refused}
 use Rattle.call.specs.Call.{swept}
-use Rattle.checking.specs.Check.{Inputs, earlyTests, lateTests, verdict, replyOf}
+use Rattle.stored.specs.declared.Stored.{Stored}
+use Rattle.checking.specs.Check.{Inputs, earlyTests, verdict, replyOf, outcome}
 use Rattle.checking.specs.declared.Verdict.{Verdict}
-use Rattle.session.specs.Parts.{judgedBy}
-use Rattle.session.specs.Session.{drawn, valid}
-use Rattle.session.specs.Steps.{storedFor, checkEarly, checkLate, checkTests, checkedBy, acceptedBy, refusedBy, challengesTests}
+use Rattle.session.specs.Session.{drawn, valid, trailAt}
+use Rattle.session.specs.Steps.{storedFor, checkEarly, checkLate, checkTests, checkedBy, judgedBy, acceptedBy, refusedBy, challengesTests}
 use Rattle.session.specs.declared.Session.{Session}
 use Rattle.session.specs.declared.Stepped.{Stepped}
 use Rattle.session.proofs.Stepping.{wrong-phase, wrong-turn, due}
@@ -38,14 +38,27 @@ verdict-first (t ∷ early) late = go (t .holds) refl (verdict-first early late)
     go true e rest = rw e
     go false e rest = rw e rest
 
--- and what it leaves of the session
-verdict-leaves : (early late : Reply) (s : Session) → judgedBy (verdict early late) s ≡ leaves early (leaves late (acceptedBy s) (refusedBy s)) s
+-- and what it leaves of the session is what the two replies leave
+pub verdict-leaves : (early late : Reply) (s : Session) → judgedBy (verdict early late) s ≡ leaves early (leaves late (acceptedBy s) (refusedBy s)) s
 unfolding leaves
 verdict-leaves (Refused n p) late s = refl
 verdict-leaves Taken (Refused n p) s = refl
 verdict-leaves Taken Taken s = refl
 
 -- ---- check
+
+-- what a session holds for a round, with the digest that was read from its trail
+abbrev holding : Session → (round : ℕ) → (message : Bytes) → Stored
+holding s round message = record {
+  numbers = s .numbers;
+  closed = s .closed;
+  sheet = s .sheet;
+  closing = s .closing;
+  claim = s .claim;
+  message = message;
+  seed = s .seed;
+  round = round;
+}
 
 module _ (p : ℕ) (s : Session) (round : ℕ) (x : Inputs) where
   abbrev turn : Bool
@@ -75,11 +88,11 @@ module _ (p : ℕ) (s : Session) (round : ℕ) (x : Inputs) where
     unfolding checkEarly first
     on = rw (due (valid p s) (eqb (s .phase) drawn) turn i (rw (eq-eqb round (s .checked) e, lt-ltb round (s .numbers .rounds) h)))
 
-    pub check-judged : {r : Stepped} {v : Verdict} {scratch : Bytes} → v ≡ verdict (first (earlyTests (storedFor s round) p x)) (first (lateTests (storedFor s round) p x))
+    pub check-judged : {r : Stepped} {v : Verdict} {message scratch : Bytes} → message ≡ trailAt s round → v ≡ outcome p (holding s round message) x
         → (r .reply ≡ replyOf v) × (r .session ≡ judgedBy v s) → scratch ≡ swept (replyOf v) (x .scratch) → Promised r scratch
     unfolding checkTests checkLate checkedBy
-    check-judged {r} {v} f g w =
-        let d : v ≡ verdict (first (checkEarly p s round x)) (first (checkLate p s round x)) = f ∙ ap (λ (y : Reply). verdict y (first (checkLate p s round x))) (sym on) in
+    check-judged {r} {v} m f g w =
+        let d : v ≡ verdict (first (checkEarly p s round x)) (first (checkLate p s round x)) = f ∙ ap (λ (y : Bytes). outcome p (holding s round y) x) m ∙ ap (λ (y : Reply). verdict y (first (checkLate p s round x))) (sym on) in
         let said : replyOf v ≡ first (checkTests p s round x) = ap replyOf d ∙ verdict-first (checkEarly p s round x) (checkLate p s round x) in
         (g .0 ∙ said, (g .1 ∙ ap (λ (y : Verdict). judgedBy y s) d ∙ verdict-leaves (first (checkEarly p s round x)) (first (checkLate p s round x)) s, w ∙ ap (λ (y : Reply). swept y (x .scratch)) said))
 

@@ -1,3 +1,2 @@
 pub mod Session
 pub mod Steps
-pub mod Parts

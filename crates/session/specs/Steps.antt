@@ -18,7 +18,10 @@ use Rattle.transcript.specs.Layout.{ballotLength, headLength}
 use Rattle.register.specs.Register.{capacity, registerLength, stateAt, find, standing, standingDigests, markOf}
 use Rattle.digests.specs.Digests.{closingDigest, claimDigest, roundDigest}
 use Rattle.drawing.specs.Draw.{drawnSide, drawnChallenges}
-use Rattle.checking.specs.Check.{Stored, Inputs, earlyTests, lateTests}
+use Rattle.stored.specs.declared.Stored.{Stored}
+use Rattle.checking.specs.Check.{Inputs, earlyTests, lateTests}
+use Rattle.checking.specs.declared.Verdict.{Verdict}
+use Rattle.checking.specs.declared.Verdict.the-variants.{Stopped, Failed, Passed}
 use Rattle.session.specs.declared.Session.{Session}
 use Rattle.session.specs.declared.Turnout.{Turnout}
 use Rattle.session.specs.declared.Turnout.the-variants.{Counted, Refused}
@@ -166,6 +169,12 @@ refusedBy s = changed s ended-refused (s .used) (s .closed) (s .closing) (s .cla
 unfoldable pub checkedBy : (p : ℕ) → Session → (round : ℕ) → Inputs → Session
 checkedBy p s round x = leaves (first (checkEarly p s round x)) (leaves (first (checkLate p s round x)) (acceptedBy s) (refusedBy s)) s
 
+-- the same by the verdict that it comes to
+abbrev pub judgedBy : Verdict → Session → Session
+judgedBy (Stopped number place) s = s
+judgedBy (Failed number place) s = refusedBy s
+judgedBy Passed s = acceptedBy s
+
 -- ---- challenges: 31, 1. From draw on, for any round of the session
 
 unfoldable pub challengesTests : (p : ℕ) → Session → (round : ℕ) (out : Bytes) → List Test
@@ -187,7 +196,6 @@ turnoutTests p s reg enrolled =
     ∷ test 3 0 (ltb enrolled 1 || ltb 1000000 enrolled)
     ∷ []
 
--- the reply of its tests
 -- what turnout answers, by the reply of its tests and the thousandths where they are taken; a refusal of turnout has no place
 abbrev pub turnoutBy : Reply → (thousandths : ℕ) → Turnout
 turnoutBy reply.Taken thousandths = Counted thousandths

@@ -4,14 +4,14 @@ use crate::Stepped;
 use crate::trail;
 use checking::Verdict;
 use codec::Reply;
+use stored::Stored;
 ghost use mathlib.Core.Path.{_≡_};
 ghost use Prim.Native.Nat.{_<_};
 ghost use Rattle.codec.specs.Reply.{first, leaves};
 ghost use Rattle.call.specs.Call.{swept};
 ghost use Rattle.checking.specs.Check.{inputsOf, replyOf};
-ghost use Rattle.session.specs.Parts.{judgedBy};
 ghost use Rattle.session.specs.Session.{drawn};
-ghost use Rattle.session.specs.Steps.{checkTests, checkedBy, challengesTests, challengesOut};
+ghost use Rattle.session.specs.Steps.{checkTests, judgedBy, checkedBy, challengesTests, challengesOut};
 
 impl Session {
     // What a verdict on the round that is due leaves: a round that fails ends the session refused, the last one that passes ends it accepted.
@@ -70,20 +70,24 @@ impl Session {
         if round >= self.numbers.rounds {
             return self.refused(31);
         }
-        let message = trail::read(&self.trail, round as usize);
+        let numbers = self.numbers;
         let digest = self.sheet;
         let closing = self.closing;
         let claim = self.claim;
+        let message = trail::read(&self.trail, round as usize);
         let seed = self.seed;
+        let held = Stored {
+            numbers,
+            closed: self.closed as usize,
+            sheet: digest,
+            closing,
+            claim,
+            message,
+            seed,
+            round: round as u16,
+        };
         let verdict = checking::check(
-            self.numbers,
-            self.closed as usize,
-            &digest,
-            &closing,
-            &claim,
-            &message,
-            &seed,
-            round as u16,
+            held,
             sheet,
             ballots,
             claims,

@@ -1,9 +1,9 @@
--- `stored::same_numbers` meets its contract. Assumes nothing.
+-- `same_numbers` meets its contract. Assumes nothing.
 use borrow.Author.Needs.{needs}
 use Rattle.codec.specs.Bytes.{same}
-use Rattle.checking.specs.Check.{sameNumbers}
-use Rattle.checking.proofs.stored.same_numbers.Statement.{statement}
-use Rattle.checking.proofs.stored.same_numbers.Tie as tie
+use Rattle.stored.specs.Stored.{sameNumbers}
+use Rattle.stored.proofs.same_numbers.Statement.{statement}
+use Rattle.stored.proofs.same_numbers.Tie as tie
 
 returns : tie.Need-returns
 unfolding same sameNumbers
