@@ -44,6 +44,7 @@ use Rattle.histories.proofs.Reach.{clear-taken, reachable-valid, only-phase-or-
 use Rattle.histories.proofs.Honest.{two-accepted}
 use Rattle.histories.proofs.Roll.{roll-is-batch, own-register}
 use Rattle.jackdawnail.proofs.HostSteps.{over-images}
+use Rattle.jackdawnail.proofs.HostClaims.{host-stays-out, host-ended-accepted, host-honest-accepted}
 use Rattle.jackdawnail.proofs.Produces.{first-exactly, second-call-exactly}
 use Rattle.jackdawnail.specs.Demands.{AcceptedExactly, AdmittedExactly, HonestBallots, Demand2, Extracts, RefusesAsChecks, ProducerWrites, HonestRounds, Demand3}
 
@@ -128,6 +129,8 @@ demand2 = record {
   honest-ballots = honest-ballots;
   examples = all-examples;
   over-images = over-images 2;
+  host-stays-out = host-stays-out 2;
+  host-ended-accepted = host-ended-accepted 2;
 }
 
 pub demand3 : Demand3
@@ -138,6 +141,7 @@ demand3 = record {
   lent-rounds = lending;
   takes-accepted = takes-accepted;
   honest-accepted = two-accepted;
+  host-honest-accepted = host-honest-accepted 2 two-accepted;
   honest-rounds = honest-rounds;
   producer-writes = producer-writes;
   clear-taken = clear-taken 2;
