@@ -1,24 +1,20 @@
 -- The claims of specs/HostClaims.antt, from those over sessions and what the exported calls do to the session in an image. Assumes nothing.
 use mathlib.Core.Path.{_≡_, sym, ap, subst, _∙_}
-use mathlib.Core.Logic.{_≢_}
-use mathlib.Core.Bool.{false}
-use mathlib.Core.List.{List, [], _∷_, List·Memᴰ}
+use mathlib.Core.List.{List, [], _∷_}
 use Prim.Native.Nat.{ℕ, _<_}
 use Rattle.codec.specs.Bytes.{Bytes}
 use Rattle.codec.specs.Reply.{first}
 use Rattle.codec.specs.declared.Reply.{Reply}
 use Rattle.codec.specs.declared.Reply.the-variants.{Taken}
 use Rattle.sheet.specs.Sheet.{order}
-use Rattle.register.specs.Register.{markAt, standing}
 use Rattle.session.specs.declared.Session.{Session}
-use Rattle.session.specs.Steps.{cleared}
 use Rattle.image.specs.Image.{decode}
 use Rattle.histories.specs.Runs.{Step, clear, withdraw, close, check, State, state, Call, clears, initial, ownInitial, reply, after, run, Uncleared, none, more, trace}
 use Rattle.histories.specs.Claims.{Checked, HonestAccepted}
 use Rattle.histories.proofs.Withdrawn.{withdrawn-stays-out}
 use Rattle.histories.proofs.Reach.{clear-taken}
 use Rattle.histories.proofs.Rounds.{ended-accepted}
-use Rattle.jackdawnail.specs.HostSteps.{Host, host, Holds, hostReply, hostAfter, hostRun, hostTrace}
+use Rattle.jackdawnail.specs.HostSteps.{Host, Holds, hostReply, hostAfter, hostRun, hostTrace}
 use Rattle.jackdawnail.specs.HostClaims.{HostUncleared, Starts, HostStaysOut, HostEndedAccepted, HostHonestAccepted}
 use Rattle.jackdawnail.proofs.HostSteps.{over-images}
 

@@ -1,7 +1,7 @@
 -- The steps over images do to the session in the image what the steps over sessions do, one by one and in lists: `OverImages` of specs/HostSteps.antt. Assumes nothing.
-use mathlib.Core.Path.{_≡_, refl, sym, ap, ap₂, subst, _∙_}
+use mathlib.Core.Path.{_≡_, refl, ap, ap₂, subst, _∙_}
 use mathlib.Core.Bool.{Bool, true, false, cond}
-use mathlib.Core.List.{List, [], _∷_}
+use mathlib.Core.List.{[], _∷_}
 use Prim.Native.Nat.{ℕ, _+_, _*_, _^_, _≤_, _<_}
 use native.Mathlib.Omega.{arith}
 use lib.Dec.{eqb}
@@ -26,9 +26,9 @@ use Rattle.image.specs.Image.{imageLength, encode, decode, Typed}
 use Rattle.image.proofs.Law.{length-encode, load-store}
 use Rattle.session_calls.specs.Images.{lentReply, clearReply, admitReply, withdrawReply, closeReply, claimReply, commitReply, drawReply, checkReply, checkImage}
 use Rattle.histories.specs.Runs.{Step, clear, admit, withdraw, close, claim, commit, draw, check, State, state, reply, after, run, extend, trace}
-use Rattle.histories.specs.Conditions.{Clears, Admits, Closes, Claims, Commits, Draws}
+use Rattle.histories.specs.Conditions.{Clears, Admits, Closes, Commits, Draws}
 use Rattle.histories.proofs.Replies.{left}
-use Rattle.histories.proofs.Exact.{cleared-exactly, admitted-exactly, closed-exactly, claimed-exactly, committed-exactly, drawn-exactly}
+use Rattle.histories.proofs.Exact.{cleared-exactly, admitted-exactly, closed-exactly, committed-exactly, drawn-exactly}
 use Rattle.histories.proofs.Kept.{drawn-now}
 use Rattle.jackdawnail.specs.HostSteps.{Host, host, Holds, hostReply, hostAfter, hostRun, hostTrace, RunOverImage, TraceOverImage, OverImages}
 
