@@ -6,7 +6,6 @@ use native.Mathlib.Omega.{arith}
 use Rattle.codec.specs.Bytes.{Octets}
 use Rattle.codec.specs.Reply.{None}
 use Rattle.codec.proofs.Replies.{taken-exactly}
-use Rattle.sheet.specs.Reader.{sheetOf}
 use Rattle.transcript.specs.Accepted.{Accepted}
 use Rattle.transcript.proofs.Many.{none-append, append-none}
 use Rattle.transcript.proofs.Accepted.{none-exactly}

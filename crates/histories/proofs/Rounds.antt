@@ -2,9 +2,9 @@
 -- ended accepted every round was. Assumes nothing.
 use mathlib.Core.Path.{_≡_, refl, sym, ap, subst, _∙_}
 use mathlib.Core.Logic.{_⊎_, inl, inr}
-use mathlib.Core.Bool.{Bool, true, false, cond}
+use mathlib.Core.Bool.{Bool, true, false}
 use mathlib.Core.List.{List, [], _∷_, _++_, append-assoc, append-nil}
-use Prim.Native.Nat.{ℕ, suc, _+_, _<_}
+use Prim.Native.Nat.{ℕ, _+_, _<_}
 use native.Mathlib.Numerals.{add-one}
 use native.Mathlib.Omega.{arith}
 use lib.Dec.{eqb}
@@ -19,14 +19,14 @@ use Rattle.transcript.proofs.Many.{last}
 use Rattle.checking.specs.Check.{Inputs}
 use Rattle.session.specs.declared.Session.{Session}
 use Rattle.session.specs.Session.{trailAt}
-use Rattle.session.specs.Steps.{storedFor, clearTests, cleared, admitTests, admittedBy, withdrawTests, closeTests, closedBy, claimTests, claimedBy, commitTests, committedBy, drawTests, drawnBy, checkEarly, checkLate, checkTests, acceptedBy, refusedBy, checkedBy}
+use Rattle.session.specs.Steps.{storedFor, clearTests, cleared, admitTests, admittedBy, closeTests, closedBy, claimTests, claimedBy, commitTests, committedBy, drawTests, drawnBy, checkEarly, checkLate, checkTests, acceptedBy, refusedBy, checkedBy}
 use Rattle.histories.specs.Runs.{Step, clear, admit, withdraw, close, claim, commit, draw, check, State, state, Trace, Call, call, lent, clears, reply, after, NoClear, extend, trace, initial}
 use Rattle.histories.specs.Claims.{Checked, RoundsChecked, EndedAccepted}
 use Rattle.histories.proofs.Replies.{left}
 use Rattle.histories.proofs.Valid.{ready, on-turn}
 use Rattle.histories.proofs.Exact.{closed-exactly, claimed-exactly, committed-exactly, drawn-exactly}
 use Rattle.histories.proofs.Checked.{accepted-exactly}
-use Rattle.histories.proofs.Kept.{Kept, kept}
+use Rattle.histories.proofs.Kept.{kept}
 
 module _ (p : ℕ) where
   -- ---- one step

@@ -6,9 +6,9 @@ use mathlib.Core.List.{List, [], _∷_}
 use Prim.Native.Nat.{ℕ, zero, suc, _+_, _*_, _-_, _/_, _%_, _^_, _≤_, _<_}
 use native.Mathlib.Omega.{arith}
 use native.Mathlib.Decide.{decLt, ℕ-discrete}
-use borrow.Author.Tests.{eqb-true, eq-eqb, ne-eqb, ltb-true, lt-ltb, le-ltb, lt-leb, not-false}
-use lib.Dec.{eqb, ltb, leb}
-use lib.ListN.{length, getD}
+use borrow.Author.Tests.{eqb-true, eq-eqb, ltb-true, lt-ltb, le-ltb, lt-leb, not-false}
+use lib.Dec.{eqb, ltb}
+use lib.ListN.{length}
 use lib.Pow.{pow-lt}
 use Rattle.codec.proofs.Laws.{both}
 use Rattle.sheet.specs.Form.{Sheet}

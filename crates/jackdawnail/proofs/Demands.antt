@@ -1,15 +1,14 @@
 -- The second and the third demand: `demand2` and `demand3` of specs/Demands.antt. Assumes nothing.
-use mathlib.Core.Path.{_≡_, refl, ap, _∙_}
+use mathlib.Core.Path.{_≡_, refl, ap}
 use mathlib.Core.Logic.{_↔_}
 use mathlib.Core.Bool.{Bool, true, false, cond, _&&_}
-use mathlib.Core.List.{_++_}
-use Prim.Native.Nat.{ℕ, _^_, _≤_, _<_}
+use Prim.Native.Nat.{_^_, _≤_, _<_}
 use native.Mathlib.Omega.{arith}
 use lib.Dec.{eqb, leb}
 use lib.ListN.{length}
 use borrow.Author.Tests.{eqb-true, eq-eqb, not-false}
-use Rattle.codec.specs.Bytes.{Bytes, Octets}
-use Rattle.codec.specs.Reply.{None, first}
+use Rattle.codec.specs.Bytes.{Bytes}
+use Rattle.codec.specs.Reply.{first}
 use Rattle.codec.specs.declared.Reply.{Reply}
 use Rattle.codec.specs.declared.Reply.the-variants.{Taken, Refused}
 use Rattle.codec.proofs.Laws.{both}
@@ -19,7 +18,6 @@ use Rattle.sheet.specs.Sheet.{order, readingBy, reading}
 use Rattle.sheet.specs.declared.Reading.the-variants as reading
 use Rattle.bgv.proofs.Sheets.{two-sound}
 use Rattle.bgv.proofs.Ballot.{honest-noise, honest-decrypts}
-use Rattle.transcript.specs.Extractor.{Openings}
 use Rattle.transcript.proofs.Many.{append-none}
 use Rattle.transcript.proofs.Passed.{producer-exactly}
 use Rattle.transcript.proofs.Honest.{honest-round}
@@ -44,6 +42,7 @@ use Rattle.histories.proofs.Reach.{clear-taken, reachable-valid, only-phase-or-
 use Rattle.histories.proofs.Honest.{two-accepted}
 use Rattle.histories.proofs.Roll.{roll-is-batch, own-register}
 use Rattle.jackdawnail.proofs.HostSteps.{over-images}
+use Rattle.jackdawnail.proofs.HostClaims.{host-stays-out, host-ended-accepted, host-honest-accepted}
 use Rattle.jackdawnail.proofs.Produces.{first-exactly, second-call-exactly}
 use Rattle.jackdawnail.specs.Demands.{AcceptedExactly, AdmittedExactly, HonestBallots, Demand2, Extracts, RefusesAsChecks, ProducerWrites, HonestRounds, Demand3}
 
@@ -128,6 +127,8 @@ demand2 = record {
   honest-ballots = honest-ballots;
   examples = all-examples;
   over-images = over-images 2;
+  host-stays-out = host-stays-out 2;
+  host-ended-accepted = host-ended-accepted 2;
 }
 
 pub demand3 : Demand3
@@ -138,6 +139,7 @@ demand3 = record {
   lent-rounds = lending;
   takes-accepted = takes-accepted;
   honest-accepted = two-accepted;
+  host-honest-accepted = host-honest-accepted 2 two-accepted;
   honest-rounds = honest-rounds;
   producer-writes = producer-writes;
   clear-taken = clear-taken 2;

@@ -1,7 +1,7 @@
 -- The steps over images do to the session in the image what the steps over sessions do, one by one and in lists: `OverImages` of specs/HostSteps.antt. Assumes nothing.
-use mathlib.Core.Path.{_≡_, refl, sym, ap, ap₂, subst, _∙_}
+use mathlib.Core.Path.{_≡_, refl, ap, ap₂, subst, _∙_}
 use mathlib.Core.Bool.{Bool, true, false, cond}
-use mathlib.Core.List.{List, [], _∷_}
+use mathlib.Core.List.{[], _∷_}
 use Prim.Native.Nat.{ℕ, _+_, _*_, _^_, _≤_, _<_}
 use native.Mathlib.Omega.{arith}
 use lib.Dec.{eqb}
@@ -25,12 +25,12 @@ use Rattle.session.specs.Steps.{cleared, admittedBy, closedBy, claimedBy, commi
 use Rattle.image.specs.Image.{imageLength, encode, decode, Typed}
 use Rattle.image.proofs.Law.{length-encode, load-store}
 use Rattle.session_calls.specs.Images.{lentReply, clearReply, admitReply, withdrawReply, closeReply, claimReply, commitReply, drawReply, checkReply, checkImage}
-use Rattle.histories.specs.Runs.{Step, clear, admit, withdraw, close, claim, commit, draw, check, State, state, History, Trace, Call, lent, reply, after, run, extend, trace}
-use Rattle.histories.specs.Conditions.{Clears, Admits, Closes, Claims, Commits, Draws}
+use Rattle.histories.specs.Runs.{Step, clear, admit, withdraw, close, claim, commit, draw, check, State, state, reply, after, run, extend, trace}
+use Rattle.histories.specs.Conditions.{Clears, Admits, Closes, Commits, Draws}
 use Rattle.histories.proofs.Replies.{left}
-use Rattle.histories.proofs.Exact.{cleared-exactly, admitted-exactly, closed-exactly, claimed-exactly, committed-exactly, drawn-exactly}
+use Rattle.histories.proofs.Exact.{cleared-exactly, admitted-exactly, closed-exactly, committed-exactly, drawn-exactly}
 use Rattle.histories.proofs.Kept.{drawn-now}
-use Rattle.jackdawnail.specs.HostSteps.{Host, host, held, hostReply, hostAfter, hostRun, hostTrace, Holds, StepOverImage, RunOverImage, TraceOverImage, OverImages}
+use Rattle.jackdawnail.specs.HostSteps.{Host, host, Holds, hostReply, hostAfter, hostRun, hostTrace, RunOverImage, TraceOverImage, OverImages}
 
 -- ---- the fields of a session fit in their places
 
@@ -173,97 +173,84 @@ module _ (p : ℕ) where
   -- ---- one call
 
   -- an image of the right length: the session in it is answered
-  answers : (image : Bytes) → length image ≡ imageLength → (R : Session → Reply) → lentReply image R ≡ R (decode image)
-  answers image l R = rw (eq-eqb (length image) imageLength l) refl
+  answers : (image : Bytes) (s : Session) → Holds image s → (R : Session → Reply) → lentReply image R ≡ R s
+  answers image s e R = rw (eq-eqb (length image) imageLength (e .sized)) (ap R (e .session))
 
-  module _ (h : Host) (sized : length (h .image) ≡ imageLength) (typed : Typed (decode (h .image))) where
-    replies : (x : Step) → hostReply p x h ≡ reply p x (held h)
+  stored : (s : Session) → Typed s → Holds (encode s) s
+  stored s t = record { sized = length-encode s t; session = load-store s t; typed = t }
+
+  module _ (image register : Bytes) (s : Session) (holds : Holds image s) where
+    abbrev h : Host
+    h = host image register
+
+    abbrev st : State
+    st = state s register
+
+    replies : (x : Step) → hostReply p x h ≡ reply p x st
     unfolding hostReply reply clearReply admitReply withdrawReply closeReply claimReply commitReply drawReply checkReply
-    replies (clear text) = answers (h .image) sized (λ s. reply p (clear text) (state s (h .register)))
-    replies (admit ballot) = answers (h .image) sized (λ s. reply p (admit ballot) (state s (h .register)))
-    replies (withdraw mark) = answers (h .image) sized (λ s. reply p (withdraw mark) (state s (h .register)))
-    replies close = answers (h .image) sized (λ s. reply p close (state s (h .register)))
-    replies (claim claims) = answers (h .image) sized (λ s. reply p (claim claims) (state s (h .register)))
-    replies (commit k head shares0 shares1) = answers (h .image) sized (λ s. reply p (commit k head shares0 shares1) (state s (h .register)))
-    replies (draw seed) = answers (h .image) sized (λ s. reply p (draw seed) (state s (h .register)))
-    replies (check k x) = answers (h .image) sized (λ s. reply p (check k x) (state s (h .register)))
+    replies (clear text) = answers image s holds (λ z. reply p (clear text) (state z register))
+    replies (admit ballot) = answers image s holds (λ z. reply p (admit ballot) (state z register))
+    replies (withdraw mark) = answers image s holds (λ z. reply p (withdraw mark) (state z register))
+    replies close = answers image s holds (λ z. reply p close (state z register))
+    replies (claim claims) = answers image s holds (λ z. reply p (claim claims) (state z register))
+    replies (commit k head shares0 shares1) = answers image s holds (λ z. reply p (commit k head shares0 shares1) (state z register))
+    replies (draw seed) = answers image s holds (λ z. reply p (draw seed) (state z register))
+    replies (check k x) = answers image s holds (λ z. reply p (check k x) (state z register))
 
-    -- an image that is left holds the session that is left
-    Image : Bytes → Session → Type 0
-    Image image s = (length image ≡ imageLength) × (decode image ≡ s)
+    -- an image that is left holds the session that is left, if the session that it was made from is the one it held
+    as-left : (r r' : Reply) (f : Session → Session) → r ≡ r' → Typed (leaves r' (f s) s) → Holds (leaves r (encode (f (decode image))) image) (leaves r' (f s) s)
+    unfolding leaves
+    as-left r Taken f e t = rw (e, holds .session) (stored (f s) t)
+    as-left r (Refused number place) f e t = rw e holds
 
-    stored : (s : Session) → Typed s → Image (encode s) s
-    unfolding Image
-    stored s t = (length-encode s t, load-store s t)
-
-    as-left : (r r' : Reply) (s : Session) → r ≡ r' → Typed (leaves r' s (decode (h .image))) → Image (leaves r (encode s) (h .image)) (leaves r' s (decode (h .image)))
-    unfolding leaves Image
-    as-left r Taken s e t = rw e (stored s t)
-    as-left r (Refused number place) s e t = rw e (sized, refl)
-
-    image-left : (x : Step) → Image (hostAfter p x h .image) (after p x (held h) .session)
-    image-left x = go x (replies x) (typed-after x (held h) typed)
+    image-left : (x : Step) → Holds (hostAfter p x h .image) (after p x st .session)
+    image-left x = go x (replies x) (typed-after x st (holds .typed))
       where
-        go : (x : Step) → hostReply p x h ≡ reply p x (held h) → Typed (after p x (held h) .session) → Image (hostAfter p x h .image) (after p x (held h) .session)
-        go (clear text) e t = unfold hostReply hostAfter reply after in as-left (hostReply p (clear text) h) (reply p (clear text) (held h)) (cleared text) e t
-        go (admit ballot) e t = unfold hostReply hostAfter reply after in as-left (hostReply p (admit ballot) h) (reply p (admit ballot) (held h)) (admittedBy (decode (h .image))) e t
-        go (withdraw mark) e t = unfold hostAfter after Image in (sized, refl)
-        go close e t = unfold hostReply hostAfter reply after in as-left (hostReply p close h) (reply p close (held h)) (closedBy (decode (h .image)) (h .register)) e t
-        go (claim claims) e t = unfold hostReply hostAfter reply after in as-left (hostReply p (claim claims) h) (reply p (claim claims) (held h)) (claimedBy (decode (h .image)) claims) e t
-        go (commit k head shares0 shares1) e t = unfold hostReply hostAfter reply after in as-left (hostReply p (commit k head shares0 shares1) h) (reply p (commit k head shares0 shares1) (held h)) (committedBy (decode (h .image)) k head shares0 shares1) e t
-        go (draw seed) e t = unfold hostReply hostAfter reply after in as-left (hostReply p (draw seed) h) (reply p (draw seed) (held h)) (drawnBy (decode (h .image)) seed) e t
-        go (check k x) e t = unfold hostAfter after checkImage in (rw (eq-eqb (length (h .image)) imageLength sized) (stored (checkedBy p (decode (h .image)) k x) t))
+        go : (x : Step) → hostReply p x h ≡ reply p x st → Typed (after p x st .session) → Holds (hostAfter p x h .image) (after p x st .session)
+        go (clear text) e t = unfold hostReply hostAfter reply after in as-left (hostReply p (clear text) h) (reply p (clear text) st) (λ z. cleared text) e t
+        go (admit ballot) e t = unfold hostReply hostAfter reply after in as-left (hostReply p (admit ballot) h) (reply p (admit ballot) st) (λ z. admittedBy z) e t
+        go (withdraw mark) e t = unfold hostAfter after in holds
+        go close e t = unfold hostReply hostAfter reply after in as-left (hostReply p close h) (reply p close st) (λ z. closedBy z register) e t
+        go (claim claims) e t = unfold hostReply hostAfter reply after in as-left (hostReply p (claim claims) h) (reply p (claim claims) st) (λ z. claimedBy z claims) e t
+        go (commit k head shares0 shares1) e t = unfold hostReply hostAfter reply after in
+            as-left (hostReply p (commit k head shares0 shares1) h) (reply p (commit k head shares0 shares1) st) (λ z. committedBy z k head shares0 shares1) e t
+        go (draw seed) e t = unfold hostReply hostAfter reply after in as-left (hostReply p (draw seed) h) (reply p (draw seed) st) (λ z. drawnBy z seed) e t
+        go (check k x) e t = unfold hostAfter after checkImage in (rw (eq-eqb (length image) imageLength (holds .sized), holds .session) (stored (checkedBy p s k x) t))
 
-    register-left : (x : Step) → hostAfter p x h .register ≡ after p x (held h) .register
+    register-left : (x : Step) → hostAfter p x h .register ≡ after p x st .register
     register-left x = go x (replies x)
       where
-        go : (x : Step) → hostReply p x h ≡ reply p x (held h) → hostAfter p x h .register ≡ after p x (held h) .register
-        go (clear text) e = unfold hostReply hostAfter reply after in ap (λ (r : Reply). leaves r (zeros registerLength) (h .register)) e
-        go (admit ballot) e = unfold hostReply hostAfter reply after in ap (λ (r : Reply). leaves r (admitted (h .register) (decode (h .image) .used) ballot) (h .register)) e
+        go : (x : Step) → hostReply p x h ≡ reply p x st → hostAfter p x h .register ≡ after p x st .register
+        go (clear text) e = unfold hostReply hostAfter reply after in ap (λ (r : Reply). leaves r (zeros registerLength) register) e
+        go (admit ballot) e = unfold hostReply hostAfter reply after in ap₂ (λ (r : Reply) (z : Session). leaves r (admitted register (z .used) ballot) register) e (holds .session)
         go (withdraw mark) e = unfold hostReply hostAfter reply after in
-            ap (λ (r : Reply). leaves r (withdrawn (h .register) (find (h .register) mark (decode (h .image) .used))) (h .register)) e
+            ap₂ (λ (r : Reply) (z : Session). leaves r (withdrawn register (find register mark (z .used))) register) e (holds .session)
         go close e = unfold hostAfter after in refl
         go (claim claims) e = unfold hostAfter after in refl
         go (commit k head shares0 shares1) e = unfold hostAfter after in refl
         go (draw seed) e = unfold hostAfter after in refl
         go (check k x) e = unfold hostAfter after in refl
 
-    holds-after : (x : Step) → Holds p (hostAfter p x h) (after p x (held h))
-    unfolding Image
-    holds-after x = record { sized = image-left x .0; session = image-left x .1; register = register-left x }
-
-    typed-next : (x : Step) → Typed (decode (hostAfter p x h .image))
-    typed-next x = subst Typed (sym (holds-after x .session)) (typed-after x (held h) typed)
-
   -- ---- lists of calls
 
-  next : (h : Host) (st : State) → Holds p h st → held h ≡ st
-  next h st e = ap₂ state (e .session) (e .register)
-
-  holds-run : (xs : List Step) (h : Host) → length (h .image) ≡ imageLength → Typed (decode (h .image))
-      → Holds p (hostRun p xs h) (run p xs (held h)) × ((x : Step) → hostReply p x (hostRun p xs h) ≡ reply p x (run p xs (held h)))
+  run-over : RunOverImage p
   unfolding hostRun run
-  holds-run [] h sized typed = (record { sized = sized; session = refl; register = refl }, replies h sized typed)
-  holds-run (x ∷ xs) h sized typed =
-      let a = holds-after h sized typed x in
-      subst (λ (st : State). Holds p (hostRun p xs (hostAfter p x h)) (run p xs st) × ((y : Step) → hostReply p y (hostRun p xs (hostAfter p x h)) ≡ reply p y (run p xs st)))
-      (next (hostAfter p x h) (after p x (held h)) a) (holds-run xs (hostAfter p x h) (a .sized) (typed-next h sized typed x))
+  run-over [] image register s e = (e, refl)
+  run-over (x ∷ xs) image register s e =
+      let st = state s register in
+      let h = host image register in
+      subst (λ (reg : Bytes). Holds (hostRun p xs (hostAfter p x h) .image) (run p xs (state (after p x st .session) reg) .session) × (hostRun p xs (hostAfter p x h) .register ≡ run p xs (state (after p x st .session) reg) .register))
+      (register-left image register s e x) (run-over xs (hostAfter p x h .image) (hostAfter p x h .register) (after p x st .session) (image-left image register s e x))
 
-  holds-trace : (cs : List Call) (image : Bytes) (l : Trace) → decode image ≡ l .session → length image ≡ imageLength → Typed (decode image)
-      → (length (hostTrace p cs image) ≡ imageLength) × (decode (hostTrace p cs image) ≡ trace p cs l .session)
-      × ((c : Call) → hostReply p (c .step) (host (hostTrace p cs image) (c .register)) ≡ reply p (c .step) (lent (trace p cs l) c))
-  unfolding hostTrace trace
-  holds-trace [] image l e sized typed =
-      (sized, e, λ c. replies (host image (c .register)) sized typed (c .step) ∙ ap (λ (s : Session). reply p (c .step) (state s (c .register))) e)
-  holds-trace (c ∷ cs) image l e sized typed =
-      let h = host image (c .register) in
-      let a = holds-after h sized typed (c .step) in
-      holds-trace cs (hostAfter p (c .step) h .image) (extend p c l) (a .session ∙ (unfold extend in ap (λ (s : Session). after p (c .step) (state s (c .register)) .session) e)) (a .sized)
-      (typed-next h sized typed (c .step))
+  trace-over : TraceOverImage p
+  unfolding hostTrace trace extend
+  trace-over [] image l e = e
+  trace-over (c ∷ cs) image l e = trace-over cs (hostAfter p (c .step) (host image (c .register)) .image) (extend p c l) (image-left image (c .register) (l .session) e (c .step))
 
 pub over-images : (p : ℕ) → OverImages p
 over-images p = record {
-  one-step = λ x h sized octets. let t = typed-decode (h .image) sized octets in (replies p h sized t x, holds-after p h sized t x);
-  own-register = λ xs h sized octets. holds-run p xs h sized (typed-decode (h .image) sized octets);
-  any-register = λ cs image past sized octets. holds-trace p cs image (record { session = decode image; history = past }) refl sized (typed-decode image sized octets);
+  bytes-hold = λ image sized octets. record { sized = sized; session = refl; typed = typed-decode image sized octets };
+  one-step = λ x image register s e. (replies p image register s e x, image-left p image register s e x, register-left p image register s e x);
+  own-register = run-over p;
+  any-register = trace-over p;
 }

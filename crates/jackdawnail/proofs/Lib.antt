@@ -1,3 +1,4 @@
 pub mod HostSteps
+pub mod HostClaims
 pub mod Produces
 pub mod Demands

@@ -14,8 +14,7 @@ use Rattle.codec.proofs.Laws.{both}
 use Rattle.codec.proofs.Replies.{taken-exactly}
 use Rattle.sheet.specs.Sheet.{order}
 use Rattle.transcript.specs.Round.{Parameters}
-use Rattle.transcript.specs.Producer.{Material, Sized, askedRanged, producerTests}
-use Rattle.transcript.specs.Suitable.{Suitable, Asked}
+use Rattle.transcript.specs.Producer.{Material, askedRanged, producerTests}
 use Rattle.transcript.proofs.Many.{append-none, none-append}
 use Rattle.transcript.proofs.Passed.{producer-exactly, second-exactly}
 use Rattle.lengths.specs.Calls.{lengthsTest, materialSized, firstSized, secondSized, firstTests, secondTests}

@@ -30,6 +30,7 @@ use Rattle.histories.specs.Claims.{StaysOut, RoundsChecked, EndedAccepted, Clea
 use Rattle.histories.specs.Examples.{all-rows}
 use Rattle.jackdawnail.specs.Produces.{WritesFirst, WritesSecond}
 use Rattle.jackdawnail.specs.HostSteps.{OverImages}
+use Rattle.jackdawnail.specs.HostClaims.{HostStaysOut, HostEndedAccepted, HostHonestAccepted}
 
 -- ---- 2. Everything equals the papers, a round is accepted exactly if every listed check holds, and a withdrawn mark is in no closed batch.
 
@@ -67,6 +68,8 @@ pub record Demand2 : Type 0 where
   pub examples : Examples
   -- what is shown of steps and of lists of steps over sessions holds of the exported calls over images
   pub over-images : OverImages 2
+  pub host-stays-out : HostStaysOut 2
+  pub host-ended-accepted : HostEndedAccepted 2
 
 -- ---- 3. Two accepted openings and three accepted answers yield a hash collision, a short commitment vector or the key, and every honest round is accepted whatever is drawn.
 
@@ -118,6 +121,7 @@ pub record Demand3 : Type 0 where
   pub takes-accepted : TakesAccepted
   -- over every list of steps from a newly cleared session, each lent any register: a round of the producer's that is lodged is accepted at its turn
   pub honest-accepted : HonestAccepted 2
+  pub host-honest-accepted : HostHonestAccepted 2
   pub honest-rounds : HonestRounds
   pub producer-writes : ProducerWrites
   -- a clear that is taken leaves what such a list starts from

@@ -1,6 +1,6 @@
 -- The steps as the C host sees them (document 01, "Register and session"): the reply of each exported step, and the image and the register that it leaves, as its contract has
--- them (src/steps.rt), for the plaintext modulus p. Over an image of the right length a step does to the session in it what the step over sessions does (histories,
--- specs/Runs.antt), and so does a list of steps: what is shown of lists of steps holds of what the exported calls do. Assumes nothing.
+-- them (src/steps.rt), for the plaintext modulus p. A call does to the session in the image what the step over sessions does (histories, specs/Runs.antt), and so does a list
+-- of calls: what is shown of lists of steps holds of what the exported calls do (specs/HostClaims.antt). Assumes nothing.
 use mathlib.Core.Path.{_≡_}
 use mathlib.Core.List.{List, [], _∷_}
 use Prim.Native.Nat.{ℕ}
@@ -9,10 +9,11 @@ use Rattle.codec.specs.Bytes.{Bytes, Octets, zeros}
 use Rattle.codec.specs.Reply.{leaves}
 use Rattle.codec.specs.declared.Reply.{Reply}
 use Rattle.register.specs.Register.{registerLength, find, admitted, withdrawn}
+use Rattle.session.specs.declared.Session.{Session}
 use Rattle.session.specs.Steps.{cleared, admittedBy, closedBy, claimedBy, committedBy, drawnBy}
-use Rattle.image.specs.Image.{imageLength, decode}
+use Rattle.image.specs.Image.{imageLength, decode, Typed}
 use Rattle.session_calls.specs.Images.{imageLeft, clearReply, admitReply, withdrawReply, closeReply, claimReply, commitReply, drawReply, checkReply, checkImage}
-use Rattle.histories.specs.Runs.{Step, clear, admit, withdraw, close, claim, commit, draw, check, State, state, History, Trace, Call, lent, reply, after, run, trace}
+use Rattle.histories.specs.Runs.{Step, clear, admit, withdraw, close, claim, commit, draw, check, state, Trace, Call, reply, after, run, trace}
 
 -- what the host keeps between two calls
 pub record Host : Type 0 where
@@ -22,9 +23,11 @@ pub record Host : Type 0 where
 abbrev pub host : Bytes → Bytes → Host
 host image register = record { image = image; register = register }
 
--- the session in the image, with the register
-abbrev pub held : Host → State
-held h = state (decode (h .image)) (h .register)
+-- an image of the right length that is read as this session, whose fields are as their types say
+pub record Holds (image : Bytes) (s : Session) : Type 0 where
+  pub sized : length image ≡ imageLength
+  pub session : decode image ≡ s
+  pub typed : Typed s
 
 module _ (p : ℕ) where
   -- ---- one call
@@ -70,29 +73,29 @@ module _ (p : ℕ) where
 
   -- ---- what they do to the session in the image
 
-  -- the image has its length, and holds this session; the register is this one
-  pub record Holds (h : Host) (st : State) : Type 0 where
-    pub sized : length (h .image) ≡ imageLength
-    pub session : decode (h .image) ≡ st .session
-    pub register : h .register ≡ st .register
+  -- whatever bytes of the right length the host lends hold a session
+  abbrev pub BytesHold : Type 0
+  BytesHold = (image : Bytes) → length image ≡ imageLength → Octets image → Holds image (decode image)
 
+  -- one call answers and leaves what the step does
   abbrev pub StepOverImage : Type 0
-  StepOverImage = (x : Step) (h : Host) → length (h .image) ≡ imageLength → Octets (h .image)
-      → (hostReply x h ≡ reply p x (held h)) × Holds (hostAfter x h) (after p x (held h))
+  StepOverImage = (x : Step) (image register : Bytes) (s : Session) → Holds image s
+      → let h = host image register in
+      let st = state s register in
+      (hostReply x h ≡ reply p x st) × Holds (hostAfter x h .image) (after p x st .session) × (hostAfter x h .register ≡ after p x st .register)
 
-  -- a list, and the reply to whatever step comes next
+  -- and so do lists of calls; the replies in them are those of one call, after a shorter list
   abbrev pub RunOverImage : Type 0
-  RunOverImage = (xs : List Step) (h : Host) → length (h .image) ≡ imageLength → Octets (h .image)
-      → Holds (hostRun xs h) (run p xs (held h)) × ((x : Step) → hostReply x (hostRun xs h) ≡ reply p x (run p xs (held h)))
+  RunOverImage = (xs : List Step) (image register : Bytes) (s : Session) → Holds image s
+      → let h = hostRun xs (host image register) in
+      let st = run p xs (state s register) in
+      Holds (h .image) (st .session) × (h .register ≡ st .register)
 
-  -- the same where each call is lent any register, from any history
   abbrev pub TraceOverImage : Type 0
-  TraceOverImage = (cs : List Call) (image : Bytes) (past : History) → length image ≡ imageLength → Octets image
-      → let l : Trace = trace p cs (record { session = decode image; history = past }) in
-      (length (hostTrace cs image) ≡ imageLength) × (decode (hostTrace cs image) ≡ l .session)
-      × ((c : Call) → hostReply (c .step) (host (hostTrace cs image) (c .register)) ≡ reply p (c .step) (lent l c))
+  TraceOverImage = (cs : List Call) (image : Bytes) (l : Trace) → Holds image (l .session) → Holds (hostTrace cs image) (trace p cs l .session)
 
   pub record OverImages : Type 0 where
+    pub bytes-hold : BytesHold
     pub one-step : StepOverImage
     pub own-register : RunOverImage
     pub any-register : TraceOverImage

@@ -1,0 +1,94 @@
+-- The claims of specs/HostClaims.antt, from those over sessions and what the exported calls do to the session in an image. Assumes nothing.
+use mathlib.Core.Path.{_≡_, sym, ap, subst, _∙_}
+use mathlib.Core.List.{List, [], _∷_}
+use Prim.Native.Nat.{ℕ, _<_}
+use Rattle.codec.specs.Bytes.{Bytes}
+use Rattle.codec.specs.Reply.{first}
+use Rattle.codec.specs.declared.Reply.{Reply}
+use Rattle.codec.specs.declared.Reply.the-variants.{Taken}
+use Rattle.sheet.specs.Sheet.{order}
+use Rattle.session.specs.declared.Session.{Session}
+use Rattle.image.specs.Image.{decode}
+use Rattle.histories.specs.Runs.{Step, clear, withdraw, close, check, State, state, Call, clears, initial, ownInitial, reply, after, run, Uncleared, none, more, trace}
+use Rattle.histories.specs.Claims.{Checked, HonestAccepted}
+use Rattle.histories.proofs.Withdrawn.{withdrawn-stays-out}
+use Rattle.histories.proofs.Reach.{clear-taken}
+use Rattle.histories.proofs.Rounds.{ended-accepted}
+use Rattle.jackdawnail.specs.HostSteps.{Host, Holds, hostReply, hostAfter, hostRun, hostTrace}
+use Rattle.jackdawnail.specs.HostClaims.{HostUncleared, Starts, HostStaysOut, HostEndedAccepted, HostHonestAccepted}
+use Rattle.jackdawnail.proofs.HostSteps.{over-images}
+
+module _ (p : ℕ) where
+  -- ---- with the register that was left
+
+  record Keeps (h : Host) (st : State) : Type 0 where
+    image : Holds (h .image) (st .session)
+    register : h .register ≡ st .register
+
+  over-step : (x : Step) (h : Host) (st : State) → Keeps h st → (hostReply p x h ≡ reply p x st) × Keeps (hostAfter p x h) (after p x st)
+  over-step x h st k =
+      let e = over-images p .one-step x (h .image) (h .register) (st .session) (k .image) in
+      subst (λ (reg : Bytes). (hostReply p x h ≡ reply p x (state (st .session) reg)) × Keeps (hostAfter p x h) (after p x (state (st .session) reg)))
+      (k .register) (e .0, record { image = e .1; register = e .2 })
+
+  over-run : (xs : List Step) (h : Host) (st : State) → Keeps h st → Keeps (hostRun p xs h) (run p xs st)
+  over-run xs h st k =
+      let e = over-images p .own-register xs (h .image) (h .register) (st .session) (k .image) in
+      subst (λ (reg : Bytes). Keeps (hostRun p xs h) (run p xs (state (st .session) reg))) (k .register) (record { image = e .0; register = e .1 })
+
+  uncleared : (xs : List Step) (h : Host) (st : State) → Keeps h st → HostUncleared p xs h → Uncleared p xs st
+  unfolding HostUncleared
+  uncleared [] h st k u = none
+  uncleared (x ∷ xs) h st k u =
+      let e = over-step x h st k in
+      more (ap (λ (r : Reply). clears x r) (sym (e .0)) ∙ u .0) (uncleared xs (hostAfter p x h) (after p x st) (e .1) (u .1))
+
+  -- ---- from a clear that is taken
+
+  module _ (start : Host) (sheet : Bytes) (s : Starts p start sheet) where
+    abbrev st : State
+    st = state (decode (start .image)) (start .register)
+
+    keeps : Keeps start st
+    keeps = record { image = over-images p .bytes-hold (start .image) (s .sized) (s .octets); register = λ i. start .register }
+
+    taken : reply p (clear sheet) st ≡ Taken
+    taken = sym (over-step (clear sheet) start st keeps .0) ∙ s .taken
+
+    readable : first (order p sheet) ≡ Taken
+    readable = clear-taken p st sheet taken .0
+
+    newly : Keeps (hostAfter p (clear sheet) start) (after p (clear sheet) st)
+    newly = over-step (clear sheet) start st keeps .1
+
+    begins : Holds (hostAfter p (clear sheet) start .image) (initial sheet .session)
+    begins = subst (Holds (hostAfter p (clear sheet) start .image)) same (newly .image)
+      where
+        same : after p (clear sheet) st .session ≡ initial sheet .session
+        same = unfold ownInitial initial in ap (λ (z : State). z .session) (clear-taken p st sheet taken .1)
+
+    traced : (cs : List Call) → Holds (hostTrace p cs (hostAfter p (clear sheet) start .image)) (trace p cs (initial sheet) .session)
+    traced cs = over-images p .any-register cs (hostAfter p (clear sheet) start .image) (initial sheet) begins
+
+  -- ---- the claims
+
+  pub host-stays-out : HostStaysOut p
+  host-stays-out start sheet before between mark s e u d i m =
+      let found = hostRun p before (hostAfter p (clear sheet) start) in
+      let last = hostRun p between (hostAfter p (withdraw mark) found) in
+      let there = run p before (after p (clear sheet) (st start sheet s)) in
+      let k : Keeps found there = over-run before (hostAfter p (clear sheet) start) (after p (clear sheet) (st start sheet s)) (newly start sheet s) in
+      let w = over-step (withdraw mark) found there k in
+      let l : Keeps last (run p between (after p (withdraw mark) there)) = over-run between (hostAfter p (withdraw mark) found) (after p (withdraw mark) there) (w .1) in
+      let c = over-step close last (run p between (after p (withdraw mark) there)) l in
+      let out = withdrawn-stays-out p (st start sheet s) sheet before between mark (taken start sheet s) (sym (w .0) ∙ e) (uncleared between (hostAfter p (withdraw mark) found) (after p (withdraw mark) there) (w .1) u) (sym (c .0) ∙ d) i in
+      rw (l .register) (out (rw (l .register, ap (λ (z : Session). z .used) (l .image .session)) at m))
+
+  pub host-ended-accepted : HostEndedAccepted p
+  host-ended-accepted start sheet cs s =
+      subst (λ (z : Session). z .phase ≡ 5 → (k : ℕ) → k < z .numbers .rounds → Checked p sheet cs k) (sym (traced start sheet s cs .session)) (ended-accepted p sheet cs (readable start sheet s))
+
+  pub host-honest-accepted : HonestAccepted p → HostHonestAccepted p
+  host-honest-accepted honest start sheet cs s register material round x turn =
+      over-images p .one-step (check round x) (hostTrace p cs (hostAfter p (clear sheet) start .image)) register (trace p cs (initial sheet) .session) (traced start sheet s cs) .0
+      ∙ honest sheet cs (readable start sheet s) register material round x turn
