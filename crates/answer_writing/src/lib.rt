@@ -4,15 +4,12 @@ use stern::digests::equations_digest;
 use stern::digests::gathered_digest;
 use stern::digests::masked_digest;
 ghost use mathlib.Core.Path.{_≡_};
-ghost use mathlib.Core.Bool.{true};
 ghost use Prim.Native.Nat.{_+_, _*_, _≤_, _<_, _^_};
 ghost use lib.ListN.{length};
 ghost use Rattle.codec.specs.Bytes.{put};
-ghost use Rattle.codec.specs.Lists.{allBelow};
 ghost use Rattle.call.specs.Call.{scratchLength};
 ghost use Rattle.commitment.specs.Commitment.{keysOf, PublicKeys};
 ghost use Rattle.vector.specs.Vector.{vector};
-ghost use Rattle.vector.specs.Permutation.{entries};
 ghost use Rattle.stern.specs.Argument.{answer1, answer2, answer3};
 ghost use Rattle.stern.specs.Shortness.{Material, drawnOf, answerLength, honestDigests, honestAnswer, answer1Bytes, answer2Bytes, answer3Bytes};
 

@@ -1,12 +1,12 @@
 // The tests of an opened half of the key (6, 7, 8) and of a ballot by it (12, 13).
 ghost use mathlib.Core.Path.{_≡_};
 ghost use mathlib.Core.Bool.{_&&_};
-ghost use Prim.Native.Nat.{_+_, _*_, _≤_, _<_, _^_};
+ghost use Prim.Native.Nat.{_+_, _*_, _≤_, _<_};
 ghost use lib.ListN.{length};
-ghost use Rattle.codec.specs.Bytes.{part, same};
+ghost use Rattle.codec.specs.Bytes.{same};
 ghost use Rattle.codec.specs.Lists.{list};
 ghost use Rattle.ring.specs.Poly.{plus, modulo, Below};
-ghost use Rattle.ring.specs.Slots.{poly, slot, encode};
+ghost use Rattle.ring.specs.Slots.{poly, encode};
 ghost use Rattle.call.specs.Call.{scratchLength, Polynomial};
 ghost use Rattle.bgv.specs.Scheme.{key, plain, rebuilt};
 ghost use Rattle.commitment.specs.Commitment.{keysOf, threeOf, opens, PublicKeys};

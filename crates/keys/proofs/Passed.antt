@@ -1,19 +1,14 @@
 -- What is known of the lent slices where a call is taken: that its tests were passed. Assumes nothing.
 use mathlib.Core.Path.{_≡_, sym, _∙_}
-use mathlib.Core.Bool.{true, _&&_}
+use mathlib.Core.Bool.{_&&_}
 use mathlib.Core.List.{List, [], _∷_}
 use Prim.Native.Nat.{ℕ, _*_, _^_, _≤_, _<_}
-use native.Mathlib.Omega.{arith}
 use lib.ListN.{length}
 use Rattle.codec.specs.Bytes.{Bytes}
 use Rattle.codec.specs.Reply.{first}
 use Rattle.codec.specs.declared.Reply.{Reply}
 use Rattle.codec.specs.declared.Reply.the-variants.{Taken}
 use Rattle.codec.proofs.Laws.{both}
-use Rattle.codec.specs.Lists.{list, allBelow}
-use Rattle.codec.proofs.Lists.{allBelow-sound}
-use Rattle.ring.specs.Poly.{Below}
-use Rattle.ring.specs.Slots.{poly}
 use Rattle.call.specs.Call.{bytesBelow, coefficientsBelow, Polynomial}
 use Rattle.call.proofs.Order.{length-at, passed}
 use Rattle.scheme.specs.Calls.{keygenTests, splitTests}

@@ -10,7 +10,7 @@ use Rattle.codec.specs.Reply.{Test, test}
 use Rattle.call.specs.Call.{scratchLength}
 use Rattle.stern.specs.Shortness.{answerLength}
 use Rattle.transcript.specs.Layout.{ballotLength, headLength, answersLength}
-use Rattle.transcript.specs.Round.{Parameters, Round, roundTests}
+use Rattle.transcript.specs.Round.{Parameters}
 use Rattle.transcript.specs.Producer.{Material, askedRanged, producerTests}
 use Rattle.transcript.specs.Extractor.{Openings, extractTests}
 

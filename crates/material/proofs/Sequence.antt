@@ -1,21 +1,19 @@
 -- The producer's order as one list of tests after another, and what decides. Assumes nothing.
-use mathlib.Core.Path.{_≡_, refl, sym, _∙_}
+use mathlib.Core.Path.{_≡_, refl}
 use mathlib.Core.Bool.{Bool, true}
 use mathlib.Core.List.{List, _++_}
-use Prim.Native.Nat.{ℕ, zero, suc}
-use native.Mathlib.Omega.{arith}
+use Prim.Native.Nat.{ℕ}
 use borrow.Author.Tests.{not-false}
 use Rattle.codec.specs.Bytes.{Bytes}
 use Rattle.codec.specs.Reply.{Test, first, leaves}
 use Rattle.codec.specs.declared.Reply.{Reply}
 use Rattle.codec.specs.declared.Reply.the-variants.{Taken, Refused}
 use Rattle.codec.proofs.Laws.{both}
-use Rattle.codec.proofs.Replies.{taken-exactly, first-append}
+use Rattle.codec.proofs.Replies.{taken-exactly}
 use Rattle.codec.specs.Lists.{list, allBelow}
 use Rattle.ring.specs.Slots.{poly}
 use Rattle.sheet_numbers.specs.Bounds.{noise}
 use Rattle.vector.specs.Vector.{vector}
-use Rattle.transcript.specs.Layout.{each}
 use Rattle.transcript.specs.Round.{ballotsRanged}
 use Rattle.transcript.specs.Method.{parameters}
 use Rattle.transcript.specs.Producer.{Material, materialRanged, producerTests}

@@ -5,15 +5,15 @@ use mathlib.Core.List.{[]}
 use Prim.Native.Nat.{ℕ, _+_, _*_, _≤_, _<_}
 use native.Mathlib.Nat.{mul-zero, mul-add, mul-one, mul-assoc, mul-le-mul}
 use native.Mathlib.Omega.{arith}
-use lib.ListN.{length, take, drop, length-append}
+use lib.ListN.{length, take, drop}
 use Rattle.codec.specs.Bytes.{Bytes, part, put}
 use Rattle.codec.proofs.Laws.{length-part}
 use Rattle.codec.specs.Lists.{allBelow}
 use Rattle.sha3.proofs.Squeezing.{length-sha3}
 use Rattle.commitment.specs.Commitment.{Keys}
 use Rattle.vector.specs.Vector.{vector}
-use Rattle.stern.specs.Argument.{Drawn, First, first}
-use Rattle.stern.specs.Shortness.{Material, setting, drawnOf, firstBytes, honestDigests}
+use Rattle.stern.specs.Argument.{Drawn, first}
+use Rattle.stern.specs.Shortness.{Material, setting, drawnOf, honestDigests}
 use Rattle.transcript.specs.Layout.{joined, headLength}
 use Rattle.transcript.proofs.Many.{stretch, length-joined}
 use Rattle.transcript.proofs.Produced.{length-digests}

@@ -4,7 +4,7 @@ mod repetitions;
 
 ghost use mathlib.Core.Path.{_≡_};
 ghost use mathlib.Core.List.{[]};
-ghost use Prim.Native.Nat.{_+_, _*_, _≤_, _<_};
+ghost use Prim.Native.Nat.{_*_, _≤_, _<_};
 ghost use lib.ListN.{length};
 ghost use Rattle.call.specs.Call.{scratchLength, Polynomial};
 ghost use Rattle.commitment.specs.Commitment.{PublicKeys};

@@ -1,13 +1,12 @@
 -- The loop over repetitions: where the digests and the answer of repetition i stand, and what its reply adds. Assumes nothing.
 use mathlib.Core.Path.{_≡_, refl, sym, ap, _∙_}
-use mathlib.Core.Bool.{Bool, true, false, cond}
-use mathlib.Core.List.{List, [], _∷_}
+use mathlib.Core.Bool.{true}
+use mathlib.Core.List.{List}
 use Prim.Native.Nat.{ℕ, suc, _+_, _*_, _≤_, _<_}
-use native.Mathlib.Nat.{mul-zero, mul-suc, mul-le-mul}
+use native.Mathlib.Nat.{mul-le-mul}
 use native.Mathlib.Numerals.{add-one}
 use native.Mathlib.Omega.{arith}
-use lib.Dec.{eqb}
-use lib.ListN.{length, take, drop, getD, take-append-drop}
+use lib.ListN.{length, take, getD}
 use Rattle.codec.specs.Bytes.{Bytes, part}
 use Rattle.codec.specs.Reply.{Test, first, None}
 use Rattle.codec.specs.declared.Reply.{Reply}

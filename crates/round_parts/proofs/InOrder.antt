@@ -1,15 +1,12 @@
 -- One order after another: the first that refuses decides; and the order of a check in the stretches that the code goes through. Assumes nothing.
-use mathlib.Core.Path.{_≡_, refl, sym, ap, ap₂, _∙_}
+use mathlib.Core.Path.{_≡_, refl, ap, ap₂}
 use mathlib.Core.Logic.{_≢_}
 use mathlib.Core.Bool.{not}
 use mathlib.Core.List.{List, _∷_, _++_}
 use Prim.Native.Nat.{ℕ, zero, suc, _<_}
 use native.Mathlib.Omega.{arith}
 use Rattle.codec.specs.Bytes.{Bytes}
-use Rattle.codec.specs.Reply.{Test, test, first}
-use Rattle.codec.specs.declared.Reply.{Reply}
-use Rattle.codec.specs.declared.Reply.the-variants.{Taken, Refused}
-use Rattle.codec.proofs.Replies.{taken-exactly, first-append}
+use Rattle.codec.specs.Reply.{Test, test}
 use Rattle.ring.specs.Slots.{poly, slot}
 use Rattle.commitment.specs.Commitment.{keysOf}
 use Rattle.transcript.specs.Layout.{each, openingOf}

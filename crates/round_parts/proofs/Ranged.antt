@@ -2,7 +2,7 @@
 use mathlib.Core.Path.{_≡_, refl, sym, ap, _∙_}
 use mathlib.Core.Bool.{Bool, true, false, _&&_}
 use Prim.Native.Nat.{ℕ, suc, _+_, _*_, _/_, _≤_, _<_}
-use native.Mathlib.Nat.{mul-zero, mul-add, mul-one, mul-le-mul}
+use native.Mathlib.Nat.{mul-le-mul}
 use native.Mathlib.Numerals.{add-one}
 use native.Mathlib.Omega.{arith}
 use borrow.Author.Count.{below-none, below-more}
@@ -16,9 +16,8 @@ use Rattle.ring.proofs.Bridge.{poly-part, slot-poly}
 use Rattle.call.proofs.Order.{fails, goes-on}
 use Rattle.vector.specs.Vector.{vector}
 use Rattle.stern.specs.Shortness.{answerLength, inRange}
-use Rattle.transcript.specs.Layout.{ballotLength, uAt, answersLength, answerAt}
+use Rattle.transcript.specs.Layout.{uAt, answersLength, answerAt}
 use Rattle.transcript.specs.Round.{isChallenge}
-use Rattle.transcript.proofs.Many.{stretch}
 use Rattle.transcript.proofs.Answers.{answersLength-more}
 use Rattle.transcript.proofs.Answers.{prefix-le, all-le}
 

@@ -1,8 +1,8 @@
 -- What the writing of a round asks for, where the producer's order is passed. Assumes nothing.
-use mathlib.Core.Path.{_≡_, refl, sym, ap, subst, _∙_}
+use mathlib.Core.Path.{_≡_, sym, subst}
 use mathlib.Core.Bool.{Bool, true}
-use mathlib.Core.List.{List, []}
-use Prim.Native.Nat.{ℕ, _+_, _*_, _≤_, _<_}
+use mathlib.Core.List.{[]}
+use Prim.Native.Nat.{ℕ, _*_, _≤_, _<_}
 use borrow.Author.Tests.{ltb-true}
 use lib.Dec.{ltb}
 use lib.ListN.{length}
@@ -12,10 +12,9 @@ use Rattle.codec.specs.declared.Reply.the-variants.{Taken}
 use Rattle.codec.proofs.Laws.{both}
 use Rattle.call.specs.Call.{scratchLength, Polynomial}
 use Rattle.transcript.specs.Layout.{headLength, answersLength}
-use Rattle.transcript.specs.Round.{Parameters, ballotsRanged}
+use Rattle.transcript.specs.Round.{Parameters}
 use Rattle.transcript.specs.Method.{parameters}
-use Rattle.transcript.specs.Producer.{Material, Sized, askedRanged, materialRanged, producerTests}
-use Rattle.material.proofs.Unread.{lengths-lent}
+use Rattle.transcript.specs.Producer.{Material, Sized, askedRanged, producerTests}
 use Rattle.material.proofs.Usable.{Usable, usable, none-refused}
 use Rattle.message_head.specs.Method.{Drawings}
 use Rattle.message_shares.specs.Method.{Masked}

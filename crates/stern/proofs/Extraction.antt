@@ -18,14 +18,13 @@ use Rattle.codec.proofs.Lists.{length-list}
 use Rattle.sha3.specs.Sponge.{sha3}
 use Rattle.modular.specs.Modulo.{centre}
 use Rattle.modular.proofs.Centring.{centre-low, centre-high}
-use Rattle.ring.specs.Poly.{Poly, plus, modulo, Alike}
-use Rattle.ring.specs.Slots.{slot}
+use Rattle.ring.specs.Poly.{Poly, modulo, Alike}
 use Rattle.vector.specs.Vector.{vector}
 use Rattle.vector.specs.Permutation.{entries, permutes, balanced}
 use Rattle.vector.proofs.Vectors.{at-each}
-use Rattle.commitment.specs.Commitment.{Keys, plus3, row, second}
+use Rattle.commitment.specs.Commitment.{Keys}
 use Rattle.stern.specs.Argument.{Short, Solves, Passes1, Passes2, Passes3, Extracted, two-by1, three-by1, one-by2, three-by2, one-by3, two-by3}
-use Rattle.stern.specs.Shortness.{polynomial, threeFrom, numbers, equations, sides, setting, firstOf, answerLength, answer1Of, answer2Of, answer3Of, tests1, tests2, tests3}
+use Rattle.stern.specs.Shortness.{polynomial, numbers, equations, sides, setting, firstOf, answerLength, answer1Of, answer2Of, answer3Of, tests1, tests2, tests3}
 use Rattle.stern.specs.Claims.{Meets}
 use Rattle.stern.proofs.FourEquations.{alike-numbers, setting-valid}
 use Rattle.stern.proofs.Layouts.{vector-of, permutes-of}

@@ -1,8 +1,8 @@
 -- The equations two at a time, in scratch: what the loads, the sums and the subtractions leave. Assumes nothing.
-use mathlib.Core.Path.{_≡_, refl, sym, ap, _∙_}
-use mathlib.Core.Bool.{Bool, true, false, cond}
-use mathlib.Core.List.{List, [], _∷_}
-use Prim.Native.Nat.{ℕ, _+_, _-_, _*_, _/_, _%_, _^_, _≤_, _<_}
+use mathlib.Core.Path.{_≡_, sym, ap, _∙_}
+use mathlib.Core.Bool.{Bool, true, false}
+use mathlib.Core.List.{[], _∷_}
+use Prim.Native.Nat.{ℕ, _+_, _-_, _*_, _/_, _^_, _≤_, _<_}
 use native.Mathlib.Nat.{zero-add}
 use native.Mathlib.Omega.{arith}
 use lib.ListN.{length, take, drop}
@@ -13,8 +13,8 @@ use Rattle.ring.specs.Poly.{Poly, plus, minus, modulo, Alike, Below}
 use Rattle.ring.specs.Slots.{poly, slot, encode, store}
 use Rattle.ring.proofs.Bridge.{length-encode, poly-part, slot-later, slot-poly, slot-put, encode-alike, store-alike, store-store, length-store, alike-store, below-store}
 use Rattle.ring.proofs.Polynomials.{alike-refl, _so_, alike-plus, alike-minus}
-use Rattle.call.proofs.Shelf.{Shelf, encoded-below, encoded-alike, shelf-below, shelf-alike, shelf-store, shelf-copy, shelf-none}
-use Rattle.commitment.specs.Commitment.{Keys, Three, Pair, Alike3, plus3, threeAt, committed, PairStands}
+use Rattle.call.proofs.Shelf.{Shelf, encoded-below, encoded-alike, shelf-store, shelf-copy, shelf-none}
+use Rattle.commitment.specs.Commitment.{Keys, Three, Pair, plus3, threeAt, committed, PairStands}
 use Rattle.commitment.proofs.Additive.{second-alike}
 use Rattle.commitment.proofs.Loading.{commit-asks, commit-made}
 use Rattle.stern.specs.Method.{words-at, threeWords, summedPair, lessPairs, equationPair}

@@ -5,23 +5,22 @@ use mathlib.Core.List.{List, [], _∷_, _++_, append-assoc}
 use Prim.Native.Nat.{ℕ, suc, _+_, _-_, _*_, _%_, _≤_, _<_}
 use native.Mathlib.Nat.{mul-le-mul, mul-suc, mul-comm, mul-assoc, mul-add}
 use native.Mathlib.Omega.{arith}
-use lib.ListN.{length, take, getD}
+use lib.ListN.{length, take}
 use lib.Seq.{getD-take}
 use Rattle.codec.specs.Bytes.{Bytes, part, words}
 use Rattle.codec.proofs.Numbers.{words-append}
-use Rattle.codec.specs.Lists.{list}
 use Rattle.codec.proofs.Lists.{length-list}
 use Rattle.sha3.specs.Sponge.{sha3}
 use Rattle.hasher.specs.declared.Hasher.{Hasher}
 use Rattle.hasher.specs.Hasher.{holding, updated, finished}
 use Rattle.hasher.proofs.Laws.{taken, finished-holding}
 use Rattle.modular.proofs.Congruence.{same-eq}
-use Rattle.ring.specs.Poly.{Poly, plus, minus, modulo, Alike, Below}
+use Rattle.ring.specs.Poly.{Poly, plus, minus, modulo, Alike}
 use Rattle.ring.specs.Slots.{slot, encode}
-use Rattle.ring.proofs.Polynomials.{plus-assoc, plus-comm, plus-left-comm, scale-plus, alike-eq, alike-refl, alike-sym, _so_, alike-plus, alike-cancel, minus-self}
-use Rattle.commitment.specs.Commitment.{Keys, Three, Pair, Alike3, plus3, row, second, committed, pairBytes, PairStands}
+use Rattle.ring.proofs.Polynomials.{plus-assoc, plus-comm, scale-plus, alike-eq, alike-refl, _so_, alike-plus, minus-self}
+use Rattle.commitment.specs.Commitment.{Keys, Pair, Alike3, plus3, row, second, pairBytes, PairStands}
 use Rattle.commitment.proofs.Additive.{row-alike, second-alike}
-use Rattle.vector.specs.Vector.{Vector, vector, subtract, add}
+use Rattle.vector.specs.Vector.{vector, subtract}
 use Rattle.vector.proofs.Vectors.{add-subtract}
 use Rattle.stern.specs.Shortness.{polynomial, threeFrom, numbers, equations, sides}
 use Rattle.stern.specs.Method.{words-at, threeWords, summedPair, lessPairs, equationPair}

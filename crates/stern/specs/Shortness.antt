@@ -12,7 +12,7 @@ use Rattle.codec.specs.Lists.{list, allBelow}
 use Rattle.sha3.specs.Sponge.{sha3}
 use Rattle.ring.specs.Poly.{Poly, plus, modulo}
 use Rattle.ring.specs.Slots.{slot}
-use Rattle.commitment.specs.Commitment.{Keys, Three, Pair, plus3, row, second}
+use Rattle.commitment.specs.Commitment.{Keys, Three, plus3, row, second}
 use Rattle.vector.specs.Vector.{vector}
 use Rattle.vector.specs.Permutation.{entries, permutes, balanced}
 use Rattle.stern.specs.Argument.{Setting, Drawn, First, Answer1, Answer2, Answer3, first, answer1, answer2, answer3, one-by2, one-by3, two-by1, two-by3, three-by1, three-by2}

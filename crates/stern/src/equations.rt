@@ -4,12 +4,11 @@ ghost use mathlib.Core.Path.{_≡_};
 ghost use mathlib.Core.Bool.{true};
 ghost use Prim.Native.Nat.{_+_, _*_, _/_, _≤_, _<_, _^_};
 ghost use lib.ListN.{length};
-ghost use Rattle.codec.specs.Bytes.{part, put};
 ghost use Rattle.ring.specs.Poly.{plus, minus, Below};
 ghost use Rattle.ring.specs.Slots.{poly, slot, store};
 ghost use Rattle.call.specs.Call.{scratchLength};
 ghost use Rattle.commitment.specs.Commitment.{keysOf, PublicKeys, PairStands};
-ghost use Rattle.stern.specs.Method.{words-at, summedPair, lessPairs, equationPair};
+ghost use Rattle.stern.specs.Method.{words-at, summedPair, equationPair};
 
 const TWO: usize = 16384;
 

@@ -10,8 +10,7 @@ use Rattle.codec.proofs.Laws.{same-equal}
 use Rattle.codec.proofs.Lists.{list-cong}
 use Rattle.modular.specs.Modulo.{remainder}
 use Rattle.ring.specs.Poly.{Poly, modulo, Alike}
-use Rattle.ring.specs.Slots.{slot, encode}
-use Rattle.ring.specs.Ternary.{ternary}
+use Rattle.ring.specs.Slots.{encode}
 use Rattle.ring.proofs.Bridge.{length-encode}
 use Rattle.ring.proofs.Polynomials.{alike-refl, alike-sym, _so_, alike-minus, alike-mul}
 use Rattle.bgv.specs.Scheme.{opened, plain, Sound}

@@ -1,7 +1,7 @@
 -- What holds for each of n: laws of `each` and `joined`, and of orders of tests. Assumes nothing.
-use mathlib.Core.Path.{_≡_, refl, sym, ap, ap₂, _∙_}
+use mathlib.Core.Path.{_≡_, sym, ap, _∙_}
 use mathlib.Core.Logic.{_⊎_, inl, inr}
-use mathlib.Core.Bool.{Bool, true, false, cond, _&&_}
+use mathlib.Core.Bool.{Bool, true, false, cond}
 use mathlib.Core.List.{List, [], _∷_, _++_}
 use Prim.Native.Nat.{ℕ, zero, suc, _+_, _*_, _≤_, _<_}
 use native.Mathlib.Nat.{mul-zero, mul-suc, mul-le-mul}
@@ -15,7 +15,6 @@ use Rattle.codec.specs.Reply.{Test, first, None}
 use Rattle.codec.specs.declared.Reply.{Reply}
 use Rattle.codec.specs.declared.Reply.the-variants.{Taken, Refused}
 use Rattle.codec.proofs.Replies.{not-taken, taken-exactly, first-append}
-use Rattle.codec.proofs.Laws.{both}
 use Rattle.transcript.specs.Layout.{each, joined}
 
 -- below n + 1: below n, or n

@@ -13,7 +13,7 @@ use Rattle.codec.specs.Reply.{Test, test, None}
 use Rattle.codec.proofs.Laws.{both, same-equal}
 use Rattle.codec.specs.Lists.{list, allBelow, all}
 use Rattle.codec.proofs.Lists.{all-sound, all-complete}
-use Rattle.ring.specs.Poly.{Alike, Below}
+use Rattle.ring.specs.Poly.{Below}
 use Rattle.ring.specs.Slots.{poly}
 use Rattle.ring.proofs.Bridge.{encode-alike}
 use Rattle.ring.proofs.Ranges.{below-sound, below-complete}

@@ -1,5 +1,4 @@
 -- Where the parts of a round stand (document 01, "Layouts"), with N as a parameter. Numbers count from 0. Assumes nothing.
-use mathlib.Core.Bool.{Bool, true, _&&_}
 use mathlib.Core.List.{List, [], _∷_, _++_}
 use Prim.Native.Nat.{ℕ, zero, suc, _+_, _*_}
 use lib.ListN.{getD, take}

@@ -1,6 +1,6 @@
 -- The parameters of a round from lent bytes, and what inner functions are given: ballots, claims, shares, challenges and answers that passed the tests of lengths and ranges. Assumes nothing.
 use mathlib.Core.Path.{_≡_}
-use Prim.Native.Nat.{ℕ, _+_, _*_, _<_}
+use Prim.Native.Nat.{ℕ, _*_, _<_}
 use mathlib.Core.Bool.{true}
 use lib.ListN.{length, getD}
 use Rattle.codec.specs.Bytes.{Bytes}

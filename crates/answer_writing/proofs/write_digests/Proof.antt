@@ -1,11 +1,10 @@
 -- `write_digests` meets its contract. Assumes nothing.
-use mathlib.Core.Path.{_≡_, sym, ap, ap₂, _∙_}
-use mathlib.Core.List.{_++_}
+use mathlib.Core.Path.{_≡_, ap, _∙_}
 use Prim.Native.Nat.{ℕ, _+_, _*_}
 use native.Mathlib.Omega.{arith}
 use borrow.Author.Needs.{needs}
 use lib.ListN.{length}
-use Rattle.codec.specs.Bytes.{Bytes, part, put}
+use Rattle.codec.specs.Bytes.{put}
 use Rattle.codec.proofs.Laws.{length-part, written-length}
 use Rattle.sha3.proofs.Squeezing.{length-sha3}
 use Rattle.vector.specs.Permutation.{entries}

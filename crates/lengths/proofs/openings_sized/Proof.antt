@@ -1,9 +1,4 @@
 -- `openings_sized` meets its contract. Assumes nothing.
-use mathlib.Core.Path.{_≡_, ap, ap₂, _∙_}
-use mathlib.Core.Bool.{_&&_}
-use mathlib.Core.List.{[], _∷_}
-use Prim.Native.Nat.{ℕ, _+_, _*_}
-use lib.ListN.{length}
 use Rattle.codec.specs.Bytes.{same}
 use Rattle.call.proofs.Order.{fails, goes-on}
 use Rattle.lengths.specs.Calls.{openingsSized}

@@ -1,11 +1,9 @@
 -- `repetitions::test_at` meets its contract. Assumes nothing.
-use mathlib.Core.Path.{_≡_, sym, ap, ap₂, _∙_}
-use mathlib.Core.Bool.{Bool}
+use mathlib.Core.Path.{_≡_, ap, ap₂, _∙_}
 use Prim.Native.Nat.{ℕ, _+_, _-_, _*_}
 use native.Mathlib.Omega.{arith}
 use borrow.Author.Needs.{needs}
 use lib.ListN.{take, drop}
-use Rattle.codec.specs.Bytes.{Bytes}
 use Rattle.codec.specs.Reply.{first}
 use Rattle.commitment.specs.Commitment.{keysOf}
 use Rattle.stern.specs.Shortness.{inRange, answerTests}

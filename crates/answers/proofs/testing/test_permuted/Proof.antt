@@ -1,12 +1,12 @@
 -- `testing::test_permuted` meets its contract. Assumes nothing.
-use mathlib.Core.Path.{_≡_, refl, sym, ap, _∙_}
+use mathlib.Core.Path.{_≡_, sym, ap, _∙_}
 use mathlib.Core.Bool.{true, not}
-use Prim.Native.Nat.{ℕ, _*_, _+_}
+use Prim.Native.Nat.{ℕ, _*_}
 use native.Mathlib.Omega.{arith}
 use borrow.Author.Needs.{needs}
 use borrow.Author.Tests.{not-true, not-false}
-use lib.ListN.{length, length-replicate}
-use Rattle.codec.specs.Bytes.{Bytes, zeros}
+use lib.ListN.{length-replicate}
+use Rattle.codec.specs.Bytes.{zeros}
 use Rattle.codec.proofs.Laws.{written-length}
 use Rattle.vector.specs.Permutation.{entries, permutes}
 use Rattle.vector.proofs.Counts.{permutes-below}

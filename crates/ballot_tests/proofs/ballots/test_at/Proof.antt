@@ -1,15 +1,15 @@
 -- `ballots::test_at` meets its contract. Assumes nothing.
-use mathlib.Core.Path.{_≡_, sym, ap, ap₂, _∙_}
+use mathlib.Core.Path.{_≡_, ap, ap₂, _∙_}
 use mathlib.Core.Bool.{Bool, not}
 use mathlib.Core.List.{[], _∷_}
 use Prim.Native.Nat.{ℕ, _+_, _-_, _*_}
 use native.Mathlib.Omega.{arith}
 use borrow.Author.Needs.{needs}
 use lib.ListN.{length, take, drop}
-use Rattle.codec.specs.Bytes.{Bytes, same}
+use Rattle.codec.specs.Bytes.{same}
 use Rattle.codec.specs.Reply.{test, first}
 use Rattle.codec.proofs.Laws.{length-part}
-use Rattle.ring.specs.Slots.{poly, slot}
+use Rattle.ring.specs.Slots.{poly}
 use Rattle.transcript.proofs.Compared.{within-alike, vote-alike, lent-alike, lent-public, first-below, second-below}
 use Rattle.ballot_tests.proofs.ballots.test_at.Statement.{statement}
 use Rattle.ballot_tests.proofs.ballots.test_at.Tie as tie

@@ -1,9 +1,8 @@
 -- `ballots::test_ballots` meets its contract. Assumes nothing.
-use mathlib.Core.Path.{_≡_, refl, sym, ap, _∙_}
-use Prim.Native.Nat.{ℕ, _-_}
+use mathlib.Core.Path.{sym, _∙_}
+use Prim.Native.Nat.{_-_}
 use native.Mathlib.Omega.{arith}
 use borrow.Author.Needs.{needs}
-use lib.ListN.{length}
 use Rattle.ballot_tests.proofs.BallotLoop.{Reached, reached-first, reached-more, reached-refused, reached-all, places-fit, at-asks, below-asks}
 use Rattle.ballot_tests.proofs.ballots.test_ballots.Statement.{statement}
 use Rattle.ballot_tests.proofs.ballots.test_ballots.Tie as tie

@@ -4,7 +4,7 @@ use Prim.Native.Nat.{ℕ, _-_, _*_}
 use native.Mathlib.Omega.{arith}
 use borrow.Author.Needs.{needs}
 use lib.ListN.{take}
-use Rattle.codec.specs.Bytes.{Bytes, same}
+use Rattle.codec.specs.Bytes.{same}
 use Rattle.ballot_tests.proofs.halves.is_key.Statement.{statement}
 use Rattle.ballot_tests.proofs.halves.is_key.Tie as tie
 

@@ -2,7 +2,6 @@
 use Prim.Native.Nat.{_+_, _*_}
 use native.Mathlib.Omega.{arith}
 use borrow.Author.Needs.{needs}
-use lib.ListN.{length}
 use Rattle.codec.specs.Bytes.{part}
 use Rattle.codec.proofs.Laws.{length-part, written-behind}
 use Rattle.message_head.proofs.pairs.write_halves.Statement.{statement}

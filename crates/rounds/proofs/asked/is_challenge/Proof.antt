@@ -1,6 +1,5 @@
 -- `asked::is_challenge` meets its contract. Assumes nothing.
 use native.Mathlib.Omega.{arith}
-use borrow.Author.Needs.{needs}
 use borrow.Author.Tests.{le-leb, lt-leb}
 use Rattle.rounds.proofs.asked.is_challenge.Statement.{statement}
 use Rattle.rounds.proofs.asked.is_challenge.Tie as tie

@@ -1,12 +1,11 @@
 -- `digests::masked_digest` meets its contract. Assumes nothing.
-use mathlib.Core.Path.{_≡_, ap, _∙_}
-use mathlib.Core.List.{List, _∷_, _++_}
+use mathlib.Core.Path.{ap, _∙_}
+use mathlib.Core.List.{_∷_, _++_}
 use Prim.Native.Nat.{ℕ, _*_, _-_}
 use native.Mathlib.Omega.{arith}
 use borrow.Author.Needs.{needs}
 use Rattle.codec.specs.Bytes.{Bytes, words}
 use Rattle.sha3.specs.Sponge.{sha3}
-use Rattle.ring.specs.Ternary.{count}
 use Rattle.ring.proofs.Ranges.{count-le}
 use Rattle.vector.specs.Vector.{vector, ternaries, add}
 use Rattle.vector.specs.Permutation.{entries, apply, extend}
