@@ -9,8 +9,7 @@ use Rattle.codec.specs.Reply.{None}
 use Rattle.codec.proofs.Laws.{same-equal}
 use Rattle.modular.specs.Modulo.{remainder}
 use Rattle.ring.specs.Poly.{Poly, modulo, Alike}
-use Rattle.ring.specs.Slots.{slot, encode}
-use Rattle.ring.specs.Ternary.{ternary}
+use Rattle.ring.specs.Slots.{encode}
 use Rattle.ring.proofs.Bridge.{length-encode, list-cong}
 use Rattle.ring.proofs.Polynomials.{alike-refl, alike-sym, _so_, alike-minus, alike-mul}
 use Rattle.bgv.specs.Scheme.{opened, plain, Sound}

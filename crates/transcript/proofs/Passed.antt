@@ -11,7 +11,7 @@ use lib.ListN.{getD}
 use Rattle.codec.specs.Bytes.{Bytes}
 use Rattle.codec.specs.Reply.{Test, test, None}
 use Rattle.codec.proofs.Laws.{both, same-equal}
-use Rattle.ring.specs.Poly.{Alike, Below}
+use Rattle.ring.specs.Poly.{Below}
 use Rattle.ring.specs.Slots.{poly, list, allBelow}
 use Rattle.ring.proofs.Bridge.{encode-alike}
 use Rattle.ring.proofs.Ranges.{below-sound, below-complete}
