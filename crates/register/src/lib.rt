@@ -1,8 +1,11 @@
 // The register of ballots over a lent slice (document 01, "Register and session"): find, admit, withdraw, count, turnout.
+use codec::Reply;
 ghost use mathlib.Core.Path.{_≡_};
 ghost use Prim.Native.Nat.{_+_, _*_, _≤_};
 ghost use lib.Dec.{eqb};
 ghost use lib.ListN.{length};
+ghost use Rattle.codec.specs.Reply.{first, leaves};
+ghost use Rattle.register.specs.Orders.{admissionTests, withdrawalTests};
 ghost use Rattle.register.specs.Register as def;
 
 // The length of a register.
@@ -31,8 +34,8 @@ pub fn is_standing(reg: &[u8], i: usize) -> bool
     reg[40 * i + 4] == 1
 }
 
-// Admits a ballot after n entries.
-pub fn admit(reg: &mut [u8], n: usize, ballot: &[u8])
+// Writes the entry of a ballot after n entries.
+fn write_entry(reg: &mut [u8], n: usize, ballot: &[u8])
     requires { ⌜ (40 * n + 40 ≤ length (now reg)) × (4 ≤ length (now ballot)) ⌝ }
     ensures { λ _. ⌜ now (reg .exit) ≡ def.admitted (now (reg .entry)) n (now (ballot .entry)) ⌝ }
 {
@@ -43,12 +46,64 @@ pub fn admit(reg: &mut [u8], n: usize, ballot: &[u8])
     codec::copy(reg, at + 8, &digest);
 }
 
-// Withdraws entry i.
-pub fn withdraw(reg: &mut [u8], i: usize)
+// Admits a ballot after the used entries: 32, 33, 35.
+pub fn admit(reg: &mut [u8], used: usize, ballot: &[u8]) -> Reply
+    requires { ⌜ (length (now reg) ≡ def.registerLength) × (used ≤ def.capacity) × (4 ≤ length (now ballot)) ⌝ }
+    ensures reply { λ r. ⌜ r ≡ first (admissionTests (now (reg .entry)) used (def.markOf (now (ballot .entry)))) ⌝ }
+    ensures register { λ _. ⌜ now (reg .exit) ≡ leaves (first (admissionTests (now (reg .entry)) used (def.markOf (now (ballot .entry))))) (def.admitted (now (reg .entry)) used (now (ballot .entry))) (now (reg .entry)) ⌝ }
+{
+    let i = find(reg, codec::read32(ballot, 0), used);
+    if i < used {
+        if is_standing(reg, i) {
+            return Reply::Refused {
+                number: 32,
+                place: 0,
+            };
+        }
+        return Reply::Refused {
+            number: 33,
+            place: 0,
+        };
+    }
+    if used == 4096 {
+        return Reply::Refused {
+            number: 35,
+            place: 0,
+        };
+    }
+    write_entry(reg, used, ballot);
+    Reply::Taken
+}
+
+// Writes that entry i is withdrawn.
+fn write_withdrawn(reg: &mut [u8], i: usize)
     requires { ⌜ 40 * i + 40 ≤ length (now reg) ⌝ }
     ensures { λ _. ⌜ now (reg .exit) ≡ def.withdrawn (now (reg .entry)) i ⌝ }
 {
     codec::write8(reg, 40 * i + 4, 2);
+}
+
+// Withdraws the first of the used entries that has the mark: 34, 33.
+pub fn withdraw(reg: &mut [u8], used: usize, mark: u32) -> Reply
+    requires { ⌜ (length (now reg) ≡ def.registerLength) × (used ≤ def.capacity) ⌝ }
+    ensures reply { λ r. ⌜ r ≡ first (withdrawalTests (now (reg .entry)) used mark) ⌝ }
+    ensures register { λ _. ⌜ now (reg .exit) ≡ leaves (first (withdrawalTests (now (reg .entry)) used mark)) (def.withdrawn (now (reg .entry)) (def.find (now (reg .entry)) mark used)) (now (reg .entry)) ⌝ }
+{
+    let i = find(reg, mark, used);
+    if i == used {
+        return Reply::Refused {
+            number: 34,
+            place: 0,
+        };
+    }
+    if !is_standing(reg, i) {
+        return Reply::Refused {
+            number: 33,
+            place: 0,
+        };
+    }
+    write_withdrawn(reg, i);
+    Reply::Taken
 }
 
 // How many of the first n entries stand.

@@ -19,7 +19,8 @@ use Rattle.sheet.specs.declared.Reading.the-variants as reading
 use Rattle.sheet.proofs.Taken.{reply-is}
 use Rattle.vector.specs.Vector.{vector}
 use Rattle.transcript.specs.Layout.{ballotLength}
-use Rattle.register.specs.Register.{capacity, registerLength, stateAt, digestAt, find, standing, standingDigests, markOf}
+use Rattle.register.specs.Orders.{admissionTests, withdrawalTests}
+use Rattle.register.specs.Register.{registerLength, digestAt, standing, standingDigests, markOf}
 use Rattle.session.specs.Session.{gathering, valid}
 use Rattle.session.specs.Steps.{clearTests, admitTests, withdrawTests, closeTests, turnoutTests}
 use Rattle.session.specs.declared.Session.{Session}
@@ -69,22 +70,10 @@ module _ (p : ℕ) (s : Session) (reg ballot : Bytes) where
       unfolding admitTests first same
       admit-range b = rw (e, eq-eqb (length reg) registerLength l, eq-eqb (length ballot) (ballotLength (s .numbers .ring)) m, b)
 
-      module _ (b : allBelow (s .numbers .modulus) (vector (drop 4 ballot)) ≡ true) {i : ℕ} (f : i ≡ find reg (markOf ballot) (s .used)) where
-        pub admit-standing : i < s .used → eqb (stateAt reg i) 1 ≡ true → first (admitTests p s reg ballot) ≡ Refused 32 0
-        unfolding admitTests first same
-        admit-standing h g = rw (e, eq-eqb (length reg) registerLength l, eq-eqb (length ballot) (ballotLength (s .numbers .ring)) m, b, ← f, lt-ltb i (s .used) h, g)
-
-        pub admit-withdrawn : i < s .used → eqb (stateAt reg i) 1 ≡ false → first (admitTests p s reg ballot) ≡ Refused 33 0
-        unfolding admitTests first same
-        admit-withdrawn h g = rw (e, eq-eqb (length reg) registerLength l, eq-eqb (length ballot) (ballotLength (s .numbers .ring)) m, b, ← f, lt-ltb i (s .used) h, g)
-
-        pub admit-full : s .used ≤ i → s .used ≡ capacity → first (admitTests p s reg ballot) ≡ Refused 35 0
-        unfolding admitTests first same
-        admit-full h g = rw (e, eq-eqb (length reg) registerLength l, eq-eqb (length ballot) (ballotLength (s .numbers .ring)) m, b, ← f, le-ltb i (s .used) h, eq-eqb (s .used) capacity g)
-
-        pub admit-taken : s .used ≤ i → s .used ≢ capacity → first (admitTests p s reg ballot) ≡ Taken
-        unfolding admitTests first same
-        admit-taken h g = rw (e, eq-eqb (length reg) registerLength l, eq-eqb (length ballot) (ballotLength (s .numbers .ring)) m, b, ← f, le-ltb i (s .used) h, ne-eqb (s .used) capacity g)
+      -- the register decides
+      pub admit-on : allBelow (s .numbers .modulus) (vector (drop 4 ballot)) ≡ true → first (admitTests p s reg ballot) ≡ first (admissionTests reg (s .used) (markOf ballot))
+      unfolding admitTests first same
+      admit-on b = rw (e, eq-eqb (length reg) registerLength l, eq-eqb (length ballot) (ballotLength (s .numbers .ring)) m, b)
 
 -- ---- withdraw
 
@@ -98,18 +87,10 @@ module _ (p : ℕ) (s : Session) (reg : Bytes) (mark : ℕ) where
     unfolding withdrawTests first
     withdraw-register l = rw (e, ne-eqb (length reg) registerLength l)
 
-    module _ (l : length reg ≡ registerLength) {i : ℕ} (f : i ≡ find reg mark (s .used)) where
-      pub withdraw-unknown : i ≡ s .used → first (withdrawTests p s reg mark) ≡ Refused 34 0
-      unfolding withdrawTests first
-      withdraw-unknown h = rw (e, eq-eqb (length reg) registerLength l, ← f, eq-eqb i (s .used) h)
-
-      pub withdraw-again : i ≢ s .used → eqb (stateAt reg i) 1 ≡ false → first (withdrawTests p s reg mark) ≡ Refused 33 0
-      unfolding withdrawTests first
-      withdraw-again h g = rw (e, eq-eqb (length reg) registerLength l, ← f, ne-eqb i (s .used) h, g)
-
-      pub withdraw-taken : i ≢ s .used → eqb (stateAt reg i) 1 ≡ true → first (withdrawTests p s reg mark) ≡ Taken
-      unfolding withdrawTests first
-      withdraw-taken h g = rw (e, eq-eqb (length reg) registerLength l, ← f, ne-eqb i (s .used) h, g)
+    -- the register decides
+    pub withdraw-on : length reg ≡ registerLength → first (withdrawTests p s reg mark) ≡ first (withdrawalTests reg (s .used) mark)
+    unfolding withdrawTests first
+    withdraw-on l = rw (e, eq-eqb (length reg) registerLength l)
 
 -- ---- close
 

@@ -1,10 +1,11 @@
 -- What a step answers and leaves, by its tests. Assumes nothing.
-use mathlib.Core.Path.{_≡_, sym, _∙_}
+use mathlib.Core.Path.{_≡_, refl, sym, ap, _∙_}
 use mathlib.Core.Bool.{Bool, true, false, _&&_, and-assoc, and-false}
 use mathlib.Core.List.{List}
 use Prim.Native.Nat.{ℕ}
 use Rattle.codec.specs.Bytes.{Bytes}
 use Rattle.codec.specs.Reply.{Test, first, leaves}
+use Rattle.codec.specs.declared.Reply.{Reply}
 use Rattle.codec.specs.declared.Reply.the-variants.{Taken, Refused}
 use Rattle.session.specs.declared.Session.{Session}
 use Rattle.session.specs.declared.Stepped.{Stepped}
@@ -51,12 +52,21 @@ pub keeps-with : (ts : List Test) (s : Session) (written kept : Bytes) {n : ℕ}
 unfolding leaves
 keeps-with ts s written kept e h = (h .1 ∙ sym e, (h .0, rw e))
 
--- a call that leaves lent bytes only
-module _ (ts : List Test) (written kept : Bytes) where
-  pub silent : {n : ℕ} → first ts ≡ Refused n 0 → (Refused n 0 ≡ first ts) × (kept ≡ leaves (first ts) written kept)
-  unfolding leaves
-  silent e = (sym e, rw e)
+-- a step whose last tests are those of a call that it makes, with what that call answers and leaves
+module _ (ts us : List Test) (on : first ts ≡ first us) (next s : Session) (written kept : Bytes) {r : Reply} {x : Bytes} (h : (r ≡ first us) × (x ≡ leaves (first us) written kept)) where
+  said : r ≡ first ts
+  said = h .0 ∙ sym on
 
-  pub writes : {x : Bytes} → first ts ≡ Taken → x ≡ written → (Taken ≡ first ts) × (x ≡ leaves (first ts) written kept)
+  left : x ≡ leaves (first ts) written kept
+  left = h .1 ∙ ap (λ (q : Reply). leaves q written kept) (sym on)
+
+  pub moves-on : {t : Session} → r ≡ Taken → t ≡ next → (r ≡ first ts) × ((t ≡ leaves (first ts) next s) × (x ≡ leaves (first ts) written kept))
   unfolding leaves
-  writes e h = (sym e, rw e h)
+  moves-on e g = (said, (rw (sym said ∙ e) g, left))
+
+  pub stays-on : {n p : ℕ} → r ≡ Refused n p → (r ≡ first ts) × ((s ≡ leaves (first ts) next s) × (x ≡ leaves (first ts) written kept))
+  unfolding leaves
+  stays-on e = (said, (rw (sym said ∙ e), left))
+
+  pub keeps-on : (r ≡ first ts) × ((s ≡ s) × (x ≡ leaves (first ts) written kept))
+  keeps-on = (said, (refl, left))

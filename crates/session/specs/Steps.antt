@@ -15,7 +15,8 @@ use Rattle.sheet.specs.Reader.{sheetOf}
 use Rattle.sheet.specs.Sheet.{order}
 use Rattle.vector.specs.Vector.{vector}
 use Rattle.transcript.specs.Layout.{ballotLength, headLength}
-use Rattle.register.specs.Register.{capacity, registerLength, stateAt, find, standing, standingDigests, markOf}
+use Rattle.register.specs.Orders.{admissionTests, withdrawalTests}
+use Rattle.register.specs.Register.{registerLength, standing, standingDigests, markOf}
 use Rattle.digests.specs.Digests.{closingDigest, claimDigest, roundDigest}
 use Rattle.drawing.specs.Draw.{drawnSide, drawnChallenges}
 use Rattle.stored.specs.declared.Stored.{Stored}
@@ -55,14 +56,10 @@ cleared text = record {
 
 unfoldable pub admitTests : (p : ℕ) → Session → (reg ballot : Bytes) → List Test
 admitTests p s reg ballot =
-    let i = find reg (markOf ballot) (s .used) in
     dueTest p s (eqb (s .phase) gathering)
     ∷ test 1 0 (not (same (length reg ∷ length ballot ∷ []) (registerLength ∷ ballotLength (s .numbers .ring) ∷ [])))
     ∷ test 5 0 (not (allBelow (s .numbers .modulus) (vector (drop 4 ballot))))
-    ∷ test 32 0 (ltb i (s .used) && eqb (stateAt reg i) 1)
-    ∷ test 33 0 (ltb i (s .used))
-    ∷ test 35 0 (eqb (s .used) capacity)
-    ∷ []
+    ∷ admissionTests reg (s .used) (markOf ballot)
 
 -- one entry more
 unfoldable pub admittedBy : Session → Session
@@ -72,12 +69,7 @@ admittedBy s = changed s (s .phase) (s .used + 1) (s .closed) (s .closing) (s .c
 
 unfoldable pub withdrawTests : (p : ℕ) → Session → (reg : Bytes) (mark : ℕ) → List Test
 withdrawTests p s reg mark =
-    let i = find reg mark (s .used) in
-    dueTest p s (eqb (s .phase) gathering)
-    ∷ test 1 0 (not (eqb (length reg) registerLength))
-    ∷ test 34 0 (eqb i (s .used))
-    ∷ test 33 0 (not (eqb (stateAt reg i) 1))
-    ∷ []
+    dueTest p s (eqb (s .phase) gathering) ∷ test 1 0 (not (eqb (length reg) registerLength)) ∷ withdrawalTests reg (s .used) mark
 
 -- ---- close: 31, 1, 36
 

@@ -65,24 +65,18 @@ impl Session {
         if !ring::in_range(&ballot[4..], self.numbers.modulus) {
             return self.refused(5);
         }
-        let used = self.used as usize;
-        let i = register::find(reg, codec::read32(ballot, 0), used);
-        if i < used {
-            if register::is_standing(reg, i) {
-                return self.refused(32);
-            }
-            return self.refused(33);
-        }
-        if used == 4096 {
-            return self.refused(35);
-        }
-        register::admit(reg, used, ballot);
+        let reply = register::admit(reg, self.used as usize, ballot);
         let mut session = self;
-        session.used = self.used + 1;
-        Stepped {
-            session,
-            reply: Reply::Taken,
+        match reply {
+            Reply::Taken => {
+                session.used = self.used + 1;
+            }
+            Reply::Refused {
+                number: _,
+                place: _,
+            } => {}
         }
+        Stepped { session, reply }
     }
 
     // Withdraws the ballot with a mark.
@@ -97,18 +91,10 @@ impl Session {
         if reg.len() != register::REGISTER {
             return self.refused(1);
         }
-        let used = self.used as usize;
-        let i = register::find(reg, mark, used);
-        if i == used {
-            return self.refused(34);
-        }
-        if !register::is_standing(reg, i) {
-            return self.refused(33);
-        }
-        register::withdraw(reg, i);
+        let reply = register::withdraw(reg, self.used as usize, mark);
         Stepped {
             session: self,
-            reply: Reply::Taken,
+            reply,
         }
     }
 

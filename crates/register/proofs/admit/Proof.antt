@@ -1,39 +1,40 @@
 -- `register::admit` meets its contract. Assumes nothing.
-use mathlib.Core.Path.{_≡_, refl, ap, _∙_}
-use mathlib.Core.List.{[], _∷_, _++_}
-use Prim.Native.Nat.{ℕ, _+_, _*_, _≤_}
+use mathlib.Core.Path.{_≡_, sym, ap, _∙_}
+use Prim.Native.Nat.{ℕ}
 use native.Mathlib.Omega.{arith}
 use borrow.Author.Needs.{needs}
-use lib.ListN.{length, length-append}
-use Rattle.codec.specs.Bytes.{Bytes, bytes, part, put}
-use Rattle.codec.proofs.Laws.{length-part, length-put, put-append}
-use Rattle.sha3.specs.Sponge.{sha3}
-use Rattle.sha3.proofs.Squeezing.{length-sha3}
-use Rattle.register.specs.Register as def
+use Rattle.register.specs.Register.{find, markOf}
+use Rattle.register.proofs.Orders.{is-standing, is-withdrawn, is-full, is-free, silent, writes}
 use Rattle.register.proofs.admit.Statement.{statement}
 use Rattle.register.proofs.admit.Tie as tie
 
--- three writes side by side
-three : (d : Bytes) (at : ℕ) (s t u : Bytes) → length s ≡ 4 → length t ≡ 4 → at + 8 + length u ≤ length d
-    → put (put (put d at s) (at + 4) t) (at + 8) u ≡ put d at (s ++ (t ++ u))
-three d at s t u e f h =
-    let k : at + 8 ≡ at + 4 + length t = omega arith in
-    let m : at + 4 ≡ at + length s = omega arith in
-    let w : length (put d at s) ≡ length d = length-put d at s (omega arith) in
-    ap (λ (i : ℕ). put (put (put d at s) (at + 4) t) i u) k ∙ put-append (put d at s) (at + 4) t u (omega arith)
-    ∙ ap (λ (i : ℕ). put (put d at s) i (t ++ u)) m ∙ put-append d at s (t ++ u) (simp length-append (omega arith))
-
 returns : tie.Need-returns
-unfolding def.admitted def.entry bytes
+unfolding markOf
 returns c =
-    let a = c .before .before .before .before .before .before .before .before .before .before .before .before .before .before .before .before .before .args in
-    let r = a .reg .now in
-    let b = a .ballot .now in
-    let at = 40 * a .n in
-    let e = length-sha3 b in
-    let k = length-part b 0 4 (omega arith) in
-    rw (c .before .before .copy2 .ensures, c .before .before .before .before .before .before .before .write32 .ensures, c .before .before .before .before .before .before .before .before .before .before .before .copy .ensures, c .before .before .before .before .before .before .before .before .before .before .before .before .before .before .hash .ensures)
-    (three r at (part b 0 4) (1 ∷ 0 ∷ 0 ∷ 0 ∷ []) (sha3 b) k refl (omega arith))
+    let a = c .before .before .before .before .before .before .before .before .before .args in
+    let f = c .before .before .before .before .find .ensures .0 ∙ ap (λ (m : ℕ). find (a .reg .now) m (a .used)) (c .before .before .before .before .before .read32 .ensures) in
+    silent _ _ _ (is-standing _ _ _ f (c .before .before .before .if1 .taken) (sym (c .before .is-standing .ensures) ∙ c .if2 .taken))
+
+returns-2 : tie.Need-returns-2
+unfolding markOf
+returns-2 c =
+    let a = c .before .before .before .before .before .before .before .before .before .args in
+    let f = c .before .before .before .before .find .ensures .0 ∙ ap (λ (m : ℕ). find (a .reg .now) m (a .used)) (c .before .before .before .before .before .read32 .ensures) in
+    silent _ _ _ (is-withdrawn _ _ _ f (c .before .before .before .if1 .taken) (sym (c .before .is-standing .ensures) ∙ c .if2 .left))
+
+returns-3 : tie.Need-returns-3
+unfolding markOf
+returns-3 c =
+    let a = c .before .before .before .before .before .before .before .args in
+    let f = c .before .before .find .ensures .0 ∙ ap (λ (m : ℕ). find (a .reg .now) m (a .used)) (c .before .before .before .read32 .ensures) in
+    silent _ _ _ (is-full _ _ _ f (c .before .if1 .left) (c .if3 .taken))
+
+returns-4 : tie.Need-returns-4
+unfolding markOf
+returns-4 c =
+    let a = c .before .before .before .before .before .before .before .before .before .before .before .args in
+    let f = c .before .before .before .before .before .before .find .ensures .0 ∙ ap (λ (m : ℕ). find (a .reg .now) m (a .used)) (c .before .before .before .before .before .before .before .read32 .ensures) in
+    writes _ _ _ (is-free _ _ _ f (c .before .before .before .before .before .if1 .left) (c .before .before .before .before .if3 .left)) (c .before .before .write-entry .ensures)
 
 pub admit-spec : {M : Type 1} → statement M
-admit-spec = tie.close (tie.spec (λ c. search needs) (λ c κs. search needs) (λ c. search needs) (λ c. search needs) (λ c. search needs) (λ c κs. search needs) (λ c. search needs) (λ c κs. search needs) (λ c. search needs) (λ c. search needs) (λ c κs. search needs) (λ c. search needs) returns)
+admit-spec = tie.close (tie.spec (λ c κs. search needs) (λ c κs. omega arith) (λ c κs. omega arith) (λ c. search needs) returns (λ c. search needs) returns-2 (λ c. search needs) returns-3 (λ c κs. (omega arith, c .before .before .before .before .before .before .before .before .pre .2)) (λ c. search needs) returns-4)

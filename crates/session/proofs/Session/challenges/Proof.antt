@@ -10,7 +10,7 @@ use Rattle.codec.specs.Bytes.{Bytes}
 use Rattle.drawing.specs.Draw.{drawnChallenges}
 use Rattle.session.specs.Steps.{challengesOut}
 use Rattle.session.proofs.Validity.{is-valid, bounds}
-use Rattle.session.proofs.Stepping.{silent, writes}
+use Rattle.register.proofs.Orders.{silent, writes}
 use Rattle.session.proofs.CheckTests.{challenges-invalid, challenges-early, challenges-past, challenges-length, challenges-taken, laid, room}
 use Rattle.session.proofs.Session.challenges.Statement.{statement}
 use Rattle.session.proofs.Session.challenges.Tie as tie

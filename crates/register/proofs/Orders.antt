@@ -1,0 +1,57 @@
+-- The orders of an admission and a withdrawal, refusal by refusal, and what a call leaves by its order. Assumes nothing.
+use mathlib.Core.Path.{_≡_, sym}
+use mathlib.Core.Logic.{_≢_}
+use mathlib.Core.Bool.{true, false}
+use mathlib.Core.List.{List}
+use Prim.Native.Nat.{ℕ, _≤_, _<_}
+use lib.Dec.{eqb}
+use borrow.Author.Tests.{eq-eqb, ne-eqb, lt-ltb, le-ltb}
+use Rattle.codec.specs.Bytes.{Bytes}
+use Rattle.codec.specs.Reply.{Test, first, leaves}
+use Rattle.codec.specs.declared.Reply.the-variants.{Taken, Refused}
+use Rattle.register.specs.Register.{capacity, stateAt, find}
+use Rattle.register.specs.Orders.{admissionTests, withdrawalTests}
+
+module _ (reg : Bytes) (used mark : ℕ) {i : ℕ} (f : i ≡ find reg mark used) where
+  -- ---- admission
+
+  pub is-standing : i < used → eqb (stateAt reg i) 1 ≡ true → first (admissionTests reg used mark) ≡ Refused 32 0
+  unfolding first
+  is-standing h g = rw (← f, lt-ltb i used h, g)
+
+  pub is-withdrawn : i < used → eqb (stateAt reg i) 1 ≡ false → first (admissionTests reg used mark) ≡ Refused 33 0
+  unfolding first
+  is-withdrawn h g = rw (← f, lt-ltb i used h, g)
+
+  pub is-full : used ≤ i → used ≡ capacity → first (admissionTests reg used mark) ≡ Refused 35 0
+  unfolding first
+  is-full h g = rw (← f, le-ltb i used h, eq-eqb used capacity g)
+
+  pub is-free : used ≤ i → used ≢ capacity → first (admissionTests reg used mark) ≡ Taken
+  unfolding first
+  is-free h g = rw (← f, le-ltb i used h, ne-eqb used capacity g)
+
+  -- ---- withdrawal
+
+  pub is-unknown : i ≡ used → first (withdrawalTests reg used mark) ≡ Refused 34 0
+  unfolding first
+  is-unknown h = rw (← f, eq-eqb i used h)
+
+  pub is-withdrawn-already : i ≢ used → eqb (stateAt reg i) 1 ≡ false → first (withdrawalTests reg used mark) ≡ Refused 33 0
+  unfolding first
+  is-withdrawn-already h g = rw (← f, ne-eqb i used h, g)
+
+  pub is-known : i ≢ used → eqb (stateAt reg i) 1 ≡ true → first (withdrawalTests reg used mark) ≡ Taken
+  unfolding first
+  is-known h g = rw (← f, ne-eqb i used h, g)
+
+-- ---- a call that leaves lent bytes only
+
+module _ (ts : List Test) (written kept : Bytes) where
+  pub silent : {n : ℕ} → first ts ≡ Refused n 0 → (Refused n 0 ≡ first ts) × (kept ≡ leaves (first ts) written kept)
+  unfolding leaves
+  silent e = (sym e, rw e)
+
+  pub writes : {x : Bytes} → first ts ≡ Taken → x ≡ written → (Taken ≡ first ts) × (x ≡ leaves (first ts) written kept)
+  unfolding leaves
+  writes e h = (sym e, rw e h)
