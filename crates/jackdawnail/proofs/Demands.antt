@@ -34,7 +34,7 @@ use Rattle.image.specs.Image.{imageLength, decode}
 use Rattle.session_calls.specs.Images.{lentReply, admitReply, checkReply}
 use Rattle.histories.specs.Examples.{all-examples}
 use Rattle.histories.proofs.Valid.{sheet-exactly}
-use Rattle.histories.proofs.Exact.{admitted-exactly}
+use Rattle.histories.proofs.Exact.{cleared-exactly, admitted-exactly, withdrawn-exactly, closed-exactly, claimed-exactly, committed-exactly, drawn-exactly}
 use Rattle.histories.proofs.Checked.{accepted-exactly}
 use Rattle.histories.proofs.Withdrawn.{withdrawn-stays-out}
 use Rattle.histories.proofs.Rounds.{rounds-checked, ended-accepted}
@@ -44,7 +44,7 @@ use Rattle.histories.proofs.Roll.{roll-is-batch, own-register}
 use Rattle.jackdawnail.proofs.HostSteps.{over-images}
 use Rattle.jackdawnail.proofs.HostClaims.{host-stays-out, host-ended-accepted, host-honest-accepted}
 use Rattle.jackdawnail.proofs.Produces.{first-exactly, second-call-exactly}
-use Rattle.jackdawnail.specs.Demands.{AcceptedExactly, AdmittedExactly, HonestBallots, Demand2, Extracts, RefusesAsChecks, ProducerWrites, HonestRounds, Demand3}
+use Rattle.jackdawnail.specs.Demands.{SheetExactly, AcceptedExactly, AdmittedExactly, HonestBallots, Demand2, Extracts, RefusesAsChecks, ProducerWrites, HonestRounds, Demand3}
 
 -- ---- over an image
 
@@ -71,6 +71,12 @@ unfolding admitReply
 admitted image reg ballot = over-image image (λ s. first (admitTests 2 s reg ballot)) (admitted-exactly 2 (decode image) reg ballot)
 
 -- ---- over a sheet that is taken
+
+sheets : SheetExactly
+sheets text =
+    let t = taken-exactly (order 2 text) in
+    let s = sheet-exactly 2 text in
+    (λ e. s .0 (t .0 e), λ h. t .1 (s .1 h))
 
 module _ (text : Bytes) (sheet : first (order 2 text) ≡ Taken) where
   read : reading 2 text ≡ reading.Taken (sheetOf text .numbers)
@@ -119,10 +125,17 @@ refuses-as-checks P m x opens answers lending = (refuses-exactly P m x opens ans
 
 pub demand2 : Demand2
 demand2 = record {
+  sheet-exactly = sheets;
   accepted-exactly = accepted;
   rounds-checked = rounds-checked 2;
   ended-accepted = ended-accepted 2;
   admitted-exactly = admitted;
+  cleared-exactly = cleared-exactly 2;
+  withdrawn-exactly = withdrawn-exactly 2;
+  closed-exactly = closed-exactly 2;
+  claimed-exactly = claimed-exactly 2;
+  committed-exactly = committed-exactly 2;
+  drawn-exactly = drawn-exactly 2;
   withdrawn-stays-out = withdrawn-stays-out 2;
   honest-ballots = honest-ballots;
   examples = all-examples;

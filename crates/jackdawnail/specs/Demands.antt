@@ -25,14 +25,18 @@ use Rattle.verification_calls.specs.Replies.{extractReply}
 use Rattle.checking.specs.Check.{Inputs}
 use Rattle.image.specs.Image.{imageLength, decode}
 use Rattle.session_calls.specs.Images.{admitReply, checkReply}
-use Rattle.histories.specs.Conditions.{Admits, Checks}
-use Rattle.histories.specs.Claims.{StaysOut, RoundsChecked, EndedAccepted, ClearTaken, StaysValid, OnlyPhaseOrRound, HonestAccepted, RollIsBatch, OwnRegister}
+use Rattle.histories.specs.Conditions.{SheetTaken, Admits, Checks}
+use Rattle.histories.specs.Claims.{ClearedExactly, WithdrawnExactly, ClosedExactly, ClaimedExactly, CommittedExactly, DrawnExactly, StaysOut, RoundsChecked, EndedAccepted, ClearTaken, StaysValid, OnlyPhaseOrRound, HonestAccepted, RollIsBatch, OwnRegister}
 use Rattle.histories.specs.Examples.{all-rows}
 use Rattle.jackdawnail.specs.Produces.{WritesFirst, WritesSecond}
 use Rattle.jackdawnail.specs.HostSteps.{OverImages}
 use Rattle.jackdawnail.specs.HostClaims.{HostStaysOut, HostEndedAccepted, HostHonestAccepted}
 
 -- ---- 2. Everything equals the papers, a round is accepted exactly if every listed check holds, and a withdrawn mark is in no closed batch.
+
+-- a sheet is taken exactly if all of `SheetTaken` holds
+abbrev pub SheetExactly : Type 0
+SheetExactly = (text : Bytes) → (first (order 2 text) ≡ Taken) ↔ SheetTaken 2 text
 
 -- a check is taken exactly if the image has its length and all of `Checks` holds of the session in it, in every round
 abbrev pub AcceptedExactly : Type 0
@@ -58,11 +62,19 @@ abbrev pub Examples : Type 0
 Examples = map (λ (x : Row). x .got) all-rows ≡ map (λ (x : Row). x .said) all-rows
 
 pub record Demand2 : Type 0 where
+  pub sheet-exactly : SheetExactly
   pub accepted-exactly : AcceptedExactly
   -- over every list of steps from a newly cleared session: a round that a session counts as checked has had its check, and of a session that ended accepted every round has
   pub rounds-checked : RoundsChecked 2
   pub ended-accepted : EndedAccepted 2
   pub admitted-exactly : AdmittedExactly
+  -- the other steps, each taken exactly under its conditions
+  pub cleared-exactly : ClearedExactly 2
+  pub withdrawn-exactly : WithdrawnExactly 2
+  pub closed-exactly : ClosedExactly 2
+  pub claimed-exactly : ClaimedExactly 2
+  pub committed-exactly : CommittedExactly 2
+  pub drawn-exactly : DrawnExactly 2
   pub withdrawn-stays-out : StaysOut 2
   pub honest-ballots : HonestBallots
   pub examples : Examples
