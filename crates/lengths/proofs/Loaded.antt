@@ -1,19 +1,16 @@
 -- A sheet that is taken, by the bytes that its polynomials were put into: what a round's calls are given of it. Assumes nothing.
 use mathlib.Core.Path.{_≡_, sym, ap, ap₂, _∙_}
-use mathlib.Core.List.{List}
 use Prim.Native.Nat.{ℕ, _+_, _*_, _≤_}
 use native.Mathlib.Nat.{zero-add}
 use native.Mathlib.Omega.{arith}
-use lib.ListN.{length, take, drop, replicate, length-append, length-replicate}
-use Rattle.codec.specs.Bytes.{Bytes, part, put, words}
-use Rattle.codec.proofs.Numbers.{length-words}
+use lib.ListN.{length, take, drop, replicate, length-replicate}
+use Rattle.codec.specs.Bytes.{Bytes, part, put}
 use Rattle.codec.proofs.Laws.{part-part, part-put}
-use Rattle.sheet.specs.Reader.{sheetOf}
-use Rattle.sheet.specs.Sheet.{reading, loaded, filled, polynomials, joined}
+use Rattle.sheet.specs.Sheet.{reading, loaded, filled, polynomials}
 use Rattle.sheet_numbers.specs.declared.Numbers.{Numbers}
 use Rattle.sheet.specs.declared.Reading.{Reading}
 use Rattle.sheet.specs.declared.Reading.the-variants.{Taken}
-use Rattle.sheet.proofs.Taken.{taken, lists-taken}
+use Rattle.sheet.proofs.Taken.{taken, length-polynomials}
 
 module _ (p : ℕ) (text : Bytes) {public : Bytes} {r : Reading} {k : Numbers} (load : (r ≡ reading p text) × (public ≡ loaded p text (replicate 81920 0))) (e : r ≡ Taken k) where
   abbrev n : ℕ
@@ -26,15 +23,8 @@ module _ (p : ℕ) (text : Bytes) {public : Bytes} {r : Reading} {k : Numbers} (
   unfolding loaded
   held = load .1 ∙ ap (λ (x : Reading). filled x text (replicate 81920 0)) said
 
-  sized : (xs : List ℕ) → length xs ≡ n → length (words xs) ≡ 8 * n
-  sized xs e = length-words xs ∙ ap (λ (j : ℕ). 8 * j) e
-
   long : length (polynomials text) ≡ 40 * n
-  unfolding polynomials joined
-  long =
-      let s = sheetOf text in
-      let t = lists-taken p text said in
-      simp length-append (rw (sized (s .a) (t .0 .count), sized (s .b) (t .1 .0 .count), sized (s .k1) (t .1 .1 .0 .count), sized (s .k2) (t .1 .1 .1 .0 .count), sized (s .k3) (t .1 .1 .1 .1 .0 .count)) (omega arith))
+  long = length-polynomials p text said
 
   high : n ≤ 2048
   high = taken p text said .ranged .ring-high

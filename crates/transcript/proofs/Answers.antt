@@ -68,7 +68,7 @@ answersLength-more N cs i h = rw (take-suc cs i 0 h) (answersLength-append N (ta
 pub prefix-le : (n : ℕ) (cs : Bytes) (m : ℕ) → answersLength n (take m cs) ≤ answersLength n cs
 prefix-le n cs m = omega (arith, ap (answersLength n) (take-append-drop m cs), answersLength-append n (take m cs) (drop m cs))
 
-one-le : (n c : ℕ) → answerLength n c ≤ 504 * n + 64
+pub one-le : (n c : ℕ) → answerLength n c ≤ 504 * n + 64
 one-le n c = go (eqb c 1)
   where
     go : (b : Bool) → cond b (378 * n + 64) (504 * n + 64) ≤ 504 * n + 64

@@ -81,9 +81,6 @@ module _ (q : ℕ) (w : Bytes) where
 -- ---- an answer
 
 module _ (q N : ℕ) (answer : Bytes) where
-  abbrev first-ranged : Bool
-  first-ranged = allBelow 3 (answer1Of N answer .w) && allBelow q (vector (answer1Of N answer .t))
-
   answer-sound : (c : ℕ) → inRange q N c answer ≡ true → AnswerRanged q N c answer
   answer-sound c h = record {
     ternary = λ e. each-exactly 3 _ .0 (first e .0);

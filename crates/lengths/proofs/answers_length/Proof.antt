@@ -10,7 +10,7 @@ use Rattle.codec.specs.Bytes.{Bytes}
 use Rattle.stern.specs.Shortness.{answerLength}
 use Rattle.transcript.specs.Layout.{answersLength}
 use Rattle.transcript.proofs.Answers.{answersLength-more}
-use Rattle.repetitions.proofs.RepetitionLoop.{one-le}
+use Rattle.transcript.proofs.Answers.{one-le}
 use Rattle.lengths.proofs.answers_length.Statement.{statement}
 use Rattle.lengths.proofs.answers_length.Tie as tie
 
