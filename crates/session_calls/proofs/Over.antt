@@ -1,17 +1,16 @@
 -- A step over an image, from the step over the session that the image holds. Assumes nothing.
 use mathlib.Core.Path.{_≡_, refl, sym, ap, _∙_}
 use mathlib.Core.Logic.{_≢_}
-use mathlib.Core.Bool.{cond}
-use lib.Dec.{eqb}
 use lib.ListN.{length}
 use borrow.Author.Tests.{eq-eqb, ne-eqb}
-use Rattle.codec.specs.Bytes.{Bytes}
+use Rattle.codec.specs.Bytes.{Bytes, Octets}
 use Rattle.codec.specs.Reply.{leaves}
 use Rattle.codec.specs.declared.Reply.{Reply}
 use Rattle.codec.specs.declared.Reply.the-variants.{Taken, Refused}
 use Rattle.call.specs.Call.{swept}
 use Rattle.session.specs.declared.Session.{Session}
 use Rattle.image.specs.Image.{imageLength, encode, decode}
+use Rattle.image.proofs.Law.{store-load}
 use Rattle.session_calls.specs.Images.{lentReply, imageLeft}
 
 module _ (image : Bytes) (R : Session → Reply) where
@@ -46,15 +45,20 @@ module _ (image : Bytes) (R : Session → Reply) where
         kept Taken = unfold leaves in refl
         kept (Refused number place) = unfold leaves in refl
 
--- ---- a check, which stores the session that it leaves in every case
+-- ---- a check, which stores the session that it leaves in every case: where it leaves the session of the image, it stores the image's own bytes
 
-module _ (image : Bytes) (next : Session → Session) where
-  pub wrong-image : length image ≢ imageLength → image ≡ cond (eqb (length image) imageLength) (encode (next (decode image))) image
-  wrong-image short = rw (ne-eqb (length image) imageLength short) refl
+module _ (image : Bytes) (octets : Octets image) (E : Session → Reply) (next : Session → Session) (long : length image ≡ imageLength) where
+  abbrev after-check : Session → Session
+  after-check s = leaves (E s) (next s) s
 
-  pub stored-image : length image ≡ imageLength → (s t : Session) {after : Bytes} → s ≡ decode image → t ≡ next s → after ≡ encode t
-      → after ≡ cond (eqb (length image) imageLength) (encode (next (decode image))) image
-  stored-image long s t held e f = rw (eq-eqb (length image) imageLength long) (f ∙ ap encode (e ∙ ap next held))
+  again : (q : Reply) → encode (leaves q (next (decode image)) (decode image)) ≡ imageLeft q image (leaves q (next (decode image)) (decode image))
+  again Taken = unfold leaves in refl
+  again (Refused number place) = unfold leaves in store-load image long octets
+
+  pub stored-image : (s t : Session) {after : Bytes} → s ≡ decode image → t ≡ after-check s → after ≡ encode t → after ≡ imageLeft (lentReply image E) image (after-check (decode image))
+  stored-image s t held e f =
+      f ∙ ap encode (e ∙ ap after-check held) ∙ again (E (decode image))
+      ∙ ap (λ (q : Reply). imageLeft q image (after-check (decode image))) (sym (held-reply image E long (decode image) refl))
 
 -- a call that is refused 1 leaves scratch
 pub unswept : (w : Bytes) → w ≡ swept (Refused 1 0) w

@@ -14,7 +14,7 @@ use Rattle.session.specs.declared.Session.{Session}
 use Rattle.session.specs.declared.Turnout.{Turnout}
 use Rattle.session.specs.declared.Turnout.the-variants as turnout
 use Rattle.session.specs.declared.Turnout.the-variants.{Counted}
-use Rattle.session.specs.Steps.{clearTests, cleared, admitTests, admittedBy, withdrawTests, closeTests, closedBy, claimTests, claimedBy, commitTests, committedBy, drawTests, drawnBy, checkTests, checkedBy, challengesTests, challengesOut, turnoutTests, turnoutBy}
+use Rattle.session.specs.Steps.{clearTests, admitTests, withdrawTests, closeTests, claimTests, commitTests, drawTests, checkEarly, checkTests, checkedBy, challengesTests, turnoutTests, turnoutBy}
 use Rattle.image.specs.Image.{imageLength, encode, decode}
 
 -- the reply of a call that is lent an image
@@ -58,9 +58,9 @@ module _ (p : ℕ) (image : Bytes) where
   unfoldable pub checkReply : (round : ℕ) → Inputs → Reply
   checkReply round x = lentReply image (λ s. first (checkTests p s round x))
 
-  -- a refusal listed after 16 ends the session refused
+  -- a refusal before the round is looked at leaves the image; one listed after 16 ends the session refused
   unfoldable pub checkImage : (round : ℕ) → Inputs → Bytes
-  checkImage round x = cond (eqb (length image) imageLength) (encode (checkedBy p lent round x)) image
+  checkImage round x = imageLeft (lentReply image (λ s. first (checkEarly p s round x))) image (checkedBy p lent round x)
 
   unfoldable pub challengesReply : (round : ℕ) (out : Bytes) → Reply
   challengesReply round out = lentReply image (λ s. first (challengesTests p s round out))

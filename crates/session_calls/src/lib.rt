@@ -10,7 +10,7 @@ ghost use Rattle.codec.specs.Reply.{leaves};
 ghost use Rattle.codec.specs.declared.Reply.the-variants.{Refused};
 ghost use Rattle.register.specs.Register.{registerLength, find, admitted, withdrawn};
 ghost use Rattle.session.specs.Steps.{cleared, admittedBy, closedBy, claimedBy, committedBy, drawnBy};
-ghost use Rattle.image.specs.Image.{imageLength, encode, decode};
+ghost use Rattle.image.specs.Image.{imageLength, decode};
 ghost use Rattle.session_calls.specs.Images.{imageLeft, clearReply, admitReply, withdrawReply, closeReply, claimReply, commitReply, drawReply};
 
 // 1: an image of wrong length.
