@@ -203,6 +203,13 @@ module _ (p : ℕ) where
     as-left r Taken f e t = rw (e, holds .session) (stored (f s) t)
     as-left r (Refused number place) f e t = rw e holds
 
+    -- the same of a check: where it is refused before its round, image and session are left
+    as-checked : (k : ℕ) (x : Inputs) (r r' : Reply) → r ≡ r' → first (checkEarly p s k x) ≡ r' → Typed (checkedBy p s k x)
+        → Holds (leaves r (encode (checkedBy p (decode image) k x)) image) (checkedBy p s k x)
+    unfolding leaves
+    as-checked k x r Taken e d t = rw (e, holds .session) (stored (checkedBy p s k x) t)
+    as-checked k x r (Refused number place) e d t = unfold checkedBy in rw (e, d) holds
+
     image-left : (x : Step) → Holds (hostAfter p x h .image) (after p x st .session)
     image-left x = go x (replies x) (typed-after x st (holds .typed))
       where
@@ -215,7 +222,7 @@ module _ (p : ℕ) where
         go (commit k head shares0 shares1) e t = unfold hostReply hostAfter reply after in
             as-left (hostReply p (commit k head shares0 shares1) h) (reply p (commit k head shares0 shares1) st) (λ z. committedBy z k head shares0 shares1) e t
         go (draw seed) e t = unfold hostReply hostAfter reply after in as-left (hostReply p (draw seed) h) (reply p (draw seed) st) (λ z. drawnBy z seed) e t
-        go (check k x) e t = unfold hostAfter after checkImage in (rw (eq-eqb (length image) imageLength (holds .sized), holds .session) (stored (checkedBy p s k x) t))
+        go (check k x) e t = unfold hostAfter after checkImage in as-checked k x _ _ (answers image s holds (λ z. first (checkEarly p z k x))) refl t
 
     register-left : (x : Step) → hostAfter p x h .register ≡ after p x st .register
     register-left x = go x (replies x)
