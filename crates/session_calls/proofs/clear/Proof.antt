@@ -1,5 +1,5 @@
 -- `clear` meets its contract. Assumes nothing.
-use mathlib.Core.Path.{_≡_, refl, sym, _∙_}
+use mathlib.Core.Path.{sym, _∙_}
 use borrow.Author.Needs.{needs}
 use Rattle.codec.specs.Bytes.{zeros}
 use Rattle.codec.specs.Reply.{first}

@@ -1,5 +1,5 @@
 -- `keep` meets its contract. Assumes nothing.
-use mathlib.Core.Path.{_≡_, refl, sym, ap, _∙_}
+use mathlib.Core.Path.{_≡_, refl, _∙_}
 use borrow.Author.Needs.{needs}
 use Rattle.codec.specs.Bytes.{Bytes}
 use Rattle.codec.specs.Reply.{leaves}
@@ -7,9 +7,6 @@ use Rattle.codec.specs.declared.Reply.{Reply}
 use Rattle.codec.specs.declared.Reply.the-variants.{Taken, Refused}
 use Rattle.session_calls.proofs.keep.Statement.{statement}
 use Rattle.session_calls.proofs.keep.Tie as tie
-use Rattle.session_calls.proofs.keep.Reads as reads
-use Rattle.session_calls.proofs.keep.Lts as lts
-use Rattle.image.proofs.store.Reads as store-reads
 
 -- src/lib.rt:34:35
 enum-told : tie.Need-enum-told

@@ -1,5 +1,5 @@
 -- `checks::pack` meets its contract. Assumes nothing.
-use mathlib.Core.Path.{_≡_, sym, ap}
+use mathlib.Core.Path.{sym, ap}
 use borrow.Author.Needs.{needs}
 use Rattle.session_calls.specs.Images.{countedAnswer}
 use Rattle.session_calls.proofs.checks.pack.Statement.{statement}
