@@ -10,9 +10,9 @@ use borrow.Author.Tests.{eqb-true, eq-eqb, ltb-true, lt-ltb, le-ltb, lt-leb, not
 use lib.Dec.{eqb, ltb}
 use lib.ListN.{length}
 use lib.Pow.{pow-lt}
+use Rattle.codec.specs.Lists.{every}
 use Rattle.codec.proofs.Laws.{both}
 use Rattle.sheet.specs.Form.{Sheet}
-use Rattle.sheet.specs.Reader.{every}
 use Rattle.sheet.specs.Sheet.{fits, lists, unfit}
 use Rattle.sheet_numbers.specs.Bounds.{noise, least, power}
 use Rattle.sheet_numbers.specs.Rules.{any, ranges, outside, conditions, unsound}
