@@ -39,6 +39,14 @@ bytes-number (b ∷ s) o =
     let high : (b + 256 * number s) / 256 ≡ number s = omega arith in
     ap₂ (λ (x n : ℕ). x ∷ bytes (length s) n) low high ∙ ap (λ (t : Bytes). b ∷ t) (bytes-number s (λ i h. o (suc i) (omega arith)))
 
+pub number-lt : (s : Bytes) → Octets s → number s < 256 ^ length s
+unfolding number
+number-lt [] o = omega arith
+number-lt (b ∷ s) o =
+    let l : b < 256 = o 0 (omega arith) in
+    let r = number-lt s (λ i h. o (suc i) (omega arith)) in
+    rw pow-suc (omega arith)
+
 pub bytes-injective : (k v w : ℕ) → v < 256 ^ k → w < 256 ^ k → bytes k v ≡ bytes k w → v ≡ w
 bytes-injective k v w hv hw e = sym (number-bytes k v hv) ∙ ap number e ∙ number-bytes k w hw
 

@@ -6,11 +6,11 @@ use mathlib.Core.List.{List, [], _∷_}
 use Prim.Native.Nat.{ℕ, zero, suc, _+_, _*_, _-_, _/_, _%_, _^_, _≤_, _<_}
 use native.Mathlib.Omega.{arith}
 use native.Mathlib.Decide.{decLt, ℕ-discrete}
-use borrow.Author.Tests.{eqb-true, eq-eqb, ltb-true, lt-ltb, le-ltb, lt-leb, not-false}
+use borrow.Author.Tests.{eqb-true, eq-eqb, ltb-true, ltb-false, lt-ltb, le-ltb, lt-leb, not-false}
 use lib.Dec.{eqb, ltb}
 use lib.ListN.{length}
 use lib.Pow.{pow-lt}
-use Rattle.codec.specs.Lists.{every}
+use Rattle.codec.specs.Lists.{every, allBelow}
 use Rattle.codec.proofs.Laws.{both}
 use Rattle.sheet.specs.Form.{Sheet}
 use Rattle.sheet.specs.Sheet.{fits, lists, unfit}
@@ -32,7 +32,23 @@ unfolding any
 none-of [] h = refl
 none-of (t ∷ ts) h = ap₂ _||_ (h .0) (none-of ts (h .1))
 
+nones : (ts : List Bool) → any ts ≡ false → Nones ts
+unfolding any
+nones [] e = tt
+nones (true ∷ ts) e = absurd (let z : _≡_ {A = ℕ} 0 1 = cc in omega arith)
+nones (false ∷ ts) e = (refl, nones ts e)
+
 -- ---- 3
+
+-- what is found is a power of two
+power-of : (k n : ℕ) → power k n ≡ true → (j : ℕ) × (n ≡ 2 ^ j)
+unfolding power
+power-of zero n e = absurd (let z : _≡_ {A = ℕ} 0 1 = cc in omega arith)
+power-of (suc k) n e = go (eqb n (2 ^ k)) refl e (λ f. power-of k n f)
+  where
+    go : (b : Bool) → eqb n (2 ^ k) ≡ b → cond b true (power k n) ≡ true → (power k n ≡ true → (j : ℕ) × (n ≡ 2 ^ j)) → (j : ℕ) × (n ≡ 2 ^ j)
+    go true q e f = (k, eqb-true n (2 ^ k) q)
+    go false q e f = f e
 
 -- a power of two below 2^k is found
 found : (k n j : ℕ) → j < k → n ≡ 2 ^ j → power k n ≡ true
@@ -70,16 +86,17 @@ range-exactly k = (says, holds)
     says : outside k ≡ false → InRange k
     says e =
         let r = numbers.in-range k e in
+        let n = nones (ranges k) (unfold outside in e) in
         record {
           ring-low = r .ring-low;
           ring-high = r .ring-high;
-          ring-power = r .ring-power;
+          ring-power = power-of 12 (k .ring) (not-false (power 12 (k .ring)) (n .1 .1 .0));
           modulus-low = r .modulus-low;
           modulus-high = r .modulus-high;
           drown-high = r .drown-high;
           rounds-low = r .rounds-low;
           rounds-high = r .rounds-high;
-          repeats-low = repeats-least (k .rounds) (k .repeats) (r .rounds-low) (r .rounds-high) .0 (r .repeats-low);
+          repeats-low = repeats-least (k .rounds) (k .repeats) (r .rounds-low) (r .rounds-high) .0 (ltb-false (k .repeats) (least (k .rounds)) (n .1 .1 .1 .1 .1 .1 .1 .1 .0));
           repeats-high = r .repeats-high;
         }
 
@@ -141,6 +158,7 @@ every-below q xs = (says xs, holds xs)
     holds (x ∷ xs) h = ap₂ _&&_ (lt-ltb x q (h 0 (omega arith))) (holds xs (λ i l. h (suc i) (omega arith)))
 
 list-exactly : (n q : ℕ) (xs : List ℕ) → (fits n q xs ≡ true) ↔ Coefficients n q xs
+unfolding allBelow
 list-exactly n q xs = (
   λ e. let h = both (eqb (length xs) n) (every (λ x. ltb x q) xs) e in record { count = eqb-true (length xs) n (h .0); below = every-below q xs .0 (h .1) },
   λ c. ap₂ _&&_ (eq-eqb (length xs) n (c .count)) (every-below q xs .1 (c .below)),
