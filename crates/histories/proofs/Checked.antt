@@ -23,7 +23,7 @@ module _ (s : Session) (round : ℕ) (x : Inputs) where
   -- ---- before the round is looked at
 
   module _ (p : ℕ) where
-    pub early-none : Valid p s → s .phase ≡ 3 → round ≡ s .checked → round < s .numbers .rounds → SheetTaken p (x .sheet) → Sized (storedFor s round) x → Held (storedFor s round) x
+    pub early-none : Valid p s → s .progress .phase ≡ 3 → round ≡ s .progress .checked → round < s .numbers .rounds → SheetTaken p (x .sheet) → Sized (storedFor s round) x → Held (storedFor s round) x
         → None (checkEarly p s round x)
     unfolding checkEarly
     early-none sound phase due within sheet lengths matches = (
@@ -34,20 +34,20 @@ module _ (s : Session) (round : ℕ) (x : Inputs) where
     -- the parameters of a sheet in range are those that the round's theorem asks for
     module _ (octets : Octets (x .head)) where
       abbrev Round : Type 0
-      Round = Accepted (parametersOf p (x .sheet)) (s .closed) (drawnRound (storedFor s round) x)
+      Round = Accepted (parametersOf p (x .sheet)) (s .progress .closed) (drawnRound (storedFor s round) x)
 
       late-exactly : SheetTaken p (x .sheet) → Sized (storedFor s round) x → Held (storedFor s round) x → None (checkLate p s round x) ↔ Round
       unfolding checkLate lateTests
       late-exactly sheet lengths matches =
           let r = sheet .inside in
-          none-exactly (parametersOf p (x .sheet)) (s .closed) (omega (arith, r .modulus-low)) (omega (arith, r .modulus-high)) (drawnRound (storedFor s round) x)
+          none-exactly (parametersOf p (x .sheet)) (s .progress .closed) (omega (arith, r .modulus-low)) (omega (arith, r .modulus-high)) (drawnRound (storedFor s round) x)
           (rw (matches .numbers) (lengths .head)) octets
 
       checks-says : None (checkEarly p s round x) → None (checkLate p s round x) → Checks p s round x
       unfolding checkEarly
       checks-says n late =
           let r = ready p s _ (n .0) in
-          let t = on-turn (s .phase) 3 round (s .checked) (s .numbers .rounds) (r .1) in
+          let t = on-turn (s .progress .phase) 3 round (s .progress .checked) (s .numbers .rounds) (r .1) in
           let h = early-exactly (storedFor s round) x p .0 (n .1) in
           let sheet = sheet-exactly p (x .sheet) .0 (h .0) in
           record {

@@ -54,7 +54,7 @@ module _ (p : ℕ) where
 
   module _ (s : Session) (reg ballot : Bytes) where
     abbrev place : ℕ
-    place = find reg (markOf ballot) (s .used)
+    place = find reg (markOf ballot) (s .progress .used)
 
     abbrev sizes : List ℕ
     sizes = length reg ∷ length ballot ∷ []
@@ -67,10 +67,10 @@ module _ (p : ℕ) where
     admits-says n =
         let r = ready p s _ (n .0) in
         let sized = not-false (same sizes wanted) (n .1 .0) in
-        let past = ltb-false place (s .used) (n .1 .1 .1 .1 .0) in
+        let past = ltb-false place (s .progress .used) (n .1 .1 .1 .1 .0) in
         let few = r .0 .used in
-        let full = eqb-false (s .used) 4096 (n .1 .1 .1 .1 .1 .0) in
-        let f = found reg (markOf ballot) (s .used) in
+        let full = eqb-false (s .progress .used) 4096 (n .1 .1 .1 .1 .1 .0) in
+        let f = found reg (markOf ballot) (s .progress .used) in
         let w = f .within in
         record {
           sound = r .0;
@@ -85,14 +85,14 @@ module _ (p : ℕ) where
     admits-holds : Admits p s reg ballot → None (admitTests p s reg ballot)
     unfolding admitTests
     admits-holds a =
-        let past : ltb place (s .used) ≡ false = le-ltb place (s .used) (omega (arith, absent reg (markOf ballot) (s .used) (a .unknown))) in
+        let past : ltb place (s .progress .used) ≡ false = le-ltb place (s .progress .used) (omega (arith, absent reg (markOf ballot) (s .progress .used) (a .unknown))) in
         let room = a .room in (
-          is-ready p s (a .sound) (eq-eqb (s .phase) 0 (a .phase)),
+          is-ready p s (a .sound) (eq-eqb (s .progress .phase) 0 (a .phase)),
           (
             bytes-pass (ap₂ (λ (x y : ℕ). x ∷ y ∷ []) (a .register-size) (a .ballot-size)),
             (
               ap not (each-exactly _ _ .1 (a .coefficients)),
-              (ap (λ (b : Bool). b && eqb (stateAt reg place) 1) past, (past, (ne-eqb (s .used) 4096 (λ e. omega arith), tt))),
+              (ap (λ (b : Bool). b && eqb (stateAt reg place) 1) past, (past, (ne-eqb (s .progress .used) 4096 (λ e. omega arith), tt))),
             ),
           ),
         )
@@ -107,15 +107,15 @@ module _ (p : ℕ) where
     unfolding withdrawTests
     withdraws-says n =
         let r = ready p s _ (n .0) in
-        let f = found reg mark (s .used) in
+        let f = found reg mark (s .progress .used) in
         let w = f .within in
-        let known = eqb-false (find reg mark (s .used)) (s .used) (n .1 .1 .0) in
-        let l : find reg mark (s .used) < s .used = omega arith in
+        let known = eqb-false (find reg mark (s .progress .used)) (s .progress .used) (n .1 .1 .0) in
+        let l : find reg mark (s .progress .used) < s .progress .used = omega arith in
         record {
           sound = r .0;
           phase = eqb-true _ _ (r .1);
           register-size = numbers-match (n .1 .0);
-          at = find reg mark (s .used);
+          at = find reg mark (s .progress .used);
           within = l;
           marked = f .marked l;
           earlier = f .before;
@@ -125,10 +125,10 @@ module _ (p : ℕ) where
     withdraws-holds : Withdraws p s reg mark → None (withdrawTests p s reg mark)
     unfolding withdrawTests
     withdraws-holds a =
-        let there = here reg mark (a .at) (s .used) (a .within) (a .marked) (a .earlier) in
+        let there = here reg mark (a .at) (s .progress .used) (a .within) (a .marked) (a .earlier) in
         let l = a .within in (
-          is-ready p s (a .sound) (eq-eqb (s .phase) 0 (a .phase)),
-          (numbers-pass (a .register-size), (ne-eqb (find reg mark (s .used)) (s .used) (λ e. omega arith), (numbers-pass (ap (stateAt reg) there ∙ a .stands), tt))),
+          is-ready p s (a .sound) (eq-eqb (s .progress .phase) 0 (a .phase)),
+          (numbers-pass (a .register-size), (ne-eqb (find reg mark (s .progress .used)) (s .progress .used) (λ e. omega arith), (numbers-pass (ap (stateAt reg) there ∙ a .stands), tt))),
         )
 
   pub withdrawn-exactly : WithdrawnExactly p
@@ -148,15 +148,15 @@ module _ (p : ℕ) where
   unfolding closeTests
   closes-says s reg n =
       let r = ready p s _ (n .0) in
-      let i = some (standing reg (s .used)) (eqb-false _ _ (n .1 .1 .0)) in
-      let t = stands reg (s .used) (i .0) (i .1) in
+      let i = some (standing reg (s .progress .used)) (eqb-false _ _ (n .1 .1 .0)) in
+      let t = stands reg (s .progress .used) (i .0) (i .1) in
       record { sound = r .0; phase = eqb-true _ _ (r .1); register-size = numbers-match (n .1 .0); at = i .0; within = t .0; stands = t .1 }
 
   closes-holds : (s : Session) (reg : Bytes) → Closes p s reg → None (closeTests p s reg)
   unfolding closeTests
   closes-holds s reg c = (
-    is-ready p s (c .sound) (eq-eqb (s .phase) 0 (c .phase)),
-    (numbers-pass (c .register-size), (ne-eqb _ _ (not-empty (c .at) (standing reg (s .used)) (stands-all reg (s .used) (c .at) (c .within) (c .stands))), tt)),
+    is-ready p s (c .sound) (eq-eqb (s .progress .phase) 0 (c .phase)),
+    (numbers-pass (c .register-size), (ne-eqb _ _ (not-empty (c .at) (standing reg (s .progress .used)) (stands-all reg (s .progress .used) (c .at) (c .within) (c .stands))), tt)),
   )
 
   pub closed-exactly : ClosedExactly p
@@ -172,7 +172,7 @@ module _ (p : ℕ) where
 
   claims-holds : (s : Session) (claims : Bytes) → Claims p s claims → None (claimTests p s claims)
   unfolding claimTests
-  claims-holds s claims c = (is-ready p s (c .sound) (eq-eqb (s .phase) 1 (c .phase)), (numbers-pass (c .size), (ap not (each-exactly p claims .1 (c .votes)), tt)))
+  claims-holds s claims c = (is-ready p s (c .sound) (eq-eqb (s .progress .phase) 1 (c .phase)), (numbers-pass (c .size), (ap not (each-exactly p claims .1 (c .votes)), tt)))
 
   pub claimed-exactly : ClaimedExactly p
   claimed-exactly s claims = by-order _ (claims-says s claims) (claims-holds s claims)
@@ -182,13 +182,13 @@ module _ (p : ℕ) where
     lengths = length head ∷ length shares0 ∷ length shares1 ∷ []
 
     abbrev right : List ℕ
-    right = headLength (s .numbers .ring) (s .numbers .repeats) ∷ 8 * s .numbers .ring * s .closed ∷ 8 * s .numbers .ring * s .closed ∷ []
+    right = headLength (s .numbers .ring) (s .numbers .repeats) ∷ 8 * s .numbers .ring * s .progress .closed ∷ 8 * s .numbers .ring * s .progress .closed ∷ []
 
     commits-says : None (commitTests p s round head shares0 shares1) → Commits p s round head shares0 shares1
     unfolding commitTests
     commits-says n =
         let r = ready p s _ (n .0) in
-        let t = on-turn (s .phase) 2 round (s .committed) (s .numbers .rounds) (r .1) in
+        let t = on-turn (s .progress .phase) 2 round (s .progress .committed) (s .numbers .rounds) (r .1) in
         let sized = not-false (same lengths right) (n .1 .0) in
         record {
           sound = r .0;
@@ -216,7 +216,7 @@ module _ (p : ℕ) where
 
   draws-holds : (s : Session) (seed : Bytes) → Draws p s seed → None (drawTests p s seed)
   unfolding drawTests
-  draws-holds s seed d = (is-ready p s (d .sound) (ap₂ _&&_ (eq-eqb (s .phase) 2 (d .phase)) (eq-eqb (s .committed) (s .numbers .rounds) (d .all))), (numbers-pass (d .size), tt))
+  draws-holds s seed d = (is-ready p s (d .sound) (ap₂ _&&_ (eq-eqb (s .progress .phase) 2 (d .phase)) (eq-eqb (s .progress .committed) (s .numbers .rounds) (d .all))), (numbers-pass (d .size), tt))
 
   pub drawn-exactly : DrawnExactly p
   drawn-exactly s seed = by-order _ (draws-says s seed) (draws-holds s seed)

@@ -73,7 +73,7 @@ module _ (p : ℕ) (roomy : Roomy p) (l : Trace) (k : Kept p (l .session) (l .hi
   numbers : sheetOf (x .sheet) .numbers ≡ s .numbers
   numbers = rw (turn .sheet) (sym (k .numbers))
 
-  closed : s .closed ≡ m
+  closed : s .progress .closed ≡ m
   closed = let phase = turn .phase in k .closed (omega arith)
 
   -- ---- the lengths
@@ -99,7 +99,7 @@ module _ (p : ℕ) (roomy : Roomy p) (l : Trace) (k : Kept p (l .session) (l .hi
       let next = k .next phase in
       let due = turn .due in
       let all = k .whole (omega arith) in
-      let batch : ballotDigests (ballotLength (s .numbers .ring)) (s .closed) (x .ballots) ≡ l .history .batch = rw (closed, ← numbers) (turn .batch) in
+      let batch : ballotDigests (ballotLength (s .numbers .ring)) (s .progress .closed) (x .ballots) ≡ l .history .batch = rw (closed, ← numbers) (turn .batch) in
       record {
         sheet = ap sha3 (turn .sheet) ∙ sym (k .sheet);
         numbers = numbers;

@@ -22,6 +22,7 @@ use Rattle.digests.specs.Digests.{closingDigest, claimDigest, roundDigest}
 use Rattle.digests.proofs.Laws.{length-roundDigest}
 use Rattle.checking.specs.Check.{Inputs}
 use Rattle.session.specs.declared.Session.{Session}
+use Rattle.progress.specs.declared.Progress.{Progress}
 use Rattle.session.specs.Session.{changed}
 use Rattle.session.specs.Steps.{cleared, admittedBy, closedBy, claimedBy, committedBy, drawnBy, checkEarly, checkLate, checkTests, acceptedBy, refusedBy, checkedBy}
 use Rattle.histories.specs.Runs.{Step, clear, admit, withdraw, close, claim, commit, draw, check, State, state, Message, message, Call, History, emptyHistory, historyAfter, Trace, reply, after, extend, trace, initial}
@@ -40,21 +41,21 @@ pub record Kept (p : ℕ) (s : Session) (h : History) : Type 0 where
   pub numbers : s .numbers ≡ sheetOf (h .sheet) .numbers
   pub sheet : s .sheet ≡ sha3 (h .sheet)
   pub long : length (s .trail) ≡ 4096
-  pub uncommitted : s .phase < 2 → s .committed ≡ 0
-  pub unchecked : s .phase < 3 → s .checked ≡ 0
-  pub closing : 0 < s .phase → s .closing ≡ closingDigest (s .sheet) (h .batch)
-  pub closed : 0 < s .phase → s .closed ≡ length (h .batch)
-  pub claim : 1 < s .phase → s .claim ≡ claimDigest (s .closing) (h .claims)
-  pub trail : 1 < s .phase → (j : ℕ) → j < s .committed → part (s .trail) (32 * j) 32 ≡ messageDigest (s .claim) j (h .firsts j)
-  pub whole : 2 < s .phase → s .committed ≡ s .numbers .rounds
-  pub next : s .phase ≡ 3 → s .checked < s .numbers .rounds
+  pub uncommitted : s .progress .phase < 2 → s .progress .committed ≡ 0
+  pub unchecked : s .progress .phase < 3 → s .progress .checked ≡ 0
+  pub closing : 0 < s .progress .phase → s .closing ≡ closingDigest (s .sheet) (h .batch)
+  pub closed : 0 < s .progress .phase → s .progress .closed ≡ length (h .batch)
+  pub claim : 1 < s .progress .phase → s .claim ≡ claimDigest (s .closing) (h .claims)
+  pub trail : 1 < s .progress .phase → (j : ℕ) → j < s .progress .committed → part (s .trail) (32 * j) 32 ≡ messageDigest (s .claim) j (h .firsts j)
+  pub whole : 2 < s .progress .phase → s .progress .committed ≡ s .numbers .rounds
+  pub next : s .progress .phase ≡ 3 → s .progress .checked < s .numbers .rounds
 
 -- a check that is not stopped early finds its round due
-pub drawn-now : (p : ℕ) (s : Session) (round : ℕ) (x : Inputs) → first (checkEarly p s round x) ≡ Taken → (s .phase ≡ 3) × (s .checked < s .numbers .rounds)
+pub drawn-now : (p : ℕ) (s : Session) (round : ℕ) (x : Inputs) → first (checkEarly p s round x) ≡ Taken → (s .progress .phase ≡ 3) × (s .progress .checked < s .numbers .rounds)
 unfolding checkEarly
 drawn-now p s round x e =
     let n = taken-exactly _ .0 e in
-    let d = on-turn (s .phase) 3 round (s .checked) (s .numbers .rounds) (ready p s _ (n .0) .1) in
+    let d = on-turn (s .progress .phase) 3 round (s .progress .checked) (s .numbers .rounds) (ready p s _ (n .0) .1) in
     (d .0, omega arith)
 
 module _ (p : ℕ) where
@@ -104,7 +105,7 @@ module _ (p : ℕ) where
     unfolding closedBy historyAfter standingDigests
     kept-close reg c =
         let was = c .phase in
-        let few = standing-few reg (s .used) in
+        let few = standing-few reg (s .progress .used) in
         let used = v .used in
         record {
           sound = record {
@@ -112,7 +113,7 @@ module _ (p : ℕ) where
             inside = v .inside;
             sound = v .sound;
             used = v .used;
-            closed = rw (length-map (standing reg (s .used)) (digestAt reg)) (omega arith);
+            closed = rw (length-map (standing reg (s .progress .used)) (digestAt reg)) (omega arith);
             committed = v .committed;
             checked = v .checked;
           };
@@ -188,7 +189,7 @@ module _ (p : ℕ) where
           omega (arith, size)
 
       -- the new digest stands at its place, and the earlier ones stay
-      digests : (j : ℕ) → Dec (j ≡ r) → j < s .committed + 1 → 1 < s .phase
+      digests : (j : ℕ) → Dec (j ≡ r) → j < s .progress .committed + 1 → 1 < s .progress .phase
           → part (put (s .trail) (32 * r) new) (32 * j) 32 ≡ messageDigest (s .claim) j (cond (eqb j r) (message head shares0 shares1) (h .firsts j))
       digests j (yes e) l g = rw (e, eq-eqb r r refl) (ap (λ (n : ℕ). part (put (s .trail) (32 * r) new) (32 * r) n) (sym size) ∙ part-put (s .trail) (32 * r) new fits)
       digests j (no e) l g =
@@ -219,9 +220,12 @@ module _ (p : ℕ) where
 
     -- ---- check
 
+    abbrev moved : (phase checked : ℕ) → Progress
+    moved phase checked = record { phase = phase; used = s .progress .used; closed = s .progress .closed; committed = s .progress .committed; checked = checked }
+
     -- one that is not stopped early leaves another phase, from drawn on, and a count
-    kept-checked : (phase checked : ℕ) → s .phase ≡ 3 → 3 ≤ phase → phase ≤ 5 → checked ≤ s .numbers .rounds → (phase ≡ 3 → checked < s .numbers .rounds)
-        → Kept p (changed s phase (s .used) (s .closed) (s .closing) (s .claim) (s .committed) (s .seed) checked (s .trail)) h
+    kept-checked : (phase checked : ℕ) → s .progress .phase ≡ 3 → 3 ≤ phase → phase ≤ 5 → checked ≤ s .numbers .rounds → (phase ≡ 3 → checked < s .numbers .rounds)
+        → Kept p (changed s (moved phase checked) (s .closing) (s .claim) (s .seed) (s .trail)) h
     kept-checked phase checked was low high few next = record {
       sound = record { phase = high; inside = v .inside; sound = v .sound; used = v .used; closed = v .closed; committed = v .committed; checked = few };
       taken = k .taken;
@@ -238,20 +242,20 @@ module _ (p : ℕ) where
       next = next;
     }
 
-    kept-accepted : s .phase ≡ 3 → s .checked < s .numbers .rounds → Kept p (acceptedBy s) h
+    kept-accepted : s .progress .phase ≡ 3 → s .progress .checked < s .numbers .rounds → Kept p (acceptedBy s) h
     unfolding acceptedBy
-    kept-accepted was low = go (eqb (s .checked + 1) (s .numbers .rounds)) refl
+    kept-accepted was low = go (eqb (s .progress .checked + 1) (s .numbers .rounds)) refl
       where
-        go : (b : Bool) → eqb (s .checked + 1) (s .numbers .rounds) ≡ b
-            → Kept p (changed s (cond b 5 3) (s .used) (s .closed) (s .closing) (s .claim) (s .committed) (s .seed) (s .checked + 1) (s .trail)) h
-        go true e = kept-checked 5 (s .checked + 1) was (omega arith) (omega arith) (omega arith) (λ l. absurd (omega arith))
+        go : (b : Bool) → eqb (s .progress .checked + 1) (s .numbers .rounds) ≡ b
+            → Kept p (changed s (moved (cond b 5 3) (s .progress .checked + 1)) (s .closing) (s .claim) (s .seed) (s .trail)) h
+        go true e = kept-checked 5 (s .progress .checked + 1) was (omega arith) (omega arith) (omega arith) (λ l. absurd (omega arith))
         go false e =
-            let other = eqb-false (s .checked + 1) (s .numbers .rounds) e in
-            kept-checked 3 (s .checked + 1) was (omega arith) (omega arith) (omega arith) (λ l. omega arith)
+            let other = eqb-false (s .progress .checked + 1) (s .numbers .rounds) e in
+            kept-checked 3 (s .progress .checked + 1) was (omega arith) (omega arith) (omega arith) (λ l. omega arith)
 
-    kept-refused : s .phase ≡ 3 → s .checked < s .numbers .rounds → Kept p (refusedBy s) h
+    kept-refused : s .progress .phase ≡ 3 → s .progress .checked < s .numbers .rounds → Kept p (refusedBy s) h
     unfolding refusedBy
-    kept-refused was low = kept-checked 4 (s .checked) was (omega arith) (omega arith) (omega arith) (λ l. absurd (omega arith))
+    kept-refused was low = kept-checked 4 (s .progress .checked) was (omega arith) (omega arith) (omega arith) (λ l. absurd (omega arith))
 
     kept-check : (round : ℕ) (x : Inputs) → Kept p (checkedBy p s round x) h
     unfolding checkedBy

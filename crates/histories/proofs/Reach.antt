@@ -47,7 +47,7 @@ module _ (p : ℕ) (s : Session) (reg : Bytes) (place : ℕ) (v : valid p s ≡ 
   check-others round x =
       others-append 31 (order p (x .sheet) ++ (test 1 0 (not (inputsSized (storedFor s round) x)) ∷ storedTests (storedFor s round) x)) (checkLate p s round x)
       (omega arith)
-      (later-others (checkLate p s round x) (later-round (parametersOf p (x .sheet)) (s .closed) (drawnRound (storedFor s round) x)))
+      (later-others (checkLate p s round x) (later-round (parametersOf p (x .sheet)) (s .progress .closed) (drawnRound (storedFor s round) x)))
 
   only-31 : (x : Step) → reply p x (state s reg) ≡ Refused 31 place → due x s ≡ false
   unfolding reply due clearTests admitTests withdrawTests closeTests claimTests commitTests drawTests checkEarly checkTests

@@ -117,9 +117,9 @@ long-without size mark (b ∷ bs) h = go (eqb (markOf b) mark) (long-without siz
 -- ---- what is kept where nothing else writes the register
 
 record Own (st : State) (h : History) (bs : List Bytes) : Type 0 where
-  rows : Rows (st .register) (st .session .used) bs
+  rows : Rows (st .register) (st .session .progress .used) bs
   long : Long (ballotLength (st .session .numbers .ring)) bs
-  noted : 0 < st .session .phase → h .batch ≡ map sha3 bs
+  noted : 0 < st .session .progress .phase → h .batch ≡ map sha3 bs
 
 module _ (p : ℕ) (st : State) (h : History) (bs : List Bytes) (o : Own st h bs) where
   abbrev s : Session
@@ -128,32 +128,32 @@ module _ (p : ℕ) (st : State) (h : History) (bs : List Bytes) (o : Own st h bs
   abbrev reg : Bytes
   reg = st .register
 
-  own-admit : (ballot : Bytes) → Admits p s reg ballot → Own (state (admittedBy s) (admitted reg (s .used) ballot)) h (bs ++ (ballot ∷ []))
+  own-admit : (ballot : Bytes) → Admits p s reg ballot → Own (state (admittedBy s) (admitted reg (s .progress .used) ballot)) h (bs ++ (ballot ∷ []))
   unfolding admittedBy
   own-admit ballot a =
       let was = a .phase in
       let four : 4 ≤ length ballot = omega (arith, a .ballot-size) in
       record {
-        rows = rw (add-one (s .used)) (up ballot
+        rows = rw (add-one (s .progress .used)) (up ballot
             (rows-keep _ (o .rows) (λ i l. (
-              admitted-states reg (s .used) ballot (a .register-size) (a .room) four i l,
-              admitted-marks reg (s .used) ballot (a .register-size) (a .room) four i l,
-              admitted-digests reg (s .used) ballot (a .register-size) (a .room) four i l,
+              admitted-states reg (s .progress .used) ballot (a .register-size) (a .room) four i l,
+              admitted-marks reg (s .progress .used) ballot (a .register-size) (a .room) four i l,
+              admitted-digests reg (s .progress .used) ballot (a .register-size) (a .room) four i l,
             )))
-            (admitted-state reg (s .used) ballot (a .register-size) (a .room) four)
-            (admitted-mark reg (s .used) ballot (a .register-size) (a .room) four)
-            (admitted-digest reg (s .used) ballot (a .register-size) (a .room) four));
+            (admitted-state reg (s .progress .used) ballot (a .register-size) (a .room) four)
+            (admitted-mark reg (s .progress .used) ballot (a .register-size) (a .room) four)
+            (admitted-digest reg (s .progress .used) ballot (a .register-size) (a .room) four));
         long = long-more _ bs ballot (o .long) (a .ballot-size);
         noted = λ l. absurd (omega arith);
       }
 
-  own-withdraw : Single reg (s .used) → (mark : ℕ) → Withdraws p s reg mark → Own (state s (withdrawn reg (find reg mark (s .used)))) h (without mark bs)
+  own-withdraw : Single reg (s .progress .used) → (mark : ℕ) → Withdraws p s reg mark → Own (state s (withdrawn reg (find reg mark (s .progress .used)))) h (without mark bs)
   own-withdraw single mark w =
       let was = w .phase in
       let l = w .within in
       let few = w .sound .used in
       record {
-        rows = rw (here reg mark (w .at) (s .used) (w .within) (w .marked) (w .earlier)) (rows-withdraw reg (w .at) mark (w .register-size) (omega arith) (w .marked) (o .rows)
+        rows = rw (here reg mark (w .at) (s .progress .used) (w .within) (w .marked) (w .earlier)) (rows-withdraw reg (w .at) mark (w .register-size) (omega arith) (w .marked) (o .rows)
             (λ i hi ne m. ne (single .one i (w .at) hi l (m ∙ sym (w .marked)))));
         long = long-without _ mark bs (o .long);
         noted = λ l. absurd (omega arith);
@@ -191,7 +191,7 @@ module _ (p : ℕ) (st : State) (h : History) (bs : List Bytes) (o : Own st h bs
   abbrev With : Session → History → List Bytes → Type 0
   With t = Own (state t reg)
 
-  own-step : Single reg (s .used) → (x : Step)
+  own-step : Single reg (s .progress .used) → (x : Step)
       → Own (after p x st) (leaves (reply p x st) (historyAfter x st h) h) (leaves (reply p x st) (rollAfter x bs) bs)
   unfolding reply after cleared committedBy historyAfter rollAfter
   own-step single (clear text) = left-four Whole _ (λ e. record { rows = start; long = tt; noted = λ l. absurd (omega arith) }) o
@@ -203,7 +203,7 @@ module _ (p : ℕ) (st : State) (h : History) (bs : List Bytes) (o : Own st h bs
   own-step single (draw seed) = left-all With _ (λ e. own-draw seed (drawn-exactly p s seed .0 e)) o
   own-step single (check k x) = rw (left-alone (first (checkTests p s k x)) h, left-alone (first (checkTests p s k x)) bs) (own-check k x)
 
-own-ownTrace : (p : ℕ) (xs : List Step) (t : OwnTrace) → Single (t .now .register) (t .now .session .used) → Own (t .now) (t .history) (t .roll)
+own-ownTrace : (p : ℕ) (xs : List Step) (t : OwnTrace) → Single (t .now .register) (t .now .session .progress .used) → Own (t .now) (t .history) (t .roll)
     → Own (ownTrace p xs t .now) (ownTrace p xs t .history) (ownTrace p xs t .roll)
 unfolding ownTrace ownExtend
 own-ownTrace p [] t single o = o

@@ -32,26 +32,26 @@ module _ (p : ℕ) where
   -- ---- one step
 
   -- a check that is not stopped early is of the round next due
-  due-now : (s : Session) (round : ℕ) (x : Inputs) → first (checkEarly p s round x) ≡ Taken → round ≡ s .checked
+  due-now : (s : Session) (round : ℕ) (x : Inputs) → first (checkEarly p s round x) ≡ Taken → round ≡ s .progress .checked
   unfolding checkEarly
-  due-now s round x e = on-turn (s .phase) 3 round (s .checked) (s .numbers .rounds) (ready p s _ (taken-exactly _ .0 e .0) .1) .1
+  due-now s round x e = on-turn (s .progress .phase) 3 round (s .progress .checked) (s .numbers .rounds) (ready p s _ (taken-exactly _ .0 e .0) .1) .1
 
   -- what a step does to the count of rounds checked, and to what checks are held against
   data Move (s : Session) (reg : Bytes) : Step → Session → Type 0 where
     -- a clear that is taken starts the count
-    restarted : {x : Step} {t : Session} → t .checked ≡ 0 → Move s reg x t
+    restarted : {x : Step} {t : Session} → t .progress .checked ≡ 0 → Move s reg x t
     -- a check that is taken counts its round
-    counted : {round : ℕ} {x : Inputs} {t : Session} → round ≡ s .checked → reply p (check round x) (state s reg) ≡ Taken → t .checked ≡ s .checked + 1
+    counted : {round : ℕ} {x : Inputs} {t : Session} → round ≡ s .progress .checked → reply p (check round x) (state s reg) ≡ Taken → t .progress .checked ≡ s .progress .checked + 1
         → ((k : ℕ) → storedFor s k ≡ storedFor t k) → Move s reg (check round x) t
     -- all else leaves the count, and from the first round checked on what checks are held against
-    same : {x : Step} {t : Session} → clears x (reply p x (state s reg)) ≡ false → t .checked ≡ s .checked → (0 < s .checked → (k : ℕ) → storedFor s k ≡ storedFor t k) → Move s reg x t
+    same : {x : Step} {t : Session} → clears x (reply p x (state s reg)) ≡ false → t .progress .checked ≡ s .progress .checked → (0 < s .progress .checked → (k : ℕ) → storedFor s k ≡ storedFor t k) → Move s reg x t
 
-  module _ (s : Session) (reg : Bytes) (unchecked : s .phase < 3 → s .checked ≡ 0) where
+  module _ (s : Session) (reg : Bytes) (unchecked : s .progress .phase < 3 → s .progress .checked ≡ 0) where
     abbrev st : State
     st = state s reg
 
     -- a step that is refused, or that is taken before draw
-    early : (x : Step) (r : Reply) (t : Session) → clears x (reply p x st) ≡ false → (r ≡ Taken → t .checked ≡ s .checked) → (r ≡ Taken → 0 < s .checked → (k : ℕ) → storedFor s k ≡ storedFor t k)
+    early : (x : Step) (r : Reply) (t : Session) → clears x (reply p x st) ≡ false → (r ≡ Taken → t .progress .checked ≡ s .progress .checked) → (r ≡ Taken → 0 < s .progress .checked → (k : ℕ) → storedFor s k ≡ storedFor t k)
         → Move s reg x (leaves r t s)
     early x r t c n d = left (Move s reg x) r (λ e. same c (n e) (d e)) (same c refl (λ l k. refl))
 
@@ -90,7 +90,7 @@ module _ (p : ℕ) where
 
   -- a session that ended accepted counts all its rounds
   abbrev Complete : Session → Type 0
-  Complete s = s .phase ≡ 5 → s .checked ≡ s .numbers .rounds
+  Complete s = s .progress .phase ≡ 5 → s .progress .checked ≡ s .numbers .rounds
 
   complete-step : (x : Step) (reg : Bytes) (s : Session) → Complete s → Complete (after p x (state s reg) .session)
   unfolding reply after cleared admittedBy closedBy claimedBy committedBy drawnBy
@@ -102,10 +102,10 @@ module _ (p : ℕ) where
   complete-step (commit k head shares0 shares1) reg s h = left Complete _ (λ e l. let was = committed-exactly p s k head shares0 shares1 .0 e .phase in absurd (omega arith)) h
   complete-step (draw seed) reg s h = left Complete _ (λ e l. absurd (omega arith)) h
   complete-step (check round x) reg s h = unfold checkedBy refusedBy in
-      left Complete _ (λ e. left Complete _ (λ f. accepted (eqb (s .checked + 1) (s .numbers .rounds)) refl) (λ l. absurd (omega arith))) h
+      left Complete _ (λ e. left Complete _ (λ f. accepted (eqb (s .progress .checked + 1) (s .numbers .rounds)) refl) (λ l. absurd (omega arith))) h
     where
-      accepted : (b : Bool) → eqb (s .checked + 1) (s .numbers .rounds) ≡ b → Complete (acceptedBy s)
-      accepted true e = unfold acceptedBy in λ l. eqb-true (s .checked + 1) (s .numbers .rounds) e
+      accepted : (b : Bool) → eqb (s .progress .checked + 1) (s .numbers .rounds) ≡ b → Complete (acceptedBy s)
+      accepted true e = unfold acceptedBy in λ l. eqb-true (s .progress .checked + 1) (s .numbers .rounds) e
       accepted false e = unfold acceptedBy in (rw e (λ l. absurd (omega arith)))
 
   complete-trace : (cs : List Call) (l : Trace) → Complete (l .session) → Complete (trace p cs l .session)
@@ -133,7 +133,7 @@ module _ (p : ℕ) where
     at-more cs c = trace-append cs (c ∷ []) (initial sheet) ∙ (unfold trace in refl)
 
     record All (cs : List Call) : Type 0 where
-      of : (k : ℕ) → k < at cs .session .checked → Checked p sheet cs k
+      of : (k : ℕ) → k < at cs .session .progress .checked → Checked p sheet cs k
 
     module _ (cs : List Call) (c : Call) (h : All cs) where
       abbrev s : Session
@@ -180,14 +180,14 @@ module _ (p : ℕ) where
           now : after p (c .step) (lent (at cs) c) .session ≡ t
           now = ap (λ (l : Trace). l .session) (sym (at-more cs c))
 
-          go : (x : Step) → c .step ≡ x → Move s (c .register) x (after p (c .step) (lent (at cs) c) .session) → (k : ℕ) → k < after p (c .step) (lent (at cs) c) .session .checked
+          go : (x : Step) → c .step ≡ x → Move s (c .register) x (after p (c .step) (lent (at cs) c) .session) → (k : ℕ) → k < after p (c .step) (lent (at cs) c) .session .progress .checked
               → Checked p sheet (cs ++ (c ∷ [])) k
           go x e (restarted z) k l = absurd (omega arith)
           go x e (same u n d) k l =
               longer (ap (λ (y : Step). clears y (reply p y (lent (at cs) c))) e ∙ u) k (d (omega arith) k ∙ ap (λ (w : Session). storedFor w k) now) (h .of k (omega arith))
-          go x e (counted {round = round} {x = y} i r n d) k l = by (last (s .checked) k (omega (arith, add-one (s .checked))))
+          go x e (counted {round = round} {x = y} i r n d) k l = by (last (s .progress .checked) k (omega (arith, add-one (s .progress .checked))))
             where
-              by : (k < s .checked) ⊎ (k ≡ s .checked) → Checked p sheet (cs ++ (c ∷ [])) k
+              by : (k < s .progress .checked) ⊎ (k ≡ s .progress .checked) → Checked p sheet (cs ++ (c ∷ [])) k
               by (inl j) = longer (ap (λ (y : Step). clears y (reply p y (lent (at cs) c))) e) k (d k ∙ ap (λ (w : Session). storedFor w k) now) (h .of k j)
               by (inr j) = rw (j ∙ sym i) (new round y e r (d round ∙ ap (λ (w : Session). storedFor w round) now))
 

@@ -15,6 +15,7 @@ use Rattle.sheet.specs.Sheet.{order}
 use Rattle.sheet.proofs.Form.{form-exactly}
 use Rattle.transcript.proofs.Tests.{equal-same}
 use Rattle.session.specs.declared.Session.{Session}
+use Rattle.progress.specs.Progress.{inLimits}
 use Rattle.session.specs.Session.{valid}
 use Rattle.histories.specs.Conditions.{SheetTaken, Valid}
 use Rattle.histories.proofs.Sheets.{range-exactly, sound-exactly, lists-exactly}
@@ -38,7 +39,7 @@ neither false b e = (refl, e)
 -- ---- a session
 
 pub valid-says : (p : ℕ) (s : Session) → valid p s ≡ true → Valid p s
-unfolding valid
+unfolding inLimits
 valid-says p s e =
     let a = both _ _ e in
     let b = both _ _ (a .1) in
@@ -57,16 +58,16 @@ valid-says p s e =
     }
 
 pub valid-holds : (p : ℕ) (s : Session) → Valid p s → valid p s ≡ true
-unfolding valid
+unfolding inLimits
 valid-holds p s v =
     rw (
-      le-leb (s .phase) 5 (v .phase),
+      le-leb (s .progress .phase) 5 (v .phase),
       range-exactly (s .numbers) .1 (v .inside),
       sound-exactly p (s .numbers) .1 (v .sound),
-      le-leb (s .used) 4096 (v .used),
-      le-leb (s .closed) 4096 (v .closed),
-      le-leb (s .committed) (s .numbers .rounds) (v .committed),
-      le-leb (s .checked) (s .numbers .rounds) (v .checked),
+      le-leb (s .progress .used) 4096 (v .used),
+      le-leb (s .progress .closed) 4096 (v .closed),
+      le-leb (s .progress .committed) (s .numbers .rounds) (v .committed),
+      le-leb (s .progress .checked) (s .numbers .rounds) (v .checked),
     )
 
 -- ---- 31

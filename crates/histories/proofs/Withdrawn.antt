@@ -50,19 +50,19 @@ module _ (p : ℕ) where
   -- ---- what holds of the register and the entries used, after any step
 
   module _ (P : Bytes → ℕ → Type 0) (st : State)
-      (admits : (ballot : Bytes) → Admits p (st .session) (st .register) ballot → P (admitted (st .register) (st .session .used) ballot) (st .session .used + 1))
-      (withdraws : (mark : ℕ) → Withdraws p (st .session) (st .register) mark → P (withdrawn (st .register) (find (st .register) mark (st .session .used))) (st .session .used)) where
+      (admits : (ballot : Bytes) → Admits p (st .session) (st .register) ballot → P (admitted (st .register) (st .session .progress .used) ballot) (st .session .progress .used + 1))
+      (withdraws : (mark : ℕ) → Withdraws p (st .session) (st .register) mark → P (withdrawn (st .register) (find (st .register) mark (st .session .progress .used))) (st .session .progress .used)) where
     abbrev Both : Session → Bytes → Type 0
-    Both s reg = P reg (s .used)
+    Both s reg = P reg (s .progress .used)
 
     abbrev Used : Session → Type 0
-    Used s = P (st .register) (s .used)
+    Used s = P (st .register) (s .progress .used)
 
-    rule : (x : Step) → (clears x (reply p x st) ≡ true → P (zeros registerLength) 0) → P (st .register) (st .session .used) → P (after p x st .register) (after p x st .session .used)
+    rule : (x : Step) → (clears x (reply p x st) ≡ true → P (zeros registerLength) 0) → P (st .register) (st .session .progress .used) → P (after p x st .register) (after p x st .session .progress .used)
     unfolding reply after cleared admittedBy closedBy claimedBy committedBy drawnBy acceptedBy refusedBy checkedBy
     rule (clear text) c h = left-both Both (first (clearTests p (st .register) text)) (λ e. c (clears-taken text _ e)) h
     rule (admit ballot) c h = left-both Both _ (λ e. admits ballot (admitted-exactly p (st .session) (st .register) ballot .0 e)) h
-    rule (withdraw mark) c h = left (λ reg. P reg (st .session .used)) _ (λ e. withdraws mark (withdrawn-exactly p (st .session) (st .register) mark .0 e)) h
+    rule (withdraw mark) c h = left (λ reg. P reg (st .session .progress .used)) _ (λ e. withdraws mark (withdrawn-exactly p (st .session) (st .register) mark .0 e)) h
     rule close c h = left Used _ (λ e. h) h
     rule (claim claims) c h = left Used _ (λ e. h) h
     rule (commit k head shares0 shares1) c h = left Used _ (λ e. h) h
@@ -74,7 +74,7 @@ module _ (p : ℕ) where
     reg = st .register
 
     abbrev used : ℕ
-    used = st .session .used
+    used = st .session .progress .used
 
     -- ---- an admission
 
@@ -148,20 +148,20 @@ module _ (p : ℕ) where
 
     -- ---- any step
 
-    pub single-step : (x : Step) → Single reg used → Single (after p x st .register) (after p x st .session .used)
+    pub single-step : (x : Step) → Single reg used → Single (after p x st .register) (after p x st .session .progress .used)
     single-step x h = rule Single st (λ ballot a. single-admit ballot a h) (λ mark w. single-withdraw mark w h) x (λ c. single-none (zeros registerLength)) h
 
-    gone-step : (mark : ℕ) (x : Step) → clears x (reply p x st) ≡ false → Gone mark reg used → Gone mark (after p x st .register) (after p x st .session .used)
+    gone-step : (mark : ℕ) (x : Step) → clears x (reply p x st) ≡ false → Gone mark reg used → Gone mark (after p x st .register) (after p x st .session .progress .used)
     gone-step mark x c h =
         rule (Gone mark) st (λ ballot a. gone-admit ballot a mark h) (λ other w. gone-withdraw other w mark h) x
         (λ t. absurd (let z : _≡_ {A = ℕ} 0 1 = cc in omega arith)) h
 
-    gone-after : (mark : ℕ) → reply p (withdraw mark) st ≡ Taken → Gone mark (after p (withdraw mark) st .register) (after p (withdraw mark) st .session .used)
+    gone-after : (mark : ℕ) → reply p (withdraw mark) st ≡ Taken → Gone mark (after p (withdraw mark) st .register) (after p (withdraw mark) st .session .progress .used)
     unfolding reply after
     gone-after mark e = rw (← leaves-taken (first (withdrawTests p (st .session) reg mark)) {x = withdrawn reg (find reg mark used)} reg e) (gone-first mark (withdrawn-exactly p (st .session) reg mark .0 e))
 
     -- after a clear that is taken no entry is used
-    single-clear : (sheet : Bytes) → reply p (clear sheet) st ≡ Taken → Single (after p (clear sheet) st .register) (after p (clear sheet) st .session .used)
+    single-clear : (sheet : Bytes) → reply p (clear sheet) st ≡ Taken → Single (after p (clear sheet) st .register) (after p (clear sheet) st .session .progress .used)
     unfolding reply after cleared
     single-clear sheet e =
         let r = first (clearTests p reg sheet) in
@@ -169,12 +169,12 @@ module _ (p : ℕ) where
 
   -- ---- over a run
 
-  single-run : (xs : List Step) (st : State) → Single (st .register) (st .session .used) → Single (run p xs st .register) (run p xs st .session .used)
+  single-run : (xs : List Step) (st : State) → Single (st .register) (st .session .progress .used) → Single (run p xs st .register) (run p xs st .session .progress .used)
   unfolding run
   single-run [] st h = h
   single-run (x ∷ xs) st h = single-run xs (after p x st) (single-step st x h)
 
-  gone-run : (mark : ℕ) {xs : List Step} {st : State} → Uncleared p xs st → Gone mark (st .register) (st .session .used) → Gone mark (run p xs st .register) (run p xs st .session .used)
+  gone-run : (mark : ℕ) {xs : List Step} {st : State} → Uncleared p xs st → Gone mark (st .register) (st .session .progress .used) → Gone mark (run p xs st .register) (run p xs st .session .progress .used)
   unfolding run
   gone-run mark none h = h
   gone-run mark (more {x = x} {st = st} c u) h = gone-run mark u (gone-step st mark x c h)

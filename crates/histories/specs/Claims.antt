@@ -24,7 +24,7 @@ use Rattle.digests.specs.Digests.{concatenated, ballotDigests}
 use Rattle.drawing.specs.Draw.{drawnSide, drawnChallenges}
 use Rattle.checking.specs.Check.{Inputs}
 use Rattle.session.specs.declared.Session.{Session}
-use Rattle.session.specs.Session.{gathering, closed, claimed, drawn, ended-accepted}
+use Rattle.progress.specs.Progress.{gathering, closed, drawn, ended-accepted, commitDue, drawDue, checkDue}
 use Rattle.session.specs.Steps.{storedFor, clearTests, admitTests, withdrawTests, closeTests, claimTests, commitTests, drawTests, checkTests}
 use Rattle.histories.specs.Runs.{Step, clear, admit, withdraw, close, claim, commit, draw, check, State, state, message, Trace, Call, call, initial, ownInitial, reply, after, run, Uncleared, NoClear, ownTrace, extend, trace, calls}
 use Rattle.histories.specs.Conditions.{Valid, Clears, Admits, Withdraws, Closes, Claims, Commits, Draws, Checks}
@@ -32,13 +32,13 @@ use Rattle.histories.specs.Conditions.{Valid, Clears, Admits, Withdraws,
 -- the phase and the round are those of the step
 unfoldable pub due : Step → Session → Bool
 due (clear text) s = true
-due (admit ballot) s = eqb (s .phase) gathering
-due (withdraw mark) s = eqb (s .phase) gathering
-due close s = eqb (s .phase) gathering
-due (claim claims) s = eqb (s .phase) closed
-due (commit k head shares0 shares1) s = eqb (s .phase) claimed && (eqb k (s .committed) && ltb k (s .numbers .rounds))
-due (draw seed) s = eqb (s .phase) claimed && eqb (s .committed) (s .numbers .rounds)
-due (check k x) s = eqb (s .phase) drawn && (eqb k (s .checked) && ltb k (s .numbers .rounds))
+due (admit ballot) s = eqb (s .progress .phase) gathering
+due (withdraw mark) s = eqb (s .progress .phase) gathering
+due close s = eqb (s .progress .phase) gathering
+due (claim claims) s = eqb (s .progress .phase) closed
+due (commit k head shares0 shares1) s = commitDue (s .numbers) (s .progress) k
+due (draw seed) s = drawDue (s .numbers) (s .progress)
+due (check k x) s = checkDue (s .numbers) (s .progress) k
 
 -- what the producer makes of material, as a check of round k is lent it: made for the parameters of a sheet, m ballots, and what a seed draws
 module _ (P : Parameters) (m : ℕ) (material : Material) (seed : Bytes) (k : ℕ) where
@@ -92,7 +92,7 @@ module _ (p : ℕ) where
       reply p (withdraw mark) found ≡ Taken
       → Uncleared p between (after p (withdraw mark) found)
       → reply p close last ≡ Taken
-      → (i : ℕ) → List·Memᴰ i (standing (last .register) (last .session .used)) → markAt (last .register) i ≢ mark
+      → (i : ℕ) → List·Memᴰ i (standing (last .register) (last .session .progress .used)) → markAt (last .register) i ≢ mark
 
   -- ---- the second demand: no round is waved by. Lists of steps from a newly cleared session, each lent any register
 
@@ -112,13 +112,13 @@ module _ (p : ℕ) where
 
   -- every round that a session counts as checked was checked
   abbrev pub RoundsChecked : Type 0
-  RoundsChecked = (sheet : Bytes) (cs : List Call) → first (order p sheet) ≡ Taken → (k : ℕ) → k < trace p cs (initial sheet) .session .checked → Checked sheet cs k
+  RoundsChecked = (sheet : Bytes) (cs : List Call) → first (order p sheet) ≡ Taken → (k : ℕ) → k < trace p cs (initial sheet) .session .progress .checked → Checked sheet cs k
 
   -- and of a session that ended accepted every round was
   abbrev pub EndedAccepted : Type 0
   EndedAccepted = (sheet : Bytes) (cs : List Call) → first (order p sheet) ≡ Taken
       → let s = trace p cs (initial sheet) .session in
-      s .phase ≡ ended-accepted → (k : ℕ) → k < s .numbers .rounds → Checked sheet cs k
+      s .progress .phase ≡ ended-accepted → (k : ℕ) → k < s .numbers .rounds → Checked sheet cs k
 
   -- ---- the third demand: lists of steps from a newly cleared session, each lent any register
 
@@ -142,8 +142,8 @@ module _ (p : ℕ) where
   -- a round's turn: the check of the round next due after draw, lent the session's sheet and batch, the claims and the first message that were lodged (taken since the last clear), all of it
   -- the producer's, and scratch
   pub record Turn (l : Trace) (material : Material) (round : ℕ) (x : Inputs) : Type 0 where
-    pub phase : l .session .phase ≡ drawn
-    pub due : round ≡ l .session .checked
+    pub phase : l .session .progress .phase ≡ drawn
+    pub due : round ≡ l .session .progress .checked
     pub sheet : x .sheet ≡ l .history .sheet
     pub batch : ballotDigests (ballotLength (sheetOf (x .sheet) .numbers .ring)) (length (l .history .batch)) (x .ballots) ≡ l .history .batch
     pub claims : x .claims ≡ l .history .claims
@@ -161,7 +161,7 @@ module _ (p : ℕ) where
   abbrev pub RollIsBatch : Type 0
   RollIsBatch = (sheet : Bytes) (steps : List Step)
       → let t = ownTrace p steps (ownInitial sheet) in
-      0 < t .now .session .phase
+      0 < t .now .session .progress .phase
       → (t .history .batch ≡ map sha3 (t .roll)) × ((b : Bytes) → List·Memᴰ b (t .roll) → length b ≡ ballotLength (t .now .session .numbers .ring))
       × (ballotDigests (ballotLength (t .now .session .numbers .ring)) (length (t .history .batch)) (concatenated (t .roll)) ≡ t .history .batch)
 

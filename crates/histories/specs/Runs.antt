@@ -58,7 +58,7 @@ unfoldable pub historyAfter : Step → State → History → History
 historyAfter (clear text) st h = emptyHistory text
 historyAfter (admit ballot) st h = h
 historyAfter (withdraw mark) st h = h
-historyAfter close st h = record { sheet = h .sheet; batch = standingDigests (st .register) (st .session .used); claims = h .claims; firsts = h .firsts }
+historyAfter close st h = record { sheet = h .sheet; batch = standingDigests (st .register) (st .session .progress .used); claims = h .claims; firsts = h .firsts }
 historyAfter (claim claims) st h = record { sheet = h .sheet; batch = h .batch; claims = claims; firsts = h .firsts }
 historyAfter (commit k head shares0 shares1) st h = record {
   sheet = h .sheet;
@@ -147,10 +147,10 @@ module _ (p : ℕ) where
       state (leaves r (cleared text) (st .session)) (leaves r (zeros registerLength) (st .register))
   after (admit ballot) st =
       let r = reply (admit ballot) st in
-      state (leaves r (admittedBy (st .session)) (st .session)) (leaves r (admitted (st .register) (st .session .used) ballot) (st .register))
+      state (leaves r (admittedBy (st .session)) (st .session)) (leaves r (admitted (st .register) (st .session .progress .used) ballot) (st .register))
   after (withdraw mark) st =
       let r = reply (withdraw mark) st in
-      state (st .session) (leaves r (withdrawn (st .register) (find (st .register) mark (st .session .used))) (st .register))
+      state (st .session) (leaves r (withdrawn (st .register) (find (st .register) mark (st .session .progress .used))) (st .register))
   after close st = state (leaves (reply close st) (closedBy (st .session) (st .register)) (st .session)) (st .register)
   after (claim claims) st = state (leaves (reply (claim claims) st) (claimedBy (st .session) claims) (st .session)) (st .register)
   after (commit k head shares0 shares1) st =

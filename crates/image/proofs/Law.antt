@@ -73,7 +73,7 @@ module _ (s : Session) (t : Typed s) where
       rw (← p) (ap number (piece (all s) lengths i 8 sized (ap length e ∙ length-bytes 8 v) ∙ e) ∙ number-bytes 8 v h)
 
   -- the phase stands first
-  first : getD (concatenated (all s)) 0 0 ≡ s .phase
+  first : getD (concatenated (all s)) 0 0 ≡ s .progress .phase
   unfolding concatenated
   first = refl
 
@@ -89,13 +89,13 @@ module _ (s : Session) (t : Typed s) where
         stored 4 (s .numbers .rounds) 25 refl (t .rounds-fits) refl,
         stored 5 (s .numbers .repeats) 33 refl (t .repeats-fits) refl,
         piece (all s) lengths 6 32 sized (t .sheet-long),
-        stored 7 (s .used) 73 refl (t .used-fits) refl,
-        stored 8 (s .closed) 81 refl (t .closed-fits) refl,
+        stored 7 (s .progress .used) 73 refl (t .used-fits) refl,
+        stored 8 (s .progress .closed) 81 refl (t .closed-fits) refl,
         piece (all s) lengths 9 32 sized (t .closing-long),
         piece (all s) lengths 10 32 sized (t .claim-long),
-        stored 11 (s .committed) 153 refl (t .committed-fits) refl,
+        stored 11 (s .progress .committed) 153 refl (t .committed-fits) refl,
         piece (all s) lengths 12 32 sized (t .seed-long),
-        stored 13 (s .checked) 193 refl (t .checked-fits) refl,
+        stored 13 (s .progress .checked) 193 refl (t .checked-fits) refl,
         piece (all s) lengths 14 4096 sized (t .trail-long),
       )
 

@@ -1,4 +1,5 @@
 // The byte image of a session (document 01, "Register and session"): 4,297 bytes, the fields one after the other, little-endian.
+use progress::Progress;
 use session::Session;
 use sheet_numbers::Numbers;
 ghost use mathlib.Core.Path.{_≡_};
@@ -66,17 +67,20 @@ pub fn load(image: &[u8]) -> Session
     let seed = read_digest(image, 161);
     let checked = codec::read64(image, 193);
     let trail = read_trail(image);
-    Session {
+    let progress = Progress {
         phase,
-        numbers,
-        sheet,
         used,
         closed,
+        committed,
+        checked,
+    };
+    Session {
+        progress,
+        numbers,
+        sheet,
         closing,
         claim,
-        committed,
         seed,
-        checked,
         trail,
     }
 }
@@ -87,7 +91,7 @@ fn store_head(session: Session, image: &mut [u8])
     ensures { λ _. ⌜ now (image .exit) ≡ put (now (image .entry)) 0 (concatenated (head session)) ⌝ }
 {
     let numbers = session.numbers;
-    codec::write8(image, 0, session.phase);
+    codec::write8(image, 0, session.progress.phase);
     codec::write64(image, 1, numbers.ring);
     codec::write64(image, 9, numbers.modulus);
     codec::write64(image, 17, numbers.drown);
@@ -101,8 +105,8 @@ fn store_batch(session: Session, image: &mut [u8])
     requires { ⌜ length (now image) ≡ imageLength ⌝ }
     ensures { λ _. ⌜ now (image .exit) ≡ put (now (image .entry)) 73 (concatenated (batch session)) ⌝ }
 {
-    codec::write64(image, 73, session.used);
-    codec::write64(image, 81, session.closed);
+    codec::write64(image, 73, session.progress.used);
+    codec::write64(image, 81, session.progress.closed);
     codec::copy(image, 89, &session.closing);
     codec::copy(image, 121, &session.claim);
 }
@@ -112,9 +116,9 @@ fn store_rounds(session: Session, image: &mut [u8])
     requires { ⌜ length (now image) ≡ imageLength ⌝ }
     ensures { λ _. ⌜ now (image .exit) ≡ put (now (image .entry)) 153 (concatenated (rounds session)) ⌝ }
 {
-    codec::write64(image, 153, session.committed);
+    codec::write64(image, 153, session.progress.committed);
     codec::copy(image, 161, &session.seed);
-    codec::write64(image, 193, session.checked);
+    codec::write64(image, 193, session.progress.checked);
     codec::copy(image, 201, &session.trail);
 }
 

@@ -82,11 +82,11 @@ module _ (p : ℕ) where
       let l : Keeps last (run p between (after p (withdraw mark) there)) = over-run between (hostAfter p (withdraw mark) found) (after p (withdraw mark) there) (w .1) in
       let c = over-step close last (run p between (after p (withdraw mark) there)) l in
       let out = withdrawn-stays-out p (st start sheet s) sheet before between mark (taken start sheet s) (sym (w .0) ∙ e) (uncleared between (hostAfter p (withdraw mark) found) (after p (withdraw mark) there) (w .1) u) (sym (c .0) ∙ d) i in
-      rw (l .register) (out (rw (l .register, ap (λ (z : Session). z .used) (l .image .session)) at m))
+      rw (l .register) (out (rw (l .register, ap (λ (z : Session). z .progress .used) (l .image .session)) at m))
 
   pub host-ended-accepted : HostEndedAccepted p
   host-ended-accepted start sheet cs s =
-      subst (λ (z : Session). z .phase ≡ 5 → (k : ℕ) → k < z .numbers .rounds → Checked p sheet cs k) (sym (traced start sheet s cs .session)) (ended-accepted p sheet cs (readable start sheet s))
+      subst (λ (z : Session). z .progress .phase ≡ 5 → (k : ℕ) → k < z .numbers .rounds → Checked p sheet cs k) (sym (traced start sheet s cs .session)) (ended-accepted p sheet cs (readable start sheet s))
 
   pub host-honest-accepted : HonestAccepted p → HostHonestAccepted p
   host-honest-accepted honest start sheet cs s register material round x turn =

@@ -20,6 +20,8 @@ use Rattle.digests.specs.Digests.{roundDigest}
 use Rattle.digests.proofs.Laws.{length-closingDigest, length-claimDigest, length-roundDigest}
 use Rattle.checking.specs.Check.{Inputs}
 use Rattle.session.specs.declared.Session.{Session}
+use Rattle.progress.specs.Progress.{withEntry, withBatch, withClaims, withMessage, withSeed, withRefusal, withAcceptance}
+use Rattle.progress.specs.declared.Progress.{Progress}
 use Rattle.session.specs.Session.{changed}
 use Rattle.session.specs.Steps.{cleared, admittedBy, closedBy, claimedBy, committedBy, drawnBy, checkEarly, checkLate, acceptedBy, refusedBy, checkedBy}
 use Rattle.image.specs.Image.{imageLength, encode, decode, Typed}
@@ -60,10 +62,10 @@ module _ (b : Bytes) (l : length b ≡ imageLength) (o : Octets b) where
   }
 
 -- of one that a step changes they do if what is changed fits
-typed-changed : (s : Session) (phase used closed : ℕ) (closing claimed : Bytes) (committed : ℕ) (seed : Bytes) (checked : ℕ) (trail : Bytes) → Typed s
-    → phase < 256 → used < 2 ^ 64 → closed < 2 ^ 64 → length closing ≡ 32 → length claimed ≡ 32 → committed < 2 ^ 64 → length seed ≡ 32 → checked < 2 ^ 64 → length trail ≡ 4096
-    → Typed (changed s phase used closed closing claimed committed seed checked trail)
-typed-changed s phase used closed closing claimed committed seed checked trail t a b c d e f g h i = record {
+typed-changed : (s : Session) (g : Progress) (closing claimed seed trail : Bytes) → Typed s
+    → g .phase < 256 → g .used < 2 ^ 64 → g .closed < 2 ^ 64 → length closing ≡ 32 → length claimed ≡ 32 → g .committed < 2 ^ 64 → length seed ≡ 32 → g .checked < 2 ^ 64 → length trail ≡ 4096
+    → Typed (changed s g closing claimed seed trail)
+typed-changed s _ closing claimed seed trail t a b c d e f g h i = record {
   phase-fits = a;
   ring-fits = t .ring-fits;
   modulus-fits = t .modulus-fits;
@@ -108,20 +110,20 @@ module _ (p : ℕ) where
     typed-admitted : (ballot : Bytes) → Admits p s reg ballot → Typed (admittedBy s)
     unfolding admittedBy
     typed-admitted ballot a =
-        typed-changed s (s .phase) (s .used + 1) (s .closed) (s .closing) (s .claim) (s .committed) (s .seed) (s .checked) (s .trail) t (t .phase-fits) (omega (arith, a .room)) (t .closed-fits)
+        typed-changed s (withEntry (s .progress)) (s .closing) (s .claim) (s .seed) (s .trail) t (t .phase-fits) (omega (arith, a .room)) (t .closed-fits)
         (t .closing-long) (t .claim-long) (t .committed-fits) (t .seed-long) (t .checked-fits) (t .trail-long)
 
     typed-closed : Closes p s reg → Typed (closedBy s reg)
     unfolding closedBy standingDigests
     typed-closed c =
-        typed-changed s 1 (s .used) _ _ (s .claim) (s .committed) (s .seed) (s .checked) (s .trail) t (omega arith) (t .used-fits)
-        (rw (length-map (standing reg (s .used)) (digestAt reg)) (omega (arith, standing-few reg (s .used), c .sound .used))) (length-closingDigest (s .sheet) _) (t .claim-long) (t .committed-fits)
+        typed-changed s (withBatch _ (s .progress)) _ (s .claim) (s .seed) (s .trail) t (omega arith) (t .used-fits)
+        (rw (length-map (standing reg (s .progress .used)) (digestAt reg)) (omega (arith, standing-few reg (s .progress .used), c .sound .used))) (length-closingDigest (s .sheet) _) (t .claim-long) (t .committed-fits)
         (t .seed-long) (t .checked-fits) (t .trail-long)
 
     typed-claimed : (claims : Bytes) → Typed (claimedBy s claims)
     unfolding claimedBy
     typed-claimed claims =
-        typed-changed s 2 (s .used) (s .closed) (s .closing) _ (s .committed) (s .seed) (s .checked) (s .trail) t (omega arith) (t .used-fits) (t .closed-fits) (t .closing-long)
+        typed-changed s (withClaims (s .progress)) (s .closing) _ (s .seed) (s .trail) t (omega arith) (t .used-fits) (t .closed-fits) (t .closing-long)
         (length-claimDigest (s .closing) claims) (t .committed-fits) (t .seed-long) (t .checked-fits) (t .trail-long)
 
     typed-committed : (k : ℕ) (head shares0 shares1 : Bytes) → Commits p s k head shares0 shares1 → Typed (committedBy s k head shares0 shares1)
@@ -133,30 +135,35 @@ module _ (p : ℕ) where
         let long = t .trail-long in
         let new = roundDigest (s .claim) k head shares0 shares1 in
         let size : length new ≡ 32 = length-roundDigest (s .claim) k head shares0 shares1 in
-        typed-changed s (s .phase) (s .used) (s .closed) (s .closing) (s .claim) (s .committed + 1) (s .seed) (s .checked) _ t (t .phase-fits) (t .used-fits) (t .closed-fits) (t .closing-long)
+        typed-changed s (withMessage (s .progress)) (s .closing) (s .claim) (s .seed) _ t (t .phase-fits) (t .used-fits) (t .closed-fits) (t .closing-long)
         (t .claim-long) (omega arith) (t .seed-long) (t .checked-fits) (length-put (s .trail) (32 * k) new (omega (arith, size)) ∙ t .trail-long)
 
     typed-drawn : (seed : Bytes) → Draws p s seed → Typed (drawnBy s seed)
     unfolding drawnBy
     typed-drawn seed d =
-        typed-changed s 3 (s .used) (s .closed) (s .closing) (s .claim) (s .committed) seed (s .checked) (s .trail) t (omega arith) (t .used-fits) (t .closed-fits) (t .closing-long) (t .claim-long)
+        typed-changed s (withSeed (s .progress)) (s .closing) (s .claim) seed (s .trail) t (omega arith) (t .used-fits) (t .closed-fits) (t .closing-long) (t .claim-long)
         (t .committed-fits) (d .size) (t .checked-fits) (t .trail-long)
 
-    -- a check that is not stopped early
-    typed-phase : (phase checked : ℕ) → phase < 256 → checked < 2 ^ 64 → Typed (changed s phase (s .used) (s .closed) (s .closing) (s .claim) (s .committed) (s .seed) checked (s .trail))
-    typed-phase phase checked a b =
-        typed-changed s phase (s .used) (s .closed) (s .closing) (s .claim) (s .committed) (s .seed) checked (s .trail) t a (t .used-fits) (t .closed-fits) (t .closing-long) (t .claim-long)
-        (t .committed-fits) (t .seed-long) b (t .trail-long)
+    typed-refused : Typed (refusedBy s)
+    unfolding refusedBy
+    typed-refused =
+        typed-changed s (withRefusal (s .progress)) (s .closing) (s .claim) (s .seed) (s .trail) t (omega arith) (t .used-fits) (t .closed-fits) (t .closing-long) (t .claim-long) (t .committed-fits) (t .seed-long)
+        (t .checked-fits) (t .trail-long)
+
+    typed-accepted : s .progress .checked < s .numbers .rounds → Typed (acceptedBy s)
+    unfolding acceptedBy
+    typed-accepted l =
+        typed-changed s (withAcceptance (s .numbers .rounds) (s .progress)) (s .closing) (s .claim) (s .seed) (s .trail) t (phase (eqb (s .progress .checked + 1) (s .numbers .rounds))) (t .used-fits) (t .closed-fits)
+        (t .closing-long) (t .claim-long) (t .committed-fits) (t .seed-long) (omega (arith, t .rounds-fits)) (t .trail-long)
+      where
+        phase : (b : Bool) → cond b 5 3 < 256
+        phase true = omega arith
+        phase false = omega arith
 
     typed-checked : (k : ℕ) (x : Inputs) → Typed (checkedBy p s k x)
-    unfolding checkedBy acceptedBy refusedBy
+    unfolding checkedBy
     typed-checked k x =
-        left Typed (first (checkEarly p s k x))
-        (λ e. left Typed (first (checkLate p s k x)) (λ f. accepted (drawn-now p s k x e .1) (eqb (s .checked + 1) (s .numbers .rounds))) (typed-phase 4 (s .checked) (omega arith) (t .checked-fits))) t
-      where
-        accepted : s .checked < s .numbers .rounds → (b : Bool) → Typed (changed s (cond b 5 3) (s .used) (s .closed) (s .closing) (s .claim) (s .committed) (s .seed) (s .checked + 1) (s .trail))
-        accepted l true = typed-phase 5 (s .checked + 1) (omega arith) (omega (arith, t .rounds-fits))
-        accepted l false = typed-phase 3 (s .checked + 1) (omega arith) (omega (arith, t .rounds-fits))
+        left Typed (first (checkEarly p s k x)) (λ e. left Typed (first (checkLate p s k x)) (λ f. typed-accepted (drawn-now p s k x e .1)) typed-refused) t
 
   typed-after : (x : Step) (st : State) → Typed (st .session) → Typed (after p x st .session)
   unfolding reply after
@@ -229,9 +236,9 @@ module _ (p : ℕ) where
       where
         go : (x : Step) → hostReply p x h ≡ reply p x st → hostAfter p x h .register ≡ after p x st .register
         go (clear text) e = unfold hostReply hostAfter reply after in ap (λ (r : Reply). leaves r (zeros registerLength) register) e
-        go (admit ballot) e = unfold hostReply hostAfter reply after in ap₂ (λ (r : Reply) (z : Session). leaves r (admitted register (z .used) ballot) register) e (holds .session)
+        go (admit ballot) e = unfold hostReply hostAfter reply after in ap₂ (λ (r : Reply) (z : Session). leaves r (admitted register (z .progress .used) ballot) register) e (holds .session)
         go (withdraw mark) e = unfold hostReply hostAfter reply after in
-            ap₂ (λ (r : Reply) (z : Session). leaves r (withdrawn register (find register mark (z .used))) register) e (holds .session)
+            ap₂ (λ (r : Reply) (z : Session). leaves r (withdrawn register (find register mark (z .progress .used))) register) e (holds .session)
         go close e = unfold hostAfter after in refl
         go (claim claims) e = unfold hostAfter after in refl
         go (commit k head shares0 shares1) e = unfold hostAfter after in refl

@@ -11,7 +11,7 @@ use Rattle.codec.specs.declared.Reply.the-variants.{Taken}
 use Rattle.transcript.specs.Producer.{Material}
 use Rattle.register.specs.Register.{markAt, standing}
 use Rattle.checking.specs.Check.{Inputs}
-use Rattle.session.specs.Session.{ended-accepted}
+use Rattle.progress.specs.Progress.{ended-accepted}
 use Rattle.image.specs.Image.{imageLength, decode}
 use Rattle.histories.specs.Runs.{Step, clear, withdraw, close, check, Call, clears, initial, trace}
 use Rattle.histories.specs.Claims.{Checked, Turn}
@@ -37,13 +37,13 @@ module _ (p : ℕ) where
       hostReply p (withdraw mark) found ≡ Taken
       → HostUncleared between (hostAfter p (withdraw mark) found)
       → hostReply p close last ≡ Taken
-      → (i : ℕ) → List·Memᴰ i (standing (last .register) (decode (last .image) .used)) → markAt (last .register) i ≢ mark
+      → (i : ℕ) → List·Memᴰ i (standing (last .register) (decode (last .image) .progress .used)) → markAt (last .register) i ≢ mark
 
   -- each call is lent the image that the last one left, and any register: where the image says that the session ended accepted, every round was checked
   abbrev pub HostEndedAccepted : Type 0
   HostEndedAccepted = (start : Host) (sheet : Bytes) (cs : List Call) → Starts start sheet
       → let s = decode (hostTrace p cs (hostAfter p (clear sheet) start .image)) in
-      s .phase ≡ ended-accepted → (k : ℕ) → k < s .numbers .rounds → Checked p sheet cs k
+      s .progress .phase ≡ ended-accepted → (k : ℕ) → k < s .numbers .rounds → Checked p sheet cs k
 
   -- and a round of the producer's that is lodged is accepted at its turn
   abbrev pub HostHonestAccepted : Type 0

@@ -48,10 +48,10 @@ module _ (p : ℕ) where
       host (imageLeft r (h .image) (cleared text)) (leaves r (zeros registerLength) (h .register))
   hostAfter (admit ballot) h =
       let r = admitReply p (h .image) (h .register) ballot in
-      host (imageLeft r (h .image) (admittedBy (decode (h .image)))) (leaves r (admitted (h .register) (decode (h .image) .used) ballot) (h .register))
+      host (imageLeft r (h .image) (admittedBy (decode (h .image)))) (leaves r (admitted (h .register) (decode (h .image) .progress .used) ballot) (h .register))
   hostAfter (withdraw mark) h =
       let r = withdrawReply p (h .image) (h .register) mark in
-      host (h .image) (leaves r (withdrawn (h .register) (find (h .register) mark (decode (h .image) .used))) (h .register))
+      host (h .image) (leaves r (withdrawn (h .register) (find (h .register) mark (decode (h .image) .progress .used))) (h .register))
   hostAfter close h = host (imageLeft (closeReply p (h .image) (h .register)) (h .image) (closedBy (decode (h .image)) (h .register))) (h .register)
   hostAfter (claim claims) h = host (imageLeft (claimReply p (h .image) claims) (h .image) (claimedBy (decode (h .image)) claims)) (h .register)
   hostAfter (commit k head shares0 shares1) h =

@@ -48,7 +48,7 @@ pub extern "C" fn jdn_clear(image: &mut [u8], reg: &mut [u8], sheet: &[u8]) -> u
 pub extern "C" fn jdn_admit(image: &mut [u8], reg: &mut [u8], ballot: &[u8]) -> u64
     ensures reply { λ answer. ⌜ answer ≡ packed (admitReply 2 (now (image .entry)) (now (reg .entry)) (now (ballot .entry))) ⌝ }
     ensures image { λ _. ⌜ now (image .exit) ≡ imageLeft (admitReply 2 (now (image .entry)) (now (reg .entry)) (now (ballot .entry))) (now (image .entry)) (admittedBy (decode (now (image .entry)))) ⌝ }
-    ensures register { λ _. ⌜ now (reg .exit) ≡ leaves (admitReply 2 (now (image .entry)) (now (reg .entry)) (now (ballot .entry))) (entries.admitted (now (reg .entry)) (decode (now (image .entry)) .used) (now (ballot .entry))) (now (reg .entry)) ⌝ }
+    ensures register { λ _. ⌜ now (reg .exit) ≡ leaves (admitReply 2 (now (image .entry)) (now (reg .entry)) (now (ballot .entry))) (entries.admitted (now (reg .entry)) (decode (now (image .entry)) .progress .used) (now (ballot .entry))) (now (reg .entry)) ⌝ }
 {
     codec::pack(session_calls::admit(image, reg, ballot))
 }
@@ -58,7 +58,7 @@ pub extern "C" fn jdn_admit(image: &mut [u8], reg: &mut [u8], ballot: &[u8]) -> 
 pub extern "C" fn jdn_withdraw(image: &mut [u8], reg: &mut [u8], mark: u32) -> u64
     ensures reply { λ answer. ⌜ answer ≡ packed (withdrawReply 2 (now (image .entry)) (now (reg .entry)) mark) ⌝ }
     ensures image { λ _. ⌜ now (image .exit) ≡ now (image .entry) ⌝ }
-    ensures register { λ _. ⌜ now (reg .exit) ≡ leaves (withdrawReply 2 (now (image .entry)) (now (reg .entry)) mark) (entries.withdrawn (now (reg .entry)) (entries.find (now (reg .entry)) mark (decode (now (image .entry)) .used))) (now (reg .entry)) ⌝ }
+    ensures register { λ _. ⌜ now (reg .exit) ≡ leaves (withdrawReply 2 (now (image .entry)) (now (reg .entry)) mark) (entries.withdrawn (now (reg .entry)) (entries.find (now (reg .entry)) mark (decode (now (image .entry)) .progress .used))) (now (reg .entry)) ⌝ }
 {
     codec::pack(session_calls::withdraw(image, reg, mark))
 }

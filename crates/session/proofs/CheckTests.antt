@@ -1,14 +1,15 @@
 -- The orders of check and challenges, what a verdict comes to, and the bytes that challenges writes. Assumes nothing.
 use mathlib.Core.Path.{_≡_, refl, sym, ap, _∙_}
 use mathlib.Core.Logic.{_≢_}
-use mathlib.Core.Bool.{Bool, true, false, _&&_, and-false}
+use mathlib.Core.Bool.{Bool, true, false, _&&_}
 use mathlib.Core.List.{List, [], _∷_, _++_, append-nil}
-use Prim.Native.Nat.{ℕ, _+_, _-_, _≤_, _<_}
+use Prim.Native.Nat.{ℕ, _+_, _-_, _<_}
 use native.Mathlib.Omega.{arith}
-use lib.Dec.{eqb, leb, ltb}
+use lib.Dec.{leb}
 use lib.ListN.{length, take, drop, set, length-take, length-drop, length-set, drop-of-length-le}
-use borrow.Author.Tests.{eq-eqb, ne-eqb, lt-ltb, le-ltb, le-leb, lt-leb}
+use borrow.Author.Tests.{eq-eqb, ne-eqb, ltb-true}
 use Rattle.codec.specs.Bytes.{Bytes}
+use Rattle.codec.proofs.Laws.{both}
 use Rattle.codec.specs.Reply.{Test, first, leaves}
 use Rattle.codec.specs.declared.Reply.{Reply}
 use Rattle.codec.specs.declared.Reply.the-variants.{Taken, Refused}
@@ -16,11 +17,11 @@ use Rattle.call.specs.Call.{swept}
 use Rattle.stored.specs.declared.Stored.{Stored}
 use Rattle.checking.specs.Check.{Inputs, earlyTests, verdict, replyOf, outcome}
 use Rattle.checking.specs.declared.Verdict.{Verdict}
-use Rattle.session.specs.Session.{drawn, valid, trailAt}
+use Rattle.progress.specs.Progress.{drawn, checkDue, challengesDue}
+use Rattle.session.specs.Session.{valid, trailAt}
 use Rattle.session.specs.Steps.{storedFor, checkEarly, checkLate, checkTests, checkedBy, judgedBy, acceptedBy, refusedBy, challengesTests}
 use Rattle.session.specs.declared.Session.{Session}
 use Rattle.session.specs.declared.Stepped.{Stepped}
-use Rattle.session.proofs.Stepping.{wrong-phase, wrong-turn, due}
 
 -- ---- a verdict
 
@@ -51,7 +52,7 @@ verdict-leaves Taken Taken s = refl
 abbrev holding : Session → (round : ℕ) → (message : Bytes) → Stored
 holding s round message = record {
   numbers = s .numbers;
-  closed = s .closed;
+  closed = s .progress .closed;
   sheet = s .sheet;
   closing = s .closing;
   claim = s .claim;
@@ -61,32 +62,20 @@ holding s round message = record {
 }
 
 module _ (p : ℕ) (s : Session) (round : ℕ) (x : Inputs) where
-  abbrev turn : Bool
-  turn = eqb round (s .checked) && ltb round (s .numbers .rounds)
-
   -- what a check promises, of what it hands back and of scratch
   abbrev pub Promised : Stepped → Bytes → Type 0
   Promised r scratch = (r .reply ≡ first (checkTests p s round x)) × ((r .session ≡ checkedBy p s round x) × (scratch ≡ swept (first (checkTests p s round x)) (x .scratch)))
 
   -- 31: nothing is touched
-  undue : {r : Stepped} → (valid p s && (eqb (s .phase) drawn && turn)) ≡ false → (r .session ≡ s) × (r .reply ≡ Refused 31 0) → Promised r (x .scratch)
+  pub check-undue : {r : Stepped} → (valid p s && checkDue (s .numbers) (s .progress) round) ≡ false → (r .session ≡ s) × (r .reply ≡ Refused 31 0) → Promised r (x .scratch)
   unfolding checkTests checkEarly checkedBy first leaves swept
-  undue e h = (rw e (h .1), (rw e (h .0), rw e))
-
-  pub check-phase : {r : Stepped} → (valid p s && eqb (s .phase) drawn) ≡ false → (r .session ≡ s) × (r .reply ≡ Refused 31 0) → Promised r (x .scratch)
-  check-phase e h = undue (wrong-phase (valid p s) (eqb (s .phase) drawn) turn e) h
-
-  pub check-other : {r : Stepped} → round ≢ s .checked → (r .session ≡ s) × (r .reply ≡ Refused 31 0) → Promised r (x .scratch)
-  check-other e h = undue (wrong-turn (valid p s) (eqb (s .phase) drawn) turn (rw (ne-eqb round (s .checked) e))) h
-
-  pub check-past : {r : Stepped} → s .numbers .rounds ≤ round → (r .session ≡ s) × (r .reply ≡ Refused 31 0) → Promised r (x .scratch)
-  check-past e h = undue (wrong-turn (valid p s) (eqb (s .phase) drawn) turn (rw (le-ltb round (s .numbers .rounds) e, and-false (eqb round (s .checked))))) h
+  check-undue e h = (rw e (h .1), (rw e (h .0), rw e))
 
   -- the round is due, and the verdict decides
-  module _ (i : (valid p s && eqb (s .phase) drawn) ≡ true) (e : round ≡ s .checked) (h : round < s .numbers .rounds) where
+  module _ (e : (valid p s && checkDue (s .numbers) (s .progress) round) ≡ true) where
     on : first (checkEarly p s round x) ≡ first (earlyTests (storedFor s round) p x)
     unfolding checkEarly first
-    on = rw (due (valid p s) (eqb (s .phase) drawn) turn i (rw (eq-eqb round (s .checked) e, lt-ltb round (s .numbers .rounds) h)))
+    on = rw e
 
     pub check-judged : {r : Stepped} {v : Verdict} {message scratch : Bytes} → message ≡ trailAt s round → v ≡ outcome p (holding s round message) x
         → (r .reply ≡ replyOf v) × (r .session ≡ judgedBy v s) → scratch ≡ swept (replyOf v) (x .scratch) → Promised r scratch
@@ -99,26 +88,22 @@ module _ (p : ℕ) (s : Session) (round : ℕ) (x : Inputs) where
 -- ---- challenges
 
 module _ (p : ℕ) (s : Session) (round : ℕ) (out : Bytes) where
-  pub challenges-invalid : valid p s ≡ false → first (challengesTests p s round out) ≡ Refused 31 0
+  pub challenges-undue : (valid p s && challengesDue (s .numbers) (s .progress) round) ≡ false → first (challengesTests p s round out) ≡ Refused 31 0
   unfolding challengesTests first
-  challenges-invalid e = rw e
+  challenges-undue e = rw e
 
-  pub challenges-early : s .phase < drawn → first (challengesTests p s round out) ≡ Refused 31 0
-  unfolding challengesTests first
-  challenges-early e = rw (lt-leb drawn (s .phase) e, and-false (valid p s))
+  module _ (e : (valid p s && challengesDue (s .numbers) (s .progress) round) ≡ true) where
+    -- the round is one of the session's
+    pub challenges-below : round < s .numbers .rounds
+    challenges-below = ltb-true round (s .numbers .rounds) (both (leb drawn (s .progress .phase)) _ (both (valid p s) _ e .1) .1)
 
-  pub challenges-past : s .numbers .rounds ≤ round → first (challengesTests p s round out) ≡ Refused 31 0
-  unfolding challengesTests first
-  challenges-past e = rw (wrong-turn (valid p s) (leb drawn (s .phase)) (ltb round (s .numbers .rounds)) (le-ltb round (s .numbers .rounds) e))
-
-  module _ (e : valid p s ≡ true) (h : drawn ≤ s .phase) (l : round < s .numbers .rounds) where
     pub challenges-length : length out ≢ 1 + s .numbers .repeats → first (challengesTests p s round out) ≡ Refused 1 0
     unfolding challengesTests first
-    challenges-length n = rw (e, le-leb drawn (s .phase) h, lt-ltb round (s .numbers .rounds) l, ne-eqb (length out) (1 + s .numbers .repeats) n)
+    challenges-length n = rw (e, ne-eqb (length out) (1 + s .numbers .repeats) n)
 
     pub challenges-taken : length out ≡ 1 + s .numbers .repeats → first (challengesTests p s round out) ≡ Taken
     unfolding challengesTests first
-    challenges-taken n = rw (e, le-leb drawn (s .phase) h, lt-ltb round (s .numbers .rounds) l, eq-eqb (length out) (1 + s .numbers .repeats) n)
+    challenges-taken n = rw (e, eq-eqb (length out) (1 + s .numbers .repeats) n)
 
 -- a byte, and the rest behind it
 pub laid : (out : Bytes) (side n : ℕ) (rest : Bytes) → length out ≡ 1 + n

@@ -19,9 +19,10 @@ use Rattle.sheet.specs.declared.Reading.the-variants as reading
 use Rattle.sheet.proofs.Taken.{reply-is}
 use Rattle.vector.specs.Vector.{vector}
 use Rattle.transcript.specs.Layout.{ballotLength}
+use Rattle.progress.specs.Progress.{gathering}
 use Rattle.register.specs.Orders.{admissionTests, withdrawalTests}
 use Rattle.register.specs.Register.{registerLength, digestAt, standing, standingDigests, markOf}
-use Rattle.session.specs.Session.{gathering, valid}
+use Rattle.session.specs.Session.{valid}
 use Rattle.session.specs.Steps.{clearTests, admitTests, withdrawTests, closeTests, turnoutTests}
 use Rattle.session.specs.declared.Session.{Session}
 
@@ -52,11 +53,11 @@ unfolding vector
 ranged q ballot h e = e ∙ ap (λ (x : Bytes). allBelow q (list (length x / 8) (poly x))) (take-all (length ballot - 4) (drop 4 ballot) (omega (arith, length-drop 4 ballot)))
 
 module _ (p : ℕ) (s : Session) (reg ballot : Bytes) where
-  pub admit-phase : (valid p s && eqb (s .phase) gathering) ≡ false → first (admitTests p s reg ballot) ≡ Refused 31 0
+  pub admit-phase : (valid p s && eqb (s .progress .phase) gathering) ≡ false → first (admitTests p s reg ballot) ≡ Refused 31 0
   unfolding admitTests first
   admit-phase e = rw e
 
-  module _ (e : (valid p s && eqb (s .phase) gathering) ≡ true) where
+  module _ (e : (valid p s && eqb (s .progress .phase) gathering) ≡ true) where
     pub admit-register : length reg ≢ registerLength → first (admitTests p s reg ballot) ≡ Refused 1 0
     unfolding admitTests first same
     admit-register l = rw (e, ne-eqb (length reg) registerLength l)
@@ -71,24 +72,24 @@ module _ (p : ℕ) (s : Session) (reg ballot : Bytes) where
       admit-range b = rw (e, eq-eqb (length reg) registerLength l, eq-eqb (length ballot) (ballotLength (s .numbers .ring)) m, b)
 
       -- the register decides
-      pub admit-on : allBelow (s .numbers .modulus) (vector (drop 4 ballot)) ≡ true → first (admitTests p s reg ballot) ≡ first (admissionTests reg (s .used) (markOf ballot))
+      pub admit-on : allBelow (s .numbers .modulus) (vector (drop 4 ballot)) ≡ true → first (admitTests p s reg ballot) ≡ first (admissionTests reg (s .progress .used) (markOf ballot))
       unfolding admitTests first same
       admit-on b = rw (e, eq-eqb (length reg) registerLength l, eq-eqb (length ballot) (ballotLength (s .numbers .ring)) m, b)
 
 -- ---- withdraw
 
 module _ (p : ℕ) (s : Session) (reg : Bytes) (mark : ℕ) where
-  pub withdraw-phase : (valid p s && eqb (s .phase) gathering) ≡ false → first (withdrawTests p s reg mark) ≡ Refused 31 0
+  pub withdraw-phase : (valid p s && eqb (s .progress .phase) gathering) ≡ false → first (withdrawTests p s reg mark) ≡ Refused 31 0
   unfolding withdrawTests first
   withdraw-phase e = rw e
 
-  module _ (e : (valid p s && eqb (s .phase) gathering) ≡ true) where
+  module _ (e : (valid p s && eqb (s .progress .phase) gathering) ≡ true) where
     pub withdraw-register : length reg ≢ registerLength → first (withdrawTests p s reg mark) ≡ Refused 1 0
     unfolding withdrawTests first
     withdraw-register l = rw (e, ne-eqb (length reg) registerLength l)
 
     -- the register decides
-    pub withdraw-on : length reg ≡ registerLength → first (withdrawTests p s reg mark) ≡ first (withdrawalTests reg (s .used) mark)
+    pub withdraw-on : length reg ≡ registerLength → first (withdrawTests p s reg mark) ≡ first (withdrawalTests reg (s .progress .used) mark)
     unfolding withdrawTests first
     withdraw-on l = rw (e, eq-eqb (length reg) registerLength l)
 
@@ -100,16 +101,16 @@ unfolding standingDigests
 digests-counted reg n = length-map (standing reg n) (digestAt reg)
 
 module _ (p : ℕ) (s : Session) (reg : Bytes) where
-  pub close-phase : (valid p s && eqb (s .phase) gathering) ≡ false → first (closeTests p s reg) ≡ Refused 31 0
+  pub close-phase : (valid p s && eqb (s .progress .phase) gathering) ≡ false → first (closeTests p s reg) ≡ Refused 31 0
   unfolding closeTests first
   close-phase e = rw e
 
-  module _ (e : (valid p s && eqb (s .phase) gathering) ≡ true) where
+  module _ (e : (valid p s && eqb (s .progress .phase) gathering) ≡ true) where
     pub close-register : length reg ≢ registerLength → first (closeTests p s reg) ≡ Refused 1 0
     unfolding closeTests first
     close-register l = rw (e, ne-eqb (length reg) registerLength l)
 
-    module _ (l : length reg ≡ registerLength) {count : ℕ} (f : count ≡ length (standing reg (s .used))) where
+    module _ (l : length reg ≡ registerLength) {count : ℕ} (f : count ≡ length (standing reg (s .progress .used))) where
       pub close-none : count ≡ 0 → first (closeTests p s reg) ≡ Refused 36 0
       unfolding closeTests first
       close-none h = rw (e, eq-eqb (length reg) registerLength l, ← f, eq-eqb count 0 h)

@@ -1,4 +1,3 @@
-pub mod Validity
 pub mod Stepping
 pub mod GatheringTests
 pub mod CountingTests

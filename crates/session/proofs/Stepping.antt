@@ -1,6 +1,5 @@
 -- What a step answers and leaves, by its tests. Assumes nothing.
 use mathlib.Core.Path.{_≡_, refl, sym, ap, _∙_}
-use mathlib.Core.Bool.{Bool, true, false, _&&_, and-assoc, and-false}
 use mathlib.Core.List.{List}
 use Prim.Native.Nat.{ℕ}
 use Rattle.codec.specs.Bytes.{Bytes}
@@ -9,18 +8,6 @@ use Rattle.codec.specs.declared.Reply.{Reply}
 use Rattle.codec.specs.declared.Reply.the-variants.{Taken, Refused}
 use Rattle.session.specs.declared.Session.{Session}
 use Rattle.session.specs.declared.Stepped.{Stepped}
-
--- ---- the test of 31: valid, in the phase, and one thing more
-
-module _ (valid phase more : Bool) where
-  pub wrong-phase : (valid && phase) ≡ false → (valid && (phase && more)) ≡ false
-  wrong-phase e = sym (and-assoc valid phase more) ∙ rw e
-
-  pub wrong-turn : more ≡ false → (valid && (phase && more)) ≡ false
-  wrong-turn e = rw (e, and-false phase, and-false valid)
-
-  pub due : (valid && phase) ≡ true → more ≡ true → (valid && (phase && more)) ≡ true
-  due e f = sym (and-assoc valid phase more) ∙ rw (e, f)
 
 -- ---- what a step leaves
 

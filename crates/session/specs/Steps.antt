@@ -1,9 +1,9 @@
 -- The steps of a session (document 01, "Register and session", and the orders under "Refused because of the state"), for the plaintext modulus p: what each refuses, in its
 -- order, and what a step that is taken leaves. A step that is refused leaves everything, but for a check whose round is refused. Assumes nothing.
-use mathlib.Core.Bool.{Bool, not, cond, _&&_, _||_}
+use mathlib.Core.Bool.{Bool, not, _&&_, _||_}
 use mathlib.Core.List.{List, [], _∷_, _++_}
 use Prim.Native.Nat.{ℕ, _+_, _*_}
-use lib.Dec.{eqb, ltb, leb}
+use lib.Dec.{eqb, ltb}
 use lib.ListN.{length, drop}
 use Rattle.codec.specs.Bytes.{Bytes, put, zeros, same}
 use Rattle.codec.specs.Reply.{Test, test, first, leaves}
@@ -17,6 +17,7 @@ use Rattle.vector.specs.Vector.{vector}
 use Rattle.transcript.specs.Layout.{ballotLength, headLength}
 use Rattle.register.specs.Orders.{admissionTests, withdrawalTests}
 use Rattle.register.specs.Register.{registerLength, standing, standingDigests, markOf}
+use Rattle.progress.specs.Progress.{gathering, closed, commitDue, drawDue, checkDue, challengesDue, initial, withEntry, withBatch, withClaims, withMessage, withSeed, withRefusal, withAcceptance}
 use Rattle.digests.specs.Digests.{closingDigest, claimDigest, roundDigest}
 use Rattle.drawing.specs.Draw.{drawnSide, drawnChallenges}
 use Rattle.stored.specs.declared.Stored.{Stored}
@@ -26,7 +27,7 @@ use Rattle.checking.specs.declared.Verdict.the-variants.{Stopped, Failed, Passe
 use Rattle.session.specs.declared.Session.{Session}
 use Rattle.session.specs.declared.Turnout.{Turnout}
 use Rattle.session.specs.declared.Turnout.the-variants.{Counted, Refused}
-use Rattle.session.specs.Session.{gathering, closed, claimed, drawn, ended-refused, ended-accepted, valid, trailAt, changed}
+use Rattle.session.specs.Session.{valid, trailAt, changed}
 
 -- 31: not valid, or not due
 abbrev pub dueTest : (p : ℕ) → Session → (due : Bool) → Test
@@ -39,16 +40,12 @@ clearTests p reg text = test 1 0 (not (eqb (length reg) registerLength)) ∷ ord
 
 unfoldable pub cleared : (text : Bytes) → Session
 cleared text = record {
-  phase = gathering;
+  progress = initial;
   numbers = sheetOf text .numbers;
   sheet = sha3 text;
-  used = 0;
-  closed = 0;
   closing = zeros 32;
   claim = zeros 32;
-  committed = 0;
   seed = zeros 32;
-  checked = 0;
   trail = zeros 4096;
 }
 
@@ -56,80 +53,78 @@ cleared text = record {
 
 unfoldable pub admitTests : (p : ℕ) → Session → (reg ballot : Bytes) → List Test
 admitTests p s reg ballot =
-    dueTest p s (eqb (s .phase) gathering)
+    dueTest p s (eqb (s .progress .phase) gathering)
     ∷ test 1 0 (not (same (length reg ∷ length ballot ∷ []) (registerLength ∷ ballotLength (s .numbers .ring) ∷ [])))
     ∷ test 5 0 (not (allBelow (s .numbers .modulus) (vector (drop 4 ballot))))
-    ∷ admissionTests reg (s .used) (markOf ballot)
+    ∷ admissionTests reg (s .progress .used) (markOf ballot)
 
 -- one entry more
 unfoldable pub admittedBy : Session → Session
-admittedBy s = changed s (s .phase) (s .used + 1) (s .closed) (s .closing) (s .claim) (s .committed) (s .seed) (s .checked) (s .trail)
+admittedBy s = changed s (withEntry (s .progress)) (s .closing) (s .claim) (s .seed) (s .trail)
 
 -- ---- withdraw: 31, 1, 34, 33
 
 unfoldable pub withdrawTests : (p : ℕ) → Session → (reg : Bytes) (mark : ℕ) → List Test
 withdrawTests p s reg mark =
-    dueTest p s (eqb (s .phase) gathering) ∷ test 1 0 (not (eqb (length reg) registerLength)) ∷ withdrawalTests reg (s .used) mark
+    dueTest p s (eqb (s .progress .phase) gathering) ∷ test 1 0 (not (eqb (length reg) registerLength)) ∷ withdrawalTests reg (s .progress .used) mark
 
 -- ---- close: 31, 1, 36
 
 unfoldable pub closeTests : (p : ℕ) → Session → (reg : Bytes) → List Test
 closeTests p s reg =
-    dueTest p s (eqb (s .phase) gathering)
+    dueTest p s (eqb (s .progress .phase) gathering)
     ∷ test 1 0 (not (eqb (length reg) registerLength))
-    ∷ test 36 0 (eqb (length (standing reg (s .used))) 0)
+    ∷ test 36 0 (eqb (length (standing reg (s .progress .used))) 0)
     ∷ []
 
 -- the batch is that of the standing entries
 unfoldable pub closedBy : Session → (reg : Bytes) → Session
 closedBy s reg =
-    let ds = standingDigests reg (s .used) in
-    changed s closed (s .used) (length ds) (closingDigest (s .sheet) ds) (s .claim) (s .committed) (s .seed) (s .checked) (s .trail)
+    let ds = standingDigests reg (s .progress .used) in
+    changed s (withBatch (length ds) (s .progress)) (closingDigest (s .sheet) ds) (s .claim) (s .seed) (s .trail)
 
 -- ---- claim: 31, 1, 5
 
 unfoldable pub claimTests : (p : ℕ) → Session → (claims : Bytes) → List Test
 claimTests p s claims =
-    dueTest p s (eqb (s .phase) closed)
-    ∷ test 1 0 (not (eqb (length claims) (s .numbers .ring * s .closed)))
+    dueTest p s (eqb (s .progress .phase) closed)
+    ∷ test 1 0 (not (eqb (length claims) (s .numbers .ring * s .progress .closed)))
     ∷ test 5 0 (not (allBelow p claims))
     ∷ []
 
 unfoldable pub claimedBy : Session → (claims : Bytes) → Session
-claimedBy s claims =
-    changed s claimed (s .used) (s .closed) (s .closing) (claimDigest (s .closing) claims) (s .committed) (s .seed) (s .checked) (s .trail)
+claimedBy s claims = changed s (withClaims (s .progress)) (s .closing) (claimDigest (s .closing) claims) (s .seed) (s .trail)
 
 -- ---- commit: 31, 1. Rounds come in order
 
 unfoldable pub commitTests : (p : ℕ) → Session → (round : ℕ) (head shares0 shares1 : Bytes) → List Test
 commitTests p s round head shares0 shares1 =
     let n = s .numbers .ring in
-    dueTest p s (eqb (s .phase) claimed && (eqb round (s .committed) && ltb round (s .numbers .rounds)))
-    ∷ test 1 0 (not (same (length head ∷ length shares0 ∷ length shares1 ∷ []) (headLength n (s .numbers .repeats) ∷ 8 * n * s .closed ∷ 8 * n * s .closed ∷ [])))
+    dueTest p s (commitDue (s .numbers) (s .progress) round)
+    ∷ test 1 0 (not (same (length head ∷ length shares0 ∷ length shares1 ∷ []) (headLength n (s .numbers .repeats) ∷ 8 * n * s .progress .closed ∷ 8 * n * s .progress .closed ∷ [])))
     ∷ []
 
 unfoldable pub committedBy : Session → (round : ℕ) (head shares0 shares1 : Bytes) → Session
 committedBy s round head shares0 shares1 =
-    changed s (s .phase) (s .used) (s .closed) (s .closing) (s .claim) (s .committed + 1) (s .seed) (s .checked)
-    (put (s .trail) (32 * round) (roundDigest (s .claim) round head shares0 shares1))
+    changed s (withMessage (s .progress)) (s .closing) (s .claim) (s .seed) (put (s .trail) (32 * round) (roundDigest (s .claim) round head shares0 shares1))
 
 -- ---- draw: 31, 1. All rounds are committed
 
 unfoldable pub drawTests : (p : ℕ) → Session → (seed : Bytes) → List Test
 drawTests p s seed =
-    dueTest p s (eqb (s .phase) claimed && eqb (s .committed) (s .numbers .rounds))
+    dueTest p s (drawDue (s .numbers) (s .progress))
     ∷ test 1 0 (not (eqb (length seed) 32))
     ∷ []
 
 unfoldable pub drawnBy : Session → (seed : Bytes) → Session
-drawnBy s seed = changed s drawn (s .used) (s .closed) (s .closing) (s .claim) (s .committed) seed (s .checked) (s .trail)
+drawnBy s seed = changed s (withSeed (s .progress)) (s .closing) (s .claim) seed (s .trail)
 
 -- ---- check: 31, the sheet's 1 to 5, 1, 16; then the round's own 5 to 13, whose refusal ends the session refused
 
 abbrev pub storedFor : Session → (round : ℕ) → Stored
 storedFor s round = record {
   numbers = s .numbers;
-  closed = s .closed;
+  closed = s .progress .closed;
   sheet = s .sheet;
   closing = s .closing;
   claim = s .claim;
@@ -141,7 +136,7 @@ storedFor s round = record {
 -- before the round itself is looked at
 unfoldable pub checkEarly : (p : ℕ) → Session → (round : ℕ) → Inputs → List Test
 checkEarly p s round x =
-    dueTest p s (eqb (s .phase) drawn && (eqb round (s .checked) && ltb round (s .numbers .rounds))) ∷ earlyTests (storedFor s round) p x
+    dueTest p s (checkDue (s .numbers) (s .progress) round) ∷ earlyTests (storedFor s round) p x
 
 unfoldable pub checkLate : (p : ℕ) → Session → (round : ℕ) → Inputs → List Test
 checkLate p s round x = lateTests (storedFor s round) p x
@@ -151,11 +146,10 @@ checkTests p s round x = checkEarly p s round x ++ checkLate p s round x
 
 -- the last acceptance ends the session accepted
 unfoldable pub acceptedBy : Session → Session
-acceptedBy s =
-    changed s (cond (eqb (s .checked + 1) (s .numbers .rounds)) ended-accepted drawn) (s .used) (s .closed) (s .closing) (s .claim) (s .committed) (s .seed) (s .checked + 1) (s .trail)
+acceptedBy s = changed s (withAcceptance (s .numbers .rounds) (s .progress)) (s .closing) (s .claim) (s .seed) (s .trail)
 
 unfoldable pub refusedBy : Session → Session
-refusedBy s = changed s ended-refused (s .used) (s .closed) (s .closing) (s .claim) (s .committed) (s .seed) (s .checked) (s .trail)
+refusedBy s = changed s (withRefusal (s .progress)) (s .closing) (s .claim) (s .seed) (s .trail)
 
 -- what a check leaves
 unfoldable pub checkedBy : (p : ℕ) → Session → (round : ℕ) → Inputs → Session
@@ -171,7 +165,7 @@ judgedBy Passed s = acceptedBy s
 
 unfoldable pub challengesTests : (p : ℕ) → Session → (round : ℕ) (out : Bytes) → List Test
 challengesTests p s round out =
-    dueTest p s (leb drawn (s .phase) && ltb round (s .numbers .rounds))
+    dueTest p s (challengesDue (s .numbers) (s .progress) round)
     ∷ test 1 0 (not (eqb (length out) (1 + s .numbers .repeats)))
     ∷ []
 

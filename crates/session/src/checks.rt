@@ -10,16 +10,17 @@ ghost use Prim.Native.Nat.{_<_};
 ghost use Rattle.codec.specs.Reply.{first, leaves};
 ghost use Rattle.call.specs.Call.{swept};
 ghost use Rattle.checking.specs.Check.{inputsOf, replyOf};
-ghost use Rattle.session.specs.Session.{drawn};
+ghost use Rattle.progress.specs.Progress.{drawn};
 ghost use Rattle.session.specs.Steps.{checkTests, judgedBy, checkedBy, challengesTests, challengesOut};
 
 impl Session {
     // What a verdict on the round that is due leaves: a round that fails ends the session refused, the last one that passes ends it accepted.
     fn judged(self, verdict: Verdict) -> Stepped
-        requires { ⌜ (self .phase ≡ drawn) × (self .checked < self .numbers .rounds) ⌝ }
+        requires { ⌜ (self .progress .phase ≡ drawn) × (self .progress .checked < self .numbers .rounds) ⌝ }
         ensures { λ r. ⌜ (r .reply ≡ replyOf verdict) × (r .session ≡ judgedBy verdict self) ⌝ }
     {
         let reply = checking::reply_of(verdict);
+        let progress = self.progress;
         let mut session = self;
         match verdict {
             Verdict::Stopped {
@@ -30,14 +31,13 @@ impl Session {
                 number: _,
                 place: _,
             } => {
-                session.phase = 4;
+                let next = progress.with_refusal();
+                session.progress = next;
                 Stepped { session, reply }
             }
             Verdict::Passed => {
-                session.checked = self.checked + 1;
-                if session.checked == self.numbers.rounds {
-                    session.phase = 5;
-                }
+                let next = progress.with_acceptance(self.numbers.rounds);
+                session.progress = next;
                 Stepped { session, reply }
             }
         }
@@ -61,16 +61,11 @@ impl Session {
         ensures session { λ r. ⌜ r .session ≡ checkedBy 2 self round (inputsOf (now (sheet .entry)) (now (ballots .entry)) (now (claims .entry)) (now (head .entry)) (now (shares0 .entry)) (now (shares1 .entry)) (now (opening .entry)) (now (answers .entry)) (now (scratch .entry))) ⌝ }
         ensures scratch { λ _. ⌜ now (scratch .exit) ≡ swept (first (checkTests 2 self round (inputsOf (now (sheet .entry)) (now (ballots .entry)) (now (claims .entry)) (now (head .entry)) (now (shares0 .entry)) (now (shares1 .entry)) (now (opening .entry)) (now (answers .entry)) (now (scratch .entry))))) (now (scratch .entry)) ⌝ }
     {
-        if !self.is_in(3) {
-            return self.refused(31);
-        }
-        if round != self.checked {
-            return self.refused(31);
-        }
-        if round >= self.numbers.rounds {
-            return self.refused(31);
-        }
+        let progress = self.progress;
         let numbers = self.numbers;
+        if !progress.may_check(numbers, round) {
+            return self.refused(31);
+        }
         let digest = self.sheet;
         let closing = self.closing;
         let claim = self.claim;
@@ -78,7 +73,7 @@ impl Session {
         let seed = self.seed;
         let held = Stored {
             numbers,
-            closed: self.closed as usize,
+            closed: progress.closed as usize,
             sheet: digest,
             closing,
             claim,
@@ -106,19 +101,8 @@ impl Session {
         ensures reply { λ r. ⌜ r ≡ first (challengesTests 2 self round (now (out .entry))) ⌝ }
         ensures output { λ _. ⌜ now (out .exit) ≡ leaves (first (challengesTests 2 self round (now (out .entry)))) (challengesOut self round) (now (out .entry)) ⌝ }
     {
-        if !self.is_valid() {
-            return Reply::Refused {
-                number: 31,
-                place: 0,
-            };
-        }
-        if self.phase < 3 {
-            return Reply::Refused {
-                number: 31,
-                place: 0,
-            };
-        }
-        if round >= self.numbers.rounds {
+        let progress = self.progress;
+        if !progress.has_challenges(self.numbers, round) {
             return Reply::Refused {
                 number: 31,
                 place: 0,

@@ -28,18 +28,21 @@ impl Session {
         ensures reply { λ r. ⌜ r .reply ≡ first (claimTests 2 self (now (claims .entry))) ⌝ }
         ensures session { λ r. ⌜ r .session ≡ leaves (first (claimTests 2 self (now (claims .entry)))) (claimedBy self (now (claims .entry))) self ⌝ }
     {
-        if !self.is_in(1) {
+        let progress = self.progress;
+        let numbers = self.numbers;
+        if !progress.is_in(numbers, 1) {
             return self.refused(31);
         }
-        if claims.len() != times(self.numbers.ring, self.closed) {
+        if claims.len() != times(numbers.ring, progress.closed) {
             return self.refused(1);
         }
         if !bgv::is_message(claims, 2) {
             return self.refused(5);
         }
         let claim = digests::claim_digest(&self.closing, claims);
+        let next = progress.with_claims();
         let mut session = self;
-        session.phase = 2;
+        session.progress = next;
         session.claim = claim;
         Stepped {
             session,
@@ -50,10 +53,10 @@ impl Session {
     // Whether a first message has its lengths.
     fn message_sized(self, head: &[u8], shares0: &[u8], shares1: &[u8]) -> bool
         requires { ⌜ valid 2 self ≡ true ⌝ }
-        ensures { λ r. ⌜ r ≡ same (length (now (head .entry)) ∷ length (now (shares0 .entry)) ∷ length (now (shares1 .entry)) ∷ []) (headLength (self .numbers .ring) (self .numbers .repeats) ∷ 8 * self .numbers .ring * self .closed ∷ 8 * self .numbers .ring * self .closed ∷ []) ⌝ }
+        ensures { λ r. ⌜ r ≡ same (length (now (head .entry)) ∷ length (now (shares0 .entry)) ∷ length (now (shares1 .entry)) ∷ []) (headLength (self .numbers .ring) (self .numbers .repeats) ∷ 8 * self .numbers .ring * self .progress .closed ∷ 8 * self .numbers .ring * self .progress .closed ∷ []) ⌝ }
     {
         let n = self.numbers.ring;
-        let share = times(8 * n, self.closed);
+        let share = times(8 * n, self.progress.closed);
         let front = (80 * n + 96 * self.numbers.repeats) as usize;
         call::sized(
             [head.len(), shares0.len(), shares1.len(), 0, 0, 0],
@@ -66,13 +69,8 @@ impl Session {
         ensures reply { λ r. ⌜ r .reply ≡ first (commitTests 2 self round (now (head .entry)) (now (shares0 .entry)) (now (shares1 .entry))) ⌝ }
         ensures session { λ r. ⌜ r .session ≡ leaves (first (commitTests 2 self round (now (head .entry)) (now (shares0 .entry)) (now (shares1 .entry)))) (committedBy self round (now (head .entry)) (now (shares0 .entry)) (now (shares1 .entry))) self ⌝ }
     {
-        if !self.is_in(2) {
-            return self.refused(31);
-        }
-        if round != self.committed {
-            return self.refused(31);
-        }
-        if round >= self.numbers.rounds {
+        let progress = self.progress;
+        if !progress.may_commit(self.numbers, round) {
             return self.refused(31);
         }
         if !self.message_sized(head, shares0, shares1) {
@@ -81,8 +79,9 @@ impl Session {
         let digest = digests::round_digest(&self.claim, round as u16, head, shares0, shares1);
         let mut trail = self.trail;
         trail::write(&mut trail, round as usize, &digest);
+        let next = progress.with_message();
         let mut session = self;
-        session.committed = self.committed + 1;
+        session.progress = next;
         session.trail = trail;
         Stepped {
             session,
@@ -95,10 +94,8 @@ impl Session {
         ensures reply { λ r. ⌜ r .reply ≡ first (drawTests 2 self (now (seed .entry))) ⌝ }
         ensures session { λ r. ⌜ r .session ≡ leaves (first (drawTests 2 self (now (seed .entry)))) (drawnBy self (now (seed .entry))) self ⌝ }
     {
-        if !self.is_in(2) {
-            return self.refused(31);
-        }
-        if self.committed != self.numbers.rounds {
+        let progress = self.progress;
+        if !progress.may_draw(self.numbers) {
             return self.refused(31);
         }
         if seed.len() != 32 {
@@ -106,8 +103,9 @@ impl Session {
         }
         let mut bytes = [0u8; 32];
         codec::copy(&mut bytes, 0, seed);
+        let next = progress.with_seed();
         let mut session = self;
-        session.phase = 3;
+        session.progress = next;
         session.seed = bytes;
         Stepped {
             session,

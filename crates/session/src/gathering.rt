@@ -3,6 +3,7 @@ use crate::Session;
 use crate::Stepped;
 use crate::Turnout;
 use codec::Reply;
+use progress::Progress;
 ghost use mathlib.Core.Path.{_≡_};
 ghost use Rattle.codec.specs.Bytes.{zeros};
 ghost use Rattle.codec.specs.Reply.{first, leaves};
@@ -25,17 +26,14 @@ impl Session {
                 let sheet = sha3::hash(text);
                 let none = [0u8; 32];
                 let trail = [0u8; 4096];
+                let progress = Progress::start();
                 let session = Session {
-                    phase: 0,
+                    progress,
                     numbers,
                     sheet,
-                    used: 0,
-                    closed: 0,
                     closing: none,
                     claim: none,
-                    committed: 0,
                     seed: none,
-                    checked: 0,
                     trail,
                 };
                 Stepped {
@@ -51,25 +49,28 @@ impl Session {
     pub fn admit(self, reg: &mut [u8], ballot: &[u8]) -> Stepped
         ensures reply { λ r. ⌜ r .reply ≡ first (admitTests 2 self (now (reg .entry)) (now (ballot .entry))) ⌝ }
         ensures session { λ r. ⌜ r .session ≡ leaves (first (admitTests 2 self (now (reg .entry)) (now (ballot .entry)))) (admittedBy self) self ⌝ }
-        ensures register { λ _. ⌜ now (reg .exit) ≡ leaves (first (admitTests 2 self (now (reg .entry)) (now (ballot .entry)))) (admitted (now (reg .entry)) (self .used) (now (ballot .entry))) (now (reg .entry)) ⌝ }
+        ensures register { λ _. ⌜ now (reg .exit) ≡ leaves (first (admitTests 2 self (now (reg .entry)) (now (ballot .entry)))) (admitted (now (reg .entry)) (self .progress .used) (now (ballot .entry))) (now (reg .entry)) ⌝ }
     {
-        if !self.is_in(0) {
+        let progress = self.progress;
+        let numbers = self.numbers;
+        if !progress.is_in(numbers, 0) {
             return self.refused(31);
         }
         if reg.len() != register::REGISTER {
             return self.refused(1);
         }
-        if ballot.len() != 4 + 16 * (self.numbers.ring as usize) {
+        if ballot.len() != 4 + 16 * (numbers.ring as usize) {
             return self.refused(1);
         }
-        if !ring::in_range(&ballot[4..], self.numbers.modulus) {
+        if !ring::in_range(&ballot[4..], numbers.modulus) {
             return self.refused(5);
         }
-        let reply = register::admit(reg, self.used as usize, ballot);
+        let reply = register::admit(reg, progress.used as usize, ballot);
         let mut session = self;
         match reply {
             Reply::Taken => {
-                session.used = self.used + 1;
+                let next = progress.with_entry();
+                session.progress = next;
             }
             Reply::Refused {
                 number: _,
@@ -83,15 +84,17 @@ impl Session {
     pub fn withdraw(self, reg: &mut [u8], mark: u32) -> Stepped
         ensures reply { λ r. ⌜ r .reply ≡ first (withdrawTests 2 self (now (reg .entry)) mark) ⌝ }
         ensures session { λ r. ⌜ r .session ≡ self ⌝ }
-        ensures register { λ _. ⌜ now (reg .exit) ≡ leaves (first (withdrawTests 2 self (now (reg .entry)) mark)) (withdrawn (now (reg .entry)) (find (now (reg .entry)) mark (self .used))) (now (reg .entry)) ⌝ }
+        ensures register { λ _. ⌜ now (reg .exit) ≡ leaves (first (withdrawTests 2 self (now (reg .entry)) mark)) (withdrawn (now (reg .entry)) (find (now (reg .entry)) mark (self .progress .used))) (now (reg .entry)) ⌝ }
     {
-        if !self.is_in(0) {
+        let progress = self.progress;
+        let numbers = self.numbers;
+        if !progress.is_in(numbers, 0) {
             return self.refused(31);
         }
         if reg.len() != register::REGISTER {
             return self.refused(1);
         }
-        let reply = register::withdraw(reg, self.used as usize, mark);
+        let reply = register::withdraw(reg, progress.used as usize, mark);
         Stepped {
             session: self,
             reply,
@@ -103,21 +106,23 @@ impl Session {
         ensures reply { λ r. ⌜ r .reply ≡ first (closeTests 2 self (now (reg .entry))) ⌝ }
         ensures session { λ r. ⌜ r .session ≡ leaves (first (closeTests 2 self (now (reg .entry)))) (closedBy self (now (reg .entry))) self ⌝ }
     {
-        if !self.is_in(0) {
+        let progress = self.progress;
+        let numbers = self.numbers;
+        if !progress.is_in(numbers, 0) {
             return self.refused(31);
         }
         if reg.len() != register::REGISTER {
             return self.refused(1);
         }
-        let used = self.used as usize;
+        let used = progress.used as usize;
         let count = register::count_standing(reg, used);
         if count == 0 {
             return self.refused(36);
         }
         let closing = digests::closing_of_register(&self.sheet, reg, used);
+        let next = progress.with_batch(count as u64);
         let mut session = self;
-        session.phase = 1;
-        session.closed = count as u64;
+        session.progress = next;
         session.closing = closing;
         Stepped {
             session,
@@ -127,9 +132,10 @@ impl Session {
 
     // The standing entries in thousandths of the enrolled.
     pub fn turnout(self, reg: &[u8], enrolled: u64) -> Turnout
-        ensures { λ r. ⌜ r ≡ turnoutBy (first (turnoutTests 2 self (now (reg .entry)) enrolled)) (turnout (now (reg .entry)) (self .used) enrolled) ⌝ }
+        ensures { λ r. ⌜ r ≡ turnoutBy (first (turnoutTests 2 self (now (reg .entry)) enrolled)) (turnout (now (reg .entry)) (self .progress .used) enrolled) ⌝ }
     {
-        if !self.is_valid() {
+        let progress = self.progress;
+        if !progress.is_valid(self.numbers) {
             return Turnout::Refused { number: 31 };
         }
         if reg.len() != register::REGISTER {
@@ -141,6 +147,6 @@ impl Session {
         if enrolled > 1000000 {
             return Turnout::Refused { number: 3 };
         }
-        Turnout::Counted(register::turnout(reg, self.used as usize, enrolled))
+        Turnout::Counted(register::turnout(reg, progress.used as usize, enrolled))
     }
 }

@@ -70,4 +70,4 @@ module _ (p : ℕ) (image : Bytes) where
 
   -- the thousandths are the value of a count that is taken
   unfoldable pub turnoutAnswer : (reg : Bytes) (enrolled : ℕ) → ℕ
-  turnoutAnswer reg enrolled = countedAnswer (turnoutBy (turnoutReply reg enrolled) (entries.turnout reg (lent .used) enrolled))
+  turnoutAnswer reg enrolled = countedAnswer (turnoutBy (turnoutReply reg enrolled) (entries.turnout reg (lent .progress .used) enrolled))

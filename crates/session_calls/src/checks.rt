@@ -64,7 +64,7 @@ pub fn challenges(image: &[u8], round: u64, out: &mut [u8]) -> Reply
 
 // Counts the standing entries in thousandths of the enrolled.
 pub fn turnout(image: &[u8], reg: &[u8], enrolled: u64) -> Turnout
-    ensures { λ r. ⌜ r ≡ turnoutBy (turnoutReply 2 (now (image .entry)) (now (reg .entry)) enrolled) (entries.turnout (now (reg .entry)) (decode (now (image .entry)) .used) enrolled) ⌝ }
+    ensures { λ r. ⌜ r ≡ turnoutBy (turnoutReply 2 (now (image .entry)) (now (reg .entry)) enrolled) (entries.turnout (now (reg .entry)) (decode (now (image .entry)) .progress .used) enrolled) ⌝ }
 {
     if image.len() != image::IMAGE {
         return Turnout::Refused { number: 1 };

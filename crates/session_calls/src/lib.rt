@@ -61,7 +61,7 @@ pub fn clear(image: &mut [u8], reg: &mut [u8], sheet: &[u8]) -> Reply
 pub fn admit(image: &mut [u8], reg: &mut [u8], ballot: &[u8]) -> Reply
     ensures { λ r. ⌜ r ≡ admitReply 2 (now (image .entry)) (now (reg .entry)) (now (ballot .entry)) ⌝ }
     ensures { λ _. ⌜ now (image .exit) ≡ imageLeft (admitReply 2 (now (image .entry)) (now (reg .entry)) (now (ballot .entry))) (now (image .entry)) (admittedBy (decode (now (image .entry)))) ⌝ }
-    ensures { λ _. ⌜ now (reg .exit) ≡ leaves (admitReply 2 (now (image .entry)) (now (reg .entry)) (now (ballot .entry))) (admitted (now (reg .entry)) (decode (now (image .entry)) .used) (now (ballot .entry))) (now (reg .entry)) ⌝ }
+    ensures { λ _. ⌜ now (reg .exit) ≡ leaves (admitReply 2 (now (image .entry)) (now (reg .entry)) (now (ballot .entry))) (admitted (now (reg .entry)) (decode (now (image .entry)) .progress .used) (now (ballot .entry))) (now (reg .entry)) ⌝ }
 {
     if image.len() != image::IMAGE {
         return refused();
@@ -74,7 +74,7 @@ pub fn admit(image: &mut [u8], reg: &mut [u8], ballot: &[u8]) -> Reply
 // Withdraws the ballot with a mark.
 pub fn withdraw(image: &[u8], reg: &mut [u8], mark: u32) -> Reply
     ensures { λ r. ⌜ r ≡ withdrawReply 2 (now (image .entry)) (now (reg .entry)) mark ⌝ }
-    ensures { λ _. ⌜ now (reg .exit) ≡ leaves (withdrawReply 2 (now (image .entry)) (now (reg .entry)) mark) (withdrawn (now (reg .entry)) (find (now (reg .entry)) mark (decode (now (image .entry)) .used))) (now (reg .entry)) ⌝ }
+    ensures { λ _. ⌜ now (reg .exit) ≡ leaves (withdrawReply 2 (now (image .entry)) (now (reg .entry)) mark) (withdrawn (now (reg .entry)) (find (now (reg .entry)) mark (decode (now (image .entry)) .progress .used))) (now (reg .entry)) ⌝ }
 {
     if image.len() != image::IMAGE {
         return refused();

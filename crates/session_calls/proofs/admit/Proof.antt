@@ -31,7 +31,7 @@ returns-2 c =
       reply-over (a .image .now) R long _ held (k .0 ∙ d .0),
       (
         image-over (a .image .now) R long _ held admittedBy _ _ (d .0) (d .1 .0) (k .1),
-        left-over (a .image .now) R long _ held (λ s. admitted (a .reg .now) (s .used) (a .ballot .now)) (a .reg .now) (d .1 .1),
+        left-over (a .image .now) R long _ held (λ s. admitted (a .reg .now) (s .progress .used) (a .ballot .now)) (a .reg .now) (d .1 .1),
       ),
     )
 

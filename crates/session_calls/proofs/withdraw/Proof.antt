@@ -28,7 +28,7 @@ returns-2 c =
     let held = c .before .before .before .before .load .ensures in
     let d = c .before .before .withdraw .ensures in (
       reply-over (a .image .now) R long _ held (d .0),
-      left-over (a .image .now) R long _ held (λ s. withdrawn (a .reg .now) (find (a .reg .now) (a .mark) (s .used))) (a .reg .now) (d .1 .1),
+      left-over (a .image .now) R long _ held (λ s. withdrawn (a .reg .now) (find (a .reg .now) (a .mark) (s .progress .used))) (a .reg .now) (d .1 .1),
     )
 
 pub withdraw-spec : {M : Type 1} → statement M

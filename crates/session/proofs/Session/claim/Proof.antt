@@ -3,8 +3,8 @@ use mathlib.Core.Path.{sym, _∙_}
 use native.Mathlib.Omega.{arith}
 use borrow.Author.Needs.{needs}
 use borrow.Author.Tests.{not-true, not-false}
+use Rattle.progress.proofs.Limits.{within-due, bounds}
 use Rattle.session.specs.Steps.{claimedBy}
-use Rattle.session.proofs.Validity.{in-phase, bounds}
 use Rattle.session.proofs.Stepping.{stays, moves}
 use Rattle.session.proofs.CountingTests.{claim-phase, claim-length, claim-range, claim-taken}
 use Rattle.session.proofs.Session.claim.Statement.{statement}
@@ -14,7 +14,7 @@ returns : tie.Need-returns
 returns c = stays _ _ _ (claim-phase 2 _ _ (sym (c .before .before .is-in .ensures) ∙ not-true _ (c .before .if1 .taken))) (c .refused .ensures)
 
 times-requires : tie.Need-times-requires
-times-requires c κs = let w = (in-phase 2 _ _ (sym (c .before .is-in .ensures) ∙ not-false _ (c .if1 .left))) in (omega (arith, bounds w .ring-high), w .closed)
+times-requires c κs = let w = within-due 2 _ _ _ (sym (c .before .is-in .ensures) ∙ not-false _ (c .if1 .left)) in (omega (arith, bounds w .ring-high), w .closed)
 
 returns-2 : tie.Need-returns-2
 returns-2 c = stays _ _ _ (claim-length 2 _ _ (sym (c .before .before .before .before .is-in .ensures) ∙ not-false _ (c .before .before .before .if1 .left)) (λ e. c .before .if2 .taken (e ∙ sym (c .before .before .times .ensures)))) (c .refused2 .ensures)
@@ -24,7 +24,7 @@ returns-3 c = stays _ _ _ (claim-range 2 _ _ (sym (c .before .before .before .be
 
 returns-4 : tie.Need-returns-4
 unfolding claimedBy
-returns-4 c = moves _ _ _ (claim-taken 2 _ _ (sym (c .before .before .before .before .before .before .before .before .is-in .ensures) ∙ not-false _ (c .before .before .before .before .before .before .before .if1 .left)) (c .before .before .before .before .before .if2 .left ∙ c .before .before .before .before .before .before .times .ensures) (sym (c .before .before .before .before .is-message .ensures) ∙ not-false _ (c .before .before .before .if3 .left))) (rw (c .claim-digest .ensures))
+returns-4 c = moves _ _ _ (claim-taken 2 _ _ (sym (c .before .before .before .before .before .before .before .before .before .is-in .ensures) ∙ not-false _ (c .before .before .before .before .before .before .before .before .if1 .left)) (c .before .before .before .before .before .before .if2 .left ∙ c .before .before .before .before .before .before .before .times .ensures) (sym (c .before .before .before .before .before .is-message .ensures) ∙ not-false _ (c .before .before .before .before .if3 .left))) (rw (c .with-claims .ensures, c .before .claim-digest .ensures))
 
 pub claim-spec : {M : Type 1} → statement M
-claim-spec = tie.close (tie.spec (λ c κs. search needs) (λ c κs. search needs) returns times-requires (λ c κs. search needs) returns-2 (λ c κs. search needs) (λ c κs. search needs) returns-3 (λ c κs. search needs) returns-4)
+claim-spec = tie.close (tie.spec (λ c κs. search needs) (λ c κs. search needs) returns times-requires (λ c κs. search needs) returns-2 (λ c κs. search needs) (λ c κs. search needs) returns-3 (λ c κs. search needs) (λ c κs. search needs) returns-4)

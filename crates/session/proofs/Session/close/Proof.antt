@@ -3,8 +3,8 @@ use mathlib.Core.Path.{sym, _∙_}
 use native.Mathlib.Omega.{arith}
 use borrow.Author.Needs.{needs}
 use borrow.Author.Tests.{not-true, not-false}
+use Rattle.progress.proofs.Limits.{within-due}
 use Rattle.session.specs.Steps.{closedBy}
-use Rattle.session.proofs.Validity.{in-phase}
 use Rattle.session.proofs.Stepping.{stays, moves}
 use Rattle.session.proofs.GatheringTests.{close-phase, close-register, close-none, close-taken, digests-counted}
 use Rattle.session.proofs.Session.close.Statement.{statement}
@@ -17,19 +17,20 @@ returns-2 : tie.Need-returns-2
 returns-2 c = stays _ _ _ (close-register 2 _ _ (sym (c .before .before .before .is-in .ensures) ∙ not-false _ (c .before .before .if1 .left)) (c .before .if2 .taken)) (c .refused2 .ensures)
 
 count-standing-requires : tie.Need-count-standing-requires
-count-standing-requires c κs = omega (arith, (in-phase 2 _ _ (sym (c .before .before .is-in .ensures) ∙ not-false _ (c .before .if1 .left))) .used)
+count-standing-requires c κs = omega (arith, (within-due 2 _ _ _ (sym (c .before .before .is-in .ensures) ∙ not-false _ (c .before .if1 .left))) .used)
 
 returns-3 : tie.Need-returns-3
 returns-3 c = stays _ _ _ (close-none 2 _ _ (sym (c .before .before .before .before .before .is-in .ensures) ∙ not-false _ (c .before .before .before .before .if1 .left)) (c .before .before .before .if2 .left) (c .before .before .count-standing .ensures .0) (c .before .if3 .taken)) (c .refused3 .ensures)
 
 closing-of-register-requires : tie.Need-closing-of-register-requires
-closing-of-register-requires c κs = omega (arith, (in-phase 2 _ _ (sym (c .before .before .before .before .before .before .is-in .ensures) ∙ not-false _ (c .before .before .before .before .before .if1 .left))) .used)
+closing-of-register-requires c κs = omega (arith, (within-due 2 _ _ _ (sym (c .before .before .before .before .before .before .is-in .ensures) ∙ not-false _ (c .before .before .before .before .before .if1 .left))) .used)
 
 returns-4 : tie.Need-returns-4
 unfolding closedBy
 returns-4 c =
-    moves _ _ _ (close-taken 2 _ _ (sym (c .before .before .before .before .before .before .before .is-in .ensures) ∙ not-false _ (c .before .before .before .before .before .before .if1 .left)) (c .before .before .before .before .before .if2 .left) (c .before .before .before .before .count-standing .ensures .0) (c .before .before .before .if3 .left))
-    (rw (c .before .before .before .before .count-standing .ensures .0, ← (digests-counted (c .before .before .before .before .before .before .before .before .before .args .reg .now) (c .before .before .before .before .before .before .before .before .before .args .t1 .used)), c .closing-of-register .ensures))
+    let a = c .before .before .before .before .before .before .before .before .before .before .before .before .args in
+    moves _ _ _ (close-taken 2 _ _ (sym (c .before .before .before .before .before .before .before .before .is-in .ensures) ∙ not-false _ (c .before .before .before .before .before .before .before .if1 .left)) (c .before .before .before .before .before .before .if2 .left) (c .before .before .before .before .before .count-standing .ensures .0) (c .before .before .before .before .if3 .left))
+    (rw (c .with-batch .ensures, c .before .before .before .before .before .count-standing .ensures .0, ← (digests-counted (a .reg .now) (a .t1 .progress .used)), c .before .closing-of-register .ensures))
 
 pub close-spec : {M : Type 1} → statement M
-close-spec = tie.close (tie.spec (λ c κs. search needs) (λ c κs. search needs) returns (λ c κs. search needs) returns-2 count-standing-requires (λ c κs. search needs) returns-3 closing-of-register-requires returns-4)
+close-spec = tie.close (tie.spec (λ c κs. search needs) (λ c κs. search needs) returns (λ c κs. search needs) returns-2 count-standing-requires (λ c κs. search needs) returns-3 closing-of-register-requires (λ c κs. search needs) returns-4)

@@ -1,27 +1,23 @@
 -- `Session::draw` meets its contract. Assumes nothing.
-use mathlib.Core.Path.{sym, ap, _∙_}
+use mathlib.Core.Path.{sym, _∙_}
 use borrow.Author.Needs.{needs}
 use borrow.Author.Tests.{not-true, not-false}
-use Rattle.codec.specs.Bytes.{Bytes}
 use Rattle.codec.proofs.Laws.{put-whole}
 use Rattle.session.specs.Steps.{drawnBy}
 use Rattle.session.proofs.Stepping.{stays, moves}
-use Rattle.session.proofs.CountingTests.{draw-phase, draw-early, draw-length, draw-taken}
+use Rattle.session.proofs.CountingTests.{draw-undue, draw-length, draw-taken}
 use Rattle.session.proofs.Session.draw.Statement.{statement}
 use Rattle.session.proofs.Session.draw.Tie as tie
 
 returns : tie.Need-returns
-returns c = stays _ _ _ (draw-phase 2 _ _ (sym (c .before .before .is-in .ensures) ∙ not-true _ (c .before .if1 .taken))) (c .refused .ensures)
+returns c = stays _ _ _ (draw-undue 2 _ _ (sym (c .before .before .may-draw .ensures) ∙ not-true _ (c .before .if1 .taken))) (c .refused .ensures)
 
 returns-2 : tie.Need-returns-2
-returns-2 c = stays _ _ _ (draw-early 2 _ _ (c .before .if2 .taken)) (c .refused2 .ensures)
+returns-2 c = stays _ _ _ (draw-length 2 _ _ (sym (c .before .before .before .may-draw .ensures) ∙ not-false _ (c .before .before .if1 .left)) (c .before .if2 .taken)) (c .refused2 .ensures)
 
 returns-3 : tie.Need-returns-3
-returns-3 c = stays _ _ _ (draw-length 2 _ _ (sym (c .before .before .before .before .before .is-in .ensures) ∙ not-false _ (c .before .before .before .before .if1 .left)) (c .before .before .if2 .left) (c .before .if3 .taken)) (c .refused3 .ensures)
-
-returns-4 : tie.Need-returns-4
 unfolding drawnBy
-returns-4 c = moves _ _ _ (draw-taken 2 _ _ (sym (c .before .before .before .before .before .before .before .is-in .ensures) ∙ not-false _ (c .before .before .before .before .before .before .if1 .left)) (c .before .before .before .before .if2 .left) (c .before .before .before .if3 .left)) (ap (λ (x : Bytes). drawnBy (c .before .before .before .before .before .before .before .before .before .args .self) x) (c .before .copy .ensures ∙ put-whole _ _ (c .before .before .before .if3 .left)))
+returns-3 c = moves _ _ _ (draw-taken 2 _ _ (sym (c .before .before .before .before .before .before .may-draw .ensures) ∙ not-false _ (c .before .before .before .before .before .if1 .left)) (c .before .before .before .before .if2 .left)) (rw (c .with-seed .ensures, c .before .before .copy .ensures ∙ put-whole _ _ (c .before .before .before .before .if2 .left)))
 
 pub draw-spec : {M : Type 1} → statement M
-draw-spec = tie.close (tie.spec (λ c κs. search needs) (λ c κs. search needs) returns (λ c κs. search needs) returns-2 (λ c κs. search needs) returns-3 (λ c. search needs) (λ c κs. search needs) returns-4)
+draw-spec = tie.close (tie.spec (λ c κs. search needs) (λ c κs. search needs) returns (λ c κs. search needs) returns-2 (λ c. search needs) (λ c κs. search needs) (λ c κs. search needs) returns-3)

@@ -2,7 +2,7 @@
 use mathlib.Core.Path.{sym, _∙_}
 use borrow.Author.Needs.{needs}
 use borrow.Author.Tests.{not-true, not-false}
-use Rattle.session.proofs.Validity.{in-phase}
+use Rattle.progress.proofs.Limits.{within-due}
 use Rattle.session.proofs.Stepping.{keeps-with, keeps-on}
 use Rattle.session.proofs.GatheringTests.{withdraw-phase, withdraw-register, withdraw-on}
 use Rattle.session.proofs.Session.withdraw.Statement.{statement}
@@ -15,11 +15,11 @@ returns-2 : tie.Need-returns-2
 returns-2 c = keeps-with _ _ _ _ (withdraw-register 2 _ _ _ (sym (c .before .before .before .is-in .ensures) ∙ not-false _ (c .before .before .if1 .left)) (c .before .if2 .taken)) (c .refused2 .ensures)
 
 withdraw-requires : tie.Need-withdraw-requires
-withdraw-requires c κs = (c .before .if2 .left, in-phase 2 _ _ (sym (c .before .before .before .is-in .ensures) ∙ not-false _ (c .before .before .if1 .left)) .used)
+withdraw-requires c κs = (c .before .if2 .left, within-due 2 _ _ _ (sym (c .before .before .before .is-in .ensures) ∙ not-false _ (c .before .before .if1 .left)) .used)
 
 returns-3 : tie.Need-returns-3
 returns-3 c =
-    let s = c .before .before .before .before .before .before .before .before .args .self in
+    let s = c .before .before .before .before .before .before .before .before .before .before .args .self in
     keeps-on _ _ (withdraw-on 2 _ _ _ (sym (c .before .before .before .before .before .before .is-in .ensures) ∙ not-false _ (c .before .before .before .before .before .if1 .left)) (c .before .before .before .before .if2 .left)) s s _ _ (c .before .before .withdraw .ensures)
 
 pub withdraw-spec : {M : Type 1} → statement M

@@ -1,9 +1,9 @@
--- `Session::is_in` meets its contract. Assumes nothing.
+-- `Progress::is_in` meets its contract. Assumes nothing.
 use mathlib.Core.Path.{sym, _∙_}
 use borrow.Author.Needs.{needs}
 use borrow.Author.Tests.{not-true, not-false}
-use Rattle.session.proofs.Session.is_in.Statement.{statement}
-use Rattle.session.proofs.Session.is_in.Tie as tie
+use Rattle.progress.proofs.Progress.is_in.Statement.{statement}
+use Rattle.progress.proofs.Progress.is_in.Tie as tie
 
 returns : tie.Need-returns
 returns c = rw (sym (c .before .is-valid .ensures) ∙ not-true _ (c .if1 .taken))
