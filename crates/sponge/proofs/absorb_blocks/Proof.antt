@@ -1,4 +1,4 @@
--- `sha3::absorb_blocks` meets its contract. Assumes nothing.
+-- `sponge::absorb_blocks` meets its contract. Assumes nothing.
 use mathlib.Core.Path.{_≡_, refl, ap, _∙_, subst⁻¹}
 use Prim.Native.Nat.{_≤_, _-_, _%_}
 use native.Mathlib.Omega.{arith}
@@ -6,12 +6,12 @@ use borrow.Author.Needs.{needs}
 use lib.ListN.{length, take, drop}
 use lib.Seq.{take-all}
 use Rattle.keccak.specs.Keccak.{State, keccak}
-use Rattle.sha3.specs.Sponge.{absorb}
+use Rattle.sponge.specs.Absorb.{absorb}
 use Rattle.codec.proofs.Laws.{length-part, octets-part}
 use Rattle.keccak.proofs.Shape.{Shape, array-shape, keccak-shape}
-use Rattle.sha3.proofs.Blocks.{block, next-block}
-use Rattle.sha3.proofs.absorb_blocks.Statement.{statement}
-use Rattle.sha3.proofs.absorb_blocks.Tie as tie
+use Rattle.sponge.proofs.Blocks.{block, next-block}
+use Rattle.sponge.proofs.absorb_blocks.Statement.{statement}
+use Rattle.sponge.proofs.absorb_blocks.Tie as tie
 
 abbrev Inv-loop : tie.InvT-loop
 Inv-loop m t₀ i₀ t i = (i ≤ length m) × (i % 136 ≡ 0) × (t ≡ absorb t₀ 0 (take i m)) × Shape t

@@ -1,11 +1,11 @@
--- `sha3::xor_lane` meets its contract. Assumes nothing.
+-- `sponge::xor_lane` meets its contract. Assumes nothing.
 use Prim.Native.Nat.{_*_}
 use borrow.Author.Needs.{needs}
 use native.Mathlib.Omega.{arith}
 use lib.Pow.{shl-exact}
-use Rattle.sha3.specs.Sponge.{xorLane}
-use Rattle.sha3.proofs.xor_lane.Statement.{statement}
-use Rattle.sha3.proofs.xor_lane.Tie as tie
+use Rattle.sponge.specs.Absorb.{xorLane}
+use Rattle.sponge.proofs.xor_lane.Statement.{statement}
+use Rattle.sponge.proofs.xor_lane.Tie as tie
 
 returns : tie.Need-returns
 unfolding xorLane

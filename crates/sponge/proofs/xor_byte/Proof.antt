@@ -1,8 +1,8 @@
--- `sha3::xor_byte` meets its contract. Assumes nothing.
+-- `sponge::xor_byte` meets its contract. Assumes nothing.
 use borrow.Author.Needs.{needs}
-use Rattle.sha3.specs.Sponge.{xorByte}
-use Rattle.sha3.proofs.xor_byte.Statement.{statement}
-use Rattle.sha3.proofs.xor_byte.Tie as tie
+use Rattle.sponge.specs.Absorb.{xorByte}
+use Rattle.sponge.proofs.xor_byte.Statement.{statement}
+use Rattle.sponge.proofs.xor_byte.Tie as tie
 
 returns : tie.Need-returns
 unfolding xorByte

@@ -1,5 +1,5 @@
--- The laws of absorbing: parts that are absorbed one after another are absorbed as their concatenation, and the padding in two steps.
--- Assumes nothing.
+-- The laws of absorbing: parts that are absorbed one after another are absorbed as their concatenation, and zeros change
+-- nothing before a block's end. Assumes nothing.
 use mathlib.Core.Path.{_≡_, sym, ap, _∙_}
 use Prim.Native.Nat.{ℕ, zero, suc, _+_, _-_, _*_, _/_, _%_, _^_, _≤_, _<_}
 use mathlib.Core.List.{List, [], _∷_, _++_}
@@ -12,7 +12,7 @@ use lib.Bits.{bitXor, xor-zero-r}
 use borrow.Author.Tests.{lt-ltb, le-ltb}
 use Rattle.keccak.specs.Keccak.{State, Row, lane, keccak}
 use Rattle.codec.proofs.Laws.{drop-take}
-use Rattle.sha3.specs.Sponge.{xorLane, xorByte, feed, absorb, padding}
+use Rattle.sponge.specs.Absorb.{xorLane, xorByte, feed, absorb}
 
 -- ---- absorbing
 
@@ -60,33 +60,18 @@ pub feed-late : (s : State) (at b : ℕ) → 135 ≤ at → feed s at b ≡ kecc
 unfolding feed
 feed-late s at b h = simp (le-ltb _ _ h)
 
-zeros : (n : ℕ) (l : List ℕ) (s : State) (at : ℕ) → at + n < 136 → absorb s at (replicate n 0 ++ l) ≡ absorb s (at + n) l
+pub absorb-zeros : (n : ℕ) (l : List ℕ) (s : State) (at : ℕ) → at + n < 136 → absorb s at (replicate n 0 ++ l) ≡ absorb s (at + n) l
 unfolding absorb
-zeros zero l s at h =
+absorb-zeros zero l s at h =
     let e : at ≡ at + 0 = omega arith in ap (λ (k : ℕ). absorb s k l) e
-zeros (suc n) l s at h =
+absorb-zeros (suc n) l s at h =
     let early : at < 135 = omega arith in
     let one : (at + 1) % 136 ≡ at + 1 = omega arith in
     let e : (at + 1) + n ≡ at + suc n = omega arith in
     let f : feed s at 0 ≡ s = feed-early s at 0 early ∙ xor-nothing s at in
     (λ i. absorb (f i) (one i) (replicate n 0 ++ l))
-    ∙ zeros n l s (at + 1) (omega arith)
+    ∙ absorb-zeros n l s (at + 1) (omega arith)
     ∙ ap (λ (k : ℕ). absorb s k l) e
-
-pub pad-early : (s : State) (at : ℕ) → at < 135 → absorb s at (padding at) ≡ keccak (xorByte (xorByte s at 6) 135 128)
-unfolding absorb padding feed
-pad-early s at h =
-    let one : (at + 1) % 136 ≡ at + 1 = omega arith in
-    let e : (at + 1) + (134 - at) ≡ 135 = omega arith in
-    let p : padding at ≡ 6 ∷ (replicate (134 - at) 0 ++ (128 ∷ [])) = simp (lt-ltb _ _ h) in
-    ap (absorb s at) p
-    ∙ (λ i. absorb (feed-early s at 6 h i) (one i) (replicate (134 - at) 0 ++ (128 ∷ [])))
-    ∙ zeros (134 - at) (128 ∷ []) (xorByte s at 6) (at + 1) (omega arith)
-    ∙ ap (λ (k : ℕ). absorb (xorByte s at 6) k (128 ∷ [])) e
-
-pub pad-late : (s : State) (at : ℕ) → at ≡ 135 → absorb s at (padding at) ≡ keccak (xorByte s 135 134)
-unfolding absorb padding feed
-pad-late s at e = ap (λ (k : ℕ). absorb s k (padding k)) e
 
 -- what is absorbed up to k is absorbed, and then the rest
 pub split-at : (m : List ℕ) (k : ℕ) (s : State) (at p : ℕ) → at < 136 → k ≤ length m → (at + k) % 136 ≡ p

@@ -1,4 +1,4 @@
--- `sha3::absorb_bytes` meets its contract. Assumes nothing.
+-- `sponge::absorb_bytes` meets its contract. Assumes nothing.
 use mathlib.Core.Path.{_≡_, refl, sym, ap, _∙_}
 use Prim.Native.Nat.{ℕ, _≤_, _-_, _+_, _/_, _%_}
 use mathlib.Core.List.{[]}
@@ -7,10 +7,10 @@ use borrow.Author.Needs.{needs}
 use lib.ListN.{length, take, getD, set}
 use lib.Seq.{take-all}
 use Rattle.keccak.specs.Keccak.{State, lane, keccak}
-use Rattle.sha3.specs.Sponge.{absorb, feed, xorLane, xorByte}
-use Rattle.sha3.proofs.Absorbing.{absorb-take, feed-early, feed-late}
-use Rattle.sha3.proofs.absorb_bytes.Statement.{statement}
-use Rattle.sha3.proofs.absorb_bytes.Tie as tie
+use Rattle.sponge.specs.Absorb.{absorb, feed, xorLane, xorByte}
+use Rattle.sponge.proofs.Absorbing.{absorb-take, feed-early, feed-late}
+use Rattle.sponge.proofs.absorb_bytes.Statement.{statement}
+use Rattle.sponge.proofs.absorb_bytes.Tie as tie
 
 -- what a store of the lane leaves
 putInto : (s : State) (i b v : ℕ) → v ≡ xorLane (lane s (i / 8 % 5) (i / 40)) (i % 8) b → set s (i / 40) (set (getD s (i / 40) []) (i / 8 % 5) v) ≡ xorByte s i b

@@ -1,4 +1,4 @@
--- `sha3::xor_row` meets its contract. Assumes nothing.
+-- `sponge::xor_row` meets its contract. Assumes nothing.
 use mathlib.Core.Path.{_∙_, ap, sym}
 use Prim.Native.Nat.{ℕ}
 use native.Mathlib.Nat.{add-zero}
@@ -7,9 +7,9 @@ use lib.Bits.{bitXor}
 use lib.ListN.{getD}
 use Rattle.codec.specs.Bytes.{number, part}
 use Rattle.keccak_steps.proofs.Rows.{row5}
-use Rattle.sha3.specs.Fips.{xorRow}
-use Rattle.sha3.proofs.xor_row.Statement.{statement}
-use Rattle.sha3.proofs.xor_row.Tie as tie
+use Rattle.sponge.specs.Blocks.{xorRow}
+use Rattle.sponge.proofs.xor_row.Statement.{statement}
+use Rattle.sponge.proofs.xor_row.Tie as tie
 
 returns : tie.Need-returns
 unfolding xorRow

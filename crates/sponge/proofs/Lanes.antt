@@ -11,7 +11,7 @@ use lib.Pow.{pow-add, shl-lt}
 use lib.Seq.{set-getD, set-set, getD-set-same}
 use Rattle.codec.specs.Bytes.{Bytes, Octets, number}
 use Rattle.keccak.specs.Keccak.{State, Row, lane}
-use Rattle.sha3.specs.Sponge.{xorLane, xorByte}
+use Rattle.sponge.specs.Absorb.{xorLane, xorByte}
 
 -- ---- exclusive or is associative
 

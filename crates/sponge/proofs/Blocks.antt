@@ -1,23 +1,23 @@
--- A whole block is the block byte by byte, and the sponge of FIPS 202, section 4, is the one of `Sponge.antt`. Assumes nothing.
+-- A whole block is the block byte by byte, and so are the blocks of FIPS 202, section 4, one after another. Assumes nothing.
 use mathlib.Core.Path.{_≡_, refl, sym, ap, ap₂, _∙_}
 use mathlib.Core.List.{[], _∷_, _++_}
-use Prim.Native.Nat.{ℕ, zero, suc, _+_, _-_, _*_, _/_, _%_, _≤_, _<_}
+use Prim.Native.Nat.{ℕ, zero, suc, _+_, _*_, _/_, _%_, _≤_, _<_}
 use native.Mathlib.Nat.{add-assoc}
-use native.Mathlib.Decide.{ℕ-discrete, decLt}
+use native.Mathlib.Decide.{ℕ-discrete}
 use native.Mathlib.Omega.{arith}
-use borrow.Author.Tests.{lt-ltb, le-ltb}
+use borrow.Author.Tests.{le-ltb}
 use lib.Bits.{bitXor, xor-zero-r}
-use lib.ListN.{length, getD, set, take, drop, length-drop, length-append, length-set, length-replicate, take-append-drop, drop-of-length-le}
+use lib.ListN.{length, getD, set, take, drop, length-drop, length-set, take-append-drop, drop-of-length-le}
 use lib.Seq.{take-add, drop-drop, length-take-le, getD-set-same, getD-set-other}
-use Rattle.codec.specs.Bytes.{Bytes, Octets, number, part, zeros}
-use Rattle.codec.proofs.Laws.{length-part, part-part, part-none, octets-one, octets-zeros, octets-drop, octets-part, octets-append}
+use Rattle.codec.specs.Bytes.{Bytes, Octets, number, part}
+use Rattle.codec.proofs.Laws.{length-part, part-part, part-none, octets-drop, octets-part}
 use Rattle.keccak.specs.Keccak.{Row, State, lane, five, lanes, keccak}
 use Rattle.keccak_steps.proofs.Rows.{row5}
-use Rattle.keccak.proofs.Shape.{Shape, shaped, shape-of, keccak-shape}
-use Rattle.sha3.specs.Fips.{xorBlock, xorRow, absorbBlocks, sponge}
-use Rattle.sha3.specs.Sponge.{xorByte, feed, absorb, padding, squeeze, zeroState, sha3}
-use Rattle.sha3.proofs.Absorbing.{feed-early, absorb-append, split-at}
-use Rattle.sha3.proofs.Lanes.{laneAt, setLane, xors, Has, eight}
+use Rattle.keccak.proofs.Shape.{Shape, shaped, keccak-shape}
+use Rattle.sponge.specs.Blocks.{xorBlock, xorRow, absorbBlocks}
+use Rattle.sponge.specs.Absorb.{xorByte, feed, absorb}
+use Rattle.sponge.proofs.Absorbing.{feed-early, absorb-append, split-at}
+use Rattle.sponge.proofs.Lanes.{laneAt, setLane, xors, Has, eight}
 
 -- the bytes to a block's end
 full : (m : Bytes) (b : ℕ) (s : State) (at : ℕ) → at + suc (length m) ≡ 136 → absorb s at (b ∷ m) ≡ keccak (xors s at (b ∷ m))
@@ -114,9 +114,9 @@ next-block m i s h z =
     ∙ sym (absorb-append (take i m) (part m i 136) s 0 (omega arith))
     ∙ ap (absorb s 0) (sym (take-add i 136 m))
 
--- ---- the sponge of section 4
+-- ---- the blocks of section 4
 
-blocks : (n : ℕ) (s : State) (p : Bytes) → Shape s → Octets p → length p ≡ 136 * n → absorbBlocks n s p ≡ absorb s 0 p
+pub blocks : (n : ℕ) (s : State) (p : Bytes) → Shape s → Octets p → length p ≡ 136 * n → absorbBlocks n s p ≡ absorb s 0 p
 unfolding absorbBlocks absorb
 blocks zero s [] h o e = refl
 blocks zero s (b ∷ p) h o e = absurd (omega arith)
@@ -128,39 +128,3 @@ blocks (suc n) s p h o e =
     blocks n t (drop 136 p) (keccak-shape (xorBlock s c)) (octets-drop p 136 o) r
     ∙ ap (λ (u : State). absorb u 0 (drop 136 p)) (block s c h (octets-part p 0 136 o) w)
     ∙ split-at p 136 s 0 0 (omega arith) (omega arith) refl
-
-pad-short : (at : ℕ) → at < 135 → padding at ≡ 0x06 ∷ (zeros (134 - at) ++ (0x80 ∷ []))
-unfolding padding
-pad-short at h = rw (lt-ltb at 135 h)
-
-pad-one : (at : ℕ) → 135 ≤ at → padding at ≡ 0x86 ∷ []
-unfolding padding
-pad-one at h = rw (le-ltb at 135 h)
-
-length-padding : (at : ℕ) → at < 136 → length (padding at) ≡ 136 - at
-length-padding at h = go (decLt at 135)
-  where
-    go : Dec (at < 135) → length (padding at) ≡ 136 - at
-    go (yes l) = ap length (pad-short at l) ∙ ap suc (length-append (zeros (134 - at)) (0x80 ∷ []) ∙ ap (λ (n : ℕ). n + 1) (length-replicate (134 - at) 0)) ∙ omega arith
-    go (no l) = ap length (pad-one at (omega arith)) ∙ omega arith
-
-octets-padding : (at : ℕ) → Octets (padding at)
-octets-padding at = go (decLt at 135)
-  where
-    go : Dec (at < 135) → Octets (padding at)
-    go (yes l) = rw (pad-short at l) (octets-append (0x06 ∷ []) (zeros (134 - at) ++ (0x80 ∷ [])) (octets-one 0x06 (omega arith))
-        (octets-append (zeros (134 - at)) (0x80 ∷ []) (octets-zeros (134 - at)) (octets-one 0x80 (omega arith))))
-    go (no l) = rw (pad-one at (omega arith)) (octets-one 0x86 (omega arith))
-
-zero-shape : Shape zeroState
-unfolding zeroState
-zero-shape = shape-of _ _ _ _ _ refl refl refl refl refl
-
-pub sponge-is-sha3 : (m : Bytes) → Octets m → sponge m ≡ sha3 m
-unfolding sponge sha3
-sponge-is-sha3 m o =
-    let at = length m % 136 in
-    let l = length-padding at (omega arith) in
-    let p = m ++ padding at in
-    let w : length p ≡ 136 * (length m / 136 + 1) = rw length-append (omega arith) in
-    ap squeeze (blocks (length m / 136 + 1) zeroState p zero-shape (octets-append m (padding at) o (octets-padding at)) w)

@@ -1,4 +1,4 @@
--- `sha3::xor_block` meets its contract. Assumes nothing.
+-- `sponge::xor_block` meets its contract. Assumes nothing.
 use mathlib.Core.Path.{_≡_, _∙_, ap, sym}
 use mathlib.Core.List.{[]}
 use native.Mathlib.Nat.{add-zero}
@@ -11,10 +11,10 @@ use Rattle.codec.proofs.Laws.{length-part, part-part}
 use Rattle.keccak.specs.Keccak.{lane}
 use Rattle.keccak_steps.proofs.Rows.{row5}
 use Rattle.keccak.proofs.Shape.{five-of, array-shape}
-use Rattle.sha3.specs.Fips.{xorRow, xorBlock}
-use Rattle.sha3.proofs.Blocks.{past, row-in}
-use Rattle.sha3.proofs.xor_block.Statement.{statement}
-use Rattle.sha3.proofs.xor_block.Tie as tie
+use Rattle.sponge.specs.Blocks.{xorRow, xorBlock}
+use Rattle.sponge.proofs.Blocks.{past, row-in}
+use Rattle.sponge.proofs.xor_block.Statement.{statement}
+use Rattle.sponge.proofs.xor_block.Tie as tie
 
 returns : tie.Need-returns
 unfolding xorBlock

@@ -1,14 +1,14 @@
--- `sha3::absorb` meets its contract. Assumes nothing.
+-- `sponge::absorb` meets its contract. Assumes nothing.
 use mathlib.Core.Path.{_∙_, ap}
 use Prim.Native.Nat.{_-_, _%_}
 use lib.ListN.{length, take, drop}
 use native.Mathlib.Omega.{arith}
 use borrow.Author.Needs.{needs}
-use Rattle.sha3.specs.Sponge.{absorb}
+use Rattle.sponge.specs.Absorb.{absorb}
 use Rattle.keccak.specs.Keccak.{State}
-use Rattle.sha3.proofs.Absorbing.{thirds}
-use Rattle.sha3.proofs.absorb.Statement.{statement}
-use Rattle.sha3.proofs.absorb.Tie as tie
+use Rattle.sponge.proofs.Absorbing.{thirds}
+use Rattle.sponge.proofs.absorb.Statement.{statement}
+use Rattle.sponge.proofs.absorb.Tie as tie
 
 returns-2 : tie.Need-returns-2
 returns-2 c =
