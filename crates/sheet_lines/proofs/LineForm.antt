@@ -11,10 +11,10 @@ use lib.Dec.{eqb}
 use lib.ListN.{length}
 use lib.Seq.{append-snoc}
 use Rattle.codec.specs.Bytes.{Bytes}
-use Rattle.sheet.specs.Form.{decimal, listed, lines, Plain, AllPlain}
-use Rattle.sheet.specs.Reader.{digit, Place, fresh, within, Found, missing, found, values, line, Block, broken, block, after, onward, rows}
+use Rattle.sheet_lines.specs.Form.{decimal, listed, lines, Plain, AllPlain}
+use Rattle.sheet_lines.specs.Reader.{digit, Place, fresh, within, Found, missing, found, values, line, Block, broken, block, after, onward, rows}
 use Rattle.codec.proofs.Laws.{le-or}
-use Rattle.sheet.proofs.Steps.{same-or, never-found, digit-is, digit-of, begins, no-number, grows, leading-zero, too-long, comma, ends, neither}
+use Rattle.sheet_lines.proofs.Steps.{same-or, never-found, digit-is, digit-of, begins, no-number, grows, leading-zero, too-long, comma, ends, neither}
 
 -- ---- decimals
 

@@ -1,13 +1,13 @@
--- `reader::scan_values` meets its contract. Assumes nothing.
+-- `sheet_lines::scan_values` meets its contract. Assumes nothing.
 use mathlib.Core.Logic.{⊎-elim}
 use Prim.Native.Nat.{_-_}
 use native.Mathlib.Omega.{arith}
 use borrow.Author.Needs.{needs}
 use borrow.Author.Tests.{not-true, not-false, leb-true, leb-false}
 use lib.ListN.{length}
-use Rattle.sheet.proofs.Scanning.{Scanning, starts, over, first-digit, next-digit, not-begun, after-zero, eighteenth, at-other, at-comma, at-lf}
-use Rattle.sheet.proofs.reader.scan_values.Statement.{statement}
-use Rattle.sheet.proofs.reader.scan_values.Tie as tie
+use Rattle.sheet_lines.proofs.Scanning.{Scanning, starts, over, first-digit, next-digit, not-begun, after-zero, eighteenth, at-other, at-comma, at-lf}
+use Rattle.sheet_lines.proofs.scan_values.Statement.{statement}
+use Rattle.sheet_lines.proofs.scan_values.Tie as tie
 
 abbrev Inv-loop : tie.InvT-loop
 Inv-loop text at i₀ v₀ begun₀ n₀ top₀ i v begun n top = Scanning text at i v begun n top

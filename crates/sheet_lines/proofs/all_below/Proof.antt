@@ -1,4 +1,4 @@
--- `reader::all_below` meets its contract. Assumes nothing.
+-- `sheet_lines::all_below` meets its contract. Assumes nothing.
 use mathlib.Core.Path.{_≡_, refl}
 use mathlib.Core.Bool.{true}
 use Prim.Native.Nat.{_-_, _≤_}
@@ -8,9 +8,9 @@ use borrow.Author.Tests.{le-ltb, lt-ltb}
 use lib.Dec.{ltb}
 use lib.ListN.{take}
 use Rattle.codec.specs.Lists.{every, allBelow}
-use Rattle.sheet.proofs.Each.{not-each, one-more, each}
-use Rattle.sheet.proofs.reader.all_below.Statement.{statement}
-use Rattle.sheet.proofs.reader.all_below.Tie as tie
+use Rattle.sheet_lines.proofs.Each.{not-each, one-more, each}
+use Rattle.sheet_lines.proofs.all_below.Statement.{statement}
+use Rattle.sheet_lines.proofs.all_below.Tie as tie
 
 abbrev Inv-loop : tie.InvT-loop
 Inv-loop v xs i₀ i = (i ≤ 5) × (every (λ x. ltb x v) (take i xs) ≡ true)

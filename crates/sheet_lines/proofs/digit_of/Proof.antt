@@ -1,9 +1,9 @@
--- `reader::digit_of` meets its contract. Assumes nothing.
+-- `sheet_lines::digit_of` meets its contract. Assumes nothing.
 use borrow.Author.Needs.{needs}
 use borrow.Author.Tests.{le-ltb, lt-ltb}
-use Rattle.sheet.specs.Reader.{digit}
-use Rattle.sheet.proofs.reader.digit_of.Statement.{statement}
-use Rattle.sheet.proofs.reader.digit_of.Tie as tie
+use Rattle.sheet_lines.specs.Reader.{digit}
+use Rattle.sheet_lines.proofs.digit_of.Statement.{statement}
+use Rattle.sheet_lines.proofs.digit_of.Tie as tie
 
 returns : tie.Need-returns
 unfolding digit

@@ -1,14 +1,14 @@
--- `reader::scan_line` meets its contract. Assumes nothing.
+-- `sheet_lines::scan_line` meets its contract. Assumes nothing.
 use mathlib.Core.Path.{_≡_, refl, sym, ap, _∙_}
 use Prim.Native.Nat.{_-_, _≤_}
 use native.Mathlib.Omega.{arith}
 use borrow.Author.Needs.{needs}
 use lib.ListN.{length, drop}
-use Rattle.sheet.specs.Reader.{line}
-use Rattle.sheet.specs.Seen.{summed}
-use Rattle.sheet.proofs.Scanning.{key-byte, key-ends, key-other, key-over}
-use Rattle.sheet.proofs.reader.scan_line.Statement.{statement}
-use Rattle.sheet.proofs.reader.scan_line.Tie as tie
+use Rattle.sheet_lines.specs.Reader.{line}
+use Rattle.sheet_lines.specs.Seen.{summed}
+use Rattle.sheet_lines.proofs.Scanning.{key-byte, key-ends, key-other, key-over}
+use Rattle.sheet_lines.proofs.scan_line.Statement.{statement}
+use Rattle.sheet_lines.proofs.scan_line.Tie as tie
 
 abbrev Inv-loop : tie.InvT-loop
 Inv-loop text at key i₀ j₀ i j = (j ≤ length key) × (line key (drop at text) ≡ line (drop j key) (drop i text))

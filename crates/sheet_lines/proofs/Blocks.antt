@@ -8,12 +8,12 @@ use native.Mathlib.Omega.{arith}
 use lib.ListN.{length, take, drop, getD, set, length-drop, drop-of-length-le}
 use lib.Seq.{length-take-le, take-all, take-suc-set, getD-take, getD-drop}
 use Rattle.codec.specs.Bytes.{Bytes}
-use Rattle.sheet.specs.Form.{numberKeys, listKeys}
-use Rattle.sheet.specs.Reader.{Found, missing, found, line, Block, broken, block, after, onward, rows}
-use Rattle.sheet.specs.Seen.{largest, bad, sum, summed, none, outline, outlined, seen}
-use Rattle.sheet.specs.declared.Lines.{Lines}
-use Rattle.sheet.proofs.Steps.{unroll}
-use Rattle.sheet.proofs.LineForm.{never-block}
+use Rattle.sheet_lines.specs.Form.{numberKeys, listKeys}
+use Rattle.sheet_lines.specs.Reader.{Found, missing, found, line, Block, broken, block, after, onward, rows}
+use Rattle.sheet_lines.specs.Seen.{largest, bad, sum, summed, none, outline, outlined, seen}
+use Rattle.sheet_lines.specs.declared.Lines.{Lines}
+use Rattle.sheet_lines.proofs.Steps.{unroll}
+use Rattle.sheet_lines.proofs.LineForm.{never-block}
 
 after-none : (b : Block) → after [] b ≡ b
 after-none broken = refl

@@ -11,7 +11,7 @@ use lib.Dec.{ltb, eqb}
 use lib.ListN.{length, drop, getD}
 use lib.Seq.{drop-cons}
 use Rattle.codec.specs.Bytes.{Bytes}
-use Rattle.sheet.specs.Reader.{digit, fresh, within, missing, found, step, values}
+use Rattle.sheet_lines.specs.Reader.{digit, fresh, within, missing, found, step, values}
 
 -- ---- a list from a place on
 

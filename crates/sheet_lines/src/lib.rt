@@ -1,15 +1,31 @@
-// Lines of the text: what they hold, without keeping their numbers.
-use crate::Lines;
-use crate::Scan;
+// Lines of a sheet's text: what they hold, without keeping their numbers.
 ghost use mathlib.Core.Path.{_≡_};
 ghost use Prim.Native.Nat.{_+_, _≤_, _<_};
 ghost use mathlib.Core.List.{[], _++_};
 ghost use lib.Dec.{eqb};
 ghost use lib.ListN.{drop, take, getD};
-ghost use Rattle.sheet.specs.Form.{numberKeys, listKeys};
+ghost use Rattle.sheet_lines.specs.Form.{numberKeys, listKeys};
 ghost use Rattle.codec.specs.Lists.{every, allBelow};
-ghost use Rattle.sheet.specs.Reader.{digit, fresh, values, line, rows};
-ghost use Rattle.sheet.specs.Seen.{bigger, summed, scanned, outlined, seen};
+ghost use Rattle.sheet_lines.specs.Reader.{digit, fresh, values, line, rows};
+ghost use Rattle.sheet_lines.specs.Seen.{bigger, summed, scanned, outlined, seen};
+
+// What stands at a place of the text: a line with how many numbers, the largest, and where the text goes on; or no such line.
+enum Scan {
+    Broken,
+    Line {
+        count: u64,
+        largest: u64,
+        next: usize,
+    },
+}
+
+// Five lines: whether they are there, and for each how many numbers it has and the largest; and where the text goes on.
+pub struct Lines {
+    pub whole: bool,
+    pub counts: [u64; 5],
+    pub largest: [u64; 5],
+    pub next: usize,
+}
 
 // The value of a digit; 10 for any other byte.
 pub fn digit_of(c: u8) -> u64

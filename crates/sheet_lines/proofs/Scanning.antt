@@ -7,9 +7,9 @@ use native.Mathlib.Omega.{arith}
 use borrow.Author.Tests.{eq-eqb, ne-eqb}
 use lib.ListN.{length, drop, getD, length-append, drop-of-length-le}
 use Rattle.codec.specs.Bytes.{Bytes}
-use Rattle.sheet.specs.Reader.{digit, Place, fresh, within, missing, values, line}
-use Rattle.sheet.specs.Seen.{bigger, largest, bad, sum, summed}
-use Rattle.sheet.proofs.Steps.{unroll, begins, no-number, grows, leading-zero, too-long, comma, ends, neither}
+use Rattle.sheet_lines.specs.Reader.{digit, Place, fresh, within, missing, values, line}
+use Rattle.sheet_lines.specs.Seen.{bigger, largest, bad, sum, summed}
+use Rattle.sheet_lines.proofs.Steps.{unroll, begins, no-number, grows, leading-zero, too-long, comma, ends, neither}
 
 largest-snoc : (m : ℕ) (xs : List ℕ) (v : ℕ) → largest m (xs ++ v ∷ []) ≡ bigger (largest m xs) v
 unfolding largest

@@ -1,4 +1,4 @@
--- `reader::scan_lines` meets its contract. Assumes nothing.
+-- `sheet_lines::scan_lines` meets its contract. Assumes nothing.
 use mathlib.Core.Path.{_≡_, refl, sym, ap, _∙_}
 use mathlib.Core.List.{List, _++_}
 use Prim.Native.Nat.{ℕ, _-_, _≤_}
@@ -6,11 +6,11 @@ use native.Mathlib.Omega.{arith}
 use borrow.Author.Needs.{needs}
 use lib.ListN.{length, take, drop, length-set}
 use Rattle.codec.specs.Bytes.{Bytes}
-use Rattle.sheet.specs.Form.{numberKeys, listKeys}
-use Rattle.sheet.specs.Seen.{scanned}
-use Rattle.sheet.proofs.Blocks.{Passed, starts, stops, goes-on, all, five-keys, key-at}
-use Rattle.sheet.proofs.reader.scan_lines.Statement.{statement}
-use Rattle.sheet.proofs.reader.scan_lines.Tie as tie
+use Rattle.sheet_lines.specs.Form.{numberKeys, listKeys}
+use Rattle.sheet_lines.specs.Seen.{scanned}
+use Rattle.sheet_lines.proofs.Blocks.{Passed, starts, stops, goes-on, all, five-keys, key-at}
+use Rattle.sheet_lines.proofs.scan_lines.Statement.{statement}
+use Rattle.sheet_lines.proofs.scan_lines.Tie as tie
 
 abbrev keys : ℕ → List Bytes
 keys from = take 5 (drop from (numberKeys ++ listKeys))

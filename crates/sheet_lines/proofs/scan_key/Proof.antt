@@ -1,9 +1,9 @@
--- `reader::scan_key` meets its contract. Assumes nothing.
+-- `sheet_lines::scan_key` meets its contract. Assumes nothing.
 use mathlib.Core.Path.{_≡_}
 use native.Mathlib.Omega.{arith}
 use borrow.Author.Needs.{needs}
-use Rattle.sheet.proofs.reader.scan_key.Statement.{statement}
-use Rattle.sheet.proofs.reader.scan_key.Tie as tie
+use Rattle.sheet_lines.proofs.scan_key.Statement.{statement}
+use Rattle.sheet_lines.proofs.scan_key.Tie as tie
 
 returns : tie.Need-returns
 returns c = let e : c .before .before .before .before .before .args .k ≡ 0 = omega arith in rw e (c .scan-line .ensures)
