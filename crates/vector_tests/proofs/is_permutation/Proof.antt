@@ -1,4 +1,4 @@
--- `vector::is_permutation` meets its contract. Assumes nothing.
+-- `vector_tests::is_permutation` meets its contract. Assumes nothing.
 use mathlib.Core.Path.{_≡_, sym, ap₂, _∙_}
 use Prim.Native.Nat.{ℕ}
 use native.Mathlib.Omega.{arith}
@@ -6,8 +6,8 @@ use borrow.Author.Needs.{needs}
 use lib.ListN.{length, length-replicate}
 use Rattle.codec.specs.Bytes.{Bytes, part, zeros}
 use Rattle.codec.proofs.Laws.{part-put}
-use Rattle.vector.proofs.is_permutation.Statement.{statement}
-use Rattle.vector.proofs.is_permutation.Tie as tie
+use Rattle.vector_tests.proofs.is_permutation.Statement.{statement}
+use Rattle.vector_tests.proofs.is_permutation.Tie as tie
 
 mark-requires : tie.Need-mark-requires
 mark-requires c κs =

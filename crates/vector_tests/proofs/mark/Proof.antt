@@ -1,13 +1,13 @@
--- `vector::mark` meets its contract. Assumes nothing.
+-- `vector_tests::mark` meets its contract. Assumes nothing.
 use mathlib.Core.Path.{sym, _∙_}
 use Prim.Native.Nat.{_-_}
 use native.Mathlib.Omega.{arith}
 use borrow.Author.Needs.{needs}
 use Rattle.vector.specs.Permutation.{entries}
 use Rattle.vector.proofs.Vectors.{length-entries}
-use Rattle.vector.proofs.Marks.{Marked, marked-first, marked-more, marked-all, out-of-range, met-before}
-use Rattle.vector.proofs.mark.Statement.{statement}
-use Rattle.vector.proofs.mark.Tie as tie
+use Rattle.vector_tests.proofs.Marks.{Marked, marked-first, marked-more, marked-all, out-of-range, met-before}
+use Rattle.vector_tests.proofs.mark.Statement.{statement}
+use Rattle.vector_tests.proofs.mark.Tie as tie
 
 abbrev Inv-loop : tie.InvT-loop
 Inv-loop p work₀ at n i₀ work i = Marked (entries p) n work₀ at work i

@@ -1,4 +1,4 @@
--- `vector::is_balanced` meets its contract. Assumes nothing.
+-- `vector_tests::is_balanced` meets its contract. Assumes nothing.
 use mathlib.Core.Path.{_∙_}
 use Prim.Native.Nat.{_*_}
 use native.Mathlib.Omega.{arith}
@@ -6,9 +6,9 @@ use borrow.Author.Needs.{needs}
 use borrow.Author.Tests.{eq-eqb, ne-eqb}
 use lib.ListN.{length}
 use Rattle.ring.specs.Ternary.{count}
 use Rattle.vector.specs.Permutation.{balanced}
-use Rattle.vector.proofs.is_balanced.Statement.{statement}
-use Rattle.vector.proofs.is_balanced.Tie as tie
+use Rattle.vector_tests.proofs.is_balanced.Statement.{statement}
+use Rattle.vector_tests.proofs.is_balanced.Tie as tie
 
 returns : tie.Need-returns
 unfolding balanced
