@@ -36,7 +36,7 @@ fn test_balanced(
     ensures { λ reply. ⌜ reply ≡ first (test 10 place (not (balanced (14 * n) (now (w .entry)))) ∷ test 11 place (not (same (now (two .entry)) (sha3 (string2 (now (salt2 .entry)) (now (t .entry)))) && same (now (three .entry)) (sha3 (string3 (now (salt3 .entry)) (add q (ternaries q (now (w .entry))) (vector (now (t .entry)))))))) ∷ []) ⌝ }
     ensures { λ _. ⌜ length (now (work .exit)) ≡ length (now (work .entry)) ⌝ }
 {
-    if !vector::is_balanced(w, 14 * n) {
+    if !vector_tests::is_balanced(w, 14 * n) {
         return Reply::Refused { number: 10, place };
     }
     let second = tagged(2, salt2, t);
@@ -81,7 +81,7 @@ fn test_permuted(
     ensures { λ reply. ⌜ reply ≡ first (test 9 place (not (permutes (42 * n) (entries (now (p .entry))))) ∷ test 11 place (not (same (now (one .entry)) (sha3 (string1 (now (salt1 .entry)) (now (p .entry)) (cond less (subtract q (equations q n (keysOf n (now (k .entry))) (take (14 * n) (vector (now (x .entry))))) (sides q n (now (c .entry)))) (equations q n (keysOf n (now (k .entry))) (take (14 * n) (vector (now (x .entry)))))))) && same (now (other .entry)) (sha3 (lead ∷ (now (salt .entry) ++ words (apply (entries (now (p .entry))) (vector (now (x .entry))))))))) ∷ []) ⌝ }
     ensures { λ _. ⌜ length (now (work .exit)) ≡ length (now (work .entry)) ⌝ }
 {
-    if !vector::is_permutation(p, work, 0, 42 * n) {
+    if !vector_tests::is_permutation(p, work, 0, 42 * n) {
         return Reply::Refused { number: 9, place };
     }
     let first = equations_digest(work, k, c, less, x, p, salt1, n, q);

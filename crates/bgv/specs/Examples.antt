@@ -16,8 +16,10 @@ use Rattle.ring.specs.Slots.{poly}
 use Rattle.ring.specs.Ternary.{meaning, ternary}
 use Rattle.sheet_numbers.specs.Bounds.{noise, mask, most, least, power}
 use Rattle.sheet_numbers.specs.Rules.{any, outside, unsound}
-use Rattle.sheet.specs.Form.{decimal, listed, lines, written}
-use Rattle.sheet.specs.Reader.{digit, step, values, line, rows as rowsIn, formed, sheetOf}
+use Rattle.sheet_lines.specs.Form.{decimal, listed, lines}
+use Rattle.sheet.specs.Form.{written}
+use Rattle.sheet_lines.specs.Reader.{digit, step, values, line, rows as rowsIn}
+use Rattle.sheet.specs.Reader.{formed, sheetOf}
 use Rattle.sheet.specs.Sheet.{unfit, reading, replyOf}
 use Rattle.sheet.specs.Examples.{textI}
 use Rattle.bgv.specs.Scheme.{Wholes, noisy, centred, key, cipher-u, cipher-v, opened, plain, decrypted, other, lentMask, share, worked, within, rebuilt, reconstructed}

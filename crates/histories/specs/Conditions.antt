@@ -5,7 +5,8 @@ use mathlib.Core.Logic.{_≢_}
 use Prim.Native.Nat.{ℕ, _+_, _*_, _≤_, _<_}
 use lib.ListN.{length, drop}
 use Rattle.codec.specs.Bytes.{Bytes}
-use Rattle.sheet.specs.Form.{rowsOf, written, AllPlain}
+use Rattle.sheet_lines.specs.Form.{AllPlain}
+use Rattle.sheet.specs.Form.{rowsOf, written}
 use Rattle.sheet.specs.Reader.{sheetOf}
 use Rattle.vector.specs.Vector.{vector}
 use Rattle.transcript.specs.Layout.{headLength}

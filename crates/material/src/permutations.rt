@@ -17,7 +17,7 @@ pub fn test_permutations(work: &mut [u8], permutations: &[u8], repeats: usize, n
     let mut at = 0;
     while i < repeats {
         let end = at + 168 * n;
-        if !vector::is_permutation(&permutations[at..end], work, 0, 42 * n) {
+        if !vector_tests::is_permutation(&permutations[at..end], work, 0, 42 * n) {
             return Reply::Refused {
                 number: 9,
                 place: i as u32,

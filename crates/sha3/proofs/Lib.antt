@@ -1,5 +1,4 @@
-pub mod Absorbing
-pub mod Blocks
-pub mod Lanes
+pub mod Fips
+pub mod Padding
 pub mod Parts
 pub mod Squeezing

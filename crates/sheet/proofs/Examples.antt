@@ -5,8 +5,10 @@ use Rattle.codec.specs.Lists.{allBelow}
 use Rattle.codec.specs.Reply.{first}
 use Rattle.sheet_numbers.specs.Bounds.{noise, mask, unknowns, most, least, power}
 use Rattle.sheet_numbers.specs.Rules.{any, outside, unsound}
-use Rattle.sheet.specs.Form.{decimal, listed, lines, written}
-use Rattle.sheet.specs.Reader.{digit, step, values, line, rows, formed, sheetOf}
+use Rattle.sheet_lines.specs.Form.{decimal, listed, lines}
+use Rattle.sheet.specs.Form.{written}
+use Rattle.sheet_lines.specs.Reader.{digit, step, values, line, rows}
+use Rattle.sheet.specs.Reader.{formed, sheetOf}
 use Rattle.sheet.specs.Sheet.{unfit, reading}
 use Rattle.sheet.specs.Examples.{numbers, small, text}
 use Rattle.sheet.specs.declared.Reading.the-variants.{Taken}

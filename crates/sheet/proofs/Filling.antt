@@ -12,17 +12,20 @@ use lib.ListN.{length, take, drop, getD, length-append, take-append-drop, drop-o
 use lib.Seq.{take-suc, take-all, drop-cons, drop-drop, drop-at}
 use Rattle.codec.specs.Bytes.{Bytes, words, put}
 use Rattle.codec.proofs.Laws.{both, length-put, put-none, put-append, le-or}
-use Rattle.sheet.specs.Form.{numberKeys, listKeys, rowsOf}
-use Rattle.sheet.specs.Reader.{Found, missing, found, fresh, values, line, Block, broken, block, after, onward, rows, formed, sheetOf}
-use Rattle.sheet.specs.Seen.{none, outline, outlined, seen, Ready, Writes, Fitting}
+use Rattle.sheet_lines.specs.Form.{numberKeys, listKeys}
+use Rattle.sheet.specs.Form.{rowsOf}
+use Rattle.sheet_lines.specs.Reader.{Found, missing, found, fresh, values, line, Block, broken, block, after, onward, rows}
+use Rattle.sheet.specs.Reader.{formed, sheetOf}
+use Rattle.sheet_lines.specs.Seen.{none, outline, outlined, seen}
+use Rattle.sheet.specs.Seen.{Ready, Writes, Fitting}
 use Rattle.codec.proofs.Numbers.{length-words}
 use Rattle.codec.specs.Lists.{allBelow}
 use Rattle.sheet.specs.Sheet.{polynomials, fits, lists, unfit}
-use Rattle.sheet.specs.declared.Lines.{Lines}
-use Rattle.sheet.proofs.Steps.{unroll, never-found}
-use Rattle.sheet.proofs.LineForm.{no-more, lined, never-block}
+use Rattle.sheet_lines.specs.declared.Lines.{Lines}
+use Rattle.sheet_lines.proofs.Steps.{unroll, never-found}
+use Rattle.sheet_lines.proofs.LineForm.{no-more, lined, never-block}
 use Rattle.sheet.proofs.Form.{has-rows}
-use Rattle.sheet.proofs.Blocks.{rows-append, rows-broken}
+use Rattle.sheet_lines.proofs.Blocks.{rows-append, rows-broken}
 use Rattle.sheet.proofs.Order.{every-at}
 
 -- ---- keys

@@ -9,11 +9,13 @@ use borrow.Author.Tests.{eqb-true}
 use lib.Dec.{eqb}
 use lib.ListN.{length, take, getD}
 use Rattle.codec.specs.Bytes.{Bytes}
-use Rattle.sheet.specs.Form.{Sheet, lines, numberKeys, listKeys, rowsOf, written, AllPlain}
-use Rattle.sheet.specs.Reader.{Block, broken, block, rows, whole, formed, said, sheetFrom, sheetOf}
+use Rattle.sheet_lines.specs.Form.{lines, numberKeys, listKeys, AllPlain}
+use Rattle.sheet.specs.Form.{Sheet, rowsOf, written}
+use Rattle.sheet_lines.specs.Reader.{Block, broken, block, rows}
+use Rattle.sheet.specs.Reader.{whole, formed, said, sheetFrom, sheetOf}
 use Rattle.codec.proofs.Laws.{both}
 use Rattle.codec.specs.Lists.{every}
-use Rattle.sheet.proofs.LineForm.{read-lines, lined}
+use Rattle.sheet_lines.proofs.LineForm.{read-lines, lined}
 
 -- ---- the ten lines
 

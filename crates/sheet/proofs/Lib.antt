@@ -1,9 +1,4 @@
-pub mod Steps
-pub mod Each
-pub mod LineForm
 pub mod Form
-pub mod Scanning
-pub mod Blocks
 pub mod Fits
 pub mod Writing
 pub mod Order

@@ -12,21 +12,24 @@ use lib.Seq.{take-at, getD-append-add}
 use Rattle.codec.specs.Bytes.{Bytes}
 use Rattle.codec.specs.Reply.{first}
 use Rattle.codec.specs.declared.Reply.the-variants as reply
-use Rattle.sheet.specs.Form.{Sheet, numberKeys, listKeys}
-use Rattle.sheet.specs.Reader.{block, after, rows, whole, formed, sheetFrom, sheetOf}
-use Rattle.sheet.specs.Seen.{largest, outlined, seen, judged}
+use Rattle.sheet_lines.specs.Form.{numberKeys, listKeys}
+use Rattle.sheet.specs.Form.{Sheet}
+use Rattle.sheet_lines.specs.Reader.{block, after, rows}
+use Rattle.sheet.specs.Reader.{whole, formed, sheetFrom, sheetOf}
+use Rattle.sheet_lines.specs.Seen.{largest, outlined, seen}
+use Rattle.sheet.specs.Seen.{judged}
 use Rattle.sheet_numbers.specs.Rules.{outside, unsound}
 use Rattle.sheet.specs.Sheet.{fits, lists, unfit, readingBy, reading}
-use Rattle.sheet.specs.declared.Lines.{Lines}
+use Rattle.sheet_lines.specs.declared.Lines.{Lines}
 use Rattle.sheet_numbers.specs.declared.Numbers.{Numbers}
 use Rattle.sheet.specs.declared.Reading.{Reading}
 use Rattle.sheet.specs.declared.Reading.the-variants.{Taken, Refused}
-use Rattle.sheet.proofs.Steps.{unroll}
+use Rattle.sheet_lines.proofs.Steps.{unroll}
 use Rattle.codec.proofs.Laws.{both}
 use Rattle.codec.specs.Lists.{every, allBelow}
-use Rattle.sheet.proofs.LineForm.{lined}
+use Rattle.sheet_lines.proofs.LineForm.{lined}
 use Rattle.sheet.proofs.Form.{single, one}
-use Rattle.sheet.proofs.Blocks.{rows-append, rows-broken, Five, five, not-five}
+use Rattle.sheet_lines.proofs.Blocks.{rows-append, rows-broken, Five, five, not-five}
 use Rattle.sheet_numbers.proofs.Ranges.{in-range}
 use Rattle.sheet.proofs.Fits.{fits-all}
 

@@ -1,53 +1,20 @@
--- For the contracts of the crate's inner functions: what the code keeps of the lines of a text. Of a line that is how many numbers it has, the
--- largest, and the place where the text goes on; `summed` and `outlined` say the same of what the reader finds. Assumes nothing.
+-- For the contracts of the crate's inner functions: what is put out of the lines of a text, and what is said of it by what the code keeps of its
+-- lines. Assumes nothing.
 use mathlib.Core.Path.{_≡_}
 use mathlib.Core.Bool.{true, false, cond, _&&_}
-use mathlib.Core.List.{List, [], _∷_, map}
+use mathlib.Core.List.{List, []}
 use Prim.Native.Nat.{ℕ, _+_, _*_, _≤_}
-use lib.Dec.{ltb, eqb}
-use lib.ListN.{length, drop}
+use lib.Dec.{eqb}
+use lib.ListN.{length}
 use Rattle.codec.specs.Bytes.{Bytes, words, put}
 use Rattle.codec.specs.Lists.{every, allBelow}
-use Rattle.sheet.specs.Reader.{Found, missing, found, Block, broken, block, formed, sheetOf}
+use Rattle.sheet_lines.specs.Reader.{Found, missing, found}
+use Rattle.sheet.specs.Reader.{formed, sheetOf}
 use Rattle.sheet_numbers.specs.Rules.{outside, unsound}
 use Rattle.sheet.specs.Sheet.{unfit}
-use Rattle.sheet.specs.declared.Scan.{Scan}
-use Rattle.sheet.specs.declared.Scan.the-variants as scan
-use Rattle.sheet.specs.declared.Lines.{Lines}
 use Rattle.sheet_numbers.specs.declared.Numbers.{Numbers}
 use Rattle.sheet.specs.declared.Reading.{Reading}
 use Rattle.sheet.specs.declared.Reading.the-variants.{Taken, Refused}
-
-abbrev pub bigger : ℕ → ℕ → ℕ
-bigger a b = cond (ltb a b) b a
-
--- the largest of m and the numbers
-unfoldable pub largest : ℕ → List ℕ → ℕ
-largest m [] = m
-largest m (x ∷ xs) = largest (bigger m x) xs
-
-pub data Summed : Type 0 where
-  bad : Summed
-  sum : ℕ → ℕ → Bytes → Summed
-
-abbrev pub summed : Found → Summed
-summed missing = bad
-summed (found xs t) = sum (length xs) (largest 0 xs) t
-
-abbrev pub scanned : Bytes → Scan → Summed
-scanned text scan.Broken = bad
-scanned text (scan.Line n top next) = sum n top (drop next text)
-
-pub data Outline : Type 0 where
-  none : Outline
-  outline : List ℕ → List ℕ → Bytes → Outline
-
-abbrev pub outlined : Block → Outline
-outlined broken = none
-outlined (block rs t) = outline (map length rs) (map (largest 0) rs) t
-
-abbrev pub seen : Bytes → Lines → Outline
-seen text l = cond (l .whole) (outline (l .counts) (l .largest) (drop (l .next) text)) none
 
 -- a line's numbers, and the text after it
 abbrev pub numbersIn : Found → List ℕ

@@ -1,5 +1,4 @@
-// The parameter sheet (document 01, "Sheet"): its reader, and its polynomials.
-mod reader;
+// The parameter sheet (document 01, "Sheet"): what is said of a text, and its polynomials.
 mod writer;
 
 use sheet_numbers::Numbers;
@@ -15,24 +14,6 @@ pub enum Reading {
     Refused { number: u8 },
 }
 
-// What stands at a place of the text: a line with how many numbers, the largest, and where the text goes on; or no such line.
-enum Scan {
-    Broken,
-    Line {
-        count: u64,
-        largest: u64,
-        next: usize,
-    },
-}
-
-// Five lines: whether they are there, and for each how many numbers it has and the largest; and where the text goes on.
-struct Lines {
-    whole: bool,
-    counts: [u64; 5],
-    largest: [u64; 5],
-    next: usize,
-}
-
 // The refusals 3, 4 and 5 in their order, by the numbers and by the counts and the largest coefficients of the lists.
 fn judge(k: Numbers, counts: [u64; 5], largest: [u64; 5]) -> Reading
     ensures { λ r. ⌜ r ≡ judged 2 k counts largest ⌝ }
@@ -43,10 +24,10 @@ fn judge(k: Numbers, counts: [u64; 5], largest: [u64; 5]) -> Reading
     if unsound(k) {
         return Reading::Refused { number: 4 };
     }
-    if !reader::all_are(counts, k.ring) {
+    if !sheet_lines::all_are(counts, k.ring) {
         return Reading::Refused { number: 5 };
     }
-    if !reader::all_below(largest, k.modulus) {
+    if !sheet_lines::all_below(largest, k.modulus) {
         return Reading::Refused { number: 5 };
     }
     Reading::Taken(k)
@@ -62,11 +43,11 @@ pub fn read(text: &[u8]) -> Reading
     if 262144 < text.len() {
         return Reading::Refused { number: 1 };
     }
-    let head = reader::scan_lines(text, 0, 0);
+    let head = sheet_lines::scan_lines(text, 0, 0);
     if !head.whole {
         return Reading::Refused { number: 2 };
     }
-    let tail = reader::scan_lines(text, head.next, 5);
+    let tail = sheet_lines::scan_lines(text, head.next, 5);
     if !tail.whole {
         return Reading::Refused { number: 2 };
     }
@@ -74,7 +55,7 @@ pub fn read(text: &[u8]) -> Reading
         return Reading::Refused { number: 2 };
     }
     let ones = head.counts;
-    if !reader::all_are(ones, 1) {
+    if !sheet_lines::all_are(ones, 1) {
         return Reading::Refused { number: 2 };
     }
     let v = head.largest;

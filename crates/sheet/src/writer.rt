@@ -1,13 +1,13 @@
 // The lists of a text that is taken, as polynomials in bytes.
-use crate::reader::digit_of;
-use crate::reader::scan_lines;
+use sheet_lines::digit_of;
+use sheet_lines::scan_lines;
 ghost use mathlib.Core.Path.{_≡_};
 ghost use mathlib.Core.List.{[]};
 ghost use Prim.Native.Nat.{_<_};
 ghost use lib.ListN.{length, drop, getD};
 ghost use Rattle.codec.specs.Bytes.{put};
-ghost use Rattle.sheet.specs.Form.{listKeys};
-ghost use Rattle.sheet.specs.Reader.{fresh, values};
+ghost use Rattle.sheet_lines.specs.Form.{listKeys};
+ghost use Rattle.sheet_lines.specs.Reader.{fresh, values};
 ghost use Rattle.sheet.specs.Seen.{Writes, Ready, Fitting};
 ghost use Rattle.sheet.specs.Sheet.{polynomials};
 

@@ -11,8 +11,8 @@ use Rattle.codec.specs.Bytes.{Bytes, put}
 use Rattle.codec.proofs.Laws.{length-put, put-append, part-put, le-or}
 use Rattle.io.specs.Counts.{Counts}
 use Rattle.io.specs.Digits.{digits, Fewest}
-use Rattle.sheet.specs.Form.{decimal}
-use Rattle.sheet.proofs.LineForm.{decimal-small, decimal-large}
+use Rattle.sheet_lines.specs.Form.{decimal}
+use Rattle.sheet_lines.proofs.LineForm.{decimal-small, decimal-large}
 use Rattle.sheet_program.specs.Print.{line, Puts}
 
 -- the fewest digits are those of `decimal`

@@ -6,7 +6,7 @@ use Prim.Native.Nat.{ℕ, _+_, _≤_}
 use lib.Dec.{ltb}
 use lib.ListN.{length}
 use Rattle.codec.specs.Bytes.{Bytes, put}
-use Rattle.sheet.specs.Form.{decimal}
+use Rattle.sheet_lines.specs.Form.{decimal}
 use Rattle.sheet_numbers.specs.Bounds.{noise, mask, unknowns}
 use Rattle.sheet.specs.Sheet.{reading}
 use Rattle.sheet.specs.declared.Reading.{Reading}

@@ -76,7 +76,7 @@ pub fn material_ranged(x: &[u8], r: &[u8], p: &[u8], scratch: &mut [u8], n: usiz
     if !ring::in_range(r, q) {
         return refused(5);
     }
-    if !vector::is_permutation(p, scratch, 0, 42 * n) {
+    if !vector_tests::is_permutation(p, scratch, 0, 42 * n) {
         return refused(9);
     }
     Reply::Taken

@@ -2,5 +2,4 @@ pub mod Vectors
 pub mod Counts
 pub mod Balance
 pub mod Linear
-pub mod Marks
 pub mod Gathers

@@ -6,13 +6,11 @@ ghost use mathlib.Core.Bool.{true, cond};
 ghost use Prim.Native.Nat.{_+_, _-_, _*_, _^_, _≤_, _<_};
 ghost use lib.Dec.{ltb};
 ghost use lib.ListN.{length, getD};
-ghost use Rattle.codec.specs.Bytes.{part, put, words, zeros};
+ghost use Rattle.codec.specs.Bytes.{put, words, zeros};
 ghost use Rattle.codec.specs.Lists.{allBelow};
 ghost use Rattle.ring.specs.Ternary.{count};
 ghost use Rattle.vector.specs.Vector.{vector, ternaries, add};
-ghost use Rattle.vector.specs.Permutation.{entries, permutes, apply, extend, balanced};
-
-// ---- tests
+ghost use Rattle.vector.specs.Permutation.{entries, apply, extend};
 
 // Writes n zeros into lent bytes, from a place on.
 pub fn clear(work: &mut [u8], at: usize, n: usize)
@@ -22,6 +20,8 @@ pub fn clear(work: &mut [u8], at: usize, n: usize)
     codec::wipe(&mut work[at..at + n]);
 }
 
+// ---- one number
+
 // Entry i of a permutation.
 pub fn entry(p: &[u8], i: usize) -> usize
     requires { ⌜ 4 * i + 4 ≤ length (now p) ⌝ }
@@ -29,59 +29,6 @@ pub fn entry(p: &[u8], i: usize) -> usize
 {
     codec::read32(p, 4 * i) as usize
 }
-
-// Whether n entries are each of 0 .. n - 1 once. Each index that is met is marked in n bytes of scratch, which are zero before.
-fn mark(p: &[u8], work: &mut [u8], at: usize, n: usize) -> bool
-    requires { ⌜ (length (now p) ≡ 4 * n) × (at + n ≤ length (now work)) × (part (now work) at n ≡ zeros n) ⌝ }
-    ensures answer { λ r. ⌜ r ≡ permutes n (entries (now (p .entry))) ⌝ }
-    ensures beside { λ _. ⌜ put (now (work .exit)) at (zeros n) ≡ now (work .entry) ⌝ }
-{
-    let mut i = 0;
-    while i < n {
-        let x = entry(p, i);
-        if n <= x {
-            return false;
-        }
-        if work[at + x] != 0 {
-            return false;
-        }
-        work[at + x] = 1;
-        i += 1;
-    }
-    true
-}
-
-// The same with n bytes of scratch that hold anything before, and zeros after.
-pub fn is_permutation(p: &[u8], work: &mut [u8], at: usize, n: usize) -> bool
-    requires { ⌜ (length (now p) ≡ 4 * n) × (at + n ≤ length (now work)) ⌝ }
-    ensures { λ r. ⌜ (r ≡ permutes n (entries (now (p .entry)))) × (now (work .exit) ≡ put (now (work .entry)) at (zeros n)) ⌝ }
-{
-    clear(work, at, n);
-    let answer = mark(p, work, at, n);
-    clear(work, at, n);
-    answer
-}
-
-// Whether w is 3l ternary bytes, l of each.
-pub fn is_balanced(w: &[u8], l: usize) -> bool
-    ensures { λ r. ⌜ r ≡ balanced l (now (w .entry)) ⌝ }
-{
-    if w.len() % 3 != 0 {
-        return false;
-    }
-    if w.len() / 3 != l {
-        return false;
-    }
-    if ring::count_of(w, 2) != l {
-        return false;
-    }
-    if ring::count_of(w, 0) != l {
-        return false;
-    }
-    ring::count_of(w, 1) == l
-}
-
-// ---- one number
 
 // Number i of a vector.
 pub fn component(x: &[u8], i: usize) -> u64

@@ -1,0 +1,151 @@
+-- Lines one after the other: the state of `scan_lines`, and what two blocks of five lines say of a text. Assumes nothing.
+use mathlib.Core.Path.{_≡_, refl, sym, ap, _∙_}
+use mathlib.Core.Bool.{true, false}
+use mathlib.Core.List.{List, [], _∷_, _++_, map, append-assoc, append-nil}
+use Prim.Native.Nat.{ℕ, _+_, _≤_, _<_}
+use native.Mathlib.Numerals.{add-one}
+use native.Mathlib.Omega.{arith}
+use lib.ListN.{length, take, drop, getD, set, length-drop, drop-of-length-le}
+use lib.Seq.{length-take-le, take-all, take-suc-set, getD-take, getD-drop}
+use Rattle.codec.specs.Bytes.{Bytes}
+use Rattle.sheet_lines.specs.Form.{numberKeys, listKeys}
+use Rattle.sheet_lines.specs.Reader.{Found, missing, found, line, Block, broken, block, after, onward, rows}
+use Rattle.sheet_lines.specs.Seen.{largest, bad, sum, summed, none, outline, outlined, seen}
+use Rattle.sheet_lines.specs.declared.Lines.{Lines}
+use Rattle.sheet_lines.proofs.Steps.{unroll}
+use Rattle.sheet_lines.proofs.LineForm.{never-block}
+
+after-none : (b : Block) → after [] b ≡ b
+after-none broken = refl
+after-none (block rs t) = refl
+
+after-after : (rs ss : List (List ℕ)) (b : Block) → after rs (after ss b) ≡ after (rs ++ ss) b
+after-after rs ss broken = refl
+after-after rs ss (block us t) = ap (λ (l : List (List ℕ)). block l t) (sym (append-assoc rs ss us))
+
+map-snoc : (f : List ℕ → ℕ) (rs : List (List ℕ)) (r : List ℕ) → map f (rs ++ r ∷ []) ≡ map f rs ++ f r ∷ []
+map-snoc f [] r = refl
+map-snoc f (s ∷ rs) r = ap (λ (l : List ℕ). f s ∷ l) (map-snoc f rs r)
+
+-- a line that was summed is there
+pub record Met (f : Found) (n top : ℕ) (t : Bytes) : Type 0 where
+  pub xs : List ℕ
+  pub is : f ≡ found xs t
+  pub count : n ≡ length xs
+  pub most : top ≡ largest 0 xs
+
+pub meet : (f : Found) {n top : ℕ} {t : Bytes} → sum n top t ≡ summed f → Met f n top t
+meet missing e = absurd (let z : _≡_ {A = ℕ} 0 1 = cc in omega arith)
+meet (found xs u) {n} {top} {t} e =
+    let q : u ≡ t = cc in
+    record { xs = xs; is = ap (found xs) q; count = cc; most = cc }
+
+unmet : (f : Found) → bad ≡ summed f → f ≡ missing
+unmet missing e = refl
+unmet (found xs u) e = absurd (let z : _≡_ {A = ℕ} 0 1 = cc in omega arith)
+
+-- the scan of the lines of the keys ks stands after i of them, at next
+pub record Passed (ks : List Bytes) (text : Bytes) (at i next : ℕ) (counts tops : List ℕ) : Type 0 where
+  pub rs : List (List ℕ)
+  pub same : rows ks (drop at text) ≡ after rs (rows (drop i ks) (drop next text))
+  pub counted : take i counts ≡ map length rs
+  pub most : take i tops ≡ map (largest 0) rs
+
+module _ (ks : List Bytes) (text : Bytes) (at : ℕ) where
+  pub starts : (counts tops : List ℕ) → Passed ks text at 0 at counts tops
+  starts counts tops = record { rs = []; same = sym (after-none (rows ks (drop at text))); counted = refl; most = refl }
+
+  module _ (i next : ℕ) (counts tops : List ℕ) (p : Passed ks text at i next counts tops) where
+    row : i < length ks → rows ks (drop at text) ≡ after (p .rs) (onward (line (getD ks i []) (drop next text)) (rows (drop (i + 1) ks)))
+    unfolding rows
+    row h = p .same ∙ rw (unroll [] ks i h)
+
+    pub stops : i < length ks → bad ≡ summed (line (getD ks i []) (drop next text)) → none ≡ outlined (rows ks (drop at text))
+    stops h e = rw (row h, unmet (line (getD ks i []) (drop next text)) e)
+
+    module _ (h : i < length ks) (hc : i < length counts) (ht : i < length tops) (n top e : ℕ) where
+      longer : (m : Met (line (getD ks i []) (drop next text)) n top (drop e text)) → Passed ks text at (i + 1) e (set counts i n) (set tops i top)
+      longer m = record {
+        rs = p .rs ++ m .xs ∷ [];
+        same = row h ∙ rw (m .is) (after-after (p .rs) (m .xs ∷ []) (rows (drop (i + 1) ks) (drop e text)));
+        counted = rw add-one (take-suc-set counts i n hc ∙ rw (p .counted, m .count) (sym (map-snoc length (p .rs) (m .xs))));
+        most = rw add-one (take-suc-set tops i top ht ∙ rw (p .most, m .most) (sym (map-snoc (largest 0) (p .rs) (m .xs))));
+      }
+
+      pub goes-on : sum n top (drop e text) ≡ summed (line (getD ks i []) (drop next text)) → Passed ks text at (i + 1) e (set counts i n) (set tops i top)
+      goes-on s = longer (meet (line (getD ks i []) (drop next text)) s)
+
+    pub all : length ks ≤ i → length counts ≤ i → length tops ≤ i → outline counts tops (drop next text) ≡ outlined (rows ks (drop at text))
+    unfolding rows
+    all h hc ht =
+        rw (p .same, drop-of-length-le ks h, append-nil (p .rs), ← (p .counted), ← (p .most), take-all i counts hc, take-all i tops ht)
+
+-- five of the ten keys
+module _ (from : ℕ) (h : from + 5 ≤ 10) where
+  pub five-keys : length (take 5 (drop from (numberKeys ++ listKeys))) ≡ 5
+  five-keys = length-take-le 5 (drop from (numberKeys ++ listKeys)) (simp length-drop (omega arith))
+
+  pub key-at : (i : ℕ) → i < 5 → getD (take 5 (drop from (numberKeys ++ listKeys))) i [] ≡ getD (numberKeys ++ listKeys) (from + i) []
+  key-at i l = getD-take 5 (drop from (numberKeys ++ listKeys)) i [] l ∙ getD-drop from (numberKeys ++ listKeys) i []
+
+-- ---- two blocks
+
+pub rows-append : (ks ls : List Bytes) (t : Bytes) {rs : List (List ℕ)} {u : Bytes} → rows ks t ≡ block rs u → rows (ks ++ ls) t ≡ after rs (rows ls u)
+unfolding rows
+rows-append [] ls t {rs} {u} e =
+    let a : rs ≡ [] = cc in
+    let b : t ≡ u = cc in
+    rw (a, b) (sym (after-none (rows ls u)))
+rows-append (k ∷ ks) ls t {rs} {u} e = by-line (line k t) e (λ w ss v f. rows-append ks ls w f)
+  where
+    by-rest : (r : List ℕ) (w : Bytes) (b : Block) → rows ks w ≡ b → after (r ∷ []) b ≡ block rs u
+        → ((ss : List (List ℕ)) (v : Bytes) → rows ks w ≡ block ss v → rows (ks ++ ls) w ≡ after ss (rows ls v))
+        → after (r ∷ []) (rows (ks ++ ls) w) ≡ after rs (rows ls u)
+    by-rest r w broken f e h = never-block e
+    by-rest r w (block ss v) f e h =
+        let a : r ∷ ss ≡ rs = cc in
+        let b : v ≡ u = cc in
+        rw (h ss v f, ← a, ← b) (after-after (r ∷ []) ss (rows ls v))
+
+    by-line : (f : Found) → onward f (rows ks) ≡ block rs u
+        → ((w : Bytes) (ss : List (List ℕ)) (v : Bytes) → rows ks w ≡ block ss v → rows (ks ++ ls) w ≡ after ss (rows ls v))
+        → onward f (rows (ks ++ ls)) ≡ after rs (rows ls u)
+    by-line missing e h = never-block e
+    by-line (found r w) e h = by-rest r w (rows ks w) refl e (h w)
+
+pub rows-broken : (ks ls : List Bytes) (t : Bytes) → rows ks t ≡ broken → rows (ks ++ ls) t ≡ broken
+unfolding rows
+rows-broken [] ls t e = never-block (sym e)
+rows-broken (k ∷ ks) ls t e = by-line (line k t) e (λ w f. rows-broken ks ls w f)
+  where
+    by-rest : (r : List ℕ) (w : Bytes) (b : Block) → rows ks w ≡ b → after (r ∷ []) b ≡ broken → (rows ks w ≡ broken → rows (ks ++ ls) w ≡ broken)
+        → after (r ∷ []) (rows (ks ++ ls) w) ≡ broken
+    by-rest r w broken f e h = rw (h f)
+    by-rest r w (block ss v) f e h = never-block (sym e)
+
+    by-line : (f : Found) → onward f (rows ks) ≡ broken → ((w : Bytes) → rows ks w ≡ broken → rows (ks ++ ls) w ≡ broken) → onward f (rows (ks ++ ls)) ≡ broken
+    by-line missing e h = refl
+    by-line (found r w) e h = by-rest r w (rows ks w) refl e (h w)
+
+-- what five lines that the code saw are
+pub record Five (b : Block) (counts tops : List ℕ) (t : Bytes) : Type 0 where
+  pub rs : List (List ℕ)
+  pub is : b ≡ block rs t
+  pub counted : counts ≡ map length rs
+  pub most : tops ≡ map (largest 0) rs
+
+pub five : (text : Bytes) (l : Lines) (b : Block) → seen text l ≡ outlined b → l .whole ≡ true → Five b (l .counts) (l .largest) (drop (l .next) text)
+five text l b e w = by-block b (sym (rw w) ∙ e)
+  where
+    by-block : (b : Block) → outline (l .counts) (l .largest) (drop (l .next) text) ≡ outlined b → Five b (l .counts) (l .largest) (drop (l .next) text)
+    by-block broken e = absurd (let z : _≡_ {A = ℕ} 0 1 = cc in omega arith)
+    by-block (block rs t) e =
+        let q : t ≡ drop (l .next) text = cc in
+        record { rs = rs; is = ap (block rs) q; counted = cc; most = cc }
+
+pub not-five : (text : Bytes) (l : Lines) (b : Block) → seen text l ≡ outlined b → l .whole ≡ false → b ≡ broken
+not-five text l b e w = by-block b (sym (rw w) ∙ e)
+  where
+    by-block : (b : Block) → none ≡ outlined b → b ≡ broken
+    by-block broken e = refl
+    by-block (block rs t) e = absurd (let z : _≡_ {A = ℕ} 0 1 = cc in omega arith)

@@ -1,0 +1,3 @@
+pub mod Absorbing
+pub mod Blocks
+pub mod Lanes
