@@ -1,14 +1,16 @@
 -- What is answered and written by what differs, what is zero and what is not; and that shares, ballots, claims and the repetition do not enter. Assumes nothing.
-use mathlib.Core.Path.{_≡_, refl, sym, ap}
+use mathlib.Core.Path.{_≡_, refl, sym, ap, _∙_}
 use mathlib.Core.Logic.{_≢_}
 use mathlib.Core.Bool.{Bool, true, false, cond, not}
 use mathlib.Core.List.{List, _++_}
-use Prim.Native.Nat.{ℕ, _+_, _*_, _<_}
+use Prim.Native.Nat.{ℕ, _+_, _-_, _*_, _<_}
 use native.Mathlib.Omega.{arith}
 use borrow.Author.Tests.{not-true, not-false}
 use lib.Dec.{ltb}
 use lib.ListN.{take, drop}
-use Rattle.codec.specs.Bytes.{Bytes, zeros, same}
+use Rattle.codec.specs.Bytes.{Bytes, part, zeros, same}
+use Rattle.ring.specs.Poly.{modulo}
+use Rattle.ring.specs.Slots.{encode}
 use Rattle.commitment.specs.Commitment.{Keys, Three}
 use Rattle.stern.specs.Argument.{Setting, Answer1, Answer2, Answer3, one-by2, one-by3, two-by1, two-by3, three-by1, three-by2}
 use Rattle.stern.specs.Shortness.{polynomial, setting, answer1Of, answer2Of, answer3Of}
@@ -17,23 +19,45 @@ use Rattle.transcript.specs.Extractor.{Openings, threeBytes, isZero, ternaryByt
 use Rattle.transcript.proofs.ExtractionWritten.{collision-written}
 use Rattle.extractor.specs.Lent.{openingsOf}
 use Rattle.collisions.specs.Collision.{differing}
-use Rattle.extractor.specs.Method.{unknownsOf, lessUnknowns, solved, written}
+use Rattle.extractor.specs.Method.{unknownsOf, lessUnknowns, excess, solved, written}
+use Rattle.extractor.proofs.Unknowns.{lent-excess}
 
--- ---- the two vectors, in order
+-- ---- the two vectors, in order, of the r of two openings, lent with lengths that are differences of places
 
-module _ (q N : ℕ) (s e : Three) (key : Bytes) (r1 r2 : Bool) where
-  pub s-nonzero : r1 ≡ isZero q N s → not r1 ≡ true → (4 ≡ solved q N s e) × (threeBytes q N s ≡ written q N s e key)
-  unfolding solved written
-  s-nonzero e1 n1 = rw (← e1, not-true r1 n1) (refl, refl)
+module _ (q N : ℕ) (o0 o1 : Bytes) (z : List ℕ) where
+  abbrev vector-of : (at j : ℕ) → Three
+  vector-of at j = lessUnknowns q N (part o0 at (3 * N)) (part o1 at (3 * N)) z j
 
-  module _ (e1 : r1 ≡ isZero q N s) (n1 : not r1 ≡ false) (e2 : r2 ≡ isZero q N e) where
-    pub e-nonzero : not r2 ≡ true → (5 ≡ solved q N s e) × (threeBytes q N e ≡ written q N s e key)
+  abbrev key-of : Bytes
+  key-of = ternaryBytes q N (polynomial N z 0) ++ (ternaryBytes q N (polynomial N z 1) ++ zeros (22 * N))
+
+  abbrev kind-of : ℕ
+  kind-of = solved q N (vector-of (16 * N) 2) (vector-of (19 * N) 8)
+
+  abbrev bytes-of : Bytes
+  bytes-of = written q N (vector-of (16 * N) 2) (vector-of (19 * N) 8) key-of
+
+  module _ (r1 : Bool) (d1 : Bytes) (y1 : r1 ≡ same d1 (zeros (24 * N)))
+      (e1 : d1 ≡ encode (3 * N) (modulo q (excess q N (take (19 * N - 16 * N) (drop (16 * N) o0)) (take (19 * N - 16 * N) (drop (16 * N) o1)) z (2 * N)))) where
+    first : (r1 ≡ isZero q N (vector-of (16 * N) 2)) × (d1 ≡ threeBytes q N (vector-of (16 * N) 2))
+    first = lent-excess q N o0 o1 z (16 * N) (19 * N - 16 * N) 2 (2 * N) (omega arith) (omega arith) r1 d1 y1 e1
+
+    pub s-nonzero : not r1 ≡ true → (4 ≡ kind-of) × (d1 ≡ bytes-of)
     unfolding solved written
-    e-nonzero n2 = rw (← e1, not-false r1 n1, ← e2, not-true r2 n2) (refl, refl)
+    s-nonzero n1 = rw (← (first .0), not-true r1 n1) (refl, first .1)
 
-    pub both-zero : not r2 ≡ false → (6 ≡ solved q N s e) × (key ≡ written q N s e key)
-    unfolding solved written
-    both-zero n2 = rw (← e1, not-false r1 n1, ← e2, not-false r2 n2) (refl, refl)
+    module _ (n1 : not r1 ≡ false) (r2 : Bool) (d2 : Bytes) (y2 : r2 ≡ same d2 (zeros (24 * N)))
+        (e2 : d2 ≡ encode (3 * N) (modulo q (excess q N (take (22 * N - 19 * N) (drop (19 * N) o0)) (take (22 * N - 19 * N) (drop (19 * N) o1)) z (8 * N)))) where
+      second : (r2 ≡ isZero q N (vector-of (19 * N) 8)) × (d2 ≡ threeBytes q N (vector-of (19 * N) 8))
+      second = lent-excess q N o0 o1 z (19 * N) (22 * N - 19 * N) 8 (8 * N) (omega arith) (omega arith) r2 d2 y2 e2
+
+      pub e-nonzero : not r2 ≡ true → (5 ≡ kind-of) × (d2 ≡ bytes-of)
+      unfolding solved written
+      e-nonzero n2 = rw (← (first .0), not-false r1 n1, ← (second .0), not-true r2 n2) (refl, second .1)
+
+      pub both-zero : not r2 ≡ false → (6 ≡ kind-of) × (key-of ≡ bytes-of)
+      unfolding solved written
+      both-zero n2 = rw (← (first .0), not-false r1 n1, ← (second .0), not-false r2 n2) (refl, refl)
 
 -- ---- the kind and the output
 
@@ -74,7 +98,7 @@ module _ (P : Parameters) (m : ℕ) (x : Openings) where
   by-digest true true false rest d e h = (e, omega arith)
   by-digest true true true rest d e h = absurd (h e)
 
-  pub digest-found : (d : ℕ) → d ≡ lowest → d ≢ 0 → (d ≡ kind P m x) × (zeros (24 * N) ≡ extracted P m x)
+  digest-found : (d : ℕ) → d ≡ lowest → d ≢ 0 → (d ≡ kind P m x) × (zeros (24 * N) ≡ extracted P m x)
   unfolding differing kind solved
   digest-found d e h =
       let r = by-digest agree1 agree2 agree3 (solved q N (vector-s P m x) (vector-e P m x)) d e h in
@@ -92,19 +116,22 @@ module _ (P : Parameters) (m : ℕ) (x : Openings) where
   by-kind z s e y true false n h = rw (← h)
   by-kind z s e y true true n h = rw (← h)
 
-  pub none-found : 0 ≡ lowest → solved q N (vector-s P m x) (vector-e P m x) ≡ kind P m x
+  none-found : 0 ≡ lowest → solved q N (vector-s P m x) (vector-e P m x) ≡ kind P m x
   unfolding differing kind solved
   none-found e = by-vectors agree1 agree2 agree3 (solved q N (vector-s P m x) (vector-e P m x)) e
 
-  pub none-written : 0 ≡ lowest → written q N (vector-s P m x) (vector-e P m x) keyBytes ≡ extracted P m x
+  none-written : 0 ≡ lowest → written q N (vector-s P m x) (vector-e P m x) keyBytes ≡ extracted P m x
   unfolding extracted solved written
   none-written e = by-kind (zeros (24 * N)) (threeBytes q N (vector-s P m x)) (threeBytes q N (vector-e P m x)) keyBytes (isZero q N (vector-s P m x)) (isZero q N (vector-e P m x)) (kind P m x) (none-found e)
 
-  -- the pairs of the head, and extended + R and R, lent with lengths that are differences of places
-  pub lent-digest : (i : ℕ) → i ≡ 64 * N → differing (setting q N k (take i (drop (16 * N) (x .head)))) one two three ≡ lowest
-  lent-digest i e = ap (λ (j : ℕ). differing (setting q N k (take j (drop (16 * N) (x .head)))) one two three) e
+  -- the same where the pairs of the head, and extended + R and R, are lent with lengths that are differences of places
+  module _ (i d : ℕ) (ei : i ≡ 64 * N) (ed : d ≡ differing (setting q N k (take i (drop (16 * N) (x .head)))) one two three) where
+    lent-digest : d ≡ lowest
+    lent-digest = ed ∙ ap (λ (j : ℕ). differing (setting q N k (take j (drop (16 * N) (x .head)))) one two three) ei
 
-  module _ (i : ℕ) (e : i ≡ 336 * N) where
+    pub lent-found : d ≢ 0 → (d ≡ kind P m x) × (zeros (24 * N) ≡ extracted P m x)
+    lent-found h = digest-found d lent-digest h
+
     abbrev z : ℕ → List ℕ
     z j = unknownsOf q N (take j (drop (168 * N) (x .answer2))) (take j (drop (168 * N) (x .answer3)))
 
@@ -114,12 +141,14 @@ module _ (P : Parameters) (m : ℕ) (x : Openings) where
     abbrev for-e : ℕ → Three
     for-e j = lessUnknowns q N (open0 P m x .re) (open1 P m x .re) (z j) 8
 
-    pub lent-solved : solved q N (for-s i) (for-e i) ≡ solved q N (vector-s P m x) (vector-e P m x)
-    lent-solved = ap (λ (j : ℕ). solved q N (for-s j) (for-e j)) e
-
-    pub lent-written : written q N (for-s i) (for-e i) (ternaryBytes q N (polynomial N (z i) 0) ++ (ternaryBytes q N (polynomial N (z i) 1) ++ zeros (22 * N)))
-        ≡ written q N (vector-s P m x) (vector-e P m x) keyBytes
-    lent-written = ap (λ (j : ℕ). written q N (for-s j) (for-e j) (ternaryBytes q N (polynomial N (z j) 0) ++ (ternaryBytes q N (polynomial N (z j) 1) ++ zeros (22 * N)))) e
+    pub lent-solved : d ≡ 0 → (j r : ℕ) (out : Bytes) → j ≡ 336 * N → r ≡ solved q N (for-s j) (for-e j)
+        → out ≡ written q N (for-s j) (for-e j) (ternaryBytes q N (polynomial N (z j) 0) ++ (ternaryBytes q N (polynomial N (z j) 1) ++ zeros (22 * N)))
+        → (r ≡ kind P m x) × (out ≡ extracted P m x)
+    lent-solved h j r out e er eo =
+        let none : 0 ≡ lowest = sym h ∙ lent-digest in (
+          er ∙ ap (λ (l : ℕ). solved q N (for-s l) (for-e l)) e ∙ none-found none,
+          eo ∙ ap (λ (l : ℕ). written q N (for-s l) (for-e l) (ternaryBytes q N (polynomial N (z l) 0) ++ (ternaryBytes q N (polynomial N (z l) 1) ++ zeros (22 * N)))) e ∙ none-written none,
+        )
 
 -- ---- only q, N, the public polynomials, the head, the openings and the answers enter
 

@@ -1,5 +1,5 @@
 -- `find` meets its contract. Assumes nothing.
-use mathlib.Core.Path.{_≡_, sym, ap, _∙_}
+use mathlib.Core.Path.{_≡_, ap, _∙_}
 use mathlib.Core.List.{[]}
 use Prim.Native.Nat.{_-_, _*_}
 use native.Mathlib.Omega.{arith}
@@ -8,7 +8,7 @@ use Rattle.codec.specs.Bytes.{zeros}
 use Rattle.stern.proofs.Answered.{lent-range, lent-length}
 use Rattle.transcript.specs.Method.{parameters}
 use Rattle.extractor.specs.Lent.{openingsOf}
-use Rattle.extractor.proofs.Outcome.{digest-found, none-found, none-written, lent-digest, lent-solved, lent-written}
+use Rattle.extractor.proofs.Outcome.{lent-found, lent-solved}
 use Rattle.extractor.proofs.find.Statement.{statement}
 use Rattle.extractor.proofs.find.Tie as tie
 
@@ -28,7 +28,7 @@ returns c =
     let P = parameters 2 n (a .q) 0 0 [] [] (a .k .now) in
     let x = openingsOf (a .head .now) (a .opening0 .now) (a .opening1 .now) (a .answer1 .now) (a .answer2 .now) (a .answer3 .now) in
     let e = c .before .before .before .before .before .before .before .before .before .collision .ensures in
-    let r = digest-found P 0 x (c .before .before .before .before .before .before .before .before .before .collision .result) (e .0 ∙ lent-digest P 0 x (80 * n - 16 * n) (omega arith)) (c .before .before .before .before .if1 .taken) in
+    let r = lent-found P 0 x (80 * n - 16 * n) (c .before .before .before .before .before .before .before .before .before .collision .result) (omega arith) (e .0) (c .before .before .before .before .if1 .taken) in
     (r .0, (c .before .before .wipe .ensures ∙ ap zeros (e .1 .1 ∙ p .2) ∙ r .1, e .1 .0))
 
 solve-requires : tie.Need-solve-requires
@@ -62,11 +62,9 @@ returns-2 c =
     let P = parameters 2 n (a .q) 0 0 [] [] (a .k .now) in
     let x = openingsOf (a .head .now) (a .opening0 .now) (a .opening1 .now) (a .answer1 .now) (a .answer2 .now) (a .answer3 .now) in
     let e = c .before .before .before .before .before .before .before .before .before .before .before .before .before .before .collision .ensures in
-    let none = sym (c .before .before .before .before .before .before .before .before .before .if1 .left) ∙ e .0 ∙ lent-digest P 0 x (80 * n - 16 * n) (omega arith) in
-    let f = c .before .before .before .before .solve .ensures in (
-      f .0 ∙ lent-solved P 0 x (504 * n - 168 * n) (omega arith) ∙ none-found P 0 x none,
-      (f .1 .0 ∙ lent-written P 0 x (504 * n - 168 * n) (omega arith) ∙ none-written P 0 x none, f .1 .1 ∙ e .1 .0),
-    )
+    let f = c .before .before .before .before .solve .ensures in
+    let r = lent-solved P 0 x (80 * n - 16 * n) (c .before .before .before .before .before .before .before .before .before .before .before .before .before .before .collision .result) (omega arith) (e .0) (c .before .before .before .before .before .before .before .before .before .if1 .left) (504 * n - 168 * n) (c .before .before .before .before .solve .result) _ (omega arith) (f .0) (f .1 .0) in
+    (r .0, (r .1, f .1 .1 ∙ e .1 .0))
 
 pub find-spec : {M : Type 1} → statement M
-find-spec = tie.close (tie.spec (λ c. search needs) (λ c. search needs) (λ c. search needs) (λ c. search needs) (λ c. search needs) collision-requires (λ c κs. search needs) (λ c. search needs) (λ c. search needs) returns (λ c. search needs) (λ c. search needs) (λ c. search needs) (λ c. search needs) (λ c. search needs) (λ c. search needs) (λ c. search needs) (λ c. search needs) (λ c. search needs) (λ c. search needs) solve-requires (λ c. search needs) (λ c. search needs) returns-2)
+find-spec = tie.close (tie.spec (λ c. omega arith) (λ c. omega arith) (λ c. omega arith) (λ c. omega arith) (λ c. omega arith) collision-requires (λ c κs. search needs) (λ c. c .before .before .before .before .before .before .before .before .work .given) (λ c. c .before .out2 .given ∙ c .before .before .before .before .before .before .out .given) returns (λ c. omega arith) (λ c. omega arith) (λ c. omega arith) (λ c. omega arith) (λ c. omega arith) (λ c. omega arith) (λ c. omega arith) (λ c. omega arith) (λ c. omega arith) (λ c. omega arith) solve-requires (λ c. c .before .before .before .work2 .given ∙ c .before .before .before .before .before .before .before .before .before .before .before .before .before .work .given) (λ c. c .before .out3 .given ∙ c .before .before .before .before .before .before .before .before .before .before .before .out .given) returns-2)

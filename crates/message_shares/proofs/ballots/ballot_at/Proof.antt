@@ -1,16 +1,9 @@
 -- `ballots::ballot_at` meets its contract. Assumes nothing.
-use mathlib.Core.Path.{refl, ap, _∙_}
 use Prim.Native.Nat.{_+_, _-_, _*_}
 use native.Mathlib.Omega.{arith}
-use borrow.Author.Needs.{needs}
-use Rattle.codec.specs.Bytes.{Bytes, put}
-use Rattle.ring.specs.Slots.{poly}
-use Rattle.ring.specs.Ternary.{ternary}
-use Rattle.bgv.specs.Scheme.{other}
 use Rattle.stern.proofs.Answered.{lent-length}
-use Rattle.transcript.proofs.Compared.{lent-alike, lent-public, first-below, second-below}
-use Rattle.message_head.proofs.Joining.{cut}
-use Rattle.message_shares.proofs.ShareAlgebra.{share-lent, claim-lent}
+use Rattle.transcript.proofs.Compared.{lent-public, first-below, second-below}
+use Rattle.message_shares.proofs.ShareAlgebra.{ballot-placed}
 use Rattle.message_shares.proofs.ballots.ballot_at.Statement.{statement}
 use Rattle.message_shares.proofs.ballots.ballot_at.Tie as tie
 
@@ -39,20 +32,9 @@ returns : tie.Need-returns
 returns c =
     let a = c .before .before .before .before .before .before .before .before .before .before .before .before .before .before .before .before .before .before .before .before .before .before .before .before .before .before .before .args in
     let p = c .before .before .before .before .before .before .before .before .before .before .before .before .before .before .before .before .before .before .before .before .before .before .before .before .before .before .before .pre .0 in
-    let q = a .q in
-    let n = a .n in
-    let x = a .at in
-    let i = a .sent in
-    let w = c .before .before .before .before .before .before .before .before .write-ballot in
-    let s = cut (a .secrets .now) 0 (n - 0) n (omega arith) in
-    let u = lent-alike n q (a .ballots .now) (x + 4) (x + 4 + 8 * n - (x + 4)) (omega arith) (omega (arith, p .3)) in
-    let v = lent-alike n q (a .ballots .now) (x + 4 + 8 * n) (x + 4 + 16 * n - (x + 4 + 8 * n)) (omega arith) (omega (arith, p .3)) in (
-      w .ensures .0 ∙ ap (put (a .shares0 .now) i) (share-lent q n 2 {half = poly (a .s0 .now)} refl u (cut (a .masks0 .now) i (i + 8 * n - i) (8 * n) (omega arith))),
-      (
-        w .ensures .1 .0 ∙ ap (put (a .shares1 .now) i) (share-lent q n 2 (ap (λ (b : Bytes). other q (ternary q b) (poly (a .s0 .now))) s) u (cut (a .masks1 .now) i (i + 8 * n - i) (8 * n) (omega arith))),
-        (w .ensures .1 .1 .0 ∙ ap (put (a .claims .now) (a .claim)) (claim-lent q n 2 (ap (λ (b : Bytes). ternary q b) s) u v), w .ensures .1 .1 .1),
-      ),
-    )
+    let w = c .before .before .before .before .before .before .before .before .write-ballot .ensures in
+    let e = ballot-placed (a .q) (a .n) (a .at) (a .sent) (a .claim) (a .secrets .now) (a .s0 .now) (a .masks0 .now) (a .masks1 .now) (a .ballots .now) (p .3) (a .shares0 .now) (a .shares1 .now) (a .claims .now) (w .0) (w .1 .0) (w .1 .1 .0) in
+    (e .0, (e .1, (e .2, w .1 .1 .1)))
 
 pub ballot-at-spec : {M : Type 1} → statement M
-ballot-at-spec = tie.close (tie.spec (λ c. search needs) (λ c. search needs) (λ c. search needs) (λ c. search needs) (λ c. search needs) (λ c. search needs) (λ c. search needs) (λ c. search needs) (λ c. search needs) (λ c. search needs) (λ c. search needs) (λ c. search needs) (λ c. search needs) (λ c. search needs) (λ c. search needs) (λ c. search needs) (λ c. search needs) (λ c. search needs) (λ c. search needs) (λ c. search needs) (λ c. search needs) (λ c. search needs) (λ c. search needs) (λ c. search needs) (λ c. search needs) (λ c. search needs) (λ c. search needs) write-ballot-requires (λ c. search needs) (λ c. search needs) (λ c. search needs) (λ c. search needs) returns)
+ballot-at-spec = tie.close (tie.spec (λ c. omega arith) (λ c. omega arith) (λ c. omega arith) (λ c. omega arith) (λ c. omega arith) (λ c. omega arith) (λ c. omega arith) (λ c. omega arith) (λ c. omega arith) (λ c. omega arith) (λ c. omega arith) (λ c. omega arith) (λ c. omega arith) (λ c. omega arith) (λ c. omega arith) (λ c. omega arith) (λ c. omega arith) (λ c. omega arith) (λ c. omega arith) (λ c. omega arith) (λ c. omega arith) (λ c. omega arith) (λ c. omega arith) (λ c. c .before .before .before .before .before .before .before .before .before .before .before .before .before .before .before .before .pre .1 .0) (λ c. omega arith) (λ c. omega arith) (λ c. c .before .before .before .before .before .before .before .before .before .before .before .before .before .before .before .before .before .pre .1 .1) write-ballot-requires (λ c. c .before .before .before .before .before .before .before .shares0 .given) (λ c. c .before .before .before .before .before .shares1 .given) (λ c. c .before .before .before .claims .given) (λ c. c .before .work .given) returns)
