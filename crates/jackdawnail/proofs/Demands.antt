@@ -22,6 +22,7 @@ use Rattle.transcript.proofs.Many.{append-none}
 use Rattle.transcript.proofs.Passed.{producer-exactly}
 use Rattle.transcript.proofs.Honest.{honest-round}
 use Rattle.transcript.proofs.Extraction.{extraction}
+use Rattle.transcript.proofs.ExtractionHashed.{hashed}
 use Rattle.transcript.proofs.ExtractionOutput.{output, lowest}
 use Rattle.transcript.proofs.Refuses.{parts-exactly, refuses-exactly, takes-accepted, refuses-alike, lending}
 use Rattle.lengths.specs.Calls.{openingsTests}
@@ -103,7 +104,7 @@ producer-writes text x = (first-exactly text x, second-call-exactly text x)
 
 extracts : Extracts
 unfolding extractReply openingsTests
-extracts text x out scratch octets e =
+extracts text x out scratch octets o1 o2 o3 e =
     let P = parametersOf 2 text in
     let m = ballotsIn text (x .ballots) in
     let parts = append-none (order 2 text) (openingsTests P x out scratch) (taken-exactly _ .0 e) in
@@ -116,7 +117,7 @@ extracts text x out scratch octets e =
     let fits : P .q ≤ 2 ^ 64 = omega (arith, r .modulus-high) in
     let lent = extract-lengths P x out scratch m octets (sized .0) (sized .1) .0 in
     let ok = two-sound text (sheetOf text .numbers) (read text sheet) in
-    (extraction P m x three fits lent (parts .1 .1) ok, lowest P m x (omega arith) fits, output P m x three fits lent (parts .1 .1) ok)
+    (extraction P m x three fits lent (parts .1 .1) ok, hashed P m x o1 o2 o3, lowest P m x (omega arith) fits, output P m x three fits lent (parts .1 .1) ok)
 
 refuses-as-checks : RefusesAsChecks
 refuses-as-checks P m x opens answers lending = (refuses-exactly P m x opens answers lending, refuses-alike P m x opens answers lending)

@@ -17,7 +17,7 @@ use Rattle.bgv.specs.Examples.{Row}
 use Rattle.transcript.specs.Round.{Parameters, Round, roundTests}
 use Rattle.transcript.specs.Producer.{Material, Sized, producedRound}
 use Rattle.transcript.specs.Suitable.{Suitable}
-use Rattle.transcript.specs.Extractor.{Openings, Lent, extractTests, kind, extracted, Found, Lowest, Output}
+use Rattle.transcript.specs.Extractor.{Openings, Lent, extractTests, kind, extracted, Found, Hashed, Lowest, Output}
 use Rattle.transcript.specs.Refuses.{openingTests, repetitionTests, lentRound, Lending, ChecksTake, ChecksRefuse}
 use Rattle.lengths.specs.Sheets.{parametersOf, ballotsIn}
 use Rattle.round_calls.specs.Replies.{firstReply, secondReply}
@@ -85,12 +85,13 @@ pub record Demand2 : Type 0 where
 
 -- ---- 3. Two accepted openings and three accepted answers yield a hash collision, a short commitment vector or the key, and every honest round is accepted whatever is drawn.
 
--- where the extractor does not refuse, it finds one of the three, as its kind says; nothing that comes before that kind was there; and its output is what it found
+-- where the extractor does not refuse, it finds one of the three, as its kind says; the strings of a collision are bytes; nothing that comes before that kind was there; and its output is what it found
 abbrev pub Extracts : Type 0
-Extracts = (text : Bytes) (x : Openings) (out scratch : Bytes) → Octets (x .head) → extractReply 2 text x out scratch ≡ Taken
+Extracts = (text : Bytes) (x : Openings) (out scratch : Bytes) → Octets (x .head) → Octets (x .answer1) → Octets (x .answer2) → Octets (x .answer3)
+    → extractReply 2 text x out scratch ≡ Taken
     → let P = parametersOf 2 text in
     let m = ballotsIn text (x .ballots) in
-    Found P m x (kind P m x) × Lowest P m x (kind P m x) × Output P m x (kind P m x) (extracted P m x)
+    Found P m x (kind P m x) × Hashed P m x × Lowest P m x (kind P m x) × Output P m x (kind P m x) (extracted P m x)
 
 -- it refuses exactly where the checks of those openings and answers would, and then as one of them does
 abbrev pub RefusesAsChecks : Type 0

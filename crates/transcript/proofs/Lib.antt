@@ -4,6 +4,7 @@ pub mod Answers
 pub mod Compared
 pub mod Extraction
 pub mod ExtractionHalves
+pub mod ExtractionHashed
 pub mod ExtractionOutput
 pub mod ExtractionSizes
 pub mod ExtractionVectors

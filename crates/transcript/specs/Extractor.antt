@@ -198,6 +198,15 @@ module _ (P : Parameters) (m : ℕ) (x : Openings) where
     short-e : ShortVector vector-e → Found 5
     secret : Key (polynomial N unknowns 0) (polynomial N unknowns 1) → Found 6
 
+  -- the strings of the answers' digests are bytes, as SHA3-256 takes them: a collision is one of byte strings
+  pub record Hashed : Type 0 where
+    pub first-by2 : Octets (one-by2 s two)
+    pub first-by3 : Octets (one-by3 s three)
+    pub second-by1 : Octets (two-by1 s one)
+    pub second-by3 : Octets (two-by3 s three)
+    pub third-by1 : Octets (three-by1 s one)
+    pub third-by2 : Octets (three-by2 s two)
+
   -- what the 24N output bytes w are, by the kind
   pub record Output (n : ℕ) (w : Bytes) : Type 0 where
     pub sized : length w ≡ 24 * N
