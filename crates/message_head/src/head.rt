@@ -6,12 +6,11 @@ ghost use mathlib.Core.List.{[], _++_};
 ghost use Prim.Native.Nat.{_+_, _*_, _≤_};
 ghost use lib.ListN.{length};
 ghost use Rattle.codec.specs.Bytes.{part, put};
-ghost use Rattle.ring.specs.Slots.{poly};
+ghost use Rattle.ring.specs.Slots.{coefficientBytes, poly};
 ghost use Rattle.ring.specs.Ternary.{ternary};
 ghost use Rattle.call.specs.Call.{scratchLength, Polynomial};
 ghost use Rattle.bgv.specs.Scheme.{key, other};
 ghost use Rattle.commitment.specs.Commitment.{PublicKeys};
-ghost use Rattle.scheme.specs.Calls.{written};
 ghost use Rattle.transcript.specs.Layout.{headLength};
 ghost use Rattle.transcript.specs.Method.{parameters};
 ghost use Rattle.transcript.specs.Producer.{producedHead, materialOf};
@@ -29,7 +28,7 @@ fn write_keys(
     q: u64,
 )
     requires { ⌜ Polynomial n q (now a) × Polynomial n q (now s0) × Polynomial n q (now e0) × (length (now secrets) ≡ 14 * n) × (length (now work) ≡ scratchLength) × (16 * n ≤ length (now head)) ⌝ }
-    ensures { λ _. ⌜ now (head .exit) ≡ put (now (head .entry)) 0 (written q n (key q n 2 (poly (now (a .entry))) (poly (now (s0 .entry))) (poly (now (e0 .entry)))) ++ written q n (key q n 2 (poly (now (a .entry))) (other q (ternary q (part (now (secrets .entry)) 0 n)) (poly (now (s0 .entry)))) (other q (ternary q (part (now (secrets .entry)) n n)) (poly (now (e0 .entry)))))) ⌝ }
+    ensures { λ _. ⌜ now (head .exit) ≡ put (now (head .entry)) 0 (coefficientBytes q n (key q n 2 (poly (now (a .entry))) (poly (now (s0 .entry))) (poly (now (e0 .entry)))) ++ coefficientBytes q n (key q n 2 (poly (now (a .entry))) (other q (ternary q (part (now (secrets .entry)) 0 n)) (poly (now (s0 .entry)))) (other q (ternary q (part (now (secrets .entry)) n n)) (poly (now (e0 .entry)))))) ⌝ }
     ensures { λ _. ⌜ length (now (work .exit)) ≡ length (now (work .entry)) ⌝ }
 {
     scheme::written::lent_key(head, 0, work, a, s0, e0, n, q);

@@ -9,11 +9,10 @@ use Rattle.codec.specs.Bytes.{Bytes, part, put}
 use Rattle.codec.specs.Lists.{list}
 use Rattle.codec.proofs.Lists.{length-list}
 use Rattle.ring.specs.Poly.{Poly, Below}
-use Rattle.ring.specs.Slots.{poly, slot}
+use Rattle.ring.specs.Slots.{coefficientBytes, poly, slot}
 use Rattle.ring.specs.Ternary.{ternary}
 use Rattle.ring.proofs.Bridge.{length-encode}
 use Rattle.bgv.specs.Scheme.{decrypted, other, lentMask, share}
-use Rattle.scheme.specs.Calls.{written}
 use Rattle.transcript.specs.Layout.{joined, ballotLength, uAt, vAt}
 use Rattle.transcript.specs.Method.{parameters}
 use Rattle.transcript.specs.Producer.{producedShares, producedClaims, materialOf}
@@ -24,7 +23,7 @@ use Rattle.message_head.proofs.Joining.{Filled, filled-first, filled-more, fill
 module _ (q n count : ℕ) (secrets s0 masks0 masks1 ballots : Bytes) where
   -- what is written for ballot j: its shares, the half and the masks given, and its claim
   abbrev shareOf : Poly → Bytes → ℕ → Bytes
-  shareOf half masks j = written q n (share q n 2 half (uAt n ballots j) (lentMask (part masks (8 * n * j) (8 * n))))
+  shareOf half masks j = coefficientBytes q n (share q n 2 half (uAt n ballots j) (lentMask (part masks (8 * n * j) (8 * n))))
 
   abbrev lent-half : Poly
   lent-half = poly s0
@@ -98,17 +97,17 @@ module _ (q n count : ℕ) (secrets s0 masks0 masks1 ballots : Bytes) where
       )
 
       -- at these places stand ballot j and its masks
-      share-there : (half : Poly) (masks : Bytes) → written q n (share q n 2 half (slot ballots (at + 4)) (lentMask (part masks sent (8 * n)))) ≡ shareOf half masks j
+      share-there : (half : Poly) (masks : Bytes) → coefficientBytes q n (share q n 2 half (slot ballots (at + 4)) (lentMask (part masks sent (8 * n)))) ≡ shareOf half masks j
       share-there half masks =
-          ap (λ (i : ℕ). written q n (share q n 2 half (slot ballots (i + 4)) (lentMask (part masks sent (8 * n))))) (r .ballot)
-          ∙ ap (λ (i : ℕ). written q n (share q n 2 half (uAt n ballots j) (lentMask (part masks i (8 * n))))) sent-place
+          ap (λ (i : ℕ). coefficientBytes q n (share q n 2 half (slot ballots (i + 4)) (lentMask (part masks sent (8 * n))))) (r .ballot)
+          ∙ ap (λ (i : ℕ). coefficientBytes q n (share q n 2 half (uAt n ballots j) (lentMask (part masks i (8 * n))))) sent-place
 
       claim-there : list n (decrypted q n 2 (ternary q (part secrets 0 n)) (slot ballots (at + 4)) (slot ballots (at + 4 + 8 * n))) ≡ claimOf j
       claim-there = ap (λ (i : ℕ). list n (decrypted q n 2 (ternary q (part secrets 0 n)) (slot ballots (i + 4)) (slot ballots (i + 4 + 8 * n)))) (r .ballot)
 
       pub sent-more : (shares0' shares1' claims' w' : Bytes) → length shares0' ≡ length shares0 → length shares1' ≡ length shares1 → length claims' ≡ length claims → length w' ≡ length w
-          → shares0' ≡ put shares0 sent (written q n (share q n 2 (poly s0) (slot ballots (at + 4)) (lentMask (part masks0 sent (8 * n)))))
-          → shares1' ≡ put shares1 sent (written q n (share q n 2 (other q (ternary q (part secrets 0 n)) (poly s0)) (slot ballots (at + 4)) (lentMask (part masks1 sent (8 * n)))))
+          → shares0' ≡ put shares0 sent (coefficientBytes q n (share q n 2 (poly s0) (slot ballots (at + 4)) (lentMask (part masks0 sent (8 * n)))))
+          → shares1' ≡ put shares1 sent (coefficientBytes q n (share q n 2 (other q (ternary q (part secrets 0 n)) (poly s0)) (slot ballots (at + 4)) (lentMask (part masks1 sent (8 * n)))))
           → claims' ≡ put claims claim (list n (decrypted q n 2 (ternary q (part secrets 0 n)) (slot ballots (at + 4)) (slot ballots (at + 4 + 8 * n))))
           → Sent shares0₀ shares1₀ claims₀ (j + 1) (at + (4 + 16 * n)) (claim + n) (sent + 8 * n) shares0' shares1' claims' w'
       sent-more shares0' shares1' claims' w' k0 k1 kc kw e0 e1 ec =

@@ -8,13 +8,12 @@ use Rattle.codec.specs.Lists.{list}
 use Rattle.codec.proofs.Lists.{list-cong}
 use Rattle.modular.specs.Modulo.{remainder}
 use Rattle.ring.specs.Poly.{Poly, plus, minus, scale, mul, modulo, Alike}
-use Rattle.ring.specs.Slots.{poly, slot, encode}
+use Rattle.ring.specs.Slots.{coefficientBytes, poly, slot, encode}
 use Rattle.ring.specs.Ternary.{ternary}
 use Rattle.ring.proofs.Bridge.{encode-alike}
 use Rattle.ring.proofs.Polynomials.{minus-mul, alike-eq, alike-refl, _so_, alike-plus, alike-minus}
 use Rattle.bgv.specs.Scheme.{Wholes, noisy, residues, opened, plain, decrypted, other, lentMask, share}
 use Rattle.bgv.proofs.Form.{noisy-alike, opened-alike}
-use Rattle.scheme.specs.Calls.{written}
 use Rattle.transcript.proofs.Compared.{lent-alike}
 use Rattle.transcript.proofs.ExtractionSizes.{same-centre}
 use Rattle.message_head.proofs.Joining.{cut}
@@ -52,27 +51,27 @@ module _ (q n at sent claim : ℕ) (secrets s0 masks0 masks1 ballots : Bytes) (f
   alike-v = lent-alike n q ballots (at + 4 + 8 * n) (at + 4 + 16 * n - (at + 4 + 8 * n)) (omega arith) (omega arith)
 
   share-placed : (half : Poly) (masks : Bytes)
-      → written q n (share q n 2 half (poly (take (at + 4 + 8 * n - (at + 4)) (drop (at + 4) ballots))) (lentMask (take (sent + 8 * n - sent) (drop sent masks))))
-      ≡ written q n (share q n 2 half (slot ballots (at + 4)) (lentMask (part masks sent (8 * n))))
+      → coefficientBytes q n (share q n 2 half (poly (take (at + 4 + 8 * n - (at + 4)) (drop (at + 4) ballots))) (lentMask (take (sent + 8 * n - sent) (drop sent masks))))
+      ≡ coefficientBytes q n (share q n 2 half (slot ballots (at + 4)) (lentMask (part masks sent (8 * n))))
   share-placed half masks =
-      ap (λ (b : Bytes). written q n (share q n 2 half (poly (take (at + 4 + 8 * n - (at + 4)) (drop (at + 4) ballots))) (lentMask b))) (cut masks sent (sent + 8 * n - sent) (8 * n) (omega arith))
+      ap (λ (b : Bytes). coefficientBytes q n (share q n 2 half (poly (take (at + 4 + 8 * n - (at + 4)) (drop (at + 4) ballots))) (lentMask b))) (cut masks sent (sent + 8 * n - sent) (8 * n) (omega arith))
       ∙ encode-alike (noisy-alike q n 2 alike-refl alike-u alike-refl)
 
   secret : take (n - 0) (drop 0 secrets) ≡ part secrets 0 n
   secret = cut secrets 0 (n - 0) n (omega arith)
 
   pub ballot-placed : (shares0 shares1 claims : Bytes) {shares0' shares1' claims' : Bytes}
-      → shares0' ≡ put shares0 sent (written q n (share q n 2 (poly s0) (poly (take (at + 4 + 8 * n - (at + 4)) (drop (at + 4) ballots))) (lentMask (take (sent + 8 * n - sent) (drop sent masks0)))))
-      → shares1' ≡ put shares1 sent (written q n (share q n 2 (other q (ternary q (take (n - 0) (drop 0 secrets))) (poly s0)) (poly (take (at + 4 + 8 * n - (at + 4)) (drop (at + 4) ballots))) (lentMask (take (sent + 8 * n - sent) (drop sent masks1)))))
+      → shares0' ≡ put shares0 sent (coefficientBytes q n (share q n 2 (poly s0) (poly (take (at + 4 + 8 * n - (at + 4)) (drop (at + 4) ballots))) (lentMask (take (sent + 8 * n - sent) (drop sent masks0)))))
+      → shares1' ≡ put shares1 sent (coefficientBytes q n (share q n 2 (other q (ternary q (take (n - 0) (drop 0 secrets))) (poly s0)) (poly (take (at + 4 + 8 * n - (at + 4)) (drop (at + 4) ballots))) (lentMask (take (sent + 8 * n - sent) (drop sent masks1)))))
       → claims' ≡ put claims claim (list n (decrypted q n 2 (ternary q (take (n - 0) (drop 0 secrets))) (poly (take (at + 4 + 8 * n - (at + 4)) (drop (at + 4) ballots))) (poly (take (at + 4 + 16 * n - (at + 4 + 8 * n)) (drop (at + 4 + 8 * n) ballots)))))
-      → (shares0' ≡ put shares0 sent (written q n (share q n 2 (poly s0) (slot ballots (at + 4)) (lentMask (part masks0 sent (8 * n))))))
-      × (shares1' ≡ put shares1 sent (written q n (share q n 2 (other q (ternary q (part secrets 0 n)) (poly s0)) (slot ballots (at + 4)) (lentMask (part masks1 sent (8 * n))))))
+      → (shares0' ≡ put shares0 sent (coefficientBytes q n (share q n 2 (poly s0) (slot ballots (at + 4)) (lentMask (part masks0 sent (8 * n))))))
+      × (shares1' ≡ put shares1 sent (coefficientBytes q n (share q n 2 (other q (ternary q (part secrets 0 n)) (poly s0)) (slot ballots (at + 4)) (lentMask (part masks1 sent (8 * n))))))
       × (claims' ≡ put claims claim (list n (decrypted q n 2 (ternary q (part secrets 0 n)) (slot ballots (at + 4)) (slot ballots (at + 4 + 8 * n)))))
   ballot-placed shares0 shares1 claims e0 e1 e2 = (
     e0 ∙ ap (put shares0 sent) (share-placed (poly s0) masks0),
     e1
         ∙ ap (put shares1 sent) (share-placed (other q (ternary q (take (n - 0) (drop 0 secrets))) (poly s0)) masks1
-        ∙ ap (λ (b : Bytes). written q n (share q n 2 (other q (ternary q b) (poly s0)) (slot ballots (at + 4)) (lentMask (part masks1 sent (8 * n))))) secret),
+        ∙ ap (λ (b : Bytes). coefficientBytes q n (share q n 2 (other q (ternary q b) (poly s0)) (slot ballots (at + 4)) (lentMask (part masks1 sent (8 * n))))) secret),
     e2
         ∙ ap (put claims claim) (ap (λ (b : Bytes). list n (decrypted q n 2 (ternary q b) (poly (take (at + 4 + 8 * n - (at + 4)) (drop (at + 4) ballots))) (poly (take (at + 4 + 16 * n - (at + 4 + 8 * n)) (drop (at + 4 + 8 * n) ballots))))) secret
         ∙ plain-alike 2 (opened-alike q n (ternary q (part secrets 0 n)) alike-u alike-v)),

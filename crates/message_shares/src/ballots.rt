@@ -7,11 +7,10 @@ ghost use lib.ListN.{length};
 ghost use Rattle.codec.specs.Bytes.{part, put};
 ghost use Rattle.codec.specs.Lists.{list};
 ghost use Rattle.ring.specs.Poly.{Below};
-ghost use Rattle.ring.specs.Slots.{poly, slot};
+ghost use Rattle.ring.specs.Slots.{coefficientBytes, poly, slot};
 ghost use Rattle.ring.specs.Ternary.{ternary};
 ghost use Rattle.call.specs.Call.{scratchLength, Polynomial};
 ghost use Rattle.bgv.specs.Scheme.{decrypted, other, lentMask, share};
-ghost use Rattle.scheme.specs.Calls.{written};
 ghost use Rattle.transcript.specs.Method.{parameters};
 ghost use Rattle.transcript.specs.Producer.{producedShares, producedClaims, materialOf};
 ghost use Rattle.message_shares.specs.Method.{Masked};
@@ -35,8 +34,8 @@ fn ballot_at(
 )
     requires { ⌜ Polynomial n q (now s0) × (length (now secrets) ≡ 14 * n) × (length (now work) ≡ scratchLength) × (at + 4 + 16 * n ≤ length (now ballots)) × Below q (2 * n) (slot (now ballots) (at + 4)) ⌝ }
     requires { ⌜ (sent + 8 * n ≤ length (now masks0)) × (sent + 8 * n ≤ length (now masks1)) × (sent + 8 * n ≤ length (now shares0)) × (sent + 8 * n ≤ length (now shares1)) × (claim + n ≤ length (now claims)) ⌝ }
-    ensures { λ _. ⌜ now (shares0 .exit) ≡ put (now (shares0 .entry)) sent (written q n (share q n 2 (poly (now (s0 .entry))) (slot (now (ballots .entry)) (at + 4)) (lentMask (part (now (masks0 .entry)) sent (8 * n))))) ⌝ }
-    ensures { λ _. ⌜ now (shares1 .exit) ≡ put (now (shares1 .entry)) sent (written q n (share q n 2 (other q (ternary q (part (now (secrets .entry)) 0 n)) (poly (now (s0 .entry)))) (slot (now (ballots .entry)) (at + 4)) (lentMask (part (now (masks1 .entry)) sent (8 * n))))) ⌝ }
+    ensures { λ _. ⌜ now (shares0 .exit) ≡ put (now (shares0 .entry)) sent (coefficientBytes q n (share q n 2 (poly (now (s0 .entry))) (slot (now (ballots .entry)) (at + 4)) (lentMask (part (now (masks0 .entry)) sent (8 * n))))) ⌝ }
+    ensures { λ _. ⌜ now (shares1 .exit) ≡ put (now (shares1 .entry)) sent (coefficientBytes q n (share q n 2 (other q (ternary q (part (now (secrets .entry)) 0 n)) (poly (now (s0 .entry)))) (slot (now (ballots .entry)) (at + 4)) (lentMask (part (now (masks1 .entry)) sent (8 * n))))) ⌝ }
     ensures { λ _. ⌜ now (claims .exit) ≡ put (now (claims .entry)) claim (list n (decrypted q n 2 (ternary q (part (now (secrets .entry)) 0 n)) (slot (now (ballots .entry)) (at + 4)) (slot (now (ballots .entry)) (at + 4 + 8 * n)))) ⌝ }
     ensures { λ _. ⌜ length (now (work .exit)) ≡ length (now (work .entry)) ⌝ }
 {

@@ -5,11 +5,10 @@ ghost use lib.ListN.{length};
 ghost use Rattle.codec.specs.Bytes.{part, put};
 ghost use Rattle.codec.specs.Lists.{list};
 ghost use Rattle.ring.specs.Poly.{plus, minus, scale, mul, Below};
-ghost use Rattle.ring.specs.Slots.{poly, slot};
+ghost use Rattle.ring.specs.Slots.{coefficientBytes, poly, slot};
 ghost use Rattle.ring.specs.Ternary.{ternary};
 ghost use Rattle.call.specs.Call.{scratchLength, Polynomial};
 ghost use Rattle.bgv.specs.Scheme.{residues, plain, decrypted, other, lentMask, share};
-ghost use Rattle.scheme.specs.Calls.{written};
 ghost use Rattle.message_shares.specs.Method.{TwoStand};
 
 // Where s0 u stands, and then t0.
@@ -46,7 +45,7 @@ fn write_masked(
     q: u64,
 )
     requires { ⌜ (n ≤ 2048) × (3 ≤ q) × (q < 2 ^ 56) × (length (now mask) ≡ 8 * n) × (length (now work) ≡ scratchLength) × (from + 8 * n ≤ 49152) × Below q n (slot (now work) from) × (at + 8 * n ≤ length (now out)) ⌝ }
-    ensures { λ _. ⌜ now (out .exit) ≡ put (now (out .entry)) at (written q n (plus (slot (now (work .entry)) from) (scale 2 (residues q (lentMask (now (mask .entry))))))) ⌝ }
+    ensures { λ _. ⌜ now (out .exit) ≡ put (now (out .entry)) at (coefficientBytes q n (plus (slot (now (work .entry)) from) (scale 2 (residues q (lentMask (now (mask .entry))))))) ⌝ }
     ensures { λ _. ⌜ (length (now (work .exit)) ≡ length (now (work .entry))) × (part (now (work .exit)) 0 from ≡ part (now (work .entry)) 0 from) ⌝ }
 {
     ring::load_signed(work, MASK, mask, n, q);
@@ -67,8 +66,8 @@ fn write_shares(
     q: u64,
 )
     requires { ⌜ (n ≤ 2048) × (3 ≤ q) × (q < 2 ^ 56) × (length (now mask0) ≡ 8 * n) × (length (now mask1) ≡ 8 * n) × (length (now work) ≡ scratchLength) × Below q n (slot (now work) 0) × Below q n (slot (now work) 16384) × (at + 8 * n ≤ length (now shares0)) × (at + 8 * n ≤ length (now shares1)) ⌝ }
-    ensures { λ _. ⌜ now (shares0 .exit) ≡ put (now (shares0 .entry)) at (written q n (plus (slot (now (work .entry)) 16384) (scale 2 (residues q (lentMask (now (mask0 .entry))))))) ⌝ }
-    ensures { λ _. ⌜ now (shares1 .exit) ≡ put (now (shares1 .entry)) at (written q n (plus (minus q (slot (now (work .entry)) 0) (slot (now (work .entry)) 16384)) (scale 2 (residues q (lentMask (now (mask1 .entry))))))) ⌝ }
+    ensures { λ _. ⌜ now (shares0 .exit) ≡ put (now (shares0 .entry)) at (coefficientBytes q n (plus (slot (now (work .entry)) 16384) (scale 2 (residues q (lentMask (now (mask0 .entry))))))) ⌝ }
+    ensures { λ _. ⌜ now (shares1 .exit) ≡ put (now (shares1 .entry)) at (coefficientBytes q n (plus (minus q (slot (now (work .entry)) 0) (slot (now (work .entry)) 16384)) (scale 2 (residues q (lentMask (now (mask1 .entry))))))) ⌝ }
     ensures { λ _. ⌜ (length (now (work .exit)) ≡ length (now (work .entry))) × (part (now (work .exit)) 0 16384 ≡ part (now (work .entry)) 0 16384) ⌝ }
 {
     ring::copy_slot(work, OTHER, 0, n);
@@ -106,8 +105,8 @@ pub fn write_ballot(
     q: u64,
 )
     requires { ⌜ Polynomial n q (now s0) × Polynomial n q (now u) × Polynomial n q (now v) × (length (now s) ≡ n) × (length (now mask0) ≡ 8 * n) × (length (now mask1) ≡ 8 * n) × (length (now work) ≡ scratchLength) × (at + 8 * n ≤ length (now shares0)) × (at + 8 * n ≤ length (now shares1)) × (claim + n ≤ length (now claims)) ⌝ }
-    ensures { λ _. ⌜ now (shares0 .exit) ≡ put (now (shares0 .entry)) at (written q n (share q n 2 (poly (now (s0 .entry))) (poly (now (u .entry))) (lentMask (now (mask0 .entry))))) ⌝ }
-    ensures { λ _. ⌜ now (shares1 .exit) ≡ put (now (shares1 .entry)) at (written q n (share q n 2 (other q (ternary q (now (s .entry))) (poly (now (s0 .entry)))) (poly (now (u .entry))) (lentMask (now (mask1 .entry))))) ⌝ }
+    ensures { λ _. ⌜ now (shares0 .exit) ≡ put (now (shares0 .entry)) at (coefficientBytes q n (share q n 2 (poly (now (s0 .entry))) (poly (now (u .entry))) (lentMask (now (mask0 .entry))))) ⌝ }
+    ensures { λ _. ⌜ now (shares1 .exit) ≡ put (now (shares1 .entry)) at (coefficientBytes q n (share q n 2 (other q (ternary q (now (s .entry))) (poly (now (s0 .entry)))) (poly (now (u .entry))) (lentMask (now (mask1 .entry))))) ⌝ }
     ensures { λ _. ⌜ now (claims .exit) ≡ put (now (claims .entry)) claim (list n (decrypted q n 2 (ternary q (now (s .entry))) (poly (now (u .entry))) (poly (now (v .entry))))) ⌝ }
     ensures { λ _. ⌜ length (now (work .exit)) ≡ length (now (work .entry)) ⌝ }
 {

@@ -4,18 +4,17 @@ ghost use mathlib.Core.List.{[], _++_};
 ghost use Prim.Native.Nat.{_+_, _*_, _≤_, _<_};
 ghost use lib.ListN.{length};
 ghost use Rattle.codec.specs.Bytes.{part, put};
-ghost use Rattle.ring.specs.Slots.{poly};
+ghost use Rattle.ring.specs.Slots.{coefficientBytes, poly};
 ghost use Rattle.ring.specs.Ternary.{ternary};
 ghost use Rattle.call.specs.Call.{scratchLength, Polynomial};
 ghost use Rattle.bgv.specs.Scheme.{other};
-ghost use Rattle.scheme.specs.Calls.{written};
 ghost use Rattle.transcript.specs.Method.{parameters};
 ghost use Rattle.transcript.specs.Producer.{producedOpening, materialOf};
 
 // The halves that were lent.
 fn lent_halves(opening: &mut [u8], s0: &[u8], e0: &[u8], n: usize, q: u64)
     requires { ⌜ Polynomial n q (now s0) × Polynomial n q (now e0) × (16 * n ≤ length (now opening)) ⌝ }
-    ensures { λ _. ⌜ now (opening .exit) ≡ put (now (opening .entry)) 0 (written q n (poly (now (s0 .entry))) ++ written q n (poly (now (e0 .entry)))) ⌝ }
+    ensures { λ _. ⌜ now (opening .exit) ≡ put (now (opening .entry)) 0 (coefficientBytes q n (poly (now (s0 .entry))) ++ coefficientBytes q n (poly (now (e0 .entry)))) ⌝ }
 {
     codec::copy(opening, 0, s0);
     codec::copy(opening, 8 * n, e0);
@@ -32,7 +31,7 @@ fn other_halves(
     q: u64,
 )
     requires { ⌜ Polynomial n q (now s0) × Polynomial n q (now e0) × (length (now secrets) ≡ 14 * n) × (length (now work) ≡ scratchLength) × (16 * n ≤ length (now opening)) ⌝ }
-    ensures { λ _. ⌜ now (opening .exit) ≡ put (now (opening .entry)) 0 (written q n (other q (ternary q (part (now (secrets .entry)) 0 n)) (poly (now (s0 .entry)))) ++ written q n (other q (ternary q (part (now (secrets .entry)) n n)) (poly (now (e0 .entry))))) ⌝ }
+    ensures { λ _. ⌜ now (opening .exit) ≡ put (now (opening .entry)) 0 (coefficientBytes q n (other q (ternary q (part (now (secrets .entry)) 0 n)) (poly (now (s0 .entry)))) ++ coefficientBytes q n (other q (ternary q (part (now (secrets .entry)) n n)) (poly (now (e0 .entry))))) ⌝ }
     ensures { λ _. ⌜ length (now (work .exit)) ≡ length (now (work .entry)) ⌝ }
 {
     scheme::written::difference(opening, 0, work, &secrets[0..n], s0, n, q);

@@ -4,14 +4,14 @@ use mathlib.Core.List.{_++_}
 use Prim.Native.Nat.{ℕ}
 use Rattle.codec.specs.Bytes.{Bytes}
 use Rattle.ring.specs.Poly.{Poly, Alike}
-use Rattle.ring.specs.Slots.{poly}
+use Rattle.ring.specs.Slots.{coefficientBytes, poly}
 use Rattle.ring.specs.Ternary.{ternary}
 use Rattle.ring.proofs.Polynomials.{alike-refl, alike-plus, alike-mul}
 use Rattle.ring.proofs.Bridge.{encode-alike}
 use Rattle.bgv.specs.Scheme.{cipher-v, other}
 use Rattle.bgv.proofs.Form.{noisy-alike}
 use Rattle.commitment.specs.Commitment.{Keys, row, second, pairBytes}
-use Rattle.scheme.specs.Calls.{written, keygenWrites, encryptWrites, splitWrites, commitmentWrites}
+use Rattle.scheme.specs.Calls.{keygenWrites, encryptWrites, splitWrites, commitmentWrites}
 
 module _ (p q n : ℕ) {a a' : Poly} (same : Alike q n a a') where
   pub keygen-writes : (s e : Bytes) → keygenWrites p q n a s e ≡ keygenWrites p q n a' s e
@@ -26,8 +26,8 @@ module _ (p q n : ℕ) {a a' : Poly} (same : Alike q n a a') where
   pub split-writes : (s e s0 e0 : Bytes) → splitWrites p q n a s e s0 e0 ≡ splitWrites p q n a' s e s0 e0
   unfolding splitWrites
   split-writes s e s0 e0 =
-      let s1 = written q n (other q (ternary q s) (poly s0)) in
-      let e1 = written q n (other q (ternary q e) (poly e0)) in
+      let s1 = coefficientBytes q n (other q (ternary q s) (poly s0)) in
+      let e1 = coefficientBytes q n (other q (ternary q e) (poly e0)) in
       ap₂ (λ (x y : Bytes). s1 ++ (e1 ++ (x ++ y))) (encode-alike (noisy-alike q n p same alike-refl alike-refl)) (encode-alike (noisy-alike q n p same alike-refl alike-refl))
 
 pub commitment-writes : (q n : ℕ) {k k' : Keys} → Alike q n (k .k1) (k' .k1) → Alike q n (k .k2) (k' .k2) → Alike q n (k .k3) (k' .k3) → (m r : Bytes) → commitmentWrites q n k m r ≡ commitmentWrites q n k' m r

@@ -7,14 +7,14 @@ use native.Mathlib.Omega.{arith}
 use lib.ListN.{length, length-append}
 use Rattle.codec.specs.Bytes.{Bytes, part, put}
 use Rattle.codec.proofs.Laws.{put-whole, put-append}
+use Rattle.ring.specs.Slots.{coefficientBytes}
 use Rattle.ring.specs.Poly.{Poly, modulo}
 use Rattle.ring.proofs.Bridge.{length-encode}
 use Rattle.call.specs.Call.{Stands}
 use Rattle.commitment.specs.Commitment.{Pair, pairBytes, PairStands}
-use Rattle.scheme.specs.Calls.{written}
 
 -- what stands at the head of scratch, written at a place
-pub written-at : {q n : ℕ} {f : Poly} {w w' : Bytes} (at : ℕ) (d d' : Bytes) → Stands q n f w w' → d' ≡ put d at (part w' 0 (8 * n)) → d' ≡ put d at (written q n f)
+pub written-at : {q n : ℕ} {f : Poly} {w w' : Bytes} (at : ℕ) (d d' : Bytes) → Stands q n f w w' → d' ≡ put d at (part w' 0 (8 * n)) → d' ≡ put d at (coefficientBytes q n f)
 written-at at d d' h e = e ∙ ap (put d at) (h .bytes)
 
 -- bytes behind those that were written before
@@ -24,7 +24,7 @@ next d d1 d2 s t at l h e f =
 
 module _ (q n : ℕ) where
   abbrev bytes : Poly → Bytes
-  bytes f = written q n f
+  bytes f = coefficientBytes q n f
 
   sized : (f : Poly) → length (bytes f) ≡ 8 * n
   sized f = length-encode n (modulo q f)

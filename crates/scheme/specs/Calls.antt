@@ -7,16 +7,12 @@ use lib.ListN.{length}
 use Rattle.codec.specs.Bytes.{Bytes}
 use Rattle.codec.specs.Reply.{Test, test}
 use Rattle.codec.specs.Lists.{list}
-use Rattle.ring.specs.Poly.{Poly, modulo}
-use Rattle.ring.specs.Slots.{poly, slot, encode}
+use Rattle.ring.specs.Poly.{Poly}
+use Rattle.ring.specs.Slots.{coefficientBytes, poly, slot}
 use Rattle.ring.specs.Ternary.{ternary}
 use Rattle.call.specs.Call.{scratchLength, lengthTest, bytesBelow, coefficientsBelow, coefficients}
 use Rattle.bgv.specs.Scheme.{within, key, cipher-u, cipher-v, decrypted, other, lentMask, share, reconstructed}
 use Rattle.commitment.specs.Commitment.{Keys, threeOf, committed, pairBytes}
-
--- a polynomial as it is written
-abbrev pub written : (q n : ℕ) → Poly → Bytes
-written q n f = encode n (modulo q f)
 
 -- ---- key
 
@@ -28,7 +24,7 @@ keygenTests n s e b scratch =
 
 -- b
 unfoldable pub keygenWrites : (p q n : ℕ) (a : Poly) (s e : Bytes) → Bytes
-keygenWrites p q n a s e = written q n (key q n p a (ternary q s) (ternary q e))
+keygenWrites p q n a s e = coefficientBytes q n (key q n p a (ternary q s) (ternary q e))
 
 -- ---- encryption
 
@@ -41,7 +37,7 @@ encryptTests p n r e1 e2 m ciphertext scratch =
 -- u, v
 unfoldable pub encryptWrites : (p q n : ℕ) (a b : Poly) (r e1 e2 m : Bytes) → Bytes
 encryptWrites p q n a b r e1 e2 m =
-    written q n (cipher-u q n p a (ternary q r) (ternary q e1)) ++ written q n (cipher-v q n p b (ternary q r) (ternary q e2) (coefficients m))
+    coefficientBytes q n (cipher-u q n p a (ternary q r) (ternary q e1)) ++ coefficientBytes q n (cipher-v q n p b (ternary q r) (ternary q e2) (coefficients m))
 
 -- ---- decryption
 
@@ -66,10 +62,10 @@ splitTests q n s e s0 e0 out scratch =
 -- s1, e1, b0, b1
 unfoldable pub splitWrites : (p q n : ℕ) (a : Poly) (s e s0 e0 : Bytes) → Bytes
 splitWrites p q n a s e s0 e0 =
-    written q n (other q (ternary q s) (poly s0))
-    ++ (written q n (other q (ternary q e) (poly e0))
-    ++ (written q n (key q n p a (poly s0) (poly e0))
-    ++ written q n (key q n p a (other q (ternary q s) (poly s0)) (other q (ternary q e) (poly e0)))))
+    coefficientBytes q n (other q (ternary q s) (poly s0))
+    ++ (coefficientBytes q n (other q (ternary q e) (poly e0))
+    ++ (coefficientBytes q n (key q n p a (poly s0) (poly e0))
+    ++ coefficientBytes q n (key q n p a (other q (ternary q s) (poly s0)) (other q (ternary q e) (poly e0)))))
 
 -- ---- decryption share
 
@@ -82,7 +78,7 @@ shareTests q n B key-share u mask t scratch =
 
 -- t
 unfoldable pub shareWrites : (p q n : ℕ) (key-share u mask : Bytes) → Bytes
-shareWrites p q n key-share u mask = written q n (share q n p (poly key-share) (poly u) (lentMask mask))
+shareWrites p q n key-share u mask = coefficientBytes q n (share q n p (poly key-share) (poly u) (lentMask mask))
 
 -- ---- reconstruction
 

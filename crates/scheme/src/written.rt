@@ -4,12 +4,11 @@ ghost use Prim.Native.Nat.{_+_, _*_, _≤_};
 ghost use lib.ListN.{length};
 ghost use Rattle.codec.specs.Bytes.{put};
 ghost use Rattle.ring.specs.Poly.{Below};
-ghost use Rattle.ring.specs.Slots.{poly};
+ghost use Rattle.ring.specs.Slots.{coefficientBytes, poly};
 ghost use Rattle.ring.specs.Ternary.{ternary};
 ghost use Rattle.call.specs.Call.{scratchLength, coefficients, Polynomial};
 ghost use Rattle.bgv.specs.Scheme as scheme;
 ghost use Rattle.bgv.specs.Scheme.{lentMask};
-ghost use Rattle.scheme.specs.Calls.{written};
 
 // a x + 2 y, for ternary bytes x and y: a key b, or u of a ciphertext.
 pub fn noisy(
@@ -23,7 +22,7 @@ pub fn noisy(
     q: u64,
 )
     requires { ⌜ Polynomial n q (now a) × (length (now scratch) ≡ scratchLength) × (length (now x) ≡ n) × (length (now y) ≡ n) × (at + 8 * n ≤ length (now out)) ⌝ }
-    ensures { λ _. ⌜ now (out .exit) ≡ put (now (out .entry)) at (written q n (scheme.noisy q n 2 (poly (now (a .entry))) (ternary q (now (x .entry))) (ternary q (now (y .entry))))) ⌝ }
+    ensures { λ _. ⌜ now (out .exit) ≡ put (now (out .entry)) at (coefficientBytes q n (scheme.noisy q n 2 (poly (now (a .entry))) (ternary q (now (x .entry))) (ternary q (now (y .entry))))) ⌝ }
     ensures { λ _. ⌜ length (now (scratch .exit)) ≡ length (now (scratch .entry)) ⌝ }
 {
     bgv::noisy(scratch, a, x, y, n, q);
@@ -43,7 +42,7 @@ pub fn cipher_v(
     q: u64,
 )
     requires { ⌜ Polynomial n q (now b) × (length (now scratch) ≡ scratchLength) × (length (now r) ≡ n) × (length (now e2) ≡ n) × (length (now m) ≡ n) × Below q n (coefficients (now m)) × (at + 8 * n ≤ length (now out)) ⌝ }
-    ensures { λ _. ⌜ now (out .exit) ≡ put (now (out .entry)) at (written q n (scheme.cipher-v q n 2 (poly (now (b .entry))) (ternary q (now (r .entry))) (ternary q (now (e2 .entry))) (coefficients (now (m .entry))))) ⌝ }
+    ensures { λ _. ⌜ now (out .exit) ≡ put (now (out .entry)) at (coefficientBytes q n (scheme.cipher-v q n 2 (poly (now (b .entry))) (ternary q (now (r .entry))) (ternary q (now (e2 .entry))) (coefficients (now (m .entry))))) ⌝ }
     ensures { λ _. ⌜ length (now (scratch .exit)) ≡ length (now (scratch .entry)) ⌝ }
 {
     bgv::noisy(scratch, b, r, e2, n, q);
@@ -62,7 +61,7 @@ pub fn difference(
     q: u64,
 )
     requires { ⌜ Polynomial n q (now x0) × (length (now scratch) ≡ scratchLength) × (length (now x) ≡ n) × (at + 8 * n ≤ length (now out)) ⌝ }
-    ensures { λ _. ⌜ now (out .exit) ≡ put (now (out .entry)) at (written q n (scheme.other q (ternary q (now (x .entry))) (poly (now (x0 .entry))))) ⌝ }
+    ensures { λ _. ⌜ now (out .exit) ≡ put (now (out .entry)) at (coefficientBytes q n (scheme.other q (ternary q (now (x .entry))) (poly (now (x0 .entry))))) ⌝ }
     ensures { λ _. ⌜ length (now (scratch .exit)) ≡ length (now (scratch .entry)) ⌝ }
 {
     bgv::difference(scratch, 0, x, x0, n, q);
@@ -81,7 +80,7 @@ pub fn lent_key(
     q: u64,
 )
     requires { ⌜ Polynomial n q (now a) × Polynomial n q (now x0) × Polynomial n q (now y0) × (length (now scratch) ≡ scratchLength) × (at + 8 * n ≤ length (now out)) ⌝ }
-    ensures { λ _. ⌜ now (out .exit) ≡ put (now (out .entry)) at (written q n (scheme.key q n 2 (poly (now (a .entry))) (poly (now (x0 .entry))) (poly (now (y0 .entry))))) ⌝ }
+    ensures { λ _. ⌜ now (out .exit) ≡ put (now (out .entry)) at (coefficientBytes q n (scheme.key q n 2 (poly (now (a .entry))) (poly (now (x0 .entry))) (poly (now (y0 .entry))))) ⌝ }
     ensures { λ _. ⌜ length (now (scratch .exit)) ≡ length (now (scratch .entry)) ⌝ }
 {
     bgv::noisy_lent(scratch, a, x0, y0, n, q);
@@ -102,7 +101,7 @@ pub fn other_key(
     q: u64,
 )
     requires { ⌜ Polynomial n q (now a) × Polynomial n q (now x0) × Polynomial n q (now y0) × (length (now scratch) ≡ scratchLength) × (length (now x) ≡ n) × (length (now y) ≡ n) × (at + 8 * n ≤ length (now out)) ⌝ }
-    ensures { λ _. ⌜ now (out .exit) ≡ put (now (out .entry)) at (written q n (scheme.key q n 2 (poly (now (a .entry))) (scheme.other q (ternary q (now (x .entry))) (poly (now (x0 .entry)))) (scheme.other q (ternary q (now (y .entry))) (poly (now (y0 .entry)))))) ⌝ }
+    ensures { λ _. ⌜ now (out .exit) ≡ put (now (out .entry)) at (coefficientBytes q n (scheme.key q n 2 (poly (now (a .entry))) (scheme.other q (ternary q (now (x .entry))) (poly (now (x0 .entry)))) (scheme.other q (ternary q (now (y .entry))) (poly (now (y0 .entry)))))) ⌝ }
     ensures { λ _. ⌜ length (now (scratch .exit)) ≡ length (now (scratch .entry)) ⌝ }
 {
     bgv::noisy_difference(scratch, a, x, x0, y, y0, n, q);
@@ -121,7 +120,7 @@ pub fn share(
     q: u64,
 )
     requires { ⌜ Polynomial n q (now half) × Polynomial n q (now u) × (length (now mask) ≡ 8 * n) × (length (now scratch) ≡ scratchLength) × (at + 8 * n ≤ length (now out)) ⌝ }
-    ensures { λ _. ⌜ now (out .exit) ≡ put (now (out .entry)) at (written q n (scheme.share q n 2 (poly (now (half .entry))) (poly (now (u .entry))) (lentMask (now (mask .entry))))) ⌝ }
+    ensures { λ _. ⌜ now (out .exit) ≡ put (now (out .entry)) at (coefficientBytes q n (scheme.share q n 2 (poly (now (half .entry))) (poly (now (u .entry))) (lentMask (now (mask .entry))))) ⌝ }
     ensures { λ _. ⌜ length (now (scratch .exit)) ≡ length (now (scratch .entry)) ⌝ }
 {
     bgv::share(scratch, half, u, mask, n, q);

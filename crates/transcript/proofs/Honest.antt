@@ -14,8 +14,8 @@ use Rattle.codec.proofs.Laws.{part-append}
 use Rattle.codec.specs.Lists.{list, allBelow}
 use Rattle.codec.proofs.Lists.{list-cong, all-complete}
 use Rattle.modular.proofs.Centring.{remainder-lt}
-use Rattle.ring.specs.Poly.{Poly, plus, modulo, Alike}
-use Rattle.ring.specs.Slots.{poly, encode}
+use Rattle.ring.specs.Poly.{Poly, plus, Alike}
+use Rattle.ring.specs.Slots.{coefficientBytes, poly}
 use Rattle.ring.proofs.Bridge.{encode-alike}
 use Rattle.ring.proofs.Polynomials.{alike-refl, alike-sym, _so_, alike-plus}
 use Rattle.ring.proofs.Ranges.{below-complete}
@@ -43,9 +43,6 @@ use Rattle.transcript.proofs.Passed.{producer-exactly}
 module _ (P : Parameters) (m : ℕ) (x : Material) where
   open Parameters P using (q, N, p, B, D, repeats, a, k)
 
-  abbrev written : Poly → Bytes
-  written f = encode N (modulo q f)
-
   abbrev head : Bytes
   head = producedHead P m x
 
@@ -67,12 +64,12 @@ module _ (P : Parameters) (m : ℕ) (x : Material) where
 
     -- ---- 5: what is written is in range
 
-    written-below : (f : Poly) → Coefficients q N (written f)
+    written-below : (f : Poly) → Coefficients q N (coefficientBytes q N f)
     written-below f = coefficients-written N f positive fits
 
     pair-below : (c : Pair) → Coefficients q (N + N) (pairBytes q N c)
     unfolding pairBytes
-    pair-below c = coefficients-append (written (c .one)) (written (c .two)) (written-below (c .one)) (written-below (c .two))
+    pair-below c = coefficients-append (coefficientBytes q N (c .one)) (coefficientBytes q N (c .two)) (written-below (c .one)) (written-below (c .two))
 
     pairs-below : Coefficients q ((N + N) + ((N + N) + ((N + N) + (N + N)))) (producedPairs P m x)
     unfolding producedPairs
@@ -80,11 +77,11 @@ module _ (P : Parameters) (m : ℕ) (x : Material) where
         coefficients-append _ _ (pair-below _) (coefficients-append _ _ (pair-below _) (coefficients-append _ _ (pair-below _) (pair-below _)))
 
     ten-below : (f g : Poly) (pairs rest : Bytes) → Coefficients q ((N + N) + ((N + N) + ((N + N) + (N + N)))) pairs
-        → allBelow q (list (10 * N) (poly (written f ++ (written g ++ (pairs ++ rest))))) ≡ true
+        → allBelow q (list (10 * N) (poly (coefficientBytes q N f ++ (coefficientBytes q N g ++ (pairs ++ rest))))) ≡ true
     ten-below f g pairs rest c =
-        ranged-first (10 * N) (written f ++ (written g ++ pairs)) rest (written f ++ (written g ++ (pairs ++ rest)))
-        (coefficients-append (written f) (written g ++ pairs) (written-below f) (coefficients-append (written g) pairs (written-below g) c)) (omega arith)
-        (append-assoc (written f) (written g ++ pairs) rest ∙ ap (λ (s : Bytes). written f ++ s) (append-assoc (written g) pairs rest))
+        ranged-first (10 * N) (coefficientBytes q N f ++ (coefficientBytes q N g ++ pairs)) rest (coefficientBytes q N f ++ (coefficientBytes q N g ++ (pairs ++ rest)))
+        (coefficients-append (coefficientBytes q N f) (coefficientBytes q N g ++ pairs) (written-below f) (coefficients-append (coefficientBytes q N g) pairs (written-below g) c)) (omega arith)
+        (append-assoc (coefficientBytes q N f) (coefficientBytes q N g ++ pairs) rest ∙ ap (λ (s : Bytes). coefficientBytes q N f ++ s) (append-assoc (coefficientBytes q N g) pairs rest))
 
     head-ranged : headRanged P m head ≡ true
     unfolding headRanged producedHead
@@ -99,7 +96,7 @@ module _ (P : Parameters) (m : ℕ) (x : Material) where
     shares-below : (side : ℕ) → allBelow q (vector (producedShares P m x side)) ≡ true
     unfolding producedShares
     shares-below side =
-        coefficients-vector (coefficients-joined N m (λ j. written (share q N p (half-s P m x side) (u j) (lentMask (maskAt P m x side j)))) (λ j l. written-below _))
+        coefficients-vector (coefficients-joined N m (λ j. coefficientBytes q N (share q N p (half-s P m x side) (u j) (lentMask (maskAt P m x side j)))) (λ j l. written-below _))
 
     module _ (sized : Sized P m x) (none : None (producerTests P m x true)) where
       fit : Suitable P m x
@@ -114,10 +111,10 @@ module _ (P : Parameters) (m : ℕ) (x : Material) where
       opening-ranged : (side : ℕ) → side < 2 → openingRanged P m (producedOpening P m x side) ≡ true
       opening-ranged side h = unfold openingRanged in ap₂ _&&_ front back
         where
-          two-below : (f g : Poly) (r : Bytes) → allBelow q (list (2 * N) (poly (written f ++ (written g ++ r)))) ≡ true
+          two-below : (f g : Poly) (r : Bytes) → allBelow q (list (2 * N) (poly (coefficientBytes q N f ++ (coefficientBytes q N g ++ r)))) ≡ true
           two-below f g r =
-              ranged-first (2 * N) (written f ++ written g) r (written f ++ (written g ++ r)) (coefficients-append (written f) (written g) (written-below f) (written-below g)) (omega arith)
-              (append-assoc (written f) (written g) r)
+              ranged-first (2 * N) (coefficientBytes q N f ++ coefficientBytes q N g) r (coefficientBytes q N f ++ (coefficientBytes q N g ++ r)) (coefficients-append (coefficientBytes q N f) (coefficientBytes q N g) (written-below f) (written-below g)) (omega arith)
+              (append-assoc (coefficientBytes q N f) (coefficientBytes q N g) r)
 
           front : allBelow q (list (2 * N) (poly (producedOpening P m x side))) ≡ true
           front = unfold producedOpening in two-below (half-s P m x side) (half-e P m x side) (hides-s P m x side ++ hides-e P m x side)
@@ -220,7 +217,7 @@ module _ (P : Parameters) (m : ℕ) (x : Material) where
         pair-opens c r r' f g e er l =
             equal-same
             (e ∙ ap (λ (t : Bytes). pairBytesOf P m x t f) (sym er)
-            ∙ ap (λ (t : Bytes). written (committed q N k (threeOf q N r') f .one) ++ t) (encode-alike (second-alike q N k (record { r1 = alike-refl; r2 = alike-refl; r3 = alike-refl }) (alike-sym l))))
+            ∙ ap (λ (t : Bytes). coefficientBytes q N (committed q N k (threeOf q N r') f .one) ++ t) (encode-alike (second-alike q N k (record { r1 = alike-refl; r2 = alike-refl; r3 = alike-refl }) (alike-sym l))))
 
         pairs-open : opensPairs P m head side opening ≡ true
         unfolding opensPairs

@@ -11,7 +11,7 @@ use Rattle.codec.specs.Lists.{list}
 use Rattle.codec.proofs.Lists.{length-list}
 use Rattle.sha3.proofs.Squeezing.{length-sha3, octets-sha3}
 use Rattle.ring.specs.Poly.{Poly, modulo, Alike}
-use Rattle.ring.specs.Slots.{encode}
+use Rattle.ring.specs.Slots.{coefficientBytes, encode}
 use Rattle.ring.proofs.Bridge.{length-encode}
 use Rattle.bgv.specs.Scheme.{key, decrypted, share, lentMask}
 use Rattle.commitment.specs.Commitment.{Pair, pairBytes}
@@ -32,9 +32,6 @@ length-digests f e1 e2 e3 = simp length-append (omega arith)
 
 module _ (P : Parameters) (m : ℕ) (x : Material) where
   open Parameters P using (q, N, p, repeats, a, k)
-
-  abbrev written : Poly → Bytes
-  written f = encode N (modulo q f)
 
   -- ---- the head
 
@@ -57,11 +54,11 @@ module _ (P : Parameters) (m : ℕ) (x : Material) where
   unfolding producedPairs
   pairs-sized = simp (length-append, length-pairBytes) (omega arith)
 
-  head-read : (part (producedHead P m x) 0 (8 * N) ≡ written (keyOf 0)) × (part (producedHead P m x) (8 * N) (8 * N) ≡ written (keyOf 1))
+  head-read : (part (producedHead P m x) 0 (8 * N) ≡ coefficientBytes q N (keyOf 0)) × (part (producedHead P m x) (8 * N) (8 * N) ≡ coefficientBytes q N (keyOf 1))
       × (part (producedHead P m x) (16 * N) (64 * N) ≡ producedPairs P m x) × (part (producedHead P m x) (80 * N) (96 * repeats) ≡ joined repeats (λ i. digests i))
   unfolding producedHead
   head-read =
-      four-read (8 * N) (8 * N) (64 * N) (96 * repeats) (16 * N) (80 * N) (omega arith) (omega arith) (written (keyOf 0)) (written (keyOf 1)) (producedPairs P m x) (joined repeats (λ i. digests i))
+      four-read (8 * N) (8 * N) (64 * N) (96 * repeats) (16 * N) (80 * N) (omega arith) (omega arith) (coefficientBytes q N (keyOf 0)) (coefficientBytes q N (keyOf 1)) (producedPairs P m x) (joined repeats (λ i. digests i))
       (length-encode N _) (length-encode N _) pairs-sized (length-joined 96 (λ i. digests i) repeats (λ j l. digests-sized j))
 
   pub length-producedHead : length (producedHead P m x) ≡ headLength N repeats
@@ -107,7 +104,7 @@ module _ (P : Parameters) (m : ℕ) (x : Material) where
   -- and its bytes are below 256
   octets-pair : (c : Pair) → Octets (pairBytes q N c)
   unfolding pairBytes
-  octets-pair c = octets-append (written (c .one)) (written (c .two)) (octets-encode N _) (octets-encode N _)
+  octets-pair c = octets-append (coefficientBytes q N (c .one)) (coefficientBytes q N (c .two)) (octets-encode N _) (octets-encode N _)
 
   octets-pairs : Octets (producedPairs P m x)
   unfolding producedPairs
@@ -121,8 +118,8 @@ module _ (P : Parameters) (m : ℕ) (x : Material) where
   pub octets-producedHead : Octets (producedHead P m x)
   unfolding producedHead
   octets-producedHead =
-      octets-append (written (keyOf 0)) (written (keyOf 1) ++ (producedPairs P m x ++ joined repeats (λ i. digests i))) (octets-encode N _)
-      (octets-append (written (keyOf 1)) (producedPairs P m x ++ joined repeats (λ i. digests i)) (octets-encode N _)
+      octets-append (coefficientBytes q N (keyOf 0)) (coefficientBytes q N (keyOf 1) ++ (producedPairs P m x ++ joined repeats (λ i. digests i))) (octets-encode N _)
+      (octets-append (coefficientBytes q N (keyOf 1)) (producedPairs P m x ++ joined repeats (λ i. digests i)) (octets-encode N _)
       (octets-append (producedPairs P m x) (joined repeats (λ i. digests i)) octets-pairs
       (octets-joined repeats (λ i. digests i) (λ i h. octets-digests (first (setting q N k []) (x .secrets) (drawnAt P m x i)) (octets-sha3 _) (octets-sha3 _) (octets-sha3 _)))))
 
@@ -133,12 +130,12 @@ module _ (P : Parameters) (m : ℕ) (x : Material) where
 
   pub length-producedShares : (side : ℕ) → length (producedShares P m x side) ≡ 8 * N * m
   unfolding producedShares
-  length-producedShares side = length-joined (8 * N) (λ j. written (shareOf side j)) m (λ j l. length-encode N _)
+  length-producedShares side = length-joined (8 * N) (λ j. coefficientBytes q N (shareOf side j)) m (λ j l. length-encode N _)
 
   pub share-written : (side j : ℕ) → j < m
       → part (producedShares P m x side) (8 * N * j) (8 * N) ≡ encode N (modulo q (share q N p (half-s P m x side) (uAt N (x .ballots) j) (lentMask (maskAt P m x side j))))
   unfolding producedShares
-  share-written side j h = joined-at (8 * N) (λ i. written (shareOf side i)) m (λ i l. length-encode N _) j h
+  share-written side j h = joined-at (8 * N) (λ i. coefficientBytes q N (shareOf side i)) m (λ i l. length-encode N _) j h
 
   abbrev vote : ℕ → Bytes
   vote j = list N (decrypted q N p (secret-s P m x) (uAt N (x .ballots) j) (vAt N (x .ballots) j))
@@ -176,7 +173,7 @@ module _ (P : Parameters) (m : ℕ) (x : Material) where
         × (part (producedOpening P m x side) (16 * N) (3 * N) ≡ hides-s P m x side) × (part (producedOpening P m x side) (19 * N) (3 * N) ≡ hides-e P m x side)
     unfolding producedOpening
     opening-written side h =
-        four-read (8 * N) (8 * N) (3 * N) (3 * N) (16 * N) (19 * N) (omega arith) (omega arith) (written (half-s P m x side)) (written (half-e P m x side)) (hides-s P m x side) (hides-e P m x side)
+        four-read (8 * N) (8 * N) (3 * N) (3 * N) (16 * N) (19 * N) (omega arith) (omega arith) (coefficientBytes q N (half-s P m x side)) (coefficientBytes q N (half-e P m x side)) (hides-s P m x side) (hides-e P m x side)
         (length-encode N _) (length-encode N _) (hides-s-sized side h) (hides-e-sized side h)
 
     pub length-producedOpening : (side : ℕ) → side < 2 → length (producedOpening P m x side) ≡ 22 * N

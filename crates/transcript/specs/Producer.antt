@@ -9,8 +9,8 @@ use lib.ListN.{length, getD}
 use Rattle.codec.specs.Bytes.{Bytes, part, same}
 use Rattle.codec.specs.Reply.{Test, test}
 use Rattle.codec.specs.Lists.{list, allBelow, all}
-use Rattle.ring.specs.Poly.{Poly, modulo}
-use Rattle.ring.specs.Slots.{poly, encode}
+use Rattle.ring.specs.Poly.{Poly}
+use Rattle.ring.specs.Slots.{coefficientBytes, poly}
 use Rattle.ring.specs.Ternary.{ternary}
 use Rattle.bgv.specs.Scheme.{centred, key, opened, decrypted, other, share, lentMask, within}
 use Rattle.commitment.specs.Commitment.{threeOf, committed, pairBytes}
@@ -49,9 +49,6 @@ materialOf secrets s0 e0 masks0 masks1 vectors permutations salts ballots = reco
 
 module _ (P : Parameters) (m : ℕ) (x : Material) where
   open Parameters P using (q, N, p, B, D, repeats, a, b, k)
-
-  abbrev written : Poly → Bytes
-  written f = encode N (modulo q f)
 
   -- the secret, and its halves by side
   abbrev pub secret-s : Poly
@@ -120,7 +117,7 @@ module _ (P : Parameters) (m : ℕ) (x : Material) where
   unfoldable pub producerTests : (asked : Bool) → List Test
   producerTests asked =
       test 5 0 (not (asked && materialRanged))
-      ∷ test 14 0 (not (same (written (key q N p a secret-s secret-e)) (written b)))
+      ∷ test 14 0 (not (same (coefficientBytes q N (key q N p a secret-s secret-e)) (coefficientBytes q N b)))
       ∷ (each m (λ j. test 12 j (not (within B N (lentMask (maskAt 0 j)) && within B N (lentMask (maskAt 1 j)))) ∷ [])
       ++ (each repeats (λ i. test 9 i (not (permutes (42 * N) (entries (permutationAt i)))) ∷ [])
       ++ each m (λ j. test 15 j (not (within D N (centred q (opened q N secret-s (uAt N (x .ballots) j) (vAt N (x .ballots) j))))) ∷ [])))
@@ -136,13 +133,13 @@ module _ (P : Parameters) (m : ℕ) (x : Material) where
 
   unfoldable pub producedHead : Bytes
   producedHead =
-      written (key q N p a (half-s 0) (half-e 0))
-      ++ (written (key q N p a (half-s 1) (half-e 1))
+      coefficientBytes q N (key q N p a (half-s 0) (half-e 0))
+      ++ (coefficientBytes q N (key q N p a (half-s 1) (half-e 1))
       ++ (producedPairs
       ++ joined repeats (λ i. honestDigests q N k (x .secrets) (drawnAt i))))
 
   unfoldable pub producedShares : ℕ → Bytes
-  producedShares side = joined m (λ j. written (share q N p (half-s side) (uAt N (x .ballots) j) (lentMask (maskAt side j))))
+  producedShares side = joined m (λ j. coefficientBytes q N (share q N p (half-s side) (uAt N (x .ballots) j) (lentMask (maskAt side j))))
 
   -- the decrypted votes
   unfoldable pub producedClaims : Bytes
@@ -151,7 +148,7 @@ module _ (P : Parameters) (m : ℕ) (x : Material) where
   -- ---- the second call: the opening of a side, and the answers to challenges
 
   unfoldable pub producedOpening : ℕ → Bytes
-  producedOpening side = written (half-s side) ++ (written (half-e side) ++ (hides-s side ++ hides-e side))
+  producedOpening side = coefficientBytes q N (half-s side) ++ (coefficientBytes q N (half-e side) ++ (hides-s side ++ hides-e side))
 
   unfoldable pub producedAnswers : Bytes → Bytes
   producedAnswers challenges = joined repeats (λ i. honestAnswer q N (x .secrets) (drawnAt i) (getD challenges i 0))

@@ -9,8 +9,8 @@ use lib.ListN.{length, getD}
 use Rattle.codec.specs.Bytes.{Bytes, part, same}
 use Rattle.codec.specs.Reply.{Test, test}
 use Rattle.codec.specs.Lists.{list, allBelow, all}
-use Rattle.ring.specs.Poly.{Poly, plus, modulo}
-use Rattle.ring.specs.Slots.{poly, encode}
+use Rattle.ring.specs.Poly.{Poly, plus}
+use Rattle.ring.specs.Slots.{coefficientBytes, poly}
 use Rattle.bgv.specs.Scheme.{key, worked, within, reconstructed}
 use Rattle.commitment.specs.Commitment.{Keys, threeOf, opens}
 use Rattle.vector.specs.Vector.{vector}
@@ -57,9 +57,6 @@ sharesOf r (suc i) = r .shares1
 module _ (P : Parameters) (m : ℕ) where
   open Parameters P using (q, N, p, B, repeats, a, b, k)
 
-  abbrev written : Poly → Bytes
-  written f = encode N (modulo q f)
-
   -- the lengths, which refusal 1 asks for
   pub record Lengths (r : Round) : Type 0 where
     pub challenges : length (r .challenges) ≡ repeats
@@ -102,11 +99,11 @@ module _ (P : Parameters) (m : ℕ) where
 
   -- b0 + b1 is b
   unfoldable pub splits : Bytes → Bool
-  splits head = same (written (plus (keyAt N head 0) (keyAt N head 1))) (written b)
+  splits head = same (coefficientBytes q N (plus (keyAt N head 0) (keyAt N head 1))) (coefficientBytes q N b)
 
   -- the opened b_i is a s_i + p e_i
   unfoldable pub opensKey : (head : Bytes) (side : ℕ) → Opening → Bool
-  opensKey head side o = same (part head (8 * N * side) (8 * N)) (written (key q N p a (o .s) (o .e)))
+  opensKey head side o = same (part head (8 * N * side) (8 * N)) (coefficientBytes q N (key q N p a (o .s) (o .e)))
 
   -- the pairs of s_i and e_i are those of the opening
   unfoldable pub opensPairs : (head : Bytes) (side : ℕ) → Opening → Bool

@@ -4,10 +4,9 @@ use Prim.Native.Nat.{_-_, _*_}
 use native.Mathlib.Omega.{arith}
 use borrow.Author.Needs.{needs}
 use Rattle.codec.specs.Bytes.{Bytes, part, put}
-use Rattle.ring.specs.Slots.{poly}
+use Rattle.ring.specs.Slots.{coefficientBytes, poly}
 use Rattle.ring.specs.Ternary.{ternary}
 use Rattle.bgv.specs.Scheme.{other}
-use Rattle.scheme.specs.Calls.{written}
 use Rattle.stern.proofs.Answered.{lent-length}
 use Rattle.message_head.proofs.Joining.{cut}
 use Rattle.message_head.proofs.HeadParts.{two-behind}
@@ -32,8 +31,8 @@ returns c =
     let d = c .before .before .before .before .before .before .before .before .before .before .before .before .difference in
     let e = c .before .before .before .before .difference2 in (
       two-behind q n (other q (ternary q (part s 0 n)) (poly (a .s0 .now))) (other q (ternary q (part s n n)) (poly (a .e0 .now))) (a .opening .now) (d .last .0) (e .last .0) (p .4)
-          (d .ensures .0 ∙ ap (λ (x : Bytes). put (a .opening .now) 0 (written q n (other q (ternary q x) (poly (a .s0 .now))))) (cut s 0 (n - 0) n (omega arith)))
-          (e .ensures .0 ∙ ap (λ (x : Bytes). put (d .last .0) (8 * n) (written q n (other q (ternary q x) (poly (a .e0 .now))))) (cut s n (2 * n - n) n (omega arith))),
+          (d .ensures .0 ∙ ap (λ (x : Bytes). put (a .opening .now) 0 (coefficientBytes q n (other q (ternary q x) (poly (a .s0 .now))))) (cut s 0 (n - 0) n (omega arith)))
+          (e .ensures .0 ∙ ap (λ (x : Bytes). put (d .last .0) (8 * n) (coefficientBytes q n (other q (ternary q x) (poly (a .e0 .now))))) (cut s n (2 * n - n) n (omega arith))),
       e .ensures .1 ∙ d .ensures .1,
     )
 
