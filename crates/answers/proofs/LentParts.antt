@@ -21,21 +21,21 @@ module _ (q n place : ℕ) (k : Keys) (c d answer : Bytes) where
   with1 a b e f =
       tests1 q n k c d place (record { w = take a answer; t = take b (drop (42 * n) answer); salt2 = take e (drop (378 * n) answer); salt3 = take f (drop (378 * n + 32) answer) })
 
-  pub lent1 : (a b e f : ℕ) → a ≡ 42 * n → b ≡ 336 * n → e ≡ 32 → f ≡ 32 → first (with1 a b e f) ≡ first (tests1 q n k c d place (answer1Of n answer))
-  lent1 a b e f ea eb ee ef =
-      ap₂ (λ (x y : ℕ). first (with1 x y e f)) ea eb ∙ ap₂ (λ (x y : ℕ). first (with1 (42 * n) (336 * n) x y)) ee ef
+  pub lent1 : (a b e f : ℕ) → a ≡ 42 * n → b ≡ 336 * n → e ≡ 32 → f ≡ 32 → {r : Reply} → r ≡ first (with1 a b e f) → r ≡ first (tests1 q n k c d place (answer1Of n answer))
+  lent1 a b e f ea eb ee ef er =
+      er ∙ ap₂ (λ (x y : ℕ). first (with1 x y e f)) ea eb ∙ ap₂ (λ (x y : ℕ). first (with1 (42 * n) (336 * n) x y)) ee ef
 
   -- answers 2 and 3 are cut alike
   abbrev cut : (a b e f : ℕ) → (Bytes → Bytes → Bytes → Bytes → List Test) → Reply
   cut a b e f tests = first (tests (take a answer) (take b (drop (168 * n) answer)) (take e (drop (504 * n) answer)) (take f (drop (504 * n + 32) answer)))
 
-  cut-alike : (tests : Bytes → Bytes → Bytes → Bytes → List Test) (a b e f : ℕ) → a ≡ 168 * n → b ≡ 336 * n → e ≡ 32 → f ≡ 32 → cut a b e f tests ≡ cut (168 * n) (336 * n) 32 32 tests
-  cut-alike tests a b e f ea eb ee ef = ap₂ (λ (x y : ℕ). cut x y e f tests) ea eb ∙ ap₂ (λ (x y : ℕ). cut (168 * n) (336 * n) x y tests) ee ef
+  cut-alike : (tests : Bytes → Bytes → Bytes → Bytes → List Test) (a b e f : ℕ) → a ≡ 168 * n → b ≡ 336 * n → e ≡ 32 → f ≡ 32 → {r : Reply} → r ≡ cut a b e f tests → r ≡ cut (168 * n) (336 * n) 32 32 tests
+  cut-alike tests a b e f ea eb ee ef er = er ∙ ap₂ (λ (x y : ℕ). cut x y e f tests) ea eb ∙ ap₂ (λ (x y : ℕ). cut (168 * n) (336 * n) x y tests) ee ef
 
-  pub lent2 : (a b e f : ℕ) → a ≡ 168 * n → b ≡ 336 * n → e ≡ 32 → f ≡ 32
-      → cut a b e f (λ p u s t. tests2 q n k c d place (record { p = p; u = u; salt1 = s; salt3 = t })) ≡ first (tests2 q n k c d place (answer2Of n answer))
+  pub lent2 : (a b e f : ℕ) → a ≡ 168 * n → b ≡ 336 * n → e ≡ 32 → f ≡ 32 → {r : Reply}
+      → r ≡ cut a b e f (λ p u s t. tests2 q n k c d place (record { p = p; u = u; salt1 = s; salt3 = t })) → r ≡ first (tests2 q n k c d place (answer2Of n answer))
   lent2 = cut-alike (λ p u s t. tests2 q n k c d place (record { p = p; u = u; salt1 = s; salt3 = t }))
 
-  pub lent3 : (a b e f : ℕ) → a ≡ 168 * n → b ≡ 336 * n → e ≡ 32 → f ≡ 32
-      → cut a b e f (λ p r s t. tests3 q n k c d place (record { p = p; r = r; salt1 = s; salt2 = t })) ≡ first (tests3 q n k c d place (answer3Of n answer))
+  pub lent3 : (a b e f : ℕ) → a ≡ 168 * n → b ≡ 336 * n → e ≡ 32 → f ≡ 32 → {r : Reply}
+      → r ≡ cut a b e f (λ p r s t. tests3 q n k c d place (record { p = p; r = r; salt1 = s; salt2 = t })) → r ≡ first (tests3 q n k c d place (answer3Of n answer))
   lent3 = cut-alike (λ p r s t. tests3 q n k c d place (record { p = p; r = r; salt1 = s; salt2 = t }))

@@ -1,21 +1,22 @@
 -- The loop over ballots: where ballot j, its claim and its shares stand, and what its reply adds. Assumes nothing.
-use mathlib.Core.Path.{_≡_, sym, ap, _∙_}
-use mathlib.Core.Bool.{not}
+use mathlib.Core.Path.{_≡_, sym, ap, ap₂, _∙_}
+use mathlib.Core.Bool.{Bool, not}
 use mathlib.Core.List.{List, [], _∷_}
-use Prim.Native.Nat.{ℕ, _+_, _*_, _≤_, _<_}
+use Prim.Native.Nat.{ℕ, _+_, _-_, _*_, _≤_, _<_}
 use native.Mathlib.Nat.{mul-zero, mul-add, mul-one, mul-le-mul}
 use native.Mathlib.Omega.{arith}
-use lib.ListN.{length}
+use lib.ListN.{length, take, drop}
 use Rattle.codec.specs.Bytes.{Bytes, part, same}
 use Rattle.codec.specs.Reply.{Test, test, first, None}
 use Rattle.codec.specs.declared.Reply.{Reply}
 use Rattle.codec.specs.declared.Reply.the-variants.{Taken, Refused}
 use Rattle.codec.specs.Lists.{list}
-use Rattle.ring.specs.Poly.{Below}
+use Rattle.ring.specs.Poly.{Poly, Alike, Below}
 use Rattle.ring.specs.Slots.{poly, slot}
 use Rattle.bgv.specs.Scheme.{worked, within, reconstructed}
 use Rattle.transcript.specs.Layout.{each, ballotLength}
 use Rattle.transcript.specs.Method.{Batch, Shares}
+use Rattle.transcript.proofs.Compared.{within-alike, vote-alike, lent-alike}
 use Rattle.transcript.proofs.Many.{each-more, each-refused, each-taken, stretch}
 
 module _ (q n bound : ℕ) (s ballots claims shares0 shares1 opened : Bytes) where
@@ -25,6 +26,35 @@ module _ (q n bound : ℕ) (s ballots claims shares0 shares1 opened : Bytes) whe
       test 12 place (not (within bound n (worked q n 2 (poly s) (slot ballots (at + 4)) (slot opened share))))
       ∷ test 13 place (not (same (part claims claim n) (list n (reconstructed q 2 (slot ballots (at + 4 + 8 * n)) (slot shares0 share) (slot shares1 share)))))
       ∷ []
+
+  -- the same from parts that are lent with lengths that are differences of places
+  module _ (at claim share place : ℕ) (lb : at + 4 + 16 * n ≤ length ballots) (l0 : share + 8 * n ≤ length shares0) (l1 : share + 8 * n ≤ length shares1) (lo : share + 8 * n ≤ length opened) where
+    abbrev lent : Bytes → Poly
+    lent x = poly (take (share + 8 * n - share) (drop share x))
+
+    alike-at : (x : Bytes) → share + 8 * n ≤ length x → Alike q n (lent x) (slot x share)
+    alike-at x l = lent-alike n q x share (share + 8 * n - share) (omega arith) l
+
+    abbrev lent-u : Poly
+    lent-u = poly (take (at + 4 + 8 * n - (at + 4)) (drop (at + 4) ballots))
+
+    abbrev lent-v : Poly
+    lent-v = poly (take (at + 4 + 16 * n - (at + 4 + 8 * n)) (drop (at + 4 + 8 * n) ballots))
+
+    alike-u : Alike q n lent-u (slot ballots (at + 4))
+    alike-u = lent-alike n q ballots (at + 4) (at + 4 + 8 * n - (at + 4)) (omega arith) (omega arith)
+
+    alike-v : Alike q n lent-v (slot ballots (at + 4 + 8 * n))
+    alike-v = lent-alike n q ballots (at + 4 + 8 * n) (at + 4 + 16 * n - (at + 4 + 8 * n)) (omega arith) (omega arith)
+
+    pub lent-tests : {r : Reply}
+        → r ≡ first (test 12 place (not (within bound n (worked q n 2 (poly s) lent-u (lent opened)))) ∷ test 13 place (not (same (take (claim + n - claim) (drop claim claims)) (list n (reconstructed q 2 lent-v (lent shares0) (lent shares1))))) ∷ [])
+        → r ≡ first (at-places at claim share place)
+    lent-tests e =
+        let m : claim + n - claim ≡ n = omega arith in
+        e
+        ∙ ap₂ (λ (y z : Bool). first (test 12 place (not y) ∷ test 13 place (not z) ∷ [])) (within-alike q n 2 bound (poly s) alike-u (alike-at opened lo))
+        (ap₂ same (ap (λ (k : ℕ). take k (drop claim claims)) m) (vote-alike q n 2 alike-v (alike-at shares0 l0) (alike-at shares1 l1)))
 
   -- of ballot j
   abbrev pub ballotTests : ℕ → List Test

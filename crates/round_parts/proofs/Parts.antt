@@ -2,7 +2,7 @@
 use mathlib.Core.Path.{_≡_, sym, ap, ap₂, _∙_}
 use mathlib.Core.Bool.{Bool, not, _&&_}
 use mathlib.Core.List.{[], _∷_, _++_}
-use Prim.Native.Nat.{ℕ, _+_, _*_, _≤_, _<_}
+use Prim.Native.Nat.{ℕ, _+_, _-_, _*_, _≤_, _<_}
 use native.Mathlib.Nat.{mul-zero, mul-one, mul-add}
 use native.Mathlib.Omega.{arith}
 use lib.ListN.{take, drop}
@@ -52,11 +52,25 @@ pub key-alike : (n q : ℕ) (a : Poly) {s s' e e' : Poly} → Alike q n s s' →
 key-alike n q a u v = encode-alike (noisy-alike q n 2 alike-refl u v)
 
 -- 8: a pair, the polynomial that it commits to, and the three r
-pub opens-alike : (n q : ℕ) (k : Keys) {c c' r r' : Bytes} {m m' : Poly} → c ≡ c' → r ≡ r' → Alike q n m m' → opens q n k c (threeOf q n r) m ≡ opens q n k c' (threeOf q n r') m'
+opens-alike : (n q : ℕ) (k : Keys) {c c' r r' : Bytes} {m m' : Poly} → c ≡ c' → r ≡ r' → Alike q n m m' → opens q n k c (threeOf q n r) m ≡ opens q n k c' (threeOf q n r') m'
 unfolding opens pairBytes
 opens-alike n q k {c} {c'} {r} {r'} {m} ec er em =
     ap₂ (λ (x y : Bytes). opens q n k x (threeOf q n y) m) ec er
     ∙ ap (λ (x : Bytes). same c' (encode n (modulo q (row q n k (threeOf q n r'))) ++ x)) (encode-alike (second-alike q n k (record { r1 = alike-refl; r2 = alike-refl; r3 = alike-refl }) em))
+
+-- both pairs of a side, from parts that are lent on
+pub pairs-lent : (n q : ℕ) (k : Keys) (head : Bytes) (at : ℕ) (opening : Bytes) → Opened q n opening → {r : Bool}
+    → r ≡ (opens q n k (take (at + 16 * n - at) (drop at head)) (threeOf q n (take (19 * n - 16 * n) (drop (16 * n) opening))) (poly (take (8 * n - 0) opening)) && opens q n k (take (at + 48 * n - (at + 32 * n)) (drop (at + 32 * n) head)) (threeOf q n (take (22 * n - 19 * n) (drop (19 * n) opening))) (poly (take (16 * n - 8 * n) (drop (8 * n) opening))))
+    → r ≡ (opens q n k (part head at (16 * n)) (threeOf q n (part opening (16 * n) (3 * n))) (slot opening 0) && opens q n k (part head (at + 32 * n) (16 * n)) (threeOf q n (part opening (19 * n) (3 * n))) (slot opening (8 * n)))
+pairs-lent n q k head at opening o e =
+    let w : at + 16 * n - at ≡ 16 * n = omega arith in
+    let x : at + 48 * n - (at + 32 * n) ≡ 16 * n = omega arith in
+    let y : 19 * n - 16 * n ≡ 3 * n = omega arith in
+    let z : 22 * n - 19 * n ≡ 3 * n = omega arith in
+    e
+    ∙ ap₂ _&&_
+    (opens-alike n q k (ap (λ (m : ℕ). take m (drop at head)) w) (ap (λ (m : ℕ). take m (drop (16 * n) opening)) y) (alike-s n q opening o (8 * n - 0) (omega arith)))
+    (opens-alike n q k (ap (λ (m : ℕ). take m (drop (at + 32 * n) head)) x) (ap (λ (m : ℕ). take m (drop (19 * n) opening)) z) (alike-e n q opening o (16 * n - 8 * n) (omega arith)))
 
 -- where the half of the key and the pairs of a side stand
 module _ (n side : ℕ) (low : side < 2) where
