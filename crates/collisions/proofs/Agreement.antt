@@ -10,7 +10,7 @@ use borrow.Author.Tests.{eq-eqb, not-true, not-false}
 use lib.ListN.{length, take, drop, getD, length-append}
 use lib.Seq.{ext-getD}
 use Rattle.codec.specs.Bytes.{Bytes, part, put, words, same}
-use Rattle.codec.proofs.Laws.{length-part, part-append, part-put, same-refl, same-equal, not-same, written-length}
+use Rattle.codec.proofs.Laws.{length-part, part-append, part-put, same-refl, same-equal, not-same}
 use Rattle.codec.specs.Lists.{allBelow}
 use Rattle.commitment.specs.Commitment.{Keys, Pair, pairBytes, PairStands}
 use Rattle.vector.specs.Vector.{Vector, vector, ternaries, add, subtract}
@@ -54,15 +54,14 @@ halved s n =
 
 -- ---- a pair that is kept in room, and the equations
 
-module _ (q n : ℕ) (d d' w w' : Bytes) (p : Pair) (room : 16 * n ≤ length d) (h : PairStands q n p w w') (e : d' ≡ put d 0 (part w' 0 (8 * n) ++ part w' 49152 (8 * n))) where
-  kept : d' ≡ put d 0 (pairBytes q n p)
-  kept = e ∙ ap (put d 0) (stands-bytes q n p w w' h)
+module _ (q n : ℕ) (d : Bytes) {d' w w' : Bytes} (p : Pair) (room : 16 * n ≤ length d) (h : PairStands q n p w w') (e : d' ≡ put d 0 (part w' 0 (8 * n) ++ part w' 49152 (8 * n))) where
+  kept-pair : part d' 0 (16 * n) ≡ pairBytes q n p
+  kept-pair =
+      ap₂ (λ (s : Bytes) (k : ℕ). part s 0 k) (e ∙ ap (put d 0) (stands-bytes q n p w w' h)) (sym (length-pairBytes q n p)) ∙ part-put d 0 (pairBytes q n p) (omega (arith, length-pairBytes q n p))
 
-  pub kept-length : length d' ≡ length d
-  kept-length = written-length d d' (pairBytes q n p) 0 (omega (arith, length-pairBytes q n p)) kept
-
-  pub kept-pair : part d' 0 (16 * n) ≡ pairBytes q n p
-  kept-pair = ap₂ (λ (s : Bytes) (k : ℕ). part s 0 k) kept (sym (length-pairBytes q n p)) ∙ part-put d 0 (pairBytes q n p) (omega (arith, length-pairBytes q n p))
+  -- compared with one that stands in scratch
+  pub pairs-compared : (t : Pair) {v v' : Bytes} {r : Bool} → PairStands q n t v v' → r ≡ same (part d' 0 (16 * n)) (part v' 0 (8 * n) ++ part v' 49152 (8 * n)) → r ≡ same (pairBytes q n p) (pairBytes q n t)
+  pairs-compared t {v} {v'} g f = f ∙ ap₂ same kept-pair (stands-bytes q n t v v' g)
 
 -- ---- the strings
 

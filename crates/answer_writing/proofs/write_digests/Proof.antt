@@ -5,7 +5,7 @@ use native.Mathlib.Omega.{arith}
 use borrow.Author.Needs.{needs}
 use lib.ListN.{length}
 use Rattle.codec.specs.Bytes.{put}
-use Rattle.codec.proofs.Laws.{length-part, written-length}
+use Rattle.codec.proofs.Laws.{length-part}
 use Rattle.sha3.proofs.Squeezing.{length-sha3}
 use Rattle.vector.specs.Permutation.{entries}
 use Rattle.vector.proofs.Counts.{permutes-below}
@@ -42,14 +42,9 @@ masked-digest-requires c κs =
 
 copy-requires-3 : tie.Need-copy-requires-3
 copy-requires-3 c κs =
-    let a = c .before .before .before .before .before .before .before .before .before .before .before .before .before .before .before .before .before .before .before .before .before .before .before .before .before .before .before .before .before .before .before .before .before .before .args in
     let p = c .before .before .before .before .before .before .before .before .before .before .before .before .before .before .before .before .before .before .before .before .before .before .before .before .before .before .before .before .before .before .before .before .before .before .pre in
     let r3 = ap length (c .before .before .before .before .masked-digest .ensures .0) ∙ length-sha3 _ in
-    let r2 = ap length (c .before .before .before .before .before .before .before .before .before .before .before .before .before .before .gathered-digest .ensures .0) ∙ length-sha3 _ in
-    let r1 = ap length (c .before .before .before .before .before .before .before .before .before .before .before .before .before .before .before .before .before .before .before .before .before .before .before .before .equations-digest .ensures .0) ∙ length-sha3 _ in
-    let l1 = written-length (a .out .now) (c .before .before .before .before .before .before .before .before .before .before .before .before .before .before .before .before .before .before .before .copy .last .0) _ (a .at) (omega (arith, p .2, r1)) (c .before .before .before .before .before .before .before .before .before .before .before .before .before .before .before .before .before .before .before .copy .ensures) in
-    let l2 = written-length (c .before .before .before .before .before .before .before .before .before .before .before .before .before .before .before .before .before .before .before .copy .last .0) (c .before .before .before .before .before .before .before .before .before .copy2 .last .0) _ (a .at + 32) (omega (arith, p .2, r2, l1)) (c .before .before .before .before .before .before .before .before .before .copy2 .ensures) in
-    omega (arith, r3, l1, l2, p .2)
+    omega (arith, r3, c .before .before .before .before .before .before .before .before .out2 .given, c .before .before .before .before .before .before .before .before .before .before .before .before .before .before .before .before .before .before .out .given, p .2)
 
 returns : tie.Need-returns
 returns c =
@@ -61,4 +56,4 @@ returns c =
     )
 
 pub write-digests-spec : {M : Type 1} → statement M
-write-digests-spec = tie.close (tie.spec (λ c. search needs) (λ c. search needs) (λ c. search needs) (λ c. search needs) (λ c. search needs) equations-digest-requires (λ c. search needs) (λ c κs. search needs) (λ c. search needs) (λ c. search needs) (λ c. search needs) gathered-digest-requires (λ c. search needs) (λ c κs. search needs) (λ c. search needs) (λ c. search needs) part-masked-digest-end masked-digest-requires (λ c. search needs) copy-requires-3 (λ c. search needs) (λ c. search needs) returns)
+write-digests-spec = tie.close (tie.spec (λ c. omega arith) (λ c. omega arith) (λ c. omega arith) (λ c. omega arith) (λ c. omega arith) equations-digest-requires (λ c. omega arith) (λ c κs. search needs) (λ c. omega arith) (λ c. omega arith) (λ c. omega arith) gathered-digest-requires (λ c. omega arith) (λ c κs. search needs) (λ c. omega arith) (λ c. omega arith) part-masked-digest-end masked-digest-requires (λ c. omega arith) copy-requires-3 (λ c. c .before .out3 .given ∙ c .before .before .before .before .before .before .before .before .before .before .before .out2 .given ∙ c .before .before .before .before .before .before .before .before .before .before .before .before .before .before .before .before .before .before .before .before .before .out .given) (λ c. c .before .before .before .before .before .before .work3 .given ∙ c .before .before .before .before .before .before .before .before .before .before .before .before .before .before .before .before .work2 .given ∙ c .before .before .before .before .before .before .before .before .before .before .before .before .before .before .before .before .before .before .before .before .before .before .before .before .before .before .work .given) returns)
