@@ -1,7 +1,6 @@
 -- What a check comes to, from the replies of its two parts, and the same over the sheet. Assumes nothing.
 use mathlib.Core.Path.{_≡_, refl, sym, ap, ap₂, _∙_}
 use Prim.Native.Nat.{ℕ, _-_, _*_}
-use native.Mathlib.Omega.{arith}
 use lib.ListN.{length, take, drop}
 use Rattle.codec.specs.Bytes.{Bytes, part}
 use Rattle.codec.specs.Reply.{first}
@@ -13,9 +12,6 @@ use Rattle.sheet_numbers.specs.declared.Numbers.{Numbers}
 use Rattle.sheet.specs.declared.Reading.{Reading}
 use Rattle.sheet.specs.declared.Reading.the-variants.{Taken, Refused}
 use Rattle.call.specs.Call.{swept}
-use Rattle.call.proofs.Lent.{Lent}
-use Rattle.bgv.proofs.Sheets.{two-sound}
-use Rattle.scheme_calls.proofs.Keys.{lent-keys}
 use Rattle.transcript.specs.Method.{parameters}
 use Rattle.transcript.specs.Round.{Parameters, Round, roundTests}
 use Rattle.round_parts.specs.Orders.{roundOf}
@@ -27,7 +23,7 @@ use Rattle.stored.specs.Stored.{Inputs, sideOf, challengesOf, drawnRound, lentT
 use Rattle.checking.specs.Check.{earlyTests, lateTests, verdict, replyOf, outcome}
 use Rattle.checking.specs.declared.Verdict.{Verdict}
 use Rattle.checking.specs.declared.Verdict.the-variants.{Stopped}
-use Rattle.checking.specs.Parts.{Loaded, takenOutcome}
+use Rattle.checking.specs.Parts.{takenOutcome}
 
 -- ---- from the two replies
 
@@ -62,20 +58,6 @@ pub parted : (k : Numbers) (s : Bytes) {B : ℕ} → B ≡ mask 2 (k .ring) (k .
 parted k s {B} b =
     lent-keyed (k .ring) (k .modulus) B (k .repeats) s
     ∙ ap (λ (x : ℕ). parameters 2 (k .ring) (k .modulus) x (k .repeats) (part s 0 (8 * k .ring)) (part s (8 * k .ring) (8 * k .ring)) (part s (16 * k .ring) (24 * k .ring))) b
-
--- what the round is given of a sheet that is taken
-pub sheet-loaded : {text public : Bytes} {k : Numbers} → Lent 2 text public k → Loaded k public
-sheet-loaded {text} {public} {k} h =
-    let n = k .ring in
-    record {
-      a = h .polynomial 0 0 (8 * n) (omega arith) (omega arith) refl;
-      b = h .polynomial 1 (8 * n) (8 * n) (omega arith) (omega arith) refl;
-      keys = lent-keys h (16 * n) (24 * n) refl refl;
-      odd = two-sound text k (h .said) .odd;
-      drown-high = h .ranged .drown-high;
-      repeats-high = h .ranged .repeats-high;
-      sized = omega (arith, h .sized, h .ranged .ring-high);
-    }
 
 module _ (s : Stored) (x : Inputs) where
   abbrev pub Checked : Verdict → Bytes → Type 0

@@ -16,7 +16,8 @@ ghost use Rattle.lengths.specs.Sheets.{given};
 ghost use Rattle.drawing.specs.Draw.{drawnChallenges};
 ghost use Rattle.stored.specs.Stored.{Within, sideOf, challengesOf, inputsOf};
 ghost use Rattle.checking.specs.Check.{verdict, replyOf};
-ghost use Rattle.checking.specs.Parts.{Loaded, takenOutcome};
+ghost use Rattle.commitment.specs.Loaded.{Loaded};
+ghost use Rattle.checking.specs.Parts.{takenOutcome};
 
 // The challenges that are drawn for a round, at the head of room for as many as there can be.
 fn challenges_of(seed: &[u8; 32], round: u16, repeats: usize) -> [u8; 256]

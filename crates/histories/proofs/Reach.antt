@@ -1,12 +1,12 @@
 -- Sessions reached from a clear taken are valid, so that 31 is met only for wrong phase or round. Assumes nothing.
 use mathlib.Core.Path.{_≡_, sym, ap₂}
 use mathlib.Core.Bool.{Bool, true, false, not, _&&_}
-use mathlib.Core.List.{_∷_, _++_}
+use mathlib.Core.List.{List, _∷_, _++_}
 use Prim.Native.Nat.{ℕ}
 use native.Mathlib.Omega.{arith}
-use borrow.Author.Tests.{not-true}
+use borrow.Author.Tests.{eqb-false, not-true}
 use Rattle.codec.specs.Bytes.{Bytes}
-use Rattle.codec.specs.Reply.{test, first}
+use Rattle.codec.specs.Reply.{Test, test, first}
 use Rattle.codec.specs.declared.Reply.the-variants.{Refused}
 use Rattle.codec.proofs.Replies.{taken-exactly}
 use Rattle.call.proofs.Sweeping.{leaves-taken}
@@ -16,11 +16,11 @@ use Rattle.lengths.proofs.Swept.{later-round}
 use Rattle.checking.specs.Check.{Inputs, inputsSized, storedTests, earlyTests, lateTests, drawnRound}
 use Rattle.session.specs.declared.Session.{Session}
 use Rattle.session.specs.Session.{valid}
-use Rattle.session.specs.Steps.{storedFor, clearTests, admitTests, withdrawTests, closeTests, claimTests, commitTests, drawTests, checkEarly, checkLate, checkTests}
+use Rattle.session.specs.Steps.{dueTest, storedFor, clearTests, admitTests, withdrawTests, closeTests, claimTests, commitTests, drawTests, checkEarly, checkLate, checkTests}
 use Rattle.histories.specs.Runs.{Step, clear, admit, withdraw, close, claim, commit, draw, check, state, reply, after, ownInitial, initial, trace}
-use Rattle.histories.specs.Claims.{due, ClearTaken, StaysValid, OnlyPhaseOrRound}
+use Rattle.histories.specs.Claims.{Undue, ClearTaken, StaysValid, OnlyPhaseOrRound}
 use Rattle.histories.proofs.Replies.{Others, others, others-append, later-others, head-holds}
-use Rattle.histories.proofs.Valid.{valid-holds, sheet-exactly}
+use Rattle.histories.proofs.Valid.{off-both, off-turn, valid-holds, sheet-exactly}
 use Rattle.histories.proofs.Exact.{cleared-exactly}
 use Rattle.histories.proofs.Kept.{kept}
 
@@ -49,16 +49,20 @@ module _ (p : ℕ) (s : Session) (reg : Bytes) (place : ℕ) (v : valid p s ≡ 
       (omega arith)
       (later-others (checkLate p s round x) (later-round (parametersOf p (x .sheet)) (s .progress .closed) (drawnRound (storedFor s round) x)))
 
-  only-31 : (x : Step) → reply p x (state s reg) ≡ Refused 31 place → due x s ≡ false
-  unfolding reply due clearTests admitTests withdrawTests closeTests claimTests commitTests drawTests checkEarly checkTests
+  -- the first test of an order holds, with 31: the step is not due
+  not-due : (due : Bool) (ts : List Test) → Others 31 ts → first (dueTest p s due ∷ ts) ≡ Refused 31 place → due ≡ false
+  not-due due ts o e = undue (valid p s) due v (head-holds 31 place _ ts o e)
+
+  only-31 : (x : Step) → reply p x (state s reg) ≡ Refused 31 place → Undue x s
+  unfolding reply Undue clearTests admitTests withdrawTests closeTests claimTests commitTests drawTests checkEarly checkTests
   only-31 (clear text) e = absurd (others 31 place (clearTests p reg text) (omega arith) e)
-  only-31 (admit ballot) e = undue (valid p s) _ v (head-holds 31 place _ _ (omega arith) e)
-  only-31 (withdraw mark) e = undue (valid p s) _ v (head-holds 31 place _ _ (omega arith) e)
-  only-31 close e = undue (valid p s) _ v (head-holds 31 place _ _ (omega arith) e)
-  only-31 (claim claims) e = undue (valid p s) _ v (head-holds 31 place _ _ (omega arith) e)
-  only-31 (commit k head shares0 shares1) e = undue (valid p s) _ v (head-holds 31 place _ _ (omega arith) e)
-  only-31 (draw seed) e = undue (valid p s) _ v (head-holds 31 place _ _ (omega arith) e)
-  only-31 (check k x) e = undue (valid p s) _ v (head-holds 31 place _ (earlyTests (storedFor s k) p x ++ checkLate p s k x) (check-others k x) e)
+  only-31 (admit ballot) e = eqb-false _ _ (not-due _ _ (omega arith) e)
+  only-31 (withdraw mark) e = eqb-false _ _ (not-due _ _ (omega arith) e)
+  only-31 close e = eqb-false _ _ (not-due _ _ (omega arith) e)
+  only-31 (claim claims) e = eqb-false _ _ (not-due _ _ (omega arith) e)
+  only-31 (commit k head shares0 shares1) e = off-turn _ _ _ _ _ (not-due _ _ (omega arith) e)
+  only-31 (draw seed) e = off-both _ _ _ _ (not-due _ _ (omega arith) e)
+  only-31 (check k x) e = off-turn _ _ _ _ _ (not-due _ (earlyTests (storedFor s k) p x ++ checkLate p s k x) (check-others k x) e)
 
 pub only-phase-or-round : (p : ℕ) → OnlyPhaseOrRound p
 only-phase-or-round p sheet cs e x reg place r =

@@ -1,8 +1,8 @@
 -- What the test of a session, the test 31 of a step and the order of a sheet say, and that they are passed where that holds. Assumes nothing.
 use mathlib.Core.Path.{_≡_, refl, ap, ap₂}
-use mathlib.Core.Logic.{_↔_}
+use mathlib.Core.Logic.{_↔_, _≢_, _⊎_, inl, inr}
 use mathlib.Core.Bool.{Bool, true, false, not, _&&_, _||_}
-use Prim.Native.Nat.{ℕ, _<_}
+use Prim.Native.Nat.{ℕ, _≤_, _<_}
 use native.Mathlib.Omega.{arith}
 use lib.Dec.{eqb, ltb}
 use lib.ListN.{length}
@@ -87,6 +87,29 @@ on-turn phase at r k n e =
 
 pub is-turn : {phase at r k n : ℕ} → phase ≡ at → r ≡ k → r < n → (eqb phase at && (eqb r k && ltb r n)) ≡ true
 is-turn {phase} {at} {r} {k} {n} a b c = ap₂ _&&_ (eq-eqb phase at a) (ap₂ _&&_ (eq-eqb r k b) (lt-ltb r n c))
+
+-- where they are not both so, one is not
+either : (a b : Bool) → (a && b) ≡ false → (a ≡ false) ⊎ (b ≡ false)
+either true b e = inr e
+either false b e = inl refl
+
+pub off-both : (a b c d : ℕ) → (eqb a b && eqb c d) ≡ false → (a ≢ b) ⊎ (c ≢ d)
+off-both a b c d e = go (either (eqb a b) (eqb c d) e)
+  where
+    go : (eqb a b ≡ false) ⊎ (eqb c d ≡ false) → (a ≢ b) ⊎ (c ≢ d)
+    go (inl f) = inl (eqb-false a b f)
+    go (inr f) = inr (eqb-false c d f)
+
+pub off-turn : (phase at r k n : ℕ) → (eqb phase at && (eqb r k && ltb r n)) ≡ false → (phase ≢ at) ⊎ (r ≢ k) ⊎ (n ≤ r)
+off-turn phase at r k n e = go (either (eqb phase at) (eqb r k && ltb r n) e)
+  where
+    round : (eqb r k ≡ false) ⊎ (ltb r n ≡ false) → (r ≢ k) ⊎ (n ≤ r)
+    round (inl f) = inl (eqb-false r k f)
+    round (inr f) = inr (ltb-false r n f)
+
+    go : (eqb phase at ≡ false) ⊎ ((eqb r k && ltb r n) ≡ false) → (phase ≢ at) ⊎ (r ≢ k) ⊎ (n ≤ r)
+    go (inl f) = inl (eqb-false phase at f)
+    go (inr f) = inr (round (either (eqb r k) (ltb r n) f))
 
 -- ---- the sheet's order
 

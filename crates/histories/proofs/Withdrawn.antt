@@ -1,24 +1,24 @@
 -- The second demand: a mark whose withdrawal was taken stands in no batch closed later, before the next clear taken. Assumes nothing.
-use mathlib.Core.Path.{_≡_, sym, _∙_}
+use mathlib.Core.Path.{_≡_, refl, sym, subst, _∙_}
 use mathlib.Core.Logic.{_≢_}
 use mathlib.Core.Bool.{true, false}
 use mathlib.Core.List.{List, [], _∷_, List·Memᴰ}
 use Prim.Native.Nat.{ℕ, _+_, _≤_, _<_}
 use native.Mathlib.Omega.{arith}
 use native.Mathlib.Decide.{ℕ-discrete}
-use lib.ListN.{length}
+use lib.ListN.{length, length-map}
 use Rattle.codec.specs.Bytes.{Bytes, zeros}
 use Rattle.codec.specs.Reply.{first}
 use Rattle.codec.specs.declared.Reply.{Reply}
 use Rattle.codec.specs.declared.Reply.the-variants.{Taken}
 use Rattle.call.proofs.Sweeping.{leaves-taken}
-use Rattle.register.specs.Register.{registerLength, markAt, stateAt, find, standing, markOf, admitted, withdrawn}
+use Rattle.register.specs.Register.{registerLength, markAt, stateAt, digestAt, find, standing, standingDigests, markOf, admitted, withdrawn}
 use Rattle.register.proofs.Entries.{stands, admitted-marks, admitted-states, admitted-mark, withdrawn-marks, withdrawn-state, withdrawn-states}
 use Rattle.session.specs.declared.Session.{Session}
-use Rattle.session.specs.Steps.{clearTests, cleared, admittedBy, withdrawTests, closedBy, claimedBy, committedBy, drawnBy, acceptedBy, refusedBy, checkedBy}
+use Rattle.session.specs.Steps.{clearTests, cleared, admittedBy, withdrawTests, closeTests, closedBy, claimedBy, committedBy, drawnBy, acceptedBy, refusedBy, checkedBy}
 use Rattle.histories.specs.Runs.{Step, clear, admit, withdraw, close, claim, commit, draw, check, State, clears, reply, after, run, Uncleared, none, more}
 use Rattle.histories.specs.Conditions.{Admits, Withdraws}
-use Rattle.histories.specs.Claims.{StaysOut}
+use Rattle.histories.specs.Claims.{ClosedWithout, StaysOut}
 use Rattle.histories.proofs.Replies.{left, left-both}
 use Rattle.histories.proofs.Exact.{here, admitted-exactly, withdrawn-exactly}
 
@@ -179,9 +179,20 @@ module _ (p : ℕ) where
   gone-run mark none h = h
   gone-run mark (more {x = x} {st = st} c u) h = gone-run mark u (gone-step st mark x c h)
 
+  -- what close leaves, where no entry that stands has the mark
+  closed-without : (mark : ℕ) (st : State) → reply p close st ≡ Taken
+      → ((i : ℕ) → List·Memᴰ i (standing (st .register) (st .session .progress .used)) → markAt (st .register) i ≢ mark)
+      → ClosedWithout mark (st .register) (after p close st .session)
+  unfolding reply after closedBy standingDigests
+  closed-without mark st e others =
+      let s = st .session in
+      let reg = st .register in
+      subst (ClosedWithout mark reg) (leaves-taken (first (closeTests p s reg)) {x = closedBy s reg} s e)
+      (record { out = others; count = length-map (standing reg (s .progress .used)) (digestAt reg); digest = refl })
+
   pub withdrawn-stays-out : StaysOut p
-  withdrawn-stays-out start sheet before between mark c e u d i m k =
+  withdrawn-stays-out start sheet before between mark c e u d =
       let found = run p before (after p (clear sheet) start) in
       let single = single-run before (after p (clear sheet) start) (single-clear start sheet c) in
       let later = single-run between (after p (withdraw mark) found) (single-step found (withdraw mark) single) in
-      out mark i _ _ later (gone-run mark u (gone-after found mark e)) m k
+      closed-without mark _ d (λ i. out mark i _ _ later (gone-run mark u (gone-after found mark e)))

@@ -1,11 +1,9 @@
 -- What is claimed of a session's steps (the second and the third demand; document 01, the paragraph on demand 3's last sentence), for the plaintext modulus p: that each step
 -- is taken exactly under its conditions, and what holds of lists of steps. Assumes nothing.
 use mathlib.Core.Path.{_≡_}
-use mathlib.Core.Logic.{_↔_, _≢_}
-use mathlib.Core.Bool.{Bool, true, false}
+use mathlib.Core.Logic.{_↔_, _≢_, _⊎_}
 use mathlib.Core.List.{List, _∷_, _++_, List·Memᴰ, map}
-use Prim.Native.Nat.{ℕ, _<_}
-use lib.Dec.{eqb}
+use Prim.Native.Nat.{ℕ, _≤_, _<_}
 use lib.ListN.{length}
 use Rattle.codec.specs.Bytes.{Bytes, Octets}
 use Rattle.codec.specs.Reply.{first}
@@ -19,26 +17,32 @@ use Rattle.transcript.specs.Round.{Parameters}
 use Rattle.transcript.specs.Producer.{Material, Sized, producedHead, producedShares, producedClaims, producedOpening, producedAnswers}
 use Rattle.transcript.specs.Suitable.{Suitable}
 use Rattle.lengths.specs.Sheets.{parametersOf}
-use Rattle.register.specs.Register.{markAt, standing}
-use Rattle.digests.specs.Digests.{concatenated, ballotDigests}
+use Rattle.register.specs.Register.{markAt, digestAt, standing}
+use Rattle.digests.specs.Digests.{concatenated, ballotDigests, closingDigest}
 use Rattle.drawing.specs.Draw.{drawnSide, drawnChallenges}
 use Rattle.checking.specs.Check.{Inputs}
 use Rattle.session.specs.declared.Session.{Session}
-use Rattle.progress.specs.Progress.{gathering, closed, drawn, ended-accepted, commitDue, drawDue, checkDue}
+use Rattle.progress.specs.Progress.{gathering, closed, claimed, drawn, ended-accepted}
 use Rattle.session.specs.Steps.{storedFor, clearTests, admitTests, withdrawTests, closeTests, claimTests, commitTests, drawTests, checkTests}
 use Rattle.histories.specs.Runs.{Step, clear, admit, withdraw, close, claim, commit, draw, check, State, state, message, Trace, Call, call, initial, ownInitial, reply, after, run, Uncleared, NoClear, ownTrace, extend, trace, calls}
 use Rattle.histories.specs.Conditions.{Valid, Clears, Admits, Withdraws, Closes, Claims, Commits, Draws, Checks}
 
--- the phase and the round are those of the step
-unfoldable pub due : Step → Session → Bool
-due (clear text) s = true
-due (admit ballot) s = eqb (s .progress .phase) gathering
-due (withdraw mark) s = eqb (s .progress .phase) gathering
-due close s = eqb (s .progress .phase) gathering
-due (claim claims) s = eqb (s .progress .phase) closed
-due (commit k head shares0 shares1) s = commitDue (s .numbers) (s .progress) k
-due (draw seed) s = drawDue (s .numbers) (s .progress)
-due (check k x) s = checkDue (s .numbers) (s .progress) k
+-- the phase or the round is not that of the step
+unfoldable pub Undue : Step → Session → Type 0
+Undue (clear text) s = ⊥
+Undue (admit ballot) s = s .progress .phase ≢ gathering
+Undue (withdraw mark) s = s .progress .phase ≢ gathering
+Undue close s = s .progress .phase ≢ gathering
+Undue (claim claims) s = s .progress .phase ≢ closed
+Undue (commit k head shares0 shares1) s = (s .progress .phase ≢ claimed) ⊎ (k ≢ s .progress .committed) ⊎ (s .numbers .rounds ≤ k)
+Undue (draw seed) s = (s .progress .phase ≢ claimed) ⊎ (s .progress .committed ≢ s .numbers .rounds)
+Undue (check k x) s = (s .progress .phase ≢ drawn) ⊎ (k ≢ s .progress .checked) ⊎ (s .numbers .rounds ≤ k)
+
+-- a closed session, with the register that was closed: it holds the count and the closing digest of the entries that stand there, and none of them has the mark
+pub record ClosedWithout (mark : ℕ) (reg : Bytes) (s : Session) : Type 0 where
+  pub out : (i : ℕ) → List·Memᴰ i (standing reg (s .progress .used)) → markAt reg i ≢ mark
+  pub count : s .progress .closed ≡ length (standing reg (s .progress .used))
+  pub digest : s .closing ≡ closingDigest (s .sheet) (map (digestAt reg) (standing reg (s .progress .used)))
 
 -- what the producer makes of material, as a check of round k is lent it: made for the parameters of a sheet, m ballots, and what a seed draws
 module _ (P : Parameters) (m : ℕ) (material : Material) (seed : Bytes) (k : ℕ) where
@@ -83,7 +87,7 @@ module _ (p : ℕ) where
 
   -- ---- the second demand: withdrawn stays out
 
-  -- run any steps after a clear taken, then a withdrawal that is taken, then any steps among which no clear is taken: a close taken then closes no entry with that mark
+  -- run any steps after a clear taken, then a withdrawal that is taken, then any steps among which no clear is taken: what a close taken then leaves is a batch without that mark
   abbrev pub StaysOut : Type 0
   StaysOut = (start : State) (sheet : Bytes) (before between : List Step) (mark : ℕ)
       → reply p (clear sheet) start ≡ Taken
@@ -92,7 +96,7 @@ module _ (p : ℕ) where
       reply p (withdraw mark) found ≡ Taken
       → Uncleared p between (after p (withdraw mark) found)
       → reply p close last ≡ Taken
-      → (i : ℕ) → List·Memᴰ i (standing (last .register) (last .session .progress .used)) → markAt (last .register) i ≢ mark
+      → ClosedWithout mark (last .register) (after p close last .session)
 
   -- ---- the second demand: no round is waved by. Lists of steps from a newly cleared session, each lent any register
 
@@ -137,7 +141,7 @@ module _ (p : ℕ) where
   OnlyPhaseOrRound = (sheet : Bytes) (cs : List Call) → first (order p sheet) ≡ Taken
       → (x : Step) (register : Bytes) (place : ℕ)
       → let s = trace p cs (initial sheet) .session in
-      reply p x (state s register) ≡ Refused 31 place → due x s ≡ false
+      reply p x (state s register) ≡ Refused 31 place → Undue x s
 
   -- a round's turn: the check of the round next due after draw, lent the session's sheet and batch, the claims and the first message that were lodged (taken since the last clear), all of it
   -- the producer's, and scratch

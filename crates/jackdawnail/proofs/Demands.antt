@@ -1,21 +1,21 @@
 -- The second and the third demand: `demand2` and `demand3` of specs/Demands.antt. Assumes nothing.
-use mathlib.Core.Path.{_≡_, refl, ap}
-use mathlib.Core.Logic.{_↔_}
-use mathlib.Core.Bool.{Bool, true, false, cond, _&&_}
-use Prim.Native.Nat.{_^_, _≤_, _<_}
+use mathlib.Core.Path.{_≡_, ap}
+use mathlib.Core.Bool.{_&&_}
+use Prim.Native.Nat.{ℕ, _^_, _*_, _≤_, _<_}
 use native.Mathlib.Omega.{arith}
-use lib.Dec.{eqb, leb}
-use lib.ListN.{length}
-use borrow.Author.Tests.{eqb-true, eq-eqb, not-false}
-use Rattle.codec.specs.Bytes.{Bytes}
+use lib.Dec.{leb}
+use lib.ListN.{length-replicate}
+use borrow.Author.Tests.{not-false}
+use Rattle.codec.specs.Bytes.{Bytes, zeros}
 use Rattle.codec.specs.Reply.{first}
 use Rattle.codec.specs.declared.Reply.{Reply}
-use Rattle.codec.specs.declared.Reply.the-variants.{Taken, Refused}
+use Rattle.codec.specs.declared.Reply.the-variants.{Taken}
 use Rattle.codec.proofs.Laws.{both}
-use Rattle.codec.proofs.Replies.{not-taken, taken-exactly}
+use Rattle.codec.proofs.Replies.{taken-exactly}
 use Rattle.sheet.specs.Reader.{sheetOf}
 use Rattle.sheet.specs.Sheet.{order, readingBy, reading}
 use Rattle.sheet.specs.declared.Reading.the-variants as reading
+use Rattle.call.specs.Call.{scratchLength}
 use Rattle.bgv.proofs.Sheets.{two-sound}
 use Rattle.bgv.proofs.Ballot.{honest-noise, honest-decrypts}
 use Rattle.transcript.proofs.Many.{append-none}
@@ -29,10 +29,9 @@ use Rattle.lengths.specs.Calls.{openingsTests}
 use Rattle.lengths.specs.Sheets.{parametersOf, ballotsIn}
 use Rattle.verification.proofs.Tested.{lent-message, lent-openings, extract-lengths}
 use Rattle.verification_calls.specs.Replies.{extractReply}
-use Rattle.session.specs.declared.Session.{Session}
 use Rattle.session.specs.Steps.{admitTests, checkTests}
-use Rattle.image.specs.Image.{imageLength, decode}
-use Rattle.session_calls.specs.Images.{lentReply, admitReply, checkReply}
+use Rattle.image.specs.Image.{decode}
+use Rattle.session_calls.specs.Images.{admitReply, checkReply}
 use Rattle.histories.specs.Examples.{all-examples}
 use Rattle.histories.proofs.Valid.{sheet-exactly}
 use Rattle.histories.proofs.Exact.{cleared-exactly, admitted-exactly, withdrawn-exactly, closed-exactly, claimed-exactly, committed-exactly, drawn-exactly}
@@ -44,24 +43,12 @@ use Rattle.histories.proofs.Honest.{two-accepted}
 use Rattle.histories.proofs.Roll.{roll-is-batch, own-register}
 use Rattle.jackdawnail.proofs.HostSteps.{over-images}
 use Rattle.jackdawnail.proofs.HostClaims.{host-stays-out, host-ended-accepted, host-honest-accepted}
+use Rattle.jackdawnail.proofs.Images.{over-image}
+use Rattle.jackdawnail.proofs.Yields.{extractor-takes}
 use Rattle.jackdawnail.proofs.Produces.{first-exactly, second-call-exactly}
-use Rattle.jackdawnail.specs.Demands.{SheetExactly, AcceptedExactly, AdmittedExactly, HonestBallots, Demand2, Extracts, RefusesAsChecks, ProducerWrites, HonestRounds, Demand3}
+use Rattle.jackdawnail.specs.Demands.{SheetExactly, AcceptedExactly, AdmittedExactly, HonestBallots, Demand2, Extracts, AcceptedYields, RefusesAsChecks, ProducerWrites, HonestRounds, Demand3}
 
 -- ---- over an image
-
--- a call that is lent an image is taken exactly if the image has its length and the session in it is taken
-lent-exactly : (image : Bytes) (R : Session → Reply) → (lentReply image R ≡ Taken) ↔ ((length image ≡ imageLength) × (R (decode image) ≡ Taken))
-lent-exactly image R = (says (eqb (length image) imageLength) refl, λ h. rw (eq-eqb (length image) imageLength (h .0)) (h .1))
-  where
-    says : (b : Bool) → eqb (length image) imageLength ≡ b → cond b (R (decode image)) (Refused 1 0) ≡ Taken → (length image ≡ imageLength) × (R (decode image) ≡ Taken)
-    says true e t = (eqb-true (length image) imageLength e, t)
-    says false e t = not-taken 1 0 t
-
--- and so if what that asks holds
-over-image : (image : Bytes) (R : Session → Reply) {Holds : Type 0} → (R (decode image) ≡ Taken) ↔ Holds → (lentReply image R ≡ Taken) ↔ ((length image ≡ imageLength) × Holds)
-over-image image R exactly =
-    let l = lent-exactly image R in
-    (λ e. let h = l .0 e in (h .0, exactly .0 (h .1)), λ h. l .1 (h .0, exactly .1 (h .1)))
 
 accepted : AcceptedExactly
 unfolding checkReply
@@ -119,6 +106,13 @@ extracts text x out scratch octets o1 o2 o3 e =
     let ok = two-sound text (sheetOf text .numbers) (read text sheet) in
     (extraction P m x three fits lent (parts .1 .1) ok, hashed P m x o1 o2 o3, lowest P m x (omega arith) fits, output P m x three fits lent (parts .1 .1) ok)
 
+-- its findings do not depend on output or scratch: any of the right lengths serve
+accepted-yields : AcceptedYields
+accepted-yields text x octets b1 b2 b3 o0 o1 a1 a2 a3 =
+    let taken = extractor-takes text x o0 o1 a1 a2 a3 in
+    let n = 24 * parametersOf 2 text .N in
+    (extracts text x (zeros n) (zeros scratchLength) octets b1 b2 b3 (taken (zeros n) (zeros scratchLength) (length-replicate {A = ℕ} n 0) (length-replicate {A = ℕ} scratchLength 0)), taken)
+
 refuses-as-checks : RefusesAsChecks
 refuses-as-checks P m x opens answers lending = (refuses-exactly P m x opens answers lending, refuses-alike P m x opens answers lending)
 
@@ -147,6 +141,7 @@ demand2 = record {
 
 pub demand3 : Demand3
 demand3 = record {
+  accepted-yields = accepted-yields;
   extracts = extracts;
   refuses-as-checks = refuses-as-checks;
   check-parts = parts-exactly;

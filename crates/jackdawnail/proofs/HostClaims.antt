@@ -73,7 +73,7 @@ module _ (p : ℕ) where
   -- ---- the claims
 
   pub host-stays-out : HostStaysOut p
-  host-stays-out start sheet before between mark s e u d i m =
+  host-stays-out start sheet before between mark s e u d =
       let found = hostRun p before (hostAfter p (clear sheet) start) in
       let last = hostRun p between (hostAfter p (withdraw mark) found) in
       let there = run p before (after p (clear sheet) (st start sheet s)) in
@@ -81,8 +81,8 @@ module _ (p : ℕ) where
       let w = over-step (withdraw mark) found there k in
       let l : Keeps last (run p between (after p (withdraw mark) there)) = over-run between (hostAfter p (withdraw mark) found) (after p (withdraw mark) there) (w .1) in
       let c = over-step close last (run p between (after p (withdraw mark) there)) l in
-      let out = withdrawn-stays-out p (st start sheet s) sheet before between mark (taken start sheet s) (sym (w .0) ∙ e) (uncleared between (hostAfter p (withdraw mark) found) (after p (withdraw mark) there) (w .1) u) (sym (c .0) ∙ d) i in
-      rw (l .register) (out (rw (l .register, ap (λ (z : Session). z .progress .used) (l .image .session)) at m))
+      let out = withdrawn-stays-out p (st start sheet s) sheet before between mark (taken start sheet s) (sym (w .0) ∙ e) (uncleared between (hostAfter p (withdraw mark) found) (after p (withdraw mark) there) (w .1) u) (sym (c .0) ∙ d) in
+      rw (c .1 .image .session, l .register) out
 
   pub host-ended-accepted : HostEndedAccepted p
   host-ended-accepted start sheet cs s =

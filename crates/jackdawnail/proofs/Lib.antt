@@ -1,4 +1,6 @@
+pub mod Images
 pub mod HostSteps
 pub mod HostClaims
 pub mod Produces
+pub mod Yields
 pub mod Demands

@@ -17,7 +17,8 @@ use Rattle.transcript.specs.Round.{Parameters}
 use Rattle.transcript.specs.Producer.{Material, askedRanged, producerTests}
 use Rattle.transcript.proofs.Many.{append-none, none-append}
 use Rattle.transcript.proofs.Passed.{producer-exactly, second-exactly}
-use Rattle.lengths.specs.Calls.{lengthsTest, materialSized, firstSized, secondSized, firstTests, secondTests}
+use Rattle.transcript.specs.Writes.{firstRoom}
+use Rattle.lengths.specs.Calls.{secondRoom, lengthsTest, materialSized, firstSized, secondSized, firstTests, secondTests}
 use Rattle.lengths.specs.Sheets.{parametersOf, ballotsIn}
 use Rattle.lengths.proofs.Sizes.{material-exactly, first-sizes, first-sized, second-sizes, second-sized}
 use Rattle.round_calls.specs.Replies.{firstReply, secondReply}
@@ -33,7 +34,7 @@ call-none text m a b ts none =
     let g = both a b (h .1) in
     (sheet-exactly 2 text .0 (parts .0), leb-true m 4096 (h .0), g .0, g .1, parts .1 .1)
 
-none-call : (text : Bytes) (m : ℕ) (a b : Bool) (ts : List Test) → SheetTaken 2 text → m ≤ 4096 → a ≡ true → b ≡ true → None ts → None (order 2 text ++ (lengthsTest m (a && b) ∷ ts))
+pub none-call : (text : Bytes) (m : ℕ) (a b : Bool) (ts : List Test) → SheetTaken 2 text → m ≤ 4096 → a ≡ true → b ≡ true → None ts → None (order 2 text ++ (lengthsTest m (a && b) ∷ ts))
 none-call text m a b ts sheet few e f none =
     none-append (order 2 text) (lengthsTest m (a && b) ∷ ts) (sheet-exactly 2 text .1 sheet) (ap not (ap₂ _&&_ (le-leb m 4096 few) (ap₂ _&&_ e f)), none)
 
@@ -58,7 +59,7 @@ module _ (text : Bytes) (x : Material) where
     abbrev room : Bool
     room = firstSized (P .N) (P .repeats) m head shares0 shares1 claims scratch
 
-    pub first-exactly : (firstReply 2 text x head shares0 shares1 claims scratch ≡ Taken) ↔ WritesFirst text x head shares0 shares1 claims scratch
+    pub first-exactly : (firstReply text x (firstRoom head shares0 shares1 claims scratch) ≡ Taken) ↔ WritesFirst text x head shares0 shares1 claims scratch
     unfolding firstReply firstTests
     first-exactly = (
       λ e.
@@ -86,7 +87,7 @@ module _ (text : Bytes) (x : Material) where
     abbrev asked-room : Bool
     asked-room = secondSized (P .N) (P .repeats) challenges opening answers scratch
 
-    pub second-call-exactly : (secondReply 2 text x side challenges opening answers scratch ≡ Taken) ↔ WritesSecond text x side challenges opening answers scratch
+    pub second-call-exactly : (secondReply text x side challenges (secondRoom opening answers scratch) ≡ Taken) ↔ WritesSecond text x side challenges opening answers scratch
     unfolding secondReply secondTests
     second-call-exactly = (
       λ e.

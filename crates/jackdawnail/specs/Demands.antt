@@ -5,24 +5,28 @@
 use mathlib.Core.Path.{_≡_}
 use mathlib.Core.Logic.{_↔_}
 use mathlib.Core.List.{map}
-use Prim.Native.Nat.{ℕ, _≤_, _<_}
+use Prim.Native.Nat.{ℕ, _*_, _≤_, _<_}
 use lib.ListN.{length, getD}
 use Rattle.codec.specs.Bytes.{Bytes, Octets}
 use Rattle.codec.specs.Reply.{None, first}
 use Rattle.codec.specs.declared.Reply.the-variants.{Taken, Refused}
 use Rattle.ring.specs.Poly.{Poly, Alike}
 use Rattle.sheet.specs.Sheet.{order}
+use Rattle.call.specs.Call.{scratchLength}
 use Rattle.bgv.specs.Scheme.{Small, key, cipher-u, cipher-v, opened, decrypted}
 use Rattle.bgv.specs.Examples.{Row}
 use Rattle.transcript.specs.Round.{Parameters, Round, roundTests}
 use Rattle.transcript.specs.Producer.{Material, Sized, producedRound}
 use Rattle.transcript.specs.Suitable.{Suitable}
 use Rattle.transcript.specs.Extractor.{Openings, Lent, extractTests, kind, extracted, Found, Hashed, Lowest, Output}
-use Rattle.transcript.specs.Refuses.{openingTests, repetitionTests, lentRound, Lending, ChecksTake, ChecksRefuse}
+use Rattle.transcript.specs.Refuses.{openingTests, repetitionTests, OpensLent, AnswersLent, lentRound, Lending, ChecksTake, ChecksRefuse}
 use Rattle.lengths.specs.Sheets.{parametersOf, ballotsIn}
+use Rattle.transcript.specs.Writes.{firstRoom}
+use Rattle.lengths.specs.Calls.{secondRoom}
 use Rattle.round_calls.specs.Replies.{firstReply, secondReply}
 use Rattle.verification_calls.specs.Replies.{extractReply}
-use Rattle.checking.specs.Check.{Inputs}
+use Rattle.checking.specs.Check.{Inputs, drawnRound}
+use Rattle.session.specs.Steps.{storedFor}
 use Rattle.image.specs.Image.{imageLength, decode}
 use Rattle.session_calls.specs.Images.{admitReply, checkReply}
 use Rattle.histories.specs.Conditions.{SheetTaken, Admits, Checks}
@@ -85,15 +89,47 @@ pub record Demand2 : Type 0 where
 
 -- ---- 3. Two accepted openings and three accepted answers yield a hash collision, a short commitment vector or the key, and every honest round is accepted whatever is drawn.
 
--- where the extractor does not refuse, it finds one of the three, as its kind says; the strings of a collision are bytes; nothing that comes before that kind was there; and its output is what it found
-abbrev pub Extracts : Type 0
-Extracts = (text : Bytes) (x : Openings) (out scratch : Bytes) → Octets (x .head) → Octets (x .answer1) → Octets (x .answer2) → Octets (x .answer3)
-    → extractReply 2 text x out scratch ≡ Taken
-    → let P = parametersOf 2 text in
+-- one of the three, as the extractor's kind says; the strings of a collision are bytes; nothing that comes before that kind was there; and its output is what it found
+abbrev pub Yields : (text : Bytes) → Openings → Type 0
+Yields text x =
+    let P = parametersOf 2 text in
     let m = ballotsIn text (x .ballots) in
     Found P m x (kind P m x) × Hashed P m x × Lowest P m x (kind P m x) × Output P m x (kind P m x) (extracted P m x)
 
--- it refuses exactly where the checks of those openings and answers would, and then as one of them does
+-- where the extractor does not refuse, it finds one of the three
+abbrev pub Extracts : Type 0
+Extracts = (text : Bytes) (x : Openings) (out scratch : Bytes) → Octets (x .head) → Octets (x .answer1) → Octets (x .answer2) → Octets (x .answer3)
+    → extractReply 2 text x out scratch ≡ Taken → Yields text x
+
+-- a check that was accepted, of any round of the session in any image, lent this sheet
+pub record AcceptedCheck (text : Bytes) : Type 0 where
+  pub image : Bytes
+  pub round : ℕ
+  pub inputs : Inputs
+  pub sheet : inputs .sheet ≡ text
+  pub taken : checkReply 2 image round inputs ≡ Taken
+
+-- what it was lent, with the side and the challenges that the seed in its image draws for its round
+abbrev pub roundOf : {text : Bytes} → AcceptedCheck text → Round
+roundOf c = drawnRound (storedFor (decode (c .image)) (c .round)) (c .inputs)
+
+-- one that opened this side, and one that answered this challenge in the lent repetition, as lent to the extractor, over its first message, ballots and claims. One check may do both
+pub record AcceptedOpening (text : Bytes) (x : Openings) (side : ℕ) : Type 0 where
+  pub check : AcceptedCheck text
+  pub opens : OpensLent x side (roundOf check)
+
+pub record AcceptedAnswer (text : Bytes) (x : Openings) (challenge : ℕ) : Type 0 where
+  pub check : AcceptedCheck text
+  pub answers : AnswersLent (parametersOf 2 text .N) x challenge (roundOf check)
+
+-- if both openings and all three answers to one repetition are accepted against one first message, ballots and claims, they yield one of the three, which the extractor takes and finds. What is lent is bytes
+abbrev pub AcceptedYields : Type 0
+AcceptedYields = (text : Bytes) (x : Openings) → Octets (x .head) → Octets (x .answer1) → Octets (x .answer2) → Octets (x .answer3)
+    → AcceptedOpening text x 0 → AcceptedOpening text x 1 → AcceptedAnswer text x 1 → AcceptedAnswer text x 2 → AcceptedAnswer text x 3
+    → Yields text x
+    × ((out scratch : Bytes) → length out ≡ 24 * parametersOf 2 text .N → length scratch ≡ scratchLength → extractReply 2 text x out scratch ≡ Taken)
+
+-- the extractor refuses exactly where the checks of those openings and answers would, and then as one of them does
 abbrev pub RefusesAsChecks : Type 0
 RefusesAsChecks = (P : Parameters) (m : ℕ) (x : Openings) (opens answers : ℕ → Round) → Lending P m x opens answers
     → (None (extractTests P m x) ↔ ChecksTake P m x opens answers)
@@ -115,9 +151,9 @@ TakesAccepted = (P : Parameters) (m : ℕ) (x : Openings) (opens answers : ℕ �
 -- the producer writes a round from all material that meets none of its refusals: its first message, and what answers a side and challenges
 abbrev pub ProducerWrites : Type 0
 ProducerWrites = (text : Bytes) (x : Material)
-    → ((head shares0 shares1 claims scratch : Bytes) → (firstReply 2 text x head shares0 shares1 claims scratch ≡ Taken) ↔ WritesFirst text x head shares0 shares1 claims scratch)
+    → ((head shares0 shares1 claims scratch : Bytes) → (firstReply text x (firstRoom head shares0 shares1 claims scratch) ≡ Taken) ↔ WritesFirst text x head shares0 shares1 claims scratch)
     × ((side : ℕ) (challenges opening answers scratch : Bytes)
-    → (secondReply 2 text x side challenges opening answers scratch ≡ Taken) ↔ WritesSecond text x side challenges opening answers scratch)
+    → (secondReply text x side challenges (secondRoom opening answers scratch) ≡ Taken) ↔ WritesSecond text x side challenges opening answers scratch)
 
 -- its round meets none of 5 to 13, with any side and challenges in range
 abbrev pub HonestRounds : Type 0
@@ -127,6 +163,7 @@ HonestRounds = (text : Bytes) → first (order 2 text) ≡ Taken
     → ((i : ℕ) → i < P .repeats → (1 ≤ getD challenges i 0) × (getD challenges i 0 ≤ 3)) → None (roundTests P m (producedRound P m x side challenges))
 
 pub record Demand3 : Type 0 where
+  pub accepted-yields : AcceptedYields
   pub extracts : Extracts
   pub refuses-as-checks : RefusesAsChecks
   pub check-parts : CheckParts

@@ -1,20 +1,18 @@
 -- What is shown of lists of a session's steps (histories, specs/Claims.antt), of lists of the exported calls over images: from a call of clear that is taken, over any bytes of
 -- an image's length, for the plaintext modulus p. Assumes nothing.
 use mathlib.Core.Path.{_≡_}
-use mathlib.Core.Logic.{_≢_}
 use mathlib.Core.Bool.{false}
-use mathlib.Core.List.{List, [], _∷_, List·Memᴰ}
+use mathlib.Core.List.{List, [], _∷_}
 use Prim.Native.Nat.{ℕ, _<_}
 use lib.ListN.{length}
 use Rattle.codec.specs.Bytes.{Bytes, Octets}
 use Rattle.codec.specs.declared.Reply.the-variants.{Taken}
 use Rattle.transcript.specs.Producer.{Material}
-use Rattle.register.specs.Register.{markAt, standing}
 use Rattle.checking.specs.Check.{Inputs}
 use Rattle.progress.specs.Progress.{ended-accepted}
 use Rattle.image.specs.Image.{imageLength, decode}
 use Rattle.histories.specs.Runs.{Step, clear, withdraw, close, check, Call, clears, initial, trace}
-use Rattle.histories.specs.Claims.{Checked, Turn}
+use Rattle.histories.specs.Claims.{ClosedWithout, Checked, Turn}
 use Rattle.jackdawnail.specs.HostSteps.{Host, host, hostReply, hostAfter, hostRun, hostTrace}
 
 module _ (p : ℕ) where
@@ -37,7 +35,7 @@ module _ (p : ℕ) where
       hostReply p (withdraw mark) found ≡ Taken
       → HostUncleared between (hostAfter p (withdraw mark) found)
       → hostReply p close last ≡ Taken
-      → (i : ℕ) → List·Memᴰ i (standing (last .register) (decode (last .image) .progress .used)) → markAt (last .register) i ≢ mark
+      → ClosedWithout mark (last .register) (decode (hostAfter p close last .image))
 
   -- each call is lent the image that the last one left, and any register: where the image says that the session ended accepted, every round was checked
   abbrev pub HostEndedAccepted : Type 0

@@ -17,7 +17,9 @@ use Rattle.sheet.specs.declared.Reading.the-variants.{Taken, Refused}
 use Rattle.sheet.proofs.Taken.{onwards, order-first}
 use Rattle.call.proofs.Lent.{lent}
 use Rattle.transcript.specs.Method.{parameters}
-use Rattle.lengths.specs.Sheets.{given, parametersOf}
+use Rattle.transcript.specs.Round.{Parameters}
+use Rattle.transcript.specs.Sheets as sheets
+use Rattle.lengths.specs.Sheets.{given, parametersOf, sheetParameters}
 use Rattle.lengths.proofs.Loaded.{lent-part}
 
 -- ---- the parameters, from the bytes that the sheet's polynomials were put into
@@ -34,6 +36,9 @@ module _ (p : ℕ) (text : Bytes) {public : Bytes} {r : Reading} {k : Numbers} (
       ∙ ap (λ (x : Bytes). parameters p n (k .modulus) (mask p n (k .drown)) (k .repeats) (part (polynomials text) 0 (8 * n)) x (part public (16 * n) (24 * n))) (lent-part p text load e (8 * n) (8 * n) (8 * n) (8 * n) refl refl (omega arith))
       ∙ ap (λ (x : Bytes). parameters p n (k .modulus) (mask p n (k .drown)) (k .repeats) (part (polynomials text) 0 (8 * n)) (part (polynomials text) (8 * n) (8 * n)) x) (lent-part p text load e (16 * n) (24 * n) (16 * n) (24 * n) refl refl (omega arith))
       ∙ ap (λ (x : Numbers). given p x (polynomials text)) (sym (lent p text load e .numbers))
+
+pub sheet-parameters : (text : Bytes) {public : Bytes} {r : Reading} {k : Numbers} → (r ≡ reading 2 text) × (public ≡ loaded 2 text (replicate 81920 0)) → r ≡ Taken k → sheets.parameters k public ≡ sheetParameters text
+sheet-parameters text {public} {r} {k} load e = parameters-are 2 text load e (mask 2 (k .ring) (k .drown)) refl
 
 -- parts that are lent with a length that is a difference of places
 pub cut : (f : Bytes → Type 0) (s : Bytes) (at m m' : ℕ) → m ≡ m' → f (part s at m) → f (take m' (drop at s))

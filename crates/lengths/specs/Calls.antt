@@ -12,7 +12,18 @@ use Rattle.stern.specs.Shortness.{answerLength}
 use Rattle.transcript.specs.Layout.{ballotLength, headLength, answersLength}
 use Rattle.transcript.specs.Round.{Parameters}
 use Rattle.transcript.specs.Producer.{Material, askedRanged, producerTests}
+use Rattle.transcript.specs.Writes.{FirstRoom}
 use Rattle.transcript.specs.Extractor.{Openings, extractTests}
+
+-- the room for an opening and answers, and scratch
+pub record SecondRoom : Type 0 where
+  pub opening : Bytes
+  pub answers : Bytes
+  pub scratch : Bytes
+
+-- the same from the slices one by one
+abbrev pub secondRoom : (opening answers scratch : Bytes) → SecondRoom
+secondRoom opening answers scratch = record { opening = opening; answers = answers; scratch = scratch }
 
 -- how many ballots stand in a slice, if they are whole
 abbrev pub countOf : ℕ → Bytes → ℕ
@@ -61,16 +72,16 @@ module _ (P : Parameters) where
   open Parameters P using (N, repeats)
 
   -- the producer's first call
-  unfoldable pub firstTests : Material → (head shares0 shares1 claims scratch : Bytes) → List Test
-  firstTests x head shares0 shares1 claims scratch =
+  unfoldable pub firstTests : Material → FirstRoom → List Test
+  firstTests x r =
       let m = countOf N (x .ballots) in
-      lengthsTest m (materialSized N repeats m x && firstSized N repeats m head shares0 shares1 claims scratch) ∷ producerTests P m x true
+      lengthsTest m (materialSized N repeats m x && firstSized N repeats m (r .head) (r .shares0) (r .shares1) (r .claims) (r .scratch)) ∷ producerTests P m x true
 
   -- its second call
-  unfoldable pub secondTests : Material → (side : ℕ) → (challenges opening answers scratch : Bytes) → List Test
-  secondTests x side challenges opening answers scratch =
+  unfoldable pub secondTests : Material → (side : ℕ) (challenges : Bytes) → SecondRoom → List Test
+  secondTests x side challenges r =
       let m = countOf N (x .ballots) in
-      lengthsTest m (materialSized N repeats m x && secondSized N repeats challenges opening answers scratch)
+      lengthsTest m (materialSized N repeats m x && secondSized N repeats challenges (r .opening) (r .answers) (r .scratch))
       ∷ producerTests P m x (askedRanged P m x side challenges)
 
   -- the extractor

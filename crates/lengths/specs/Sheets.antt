@@ -7,7 +7,9 @@ use Rattle.sheet.specs.Sheet.{polynomials}
 use Rattle.sheet_numbers.specs.Bounds.{mask}
 use Rattle.sheet_numbers.specs.declared.Numbers.{Numbers}
 use Rattle.transcript.specs.Round.{Parameters}
+use Rattle.sheet_numbers.specs.Plain.{plain}
 use Rattle.transcript.specs.Method.{parameters}
+use Rattle.transcript.specs.Sheets as sheets
 use Rattle.lengths.specs.Calls.{countOf}
 
 -- from the numbers and the polynomials
@@ -18,6 +20,13 @@ given p k s =
 
 abbrev pub parametersOf : (p : ℕ) (text : Bytes) → Parameters
 parametersOf p text = given p (sheetOf text .numbers) (polynomials text)
+
+-- the same with the sheet's own plaintext modulus
+abbrev pub plainOf : (text : Bytes) → ℕ
+plainOf text = plain (sheetOf text .numbers)
+
+abbrev pub sheetParameters : (text : Bytes) → Parameters
+sheetParameters text = sheets.parameters (sheetOf text .numbers) (polynomials text)
 
 -- how many ballots are lent, by the sheet's ring size
 abbrev pub ballotsIn : (text ballots : Bytes) → ℕ

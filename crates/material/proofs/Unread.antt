@@ -1,11 +1,8 @@
--- The producer's tests read neither the keys of the commitment nor the salts. So what is said of material without salts is said of all. Assumes nothing.
+-- The producer's tests do not read the salts. So what is said of material without salts is said of all. Assumes nothing.
 use mathlib.Core.Path.{_≡_, refl}
 use mathlib.Core.Bool.{Bool}
-use mathlib.Core.List.{[]}
 use Prim.Native.Nat.{ℕ}
-use Rattle.codec.specs.Bytes.{Bytes}
 use Rattle.transcript.specs.Round.{Parameters, ballotsRanged}
-use Rattle.transcript.specs.Method.{parameters}
 use Rattle.transcript.specs.Producer.{Material, Sized, materialRanged, producerTests}
 use Rattle.material.specs.Lent.{lent, Lengths}
 
@@ -13,9 +10,9 @@ module _ (x : Material) where
   abbrev pub unsalted : Material
   unsalted = lent (x .secrets) (x .s0) (x .e0) (x .masks0) (x .masks1) (x .vectors) (x .permutations) (x .ballots)
 
-  pub tests-lent : (p n q B repeats : ℕ) (a b k : Bytes) (count : ℕ) (asked : Bool) → producerTests (parameters p n q B repeats a b []) count unsalted asked ≡ producerTests (parameters p n q B repeats a b k) count x asked
+  pub tests-lent : (P : Parameters) (count : ℕ) (asked : Bool) → producerTests P count unsalted asked ≡ producerTests P count x asked
   unfolding producerTests materialRanged ballotsRanged
-  tests-lent p n q B repeats a b k count asked = refl
+  tests-lent P count asked = refl
 
   pub lengths-lent : (P : Parameters) (count : ℕ) → Sized P count x → Lengths (P .N) count (P .repeats) unsalted
   lengths-lent P count s = record {

@@ -1,11 +1,15 @@
 -- What the tests of the producer's material are given: lent slices of right lengths. The tests read no salts. Assumes nothing.
 use mathlib.Core.Path.{_≡_}
+use mathlib.Core.Bool.{Bool}
 use mathlib.Core.List.{[]}
 use Prim.Native.Nat.{ℕ, _*_}
 use lib.ListN.{length}
 use Rattle.codec.specs.Bytes.{Bytes}
+use Rattle.codec.specs.Reply.{first}
+use Rattle.codec.specs.declared.Reply.{Reply}
 use Rattle.transcript.specs.Layout.{ballotLength}
-use Rattle.transcript.specs.Producer.{Material}
+use Rattle.transcript.specs.Round.{Parameters}
+use Rattle.transcript.specs.Producer.{Material, producerTests}
 
 -- the lent slices as material, without salts
 abbrev pub lent : (secrets s0 e0 masks0 masks1 vectors permutations ballots : Bytes) → Material
@@ -31,3 +35,8 @@ pub record Lengths (N count repeats : ℕ) (x : Material) : Type 0 where
   pub vectors : length (x .vectors) ≡ 336 * N * repeats
   pub permutations : length (x .permutations) ≡ 168 * N * repeats
   pub ballots : length (x .ballots) ≡ ballotLength N * count
+
+-- what the tests of `count` ballots reply, and that scratch keeps its length
+pub record MaterialTested (P : Parameters) (count : ℕ) (x : Material) (asked : Bool) (reply : Reply) (scratch scratch' : Bytes) : Type 0 where
+  pub replied : reply ≡ first (producerTests P count x asked)
+  pub kept : length scratch' ≡ length scratch

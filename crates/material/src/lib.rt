@@ -6,18 +6,19 @@ mod permutations;
 mod ranges;
 
 use codec::Reply;
+use sheet_numbers::Numbers;
 ghost use mathlib.Core.Path.{_≡_};
 ghost use mathlib.Core.Bool.{true};
-ghost use mathlib.Core.List.{[], _++_};
+ghost use mathlib.Core.List.{_++_};
 ghost use Prim.Native.Nat.{_*_, _≤_, _<_, _^_};
 ghost use lib.ListN.{length};
 ghost use Rattle.codec.specs.Reply.{first, leaves};
 ghost use Rattle.sheet_numbers.specs.Bounds.{noise};
 ghost use Rattle.call.specs.Call.{scratchLength, Polynomial};
+ghost use Rattle.commitment.specs.Loaded.{Loaded};
 ghost use Rattle.transcript.specs.Layout.{ballotLength};
-ghost use Rattle.transcript.specs.Method.{parameters};
-ghost use Rattle.transcript.specs.Producer.{producerTests};
-ghost use Rattle.material.specs.Lent.{lent, Lengths};
+ghost use Rattle.transcript.specs.Sheets.{parameters};
+ghost use Rattle.material.specs.Lent.{lent, Lengths, MaterialTested};
 ghost use Rattle.material.specs.Parts.{ballotsBelow, secretTests, maskTests, permutationTests, noiseTests};
 
 // 5, then 14.
@@ -97,10 +98,8 @@ fn test_each(
 
 // The whole order. `asked` says whether what a call is given beside the material is in range.
 pub fn test_material(
-    work: &mut [u8],
-    asked: bool,
-    a: &[u8],
-    b: &[u8],
+    k: Numbers,
+    public: &[u8],
     secrets: &[u8],
     s0: &[u8],
     e0: &[u8],
@@ -110,20 +109,18 @@ pub fn test_material(
     permutations: &[u8],
     ballots: &[u8],
     count: usize,
-    repeats: usize,
-    bound: u64,
-    n: usize,
-    q: u64,
+    asked: bool,
+    scratch: &mut [u8],
 ) -> Reply
-    requires { ⌜ Polynomial n q (now a) × Polynomial n q (now b) × (length (now work) ≡ scratchLength) × (count ≤ 4096) × (repeats ≤ 256) × Lengths n count repeats (lent (now secrets) (now s0) (now e0) (now masks0) (now masks1) (now vectors) (now permutations) (now ballots)) ⌝ }
-    ensures { λ reply. ⌜ reply ≡ first (producerTests (parameters 2 n q bound repeats (now (a .entry)) (now (b .entry)) []) count (lent (now (secrets .entry)) (now (s0 .entry)) (now (e0 .entry)) (now (masks0 .entry)) (now (masks1 .entry)) (now (vectors .entry)) (now (permutations .entry)) (now (ballots .entry))) asked) ⌝ }
-    ensures { λ _. ⌜ length (now (work .exit)) ≡ length (now (work .entry)) ⌝ }
+    requires { let x = lent (now secrets) (now s0) (now e0) (now masks0) (now masks1) (now vectors) (now permutations) (now ballots) in ⌜ Loaded k (now public) × (count ≤ 4096) × (length (now scratch) ≡ scratchLength) × Lengths (k .ring) count (k .repeats) x ⌝ }
+    ensures { λ reply. let x = lent (now (secrets .entry)) (now (s0 .entry)) (now (e0 .entry)) (now (masks0 .entry)) (now (masks1 .entry)) (now (vectors .entry)) (now (permutations .entry)) (now (ballots .entry)) in ⌜ MaterialTested (parameters k (now (public .entry))) count x asked reply (now (scratch .entry)) (now (scratch .exit)) ⌝ }
 {
+    let n = k.ring as usize;
     let reply = test_secret(
-        work,
+        scratch,
         asked,
-        a,
-        b,
+        &public[0..8 * n],
+        &public[8 * n..16 * n],
         secrets,
         s0,
         e0,
@@ -131,7 +128,7 @@ pub fn test_material(
         ballots,
         count,
         n,
-        q,
+        k.modulus,
     );
     match reply {
         Reply::Taken => {}
@@ -139,8 +136,10 @@ pub fn test_material(
             return Reply::Refused { number, place };
         }
     }
+    let bound = sheet_numbers::mask_bound(k.ring, k.drown);
+    let repeats = k.repeats as usize;
     test_each(
-        work,
+        scratch,
         secrets,
         masks0,
         masks1,
@@ -150,6 +149,6 @@ pub fn test_material(
         repeats,
         bound,
         n,
-        q,
+        k.modulus,
     )
 }

@@ -2,23 +2,25 @@
 mod opening;
 mod repetitions;
 
+use sheet_numbers::Numbers;
 ghost use mathlib.Core.Path.{_≡_};
 ghost use mathlib.Core.List.{[]};
 ghost use Prim.Native.Nat.{_*_, _≤_, _<_};
 ghost use lib.ListN.{length};
 ghost use Rattle.call.specs.Call.{scratchLength, Polynomial};
-ghost use Rattle.commitment.specs.Commitment.{PublicKeys};
-ghost use Rattle.transcript.specs.Layout.{headLength, answersLength};
+ghost use Rattle.commitment.specs.Loaded.{Loaded};
+ghost use Rattle.transcript.specs.Layout.{answersLength};
 ghost use Rattle.transcript.specs.Method.{parameters};
-ghost use Rattle.transcript.specs.Producer.{producedHead, producedShares, producedClaims, producedOpening, producedAnswers, materialOf};
+ghost use Rattle.transcript.specs.Sheets as sheets;
+ghost use Rattle.transcript.specs.Producer.{producedOpening, producedAnswers, materialOf};
+ghost use Rattle.transcript.specs.Writes.{firstRoom, FirstProduced};
 ghost use Rattle.message_head.specs.Method.{Drawings};
-ghost use Rattle.message_shares.specs.Method.{Masked};
+ghost use Rattle.producer.specs.Ready.{FirstReady};
 
 // The first message and the claims.
 pub fn write_first(
-    work: &mut [u8],
-    a: &[u8],
-    k: &[u8],
+    k: Numbers,
+    public: &[u8],
     secrets: &[u8],
     s0: &[u8],
     e0: &[u8],
@@ -28,43 +30,37 @@ pub fn write_first(
     permutations: &[u8],
     salts: &[u8],
     ballots: &[u8],
+    count: usize,
     head: &mut [u8],
     shares0: &mut [u8],
     shares1: &mut [u8],
     claims: &mut [u8],
-    count: usize,
-    repeats: usize,
-    n: usize,
-    q: u64,
+    scratch: &mut [u8],
 )
-    requires { ⌜ Polynomial n q (now a) × PublicKeys n q (now k) × Polynomial n q (now s0) × Polynomial n q (now e0) × (length (now work) ≡ scratchLength) × (count ≤ 4096) × (repeats ≤ 256) × Drawings q n repeats (now secrets) (now vectors) (now permutations) (now salts) × Masked q n count (now ballots) (now masks0) (now masks1) ⌝ }
-    requires { ⌜ (length (now head) ≡ headLength n repeats) × (length (now shares0) ≡ 8 * n * count) × (length (now shares1) ≡ 8 * n * count) × (length (now claims) ≡ n * count) ⌝ }
-    ensures { λ _. ⌜ now (head .exit) ≡ producedHead (parameters 2 n q 0 repeats (now (a .entry)) [] (now (k .entry))) count (materialOf (now (secrets .entry)) (now (s0 .entry)) (now (e0 .entry)) (now (masks0 .entry)) (now (masks1 .entry)) (now (vectors .entry)) (now (permutations .entry)) (now (salts .entry)) (now (ballots .entry))) ⌝ }
-    ensures { λ _. ⌜ now (shares0 .exit) ≡ producedShares (parameters 2 n q 0 repeats (now (a .entry)) [] (now (k .entry))) count (materialOf (now (secrets .entry)) (now (s0 .entry)) (now (e0 .entry)) (now (masks0 .entry)) (now (masks1 .entry)) (now (vectors .entry)) (now (permutations .entry)) (now (salts .entry)) (now (ballots .entry))) 0 ⌝ }
-    ensures { λ _. ⌜ now (shares1 .exit) ≡ producedShares (parameters 2 n q 0 repeats (now (a .entry)) [] (now (k .entry))) count (materialOf (now (secrets .entry)) (now (s0 .entry)) (now (e0 .entry)) (now (masks0 .entry)) (now (masks1 .entry)) (now (vectors .entry)) (now (permutations .entry)) (now (salts .entry)) (now (ballots .entry))) 1 ⌝ }
-    ensures { λ _. ⌜ now (claims .exit) ≡ producedClaims (parameters 2 n q 0 repeats (now (a .entry)) [] (now (k .entry))) count (materialOf (now (secrets .entry)) (now (s0 .entry)) (now (e0 .entry)) (now (masks0 .entry)) (now (masks1 .entry)) (now (vectors .entry)) (now (permutations .entry)) (now (salts .entry)) (now (ballots .entry))) ⌝ }
-    ensures { λ _. ⌜ length (now (work .exit)) ≡ length (now (work .entry)) ⌝ }
+    requires { let x = materialOf (now secrets) (now s0) (now e0) (now masks0) (now masks1) (now vectors) (now permutations) (now salts) (now ballots) in let room = firstRoom (now head) (now shares0) (now shares1) (now claims) (now scratch) in ⌜ Loaded k (now public) × FirstReady k count x room ⌝ }
+    ensures { λ _. let x = materialOf (now (secrets .entry)) (now (s0 .entry)) (now (e0 .entry)) (now (masks0 .entry)) (now (masks1 .entry)) (now (vectors .entry)) (now (permutations .entry)) (now (salts .entry)) (now (ballots .entry)) in let before = firstRoom (now (head .entry)) (now (shares0 .entry)) (now (shares1 .entry)) (now (claims .entry)) (now (scratch .entry)) in let after = firstRoom (now (head .exit)) (now (shares0 .exit)) (now (shares1 .exit)) (now (claims .exit)) (now (scratch .exit)) in ⌜ FirstProduced (sheets.parameters k (now (public .entry))) count x before after ⌝ }
 {
+    let n = k.ring as usize;
     message_head::write_head(
         head,
-        work,
-        a,
-        k,
+        scratch,
+        &public[0..8 * n],
+        &public[16 * n..40 * n],
         secrets,
         s0,
         e0,
         vectors,
         permutations,
         salts,
-        repeats,
+        k.repeats as usize,
         n,
-        q,
+        k.modulus,
     );
     message_shares::write_ballots(
         shares0,
         shares1,
         claims,
-        work,
+        scratch,
         secrets,
         s0,
         masks0,
@@ -72,7 +68,7 @@ pub fn write_first(
         ballots,
         count,
         n,
-        q,
+        k.modulus,
     );
 }
 

@@ -1,17 +1,32 @@
 -- The producer's two calls over the sheet and lent bytes: their replies, which are the sheet's own order and then that of the call (document 01, "Refused because of the
--- state"). Assumes nothing.
+-- state"), and what they leave in the room that they are lent. Assumes nothing.
+use mathlib.Core.Path.{_≡_}
 use mathlib.Core.List.{_++_}
 use Prim.Native.Nat.{ℕ}
 use Rattle.codec.specs.Bytes.{Bytes}
 use Rattle.codec.specs.Reply.{first}
 use Rattle.codec.specs.declared.Reply.{Reply}
 use Rattle.sheet.specs.Sheet.{order}
+use Rattle.call.specs.Call.{swept}
 use Rattle.transcript.specs.Producer.{Material}
-use Rattle.lengths.specs.Calls.{firstTests, secondTests}
-use Rattle.lengths.specs.Sheets.{parametersOf}
+use Rattle.transcript.specs.Writes.{FirstRoom}
+use Rattle.lengths.specs.Calls.{SecondRoom, firstTests, secondTests}
+use Rattle.lengths.specs.Sheets.{plainOf, sheetParameters}
+use Rattle.rounds.specs.First.{FirstLeft}
+use Rattle.rounds.specs.Second.{SecondLeft}
 
-unfoldable pub firstReply : (p : ℕ) (text : Bytes) → Material → (head shares0 shares1 claims scratch : Bytes) → Reply
-firstReply p text x head shares0 shares1 claims scratch = first (order p text ++ firstTests (parametersOf p text) x head shares0 shares1 claims scratch)
+unfoldable pub firstReply : (text : Bytes) → Material → FirstRoom → Reply
+firstReply text x room = first (order (plainOf text) text ++ firstTests (sheetParameters text) x room)
 
-unfoldable pub secondReply : (p : ℕ) (text : Bytes) → Material → (side : ℕ) → (challenges opening answers scratch : Bytes) → Reply
-secondReply p text x side challenges opening answers scratch = first (order p text ++ secondTests (parametersOf p text) x side challenges opening answers scratch)
+pub record FirstCalled (text : Bytes) (x : Material) (before : FirstRoom) (reply : Reply) (after : FirstRoom) : Type 0 where
+  pub replied : reply ≡ firstReply text x before
+  pub left : FirstLeft (sheetParameters text) x before reply after
+  pub cleared : after .scratch ≡ swept reply (before .scratch)
+
+unfoldable pub secondReply : (text : Bytes) → Material → (side : ℕ) (challenges : Bytes) → SecondRoom → Reply
+secondReply text x side challenges room = first (order (plainOf text) text ++ secondTests (sheetParameters text) x side challenges room)
+
+pub record SecondCalled (text : Bytes) (x : Material) (side : ℕ) (challenges : Bytes) (before : SecondRoom) (reply : Reply) (after : SecondRoom) : Type 0 where
+  pub replied : reply ≡ secondReply text x side challenges before
+  pub left : SecondLeft (sheetParameters text) x side challenges before reply after
+  pub cleared : after .scratch ≡ swept reply (before .scratch)

@@ -1,12 +1,6 @@
 // The producer's two calls over the sheet and lent bytes (document 01, "One round"). p is 2.
-mod parted;
-
-ghost use mathlib.Core.Path.{_≡_};
-ghost use Rattle.codec.specs.Reply.{leaves};
-ghost use Rattle.call.specs.Call.{swept};
-ghost use Rattle.transcript.specs.Producer.{materialOf, producedHead, producedShares, producedClaims, producedOpening, producedAnswers};
-ghost use Rattle.lengths.specs.Sheets.{parametersOf, ballotsIn};
-ghost use Rattle.round_calls.specs.Replies.{firstReply, secondReply};
+ghost use Rattle.rounds.specs.Lent.{materialIn, firstIn, firstOut, secondIn, secondOut};
+ghost use Rattle.round_calls.specs.Replies.{FirstCalled, SecondCalled};
 
 // Writes the first message and the claims.
 pub fn produce_first(
@@ -26,21 +20,14 @@ pub fn produce_first(
     claims: &mut [u8],
     scratch: &mut [u8],
 ) -> codec::Reply
-    ensures { λ reply. ⌜ reply ≡ firstReply 2 (now (sheet .entry)) (materialOf (now (secrets .entry)) (now (s0 .entry)) (now (e0 .entry)) (now (masks0 .entry)) (now (masks1 .entry)) (now (vectors .entry)) (now (permutations .entry)) (now (salts .entry)) (now (ballots .entry))) (now (head .entry)) (now (shares0 .entry)) (now (shares1 .entry)) (now (claims .entry)) (now (scratch .entry)) ⌝ }
-    ensures { λ reply. ⌜ now (head .exit) ≡ leaves reply (producedHead (parametersOf 2 (now (sheet .entry))) (ballotsIn (now (sheet .entry)) (now (ballots .entry))) (materialOf (now (secrets .entry)) (now (s0 .entry)) (now (e0 .entry)) (now (masks0 .entry)) (now (masks1 .entry)) (now (vectors .entry)) (now (permutations .entry)) (now (salts .entry)) (now (ballots .entry)))) (now (head .entry)) ⌝ }
-    ensures { λ reply. ⌜ now (shares0 .exit) ≡ leaves reply (producedShares (parametersOf 2 (now (sheet .entry))) (ballotsIn (now (sheet .entry)) (now (ballots .entry))) (materialOf (now (secrets .entry)) (now (s0 .entry)) (now (e0 .entry)) (now (masks0 .entry)) (now (masks1 .entry)) (now (vectors .entry)) (now (permutations .entry)) (now (salts .entry)) (now (ballots .entry))) 0) (now (shares0 .entry)) ⌝ }
-    ensures { λ reply. ⌜ now (shares1 .exit) ≡ leaves reply (producedShares (parametersOf 2 (now (sheet .entry))) (ballotsIn (now (sheet .entry)) (now (ballots .entry))) (materialOf (now (secrets .entry)) (now (s0 .entry)) (now (e0 .entry)) (now (masks0 .entry)) (now (masks1 .entry)) (now (vectors .entry)) (now (permutations .entry)) (now (salts .entry)) (now (ballots .entry))) 1) (now (shares1 .entry)) ⌝ }
-    ensures { λ reply. ⌜ now (claims .exit) ≡ leaves reply (producedClaims (parametersOf 2 (now (sheet .entry))) (ballotsIn (now (sheet .entry)) (now (ballots .entry))) (materialOf (now (secrets .entry)) (now (s0 .entry)) (now (e0 .entry)) (now (masks0 .entry)) (now (masks1 .entry)) (now (vectors .entry)) (now (permutations .entry)) (now (salts .entry)) (now (ballots .entry)))) (now (claims .entry)) ⌝ }
-    ensures { λ reply. ⌜ now (scratch .exit) ≡ swept reply (now (scratch .entry)) ⌝ }
+    ensures { λ reply. let x = materialIn secrets s0 e0 masks0 masks1 vectors permutations salts ballots in let before = firstIn head shares0 shares1 claims scratch in let after = firstOut head shares0 shares1 claims scratch in ⌜ FirstCalled (now (sheet .entry)) x before reply after ⌝ }
 {
     let mut public = [0u8; 81920];
     let reading = sheet::load(sheet, &mut public);
     match reading {
         sheet::Reading::Taken(k) => {
-            let n = k.ring as usize;
-            let repeats = k.repeats as usize;
-            let bound = sheet_numbers::mask_bound(k.ring, k.drown);
-            let reply = parted::first(
+            let reply = rounds::producing::produce_first(
+                k,
                 &public,
                 secrets,
                 s0,
@@ -56,10 +43,6 @@ pub fn produce_first(
                 shares1,
                 claims,
                 scratch,
-                repeats,
-                bound,
-                n,
-                k.modulus,
             );
             call::sweep(reply, scratch);
             reply
@@ -90,19 +73,14 @@ pub fn produce_second(
     answers: &mut [u8],
     scratch: &mut [u8],
 ) -> codec::Reply
-    ensures { λ reply. ⌜ reply ≡ secondReply 2 (now (sheet .entry)) (materialOf (now (secrets .entry)) (now (s0 .entry)) (now (e0 .entry)) (now (masks0 .entry)) (now (masks1 .entry)) (now (vectors .entry)) (now (permutations .entry)) (now (salts .entry)) (now (ballots .entry))) side (now (challenges .entry)) (now (opening .entry)) (now (answers .entry)) (now (scratch .entry)) ⌝ }
-    ensures { λ reply. ⌜ now (opening .exit) ≡ leaves reply (producedOpening (parametersOf 2 (now (sheet .entry))) (ballotsIn (now (sheet .entry)) (now (ballots .entry))) (materialOf (now (secrets .entry)) (now (s0 .entry)) (now (e0 .entry)) (now (masks0 .entry)) (now (masks1 .entry)) (now (vectors .entry)) (now (permutations .entry)) (now (salts .entry)) (now (ballots .entry))) side) (now (opening .entry)) ⌝ }
-    ensures { λ reply. ⌜ now (answers .exit) ≡ leaves reply (producedAnswers (parametersOf 2 (now (sheet .entry))) (ballotsIn (now (sheet .entry)) (now (ballots .entry))) (materialOf (now (secrets .entry)) (now (s0 .entry)) (now (e0 .entry)) (now (masks0 .entry)) (now (masks1 .entry)) (now (vectors .entry)) (now (permutations .entry)) (now (salts .entry)) (now (ballots .entry))) (now (challenges .entry))) (now (answers .entry)) ⌝ }
-    ensures { λ reply. ⌜ now (scratch .exit) ≡ swept reply (now (scratch .entry)) ⌝ }
+    ensures { λ reply. let x = materialIn secrets s0 e0 masks0 masks1 vectors permutations salts ballots in let before = secondIn opening answers scratch in let after = secondOut opening answers scratch in ⌜ SecondCalled (now (sheet .entry)) x side (now (challenges .entry)) before reply after ⌝ }
 {
     let mut public = [0u8; 81920];
     let reading = sheet::load(sheet, &mut public);
     match reading {
         sheet::Reading::Taken(k) => {
-            let n = k.ring as usize;
-            let repeats = k.repeats as usize;
-            let bound = sheet_numbers::mask_bound(k.ring, k.drown);
-            let reply = parted::second(
+            let reply = rounds::producing::produce_second(
+                k,
                 &public,
                 secrets,
                 s0,
@@ -118,10 +96,6 @@ pub fn produce_second(
                 opening,
                 answers,
                 scratch,
-                repeats,
-                bound,
-                n,
-                k.modulus,
             );
             call::sweep(reply, scratch);
             reply

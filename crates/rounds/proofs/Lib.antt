@@ -1,2 +1,3 @@
+pub mod Testing
 pub mod Passing
-pub mod Unkeyed
+pub mod Written

@@ -1,41 +1,56 @@
 -- What the writing of a round asks for, where the producer's order is passed. Assumes nothing.
-use mathlib.Core.Path.{_≡_, sym, subst}
+use mathlib.Core.Path.{_≡_, sym, subst, _∙_}
 use mathlib.Core.Bool.{Bool, true}
-use mathlib.Core.List.{[]}
 use Prim.Native.Nat.{ℕ, _*_, _≤_, _<_}
 use borrow.Author.Tests.{ltb-true}
 use lib.Dec.{ltb}
 use lib.ListN.{length}
 use Rattle.codec.specs.Bytes.{Bytes}
 use Rattle.codec.specs.Reply.{first}
+use Rattle.codec.specs.declared.Reply.{Reply}
 use Rattle.codec.specs.declared.Reply.the-variants.{Taken}
 use Rattle.codec.proofs.Laws.{both}
+use Rattle.sheet_numbers.specs.Plain.{maskOf}
+use Rattle.sheet_numbers.specs.declared.Numbers.{Numbers}
 use Rattle.call.specs.Call.{scratchLength, Polynomial}
-use Rattle.transcript.specs.Layout.{headLength, answersLength}
+use Rattle.commitment.specs.Loaded.{aOf, bOf, keyBytes, Loaded}
+use Rattle.transcript.specs.Layout.{answersLength}
 use Rattle.transcript.specs.Round.{Parameters}
-use Rattle.transcript.specs.Method.{parameters}
+use Rattle.transcript.specs.Sheets.{parameters}
 use Rattle.transcript.specs.Producer.{Material, Sized, askedRanged, producerTests}
+use Rattle.transcript.specs.Writes.{FirstRoom, firstRoom}
 use Rattle.material.proofs.Usable.{Usable, usable, none-refused}
 use Rattle.message_head.specs.Method.{Drawings}
 use Rattle.message_shares.specs.Method.{Masked}
-use Rattle.lengths.specs.Calls.{countOf, materialSized, firstSized, firstTests, secondSized, secondTests}
+use Rattle.producer.specs.Ready.{FirstReady}
+use Rattle.lengths.specs.Calls.{SecondRoom, countOf, materialSized, firstSized, firstTests, secondSized, secondTests}
 use Rattle.lengths.proofs.Sizes.{all-right, material-sizes, first-sizes, second-sizes}
+use Rattle.rounds.specs.Tested.{Tested}
 
-module _ (n q bound repeats : ℕ) (a b : Bytes) (x : Material) where
+module _ (k : Numbers) (s : Bytes) (x : Material) (public : Loaded k s) where
   abbrev P : Parameters
-  P = parameters 2 n q bound repeats a b []
+  P = parameters k s
 
-  -- the material of m ballots, by its lengths and by its tests
-  module _ (m : ℕ) (public : Polynomial n q a) (e : materialSized n repeats m x ≡ true) (asked : Bool) (t : first (producerTests P m x asked) ≡ Taken) where
-    sizes : Sized P m x
-    sizes = material-sizes P m x e
+  abbrev n : ℕ
+  n = k .ring
 
-    fit : Usable n q m repeats x
+  abbrev q : ℕ
+  q = k .modulus
+
+  abbrev count : ℕ
+  count = countOf n (x .ballots)
+
+  -- the material, by its lengths and by its tests
+  module _ (e : materialSized n (k .repeats) count x ≡ true) (asked : Bool) (t : first (producerTests P count x asked) ≡ Taken) where
+    sizes : Sized P count x
+    sizes = material-sizes P count x e
+
+    fit : Usable n q count (k .repeats) x
     fit =
-        usable 2 n q bound repeats a b [] m x asked t public
+        usable 2 n q (maskOf k) (k .repeats) (aOf k s) (bOf k s) (keyBytes k s) count x asked t (public .a)
         (record { secrets = sizes .secrets; s0 = sizes .s0; e0 = sizes .e0; masks0 = sizes .masks0; masks1 = sizes .masks1; vectors = sizes .vectors; permutations = sizes .permutations; ballots = sizes .ballots })
 
-    drawings : Drawings q n repeats (x .secrets) (x .vectors) (x .permutations) (x .salts)
+    drawings : Drawings q n (k .repeats) (x .secrets) (x .vectors) (x .permutations) (x .salts)
     drawings = record {
       secrets-sized = sizes .secrets;
       vectors-sized = sizes .vectors;
@@ -45,51 +60,54 @@ module _ (n q bound repeats : ℕ) (a b : Bytes) (x : Material) where
       permuting = fit .permuting;
     }
 
-    masked : Masked q n m (x .ballots) (x .masks0) (x .masks1)
+    masked : Masked q n count (x .ballots) (x .masks0) (x .masks1)
     masked = record { ballots-sized = sizes .ballots; masks0-sized = sizes .masks0; masks1-sized = sizes .masks1; below = fit .ballots }
 
   -- ---- the first call
 
-  module _ (head shares0 shares1 claims w : Bytes) (public : Polynomial n q a) (t : first (firstTests P x head shares0 shares1 claims w) ≡ Taken) where
-    abbrev count : ℕ
-    count = countOf n (x .ballots)
-
-    passed : (count ≤ 4096) × (materialSized n repeats count x ≡ true) × (firstSized n repeats count head shares0 shares1 claims w ≡ true) × (first (producerTests P count x true) ≡ Taken)
+  module _ (room : FirstRoom) {r : Reply} {w : Bytes} (t : Tested (firstTests P x room) r (room .scratch) w) (taken : r ≡ Taken) where
+    passed : (count ≤ 4096) × (materialSized n (k .repeats) count x ≡ true) × (firstSized n (k .repeats) count (room .head) (room .shares0) (room .shares1) (room .claims) (room .scratch) ≡ true) × (first (producerTests P count x true) ≡ Taken)
     unfolding firstTests
-    passed = all-right count _ _ _ t
+    passed = all-right count _ _ _ (sym (t .replied) ∙ taken)
 
-    abbrev pub Asks : ℕ → Type 0
-    Asks m =
-        ((Polynomial n q (x .s0)) × (Polynomial n q (x .e0)) × (length w ≡ scratchLength) × (m ≤ 4096) × Drawings q n repeats (x .secrets) (x .vectors) (x .permutations) (x .salts) × Masked q n m (x .ballots) (x .masks0) (x .masks1))
-        × ((length head ≡ headLength n repeats) × (length shares0 ≡ 8 * n * m) × (length shares1 ≡ 8 * n * m) × (length claims ≡ n * m))
+    abbrev tested : FirstRoom
+    tested = firstRoom (room .head) (room .shares0) (room .shares1) (room .claims) w
 
     -- for any number that is the count
-    pub first-asks : {m : ℕ} → m ≡ count → Asks m
-    first-asks is =
-        let f = first-sizes n repeats count head shares0 shares1 claims w (passed .2) in
-        let u = fit count public (passed .1) true (passed .3) in
-        subst Asks (sym is) ((u .s0, u .e0, f .4, passed .0, drawings count public (passed .1) true (passed .3), masked count public (passed .1) true (passed .3)), (f .0, f .1, f .2, f .3))
+    pub first-ready : {m : ℕ} → m ≡ count → FirstReady k m x tested
+    first-ready is =
+        let f = first-sizes n (k .repeats) count (room .head) (room .shares0) (room .shares1) (room .claims) (room .scratch) (passed .2) in
+        let u = fit (passed .1) true (passed .3) in
+        subst (λ (i : ℕ). FirstReady k i x tested) (sym is) (record {
+          few = passed .0;
+          s0 = u .s0;
+          e0 = u .e0;
+          drawings = drawings (passed .1) true (passed .3);
+          masked = masked (passed .1) true (passed .3);
+          head = f .0;
+          shares0 = f .1;
+          shares1 = f .2;
+          claims = f .3;
+          scratch = t .kept ∙ f .4;
+        })
 
   -- ---- the second call
 
-  module _ (side : ℕ) (challenges opening answers w : Bytes) (public : Polynomial n q a) (t : first (secondTests P x side challenges opening answers w) ≡ Taken) where
-    abbrev number : ℕ
-    number = countOf n (x .ballots)
-
+  module _ (side : ℕ) (challenges : Bytes) (room : SecondRoom) {r : Reply} {w : Bytes} (t : Tested (secondTests P x side challenges room) r (room .scratch) w) (taken : r ≡ Taken) where
     abbrev asked : Bool
-    asked = askedRanged P number x side challenges
+    asked = askedRanged P count x side challenges
 
-    taken : (number ≤ 4096) × (materialSized n repeats number x ≡ true) × (secondSized n repeats challenges opening answers w ≡ true) × (first (producerTests P number x asked) ≡ Taken)
+    accepted : (count ≤ 4096) × (materialSized n (k .repeats) count x ≡ true) × (secondSized n (k .repeats) challenges (room .opening) (room .answers) (room .scratch) ≡ true) × (first (producerTests P count x asked) ≡ Taken)
     unfolding secondTests
-    taken = all-right number _ _ _ t
+    accepted = all-right count _ _ _ (sym (t .replied) ∙ taken)
 
     small : side < 2
     unfolding askedRanged
-    small = ltb-true side 2 (both (ltb side 2) _ (none-refused 2 n q bound repeats a b [] number x asked (taken .3) .0) .0)
+    small = ltb-true side 2 (both (ltb side 2) _ (none-refused 2 n q (maskOf k) (k .repeats) (aOf k s) (bOf k s) (keyBytes k s) count x asked (accepted .3) .0) .0)
 
-    pub second-asks : (Polynomial n q (x .s0)) × (Polynomial n q (x .e0)) × (length w ≡ scratchLength) × (side < 2) × Drawings q n repeats (x .secrets) (x .vectors) (x .permutations) (x .salts)
-        × (length challenges ≡ repeats) × (length opening ≡ 22 * n) × (length answers ≡ answersLength n challenges)
+    pub second-asks : (Polynomial n q (x .s0)) × (Polynomial n q (x .e0)) × (length w ≡ scratchLength) × (side < 2) × (k .repeats ≤ 256) × Drawings q n (k .repeats) (x .secrets) (x .vectors) (x .permutations) (x .salts)
+        × (length challenges ≡ k .repeats) × (length (room .opening) ≡ 22 * n) × (length (room .answers) ≡ answersLength n challenges)
     second-asks =
-        let f = second-sizes n repeats challenges opening answers w (taken .2) in
-        let u = fit number public (taken .1) asked (taken .3) in
-        (u .s0, u .e0, f .3, small, drawings number public (taken .1) asked (taken .3), f .0, f .1, f .2)
+        let f = second-sizes n (k .repeats) challenges (room .opening) (room .answers) (room .scratch) (accepted .2) in
+        let u = fit (accepted .1) asked (accepted .3) in
+        (u .s0, u .e0, t .kept ∙ f .3, small, public .repeats-high, drawings (accepted .1) asked (accepted .3), f .0, f .1, f .2)

@@ -6,20 +6,17 @@ use lengths::first_sized;
 use lengths::material_sized;
 use lengths::refused;
 use lengths::second_sized;
-ghost use mathlib.Core.Path.{_≡_};
-ghost use mathlib.Core.List.{[]};
-ghost use Prim.Native.Nat.{_≤_};
-ghost use lib.ListN.{length};
-ghost use Rattle.codec.specs.Reply.{first};
-ghost use Rattle.call.specs.Call.{Polynomial, swept};
-ghost use Rattle.transcript.specs.Method.{parameters};
-ghost use Rattle.transcript.specs.Producer.{materialOf};
+use sheet_numbers::Numbers;
+ghost use Rattle.commitment.specs.Loaded.{Loaded};
+ghost use Rattle.transcript.specs.Sheets.{parameters};
 ghost use Rattle.lengths.specs.Calls.{firstTests, secondTests};
+ghost use Rattle.rounds.specs.Lent.{materialIn, firstIn, secondIn};
+ghost use Rattle.rounds.specs.Tested.{Tested};
 
 // What the first call refuses: 1, and then what the material is refused for.
 pub fn first_tests(
-    a: &[u8],
-    b: &[u8],
+    k: Numbers,
+    public: &[u8],
     secrets: &[u8],
     s0: &[u8],
     e0: &[u8],
@@ -34,15 +31,12 @@ pub fn first_tests(
     shares1: &[u8],
     claims: &[u8],
     scratch: &mut [u8],
-    repeats: usize,
-    bound: u64,
-    n: usize,
-    q: u64,
 ) -> Reply
-    requires { ⌜ Polynomial n q (now a) × Polynomial n q (now b) × (repeats ≤ 256) ⌝ }
-    ensures { λ reply. ⌜ reply ≡ first (firstTests (parameters 2 n q bound repeats (now (a .entry)) (now (b .entry)) []) (materialOf (now (secrets .entry)) (now (s0 .entry)) (now (e0 .entry)) (now (masks0 .entry)) (now (masks1 .entry)) (now (vectors .entry)) (now (permutations .entry)) (now (salts .entry)) (now (ballots .entry))) (now (head .entry)) (now (shares0 .entry)) (now (shares1 .entry)) (now (claims .entry)) (now (scratch .entry))) ⌝ }
-    ensures { λ reply. ⌜ (swept reply (now (scratch .exit)) ≡ swept reply (now (scratch .entry))) × (length (now (scratch .exit)) ≡ length (now (scratch .entry))) ⌝ }
+    requires { ⌜ Loaded k (now public) ⌝ }
+    ensures { λ reply. let x = materialIn secrets s0 e0 masks0 masks1 vectors permutations salts ballots in let room = firstIn head shares0 shares1 claims scratch in ⌜ Tested (firstTests (parameters k (now (public .entry))) x room) reply (now (scratch .entry)) (now (scratch .exit)) ⌝ }
 {
+    let n = k.ring as usize;
+    let repeats = k.repeats as usize;
     let count = count_of(ballots, n);
     if count > 4096 {
         return refused();
@@ -67,10 +61,8 @@ pub fn first_tests(
         return refused();
     }
     material::test_material(
-        scratch,
-        true,
-        a,
-        b,
+        k,
+        public,
         secrets,
         s0,
         e0,
@@ -80,17 +72,15 @@ pub fn first_tests(
         permutations,
         ballots,
         count,
-        repeats,
-        bound,
-        n,
-        q,
+        true,
+        scratch,
     )
 }
 
 // What the second call refuses.
 pub fn second_tests(
-    a: &[u8],
-    b: &[u8],
+    k: Numbers,
+    public: &[u8],
     secrets: &[u8],
     s0: &[u8],
     e0: &[u8],
@@ -105,15 +95,12 @@ pub fn second_tests(
     opening: &[u8],
     answers: &[u8],
     scratch: &mut [u8],
-    repeats: usize,
-    bound: u64,
-    n: usize,
-    q: u64,
 ) -> Reply
-    requires { ⌜ Polynomial n q (now a) × Polynomial n q (now b) × (repeats ≤ 256) ⌝ }
-    ensures { λ reply. ⌜ reply ≡ first (secondTests (parameters 2 n q bound repeats (now (a .entry)) (now (b .entry)) []) (materialOf (now (secrets .entry)) (now (s0 .entry)) (now (e0 .entry)) (now (masks0 .entry)) (now (masks1 .entry)) (now (vectors .entry)) (now (permutations .entry)) (now (salts .entry)) (now (ballots .entry))) side (now (challenges .entry)) (now (opening .entry)) (now (answers .entry)) (now (scratch .entry))) ⌝ }
-    ensures { λ reply. ⌜ (swept reply (now (scratch .exit)) ≡ swept reply (now (scratch .entry))) × (length (now (scratch .exit)) ≡ length (now (scratch .entry))) ⌝ }
+    requires { ⌜ Loaded k (now public) ⌝ }
+    ensures { λ reply. let x = materialIn secrets s0 e0 masks0 masks1 vectors permutations salts ballots in let room = secondIn opening answers scratch in ⌜ Tested (secondTests (parameters k (now (public .entry))) x side (now (challenges .entry)) room) reply (now (scratch .entry)) (now (scratch .exit)) ⌝ }
 {
+    let n = k.ring as usize;
+    let repeats = k.repeats as usize;
     let count = count_of(ballots, n);
     if count > 4096 {
         return refused();
@@ -139,10 +126,8 @@ pub fn second_tests(
     }
     let asked = asked_ranged(side, challenges);
     material::test_material(
-        scratch,
-        asked,
-        a,
-        b,
+        k,
+        public,
         secrets,
         s0,
         e0,
@@ -152,9 +137,7 @@ pub fn second_tests(
         permutations,
         ballots,
         count,
-        repeats,
-        bound,
-        n,
-        q,
+        asked,
+        scratch,
     )
 }

@@ -19,3 +19,4 @@ pub mod Refuses
 pub mod Tests
 pub mod Walk
 pub mod Written
+pub mod Cut

@@ -2,7 +2,9 @@ pub mod Layout
 pub mod Round
 pub mod Accepted
 pub mod Method
+pub mod Sheets
 pub mod Producer
+pub mod Writes
 pub mod Suitable
 pub mod Extractor
 pub mod Refuses

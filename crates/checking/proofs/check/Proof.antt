@@ -3,9 +3,10 @@ use mathlib.Core.Path.{refl, sym}
 use borrow.Author.Needs.{needs}
 use Rattle.sheet_numbers.specs.Bounds.{mask}
 use Rattle.call.proofs.Lent.{lent}
+use Rattle.scheme_calls.proofs.Keys.{sheet-loaded}
 use Rattle.lengths.proofs.OverSheet.{parameters-are}
 use Rattle.stored.specs.Stored.{inputsOf}
-use Rattle.checking.proofs.Outcome.{sheet-loaded, checked-over, checked-refused}
+use Rattle.checking.proofs.Outcome.{checked-over, checked-refused}
 use Rattle.checking.proofs.check.Statement.{statement}
 use Rattle.checking.proofs.check.Tie as tie
 

@@ -1,41 +1,31 @@
 -- `produce_second` meets its contract. Assumes nothing.
-use mathlib.Core.Path.{refl, sym}
-use Prim.Native.Nat.{_*_}
-use native.Mathlib.Omega.{arith}
+use mathlib.Core.Path.{sym}
 use borrow.Author.Needs.{needs}
 use Rattle.call.proofs.Lent.{lent}
+use Rattle.scheme_calls.proofs.Keys.{sheet-loaded}
 use Rattle.transcript.specs.Producer.{Material, materialOf}
-use Rattle.lengths.proofs.OverSheet.{parameters-are}
-use Rattle.round_calls.proofs.Promises.{second-restated, second-over, second-refused}
+use Rattle.lengths.specs.Calls.{SecondRoom, secondRoom}
+use Rattle.round_calls.proofs.Promises.{second-over, second-unread}
 use Rattle.round_calls.proofs.produce_second.Statement.{statement}
 use Rattle.round_calls.proofs.produce_second.Tie as tie
 
-mask-bound-requires : tie.Need-mask-bound-requires
-mask-bound-requires c κs = let r = lent 2 (c .before .before .before .before .before .before .before .before .before .before .before .before .before .before .before .before .before .before .before .args .sheet .now) (c .before .before .before .load .ensures) (c .before .reading .given .1) .ranged in (r .ring-high, r .drown-high)
+abbrev x : tie.Start → Material
+x s = let a = s .args in materialOf (a .secrets .now) (a .s0 .now) (a .e0 .now) (a .masks0 .now) (a .masks1 .now) (a .vectors .now) (a .permutations .now) (a .salts .now) (a .ballots .now)
 
-slice-aggregate-second : tie.Need-slice-aggregate-second
-slice-aggregate-second c = sym (lent 2 (c .before .before .before .before .before .before .before .before .before .before .before .before .before .before .before .before .before .before .before .before .before .args .sheet .now) (c .before .before .before .before .before .load .ensures) (c .before .before .before .reading .given .1) .sized)
+abbrev room : tie.Start → SecondRoom
+room s = let a = s .args in secondRoom (a .opening .now) (a .answers .now) (a .scratch .now)
 
-second-requires : tie.Need-second-requires
-second-requires c κs =
-    let h = lent 2 (c .before .before .before .before .before .before .before .before .before .before .before .before .before .before .before .before .before .before .before .before .before .before .before .before .args .sheet .now) (c .before .before .before .before .before .before .before .before .load .ensures) (c .before .before .before .before .before .before .reading .given .1) in
-    let n = c .before .before .before .before .before .before .reading .given .0 .0 .ring in
-    (h .polynomial 0 0 (8 * n) (omega arith) (omega arith) refl, h .polynomial 1 (8 * n) (8 * n) (omega arith) (omega arith) refl, h .ranged .repeats-high, omega (arith, h .sized, h .ranged .ring-high))
+slice-aggregate-produce-second : tie.Need-slice-aggregate-produce-second
+slice-aggregate-produce-second c = sym (lent 2 (c .before .before .before .before .before .before .before .before .before .before .before .before .before .before .before .before .before .before .before .before .args .sheet .now) (c .before .before .before .before .load .ensures) (c .before .before .reading .given .1) .sized)
+
+produce-second-requires : tie.Need-produce-second-requires
+produce-second-requires c κs = sheet-loaded (lent 2 (c .before .before .before .before .before .before .before .before .before .before .before .before .before .before .before .before .before .before .before .before .before .before .before .args .sheet .now) (c .before .before .before .before .before .before .before .load .ensures) (c .before .before .before .before .before .reading .given .1))
 
 returns : tie.Need-returns
-returns c =
-    let a = c .before .before .before .before .before .before .before .before .before .before .before .before .before .before .before .before .before .before .before .before .before .before .before .before .before .before .before .before .before .before .before .before .before .before .before .args in
-    let x : Material = materialOf (a .secrets .now) (a .s0 .now) (a .e0 .now) (a .masks0 .now) (a .masks1 .now) (a .vectors .now) (a .permutations .now) (a .salts .now) (a .ballots .now) in
-    let r = c .before .before .before .before .before .before .before .before .before .before .second .result in
-    let l = c .before .before .before .before .before .before .before .before .before .before .before .before .before .before .before .before .before .before .before .load .ensures in
-    let t = c .before .before .before .before .before .before .before .before .before .before .before .before .before .before .before .before .before .reading .given .1 in
-    second-over x r (a .side) (a .challenges .now) (a .opening .now) _ (a .answers .now) _ (a .scratch .now) _ (a .sheet .now) (lent 2 (a .sheet .now) l t .said)
-    (second-restated x r (a .side) (a .challenges .now) (a .opening .now) _ (a .answers .now) _ (a .scratch .now) _ (parameters-are 2 (a .sheet .now) l t (c .before .before .before .before .before .before .before .before .before .before .before .before .before .before .before .mask-bound .result) (c .before .before .before .before .before .before .before .before .before .before .before .before .before .before .before .mask-bound .ensures)) (c .before .before .before .before .before .before .before .before .before .before .second .ensures)) (c .before .before .sweep .ensures)
+returns c = let s = c .before .before .before .before .before .before .before .before .before .before .before .before .before .before .before .before .before .before .before .before .before .before .before .before .before .before .before .before .before .before .before .before .before .before in second-over (s .args .sheet .now) (c .before .before .before .before .before .before .before .before .before .before .before .before .before .before .before .before .before .before .load .ensures) (c .before .before .before .before .before .before .before .before .before .before .before .before .before .before .before .before .reading .given .1) (x s) (s .args .side) (s .args .challenges .now) (room s) (c .before .before .before .before .before .before .before .before .before .before .produce-second .ensures) (c .before .before .sweep .ensures)
 
 returns-2 : tie.Need-returns-2
-returns-2 c =
-    let a = c .before .before .before .before .before .before .before .before .before .before .before .before .before .before .before .before .before .before .before .before .before .before .before .args in
-    second-refused (materialOf (a .secrets .now) (a .s0 .now) (a .e0 .now) (a .masks0 .now) (a .masks1 .now) (a .vectors .now) (a .permutations .now) (a .salts .now) (a .ballots .now)) (a .side) (a .challenges .now) (a .opening .now) (a .answers .now) (a .scratch .now) (a .sheet .now) (c .before .before .before .before .before .before .before .load .ensures .0) (c .before .before .before .before .before .reading2 .given .1) (c .before .before .sweep2 .ensures)
+returns-2 c = let s = c .before .before .before .before .before .before .before .before .before .before .before .before .before .before .before .before .before .before .before .before .before .before .before in second-unread (s .args .sheet .now) (c .before .before .before .before .before .before .before .load .ensures .0) (c .before .before .before .before .before .reading2 .given .1) (x s) (s .args .side) (s .args .challenges .now) (room s) (c .before .before .sweep2 .ensures)
 
 pub produce-second-spec : {M : Type 1} → statement M
-produce-second-spec = tie.close (tie.spec (λ c κs. search needs) (λ c. search needs) mask-bound-requires slice-aggregate-second second-requires (λ c κs. search needs) (λ c. search needs) (λ c κs. search needs) (λ c. search needs) (λ c. search needs) (λ c. search needs) returns (λ c. search needs) returns-2)
+produce-second-spec = tie.close (tie.spec (λ c κs. search needs) (λ c. search needs) slice-aggregate-produce-second produce-second-requires (λ c κs. search needs) (λ c. search needs) (λ c κs. search needs) (λ c. search needs) (λ c. search needs) (λ c. search needs) returns (λ c. search needs) returns-2)

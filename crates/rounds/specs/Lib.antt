@@ -1,0 +1,4 @@
+pub mod Lent
+pub mod Tested
+pub mod First
+pub mod Second

@@ -1,0 +1,27 @@
+-- What the producer's first call writes into the room that it is lent, once its material passed all tests. Assumes nothing.
+use mathlib.Core.Path.{_≡_}
+use Prim.Native.Nat.{ℕ}
+use lib.ListN.{length}
+use Rattle.codec.specs.Bytes.{Bytes}
+use Rattle.transcript.specs.Round.{Parameters}
+use Rattle.transcript.specs.Producer.{Material, producedHead, producedShares, producedClaims}
+
+-- the room for the first message and the claims, and scratch
+pub record FirstRoom : Type 0 where
+  pub head : Bytes
+  pub shares0 : Bytes
+  pub shares1 : Bytes
+  pub claims : Bytes
+  pub scratch : Bytes
+
+-- the same from the slices one by one
+abbrev pub firstRoom : (head shares0 shares1 claims scratch : Bytes) → FirstRoom
+firstRoom head shares0 shares1 claims scratch = record { head = head; shares0 = shares0; shares1 = shares1; claims = claims; scratch = scratch }
+
+-- all of m ballots is written
+pub record FirstProduced (P : Parameters) (m : ℕ) (x : Material) (before after : FirstRoom) : Type 0 where
+  pub head : after .head ≡ producedHead P m x
+  pub shares0 : after .shares0 ≡ producedShares P m x 0
+  pub shares1 : after .shares1 ≡ producedShares P m x 1
+  pub claims : after .claims ≡ producedClaims P m x
+  pub scratch : length (after .scratch) ≡ length (before .scratch)
