@@ -7,12 +7,15 @@
 #include <string.h>
 #include <sys/file.h>
 #include <sys/stat.h>
+#include <time.h>
 #include <unistd.h>
 
 #include "say.h"
 
-/* The longest name inside a folder; the host makes none longer than 30. */
-#define NAME_ROOM 64
+/* The longest name inside a folder; the host makes none longer than 30. A folder that is made may have any name that the system takes. */
+#define NAME_ROOM 4096
+/* How long another command is waited for: so many times a tenth of a second. */
+#define LOCK_TRIES 50
 
 static enum status trouble(const struct folder *folder, const char *name) {
     if (errno == ENOENT)
@@ -30,8 +33,22 @@ enum status folder_open(struct folder *folder, const char *name) {
     return TROUBLE;
 }
 
+/* Puts on disk which names the folder that holds the file has: a new name lasts only then. */
+static int sync_names(const struct folder *folder, const char *name) {
+    char parent[NAME_ROOM];
+    size_t length = strlen(name);
+    while (length && name[length - 1] == '/') length--; /* a folder may be named with a slash at its end */
+    while (length && name[length - 1] != '/') length--;
+    snprintf(parent, sizeof parent, "%.*s", length ? (int)length : 1, length ? name : ".");
+    int handle = openat(folder->handle, parent, O_RDONLY | O_DIRECTORY | O_CLOEXEC);
+    if (handle < 0) return -1;
+    int failed = fsync(handle);
+    return close(handle) || failed ? -1 : 0;
+}
+
 enum status folder_make(struct folder *folder, const char *name) {
-    if (mkdir(name, 0755) && errno != EEXIST) {
+    const struct folder here = {.name = ".", .handle = AT_FDCWD};
+    if (!mkdirat(AT_FDCWD, name, 0755) ? sync_names(&here, name) : errno != EEXIST) {
         say("the folder %s: %s", name, strerror(errno));
         return TROUBLE;
     }
@@ -39,7 +56,12 @@ enum status folder_make(struct folder *folder, const char *name) {
 }
 
 enum status folder_lock(const struct folder *folder) {
-    if (!flock(folder->handle, LOCK_EX | LOCK_NB)) return DONE;
+    const struct timespec pause = {.tv_nsec = 100000000};
+    for (int i = 0; i < LOCK_TRIES; i++) {
+        if (!flock(folder->handle, LOCK_EX | LOCK_NB)) return DONE;
+        if (errno != EWOULDBLOCK) break;
+        nanosleep(&pause, NULL);
+    }
     say("the folder %s is in use by another command: %s", folder->name, strerror(errno));
     return TROUBLE;
 }
@@ -47,17 +69,6 @@ enum status folder_lock(const struct folder *folder) {
 void folder_close(struct folder *folder) {
     if (folder->handle >= 0) close(folder->handle);
     folder->handle = -1;
-}
-
-/* Puts on disk which names the folder that holds the file has: a new name lasts only then. */
-static int sync_names(const struct folder *folder, const char *name) {
-    char parent[NAME_ROOM];
-    const char *slash = strrchr(name, '/');
-    snprintf(parent, sizeof parent, "%.*s", slash ? (int)(slash - name) : 1, slash ? name : ".");
-    int handle = openat(folder->handle, parent, O_RDONLY | O_DIRECTORY | O_CLOEXEC);
-    if (handle < 0) return -1;
-    int failed = fsync(handle);
-    return close(handle) || failed ? -1 : 0;
 }
 
 enum status folder_add(const struct folder *folder, const char *name, enum readers readers) {

@@ -21,11 +21,27 @@ enum readers { FOR_ALL = 0644, FOR_OWNER = 0600 };
 enum status folder_open(struct folder *folder, const char *name);
 /* Makes the folder where it is missing, and opens it. */
 enum status folder_make(struct folder *folder, const char *name);
-/* Keeps other commands that write out of the folder for as long as it is open. */
+/* Keeps other commands that write out of the folder for as long as it is open. Where another one is at work it is waited for, some seconds. */
 enum status folder_lock(const struct folder *folder);
 void folder_close(struct folder *folder);
 /* Makes a folder inside, where it is missing; `readers` as of files. */
 enum status folder_add(const struct folder *folder, const char *name, enum readers readers);
+
+/* Names of files, each of its own memory. */
+struct names {
+    char **at;
+    size_t count, room;
+};
+
+/* Adds a copy of a name. */
+enum status names_add(struct names *names, const char *name);
+/* Puts them in the order of their bytes. */
+void names_sort(struct names *names);
+/* Whether a name is among them, which are sorted. */
+bool names_have(const struct names *names, const char *name);
+void names_free(struct names *names);
+/* Adds the names of what stands in a folder inside, `.` for the folder itself, sorted. */
+enum status folder_list(const struct folder *folder, const char *name, struct names *names);
 
 /* Whether there is a file of this name; TROUBLE where that cannot be told. */
 enum status file_find(const struct folder *folder, const char *name, bool *there);

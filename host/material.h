@@ -8,7 +8,10 @@ struct key {
     struct bytes s, e;
 };
 
-enum status key_read(const struct election *election, struct key *key);
+/* Whether the folder has one. */
+enum status key_find(const struct election *election, bool *there);
+/* Reads it; REFUSED where it is not the key of the sheet. */
+enum status key_read(struct election *election, struct key *key);
 void key_free(struct key *key);
 
 struct material {

@@ -5,7 +5,7 @@
 /* Where the producer refuses. A ballot whose noise is too large was not made by the rules, and no round can be shown for it: it has to be withdrawn. */
 static enum status refused(const struct batch *batch, uint64_t reply, size_t round) {
     batch_say_mark(batch, reply);
-    if (JDN_NUMBER(reply) == 15) say("add a withdrawal of this mark to log.txt, remove state.bin and run again");
+    if (JDN_NUMBER(reply) == 15) say("the ballots were closed with it: remove state.bin, withdraw this mark, and run again");
     return say_refused(reply, "producing round %zu", round);
 }
 

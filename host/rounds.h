@@ -15,6 +15,13 @@ struct second {
     struct bytes opening, answers;
 };
 
+#define CLAIMS_FILE "claims.bin"
+
+/* The files of a round: the parts of the first message, then those of the second. */
+enum round_part { HEAD, SHARES0, SHARES1, OPENING, ANSWERS, ROUND_PARTS };
+#define FIRST_PARTS OPENING
+void round_part_name(char *name, size_t room, size_t round, enum round_part part);
+
 /* Produces the first message of a round from its seed. */
 enum status first_produce(struct election *election, const struct key *key, const struct batch *batch, size_t round, struct first *first);
 /* Produces the second message for what was drawn. */

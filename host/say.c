@@ -20,7 +20,7 @@ struct refusal {
 static const struct refusal refusals[] = {
     {1, NOWHERE, "something has the wrong length"},
     {2, NOWHERE, "the sheet does not have the form of ten lines, from ring= to k3="},
-    {3, NOWHERE, "a number of the sheet, or the number enrolled, is outside its range"},
+    {3, NOWHERE, "a number is outside its range"},
     {4, NOWHERE, "the modulus does not fit the ring (2N must divide q - 1), or leaves no room for noise and masks"},
     {5, NOWHERE, "a number is out of range: a coefficient, a vote, a ternary byte, or how many a list of the sheet has"},
     {6, NOWHERE, "the halves of the public key do not add up to the public key of the sheet"},
