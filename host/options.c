@@ -70,7 +70,7 @@ static bool read_value(struct options *options, const struct option *option, con
 /* Reads the option that begins the words, and its value. Answers how many words that were, 0 where something is wrong. */
 static size_t read_option(struct options *options, unsigned takes, char **words, size_t count) {
     const struct option rows[] = {
-        {"--help", ~0u, SWITCH, &options->help, ANY_NUMBER},
+        {"--help", takes, SWITCH, &options->help, ANY_NUMBER},
         {"--draw-here", TAKES_DRAW, SWITCH, &options->draw.here, ANY_NUMBER},
         {"--ring", TAKES_NUMBERS, NUMBER, &options->numbers.ring, ANY_NUMBER},
         {"--modulus", TAKES_NUMBERS, NUMBER, &options->numbers.modulus, ANY_NUMBER},
@@ -89,7 +89,7 @@ static size_t read_option(struct options *options, unsigned takes, char **words,
     size_t used = row < end && row->kind == SWITCH ? 1 : 2;
     if (row == end)
         say("%s is no option", words[0]);
-    else if (!(row->takes & takes))
+    else if (row->takes != takes && !(row->takes & takes))
         say("%s is no option of this command", words[0]);
     else if (used > count)
         say("%s has no value behind it", words[0]);

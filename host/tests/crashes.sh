@@ -33,7 +33,7 @@ every_cut_of_a_run() {
         cp -r "$room/cut_ready" "$folder"
         cut_at "$k" run "${unsafe[@]}" "$folder"
         succeed "cut $k cuts" test $? -eq 137
-        expect 0 "All rounds accepted yes" "$program" run "${unsafe[@]}" "$folder"
+        expect 0 "All rounds accepted yes" "$program" run --draw-here "${unsafe[@]}" "$folder"
         clean "$folder"
         succeed "cut $k of $count" diff -r "$folder" "$room/cut_done"
     done
@@ -46,8 +46,8 @@ cuts_with_fresh_numbers() {
     for ((k = 1; k <= count; k += 2)); do
         rm -rf "$folder"
         cp -r "$room/cut_ready" "$folder"
-        cut_at "$k" run "$folder"
-        expect 0 "All rounds accepted yes" "$program" run "$folder"
+        cut_at "$k" run --draw-here "$folder"
+        expect 0 "All rounds accepted yes" "$program" run --draw-here "$folder"
         succeed "the votes after cut $k" diff <(votes "$folder") <(votes "$room/cut_done")
         publish "$folder" "$room/other"
         expect 0 "accepted" "$program" check "$room/other"
@@ -62,7 +62,7 @@ two_cuts() {
         cp -r "$room/cut_ready" "$folder"
         cut_at "$k" run "${unsafe[@]}" "$folder"
         cut_at $((1 + RANDOM % (count - k + 1))) run "${unsafe[@]}" "$folder"
-        expect 0 "All rounds accepted yes" "$program" run "${unsafe[@]}" "$folder"
+        expect 0 "All rounds accepted yes" "$program" run --draw-here "${unsafe[@]}" "$folder"
         clean "$folder"
         succeed "cuts at $k and later" diff -r "$folder" "$room/cut_done"
     done
@@ -104,7 +104,7 @@ every_cut_of_a_vote() {
             expect 0 "" "$program" vote "$folder" 77 Rook
         fi
         grep -qx "admit 77" "$folder/log.txt" || echo "admit 77" >>"$folder/log.txt"
-        expect 0 "Ballots counted     3" "$program" run "$folder"
+        expect 0 "Ballots counted     3" "$program" run --draw-here "$folder"
     done
 }
 
