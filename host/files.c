@@ -129,7 +129,7 @@ enum status file_read(const struct folder *folder, const char *name, size_t leas
     return status;
 }
 
-/* Writes all bytes and has them on disk. */
+/* Writes all bytes. */
 static bool write_full(int handle, const uint8_t *at, size_t length) {
     size_t done = 0;
     while (done < length) {
@@ -138,30 +138,54 @@ static bool write_full(int handle, const uint8_t *at, size_t length) {
         if (part < 0) return false;
         done += (size_t)part;
     }
-    return !fsync(handle);
+    return true;
 }
 
-/* Writes the file under a name of its own beside its place, NAME.new. */
-static bool write_beside(const struct folder *folder, const char *beside, enum readers readers, const void *at, size_t length) {
-    if (unlinkat(folder->handle, beside, 0) && errno != ENOENT) return false; /* what a crash left */
+/* Writes the file under a name of its own beside its place, NAME.new; has its bytes on disk where it is to be synced. */
+static enum status write_beside(const struct folder *folder, const char *beside, enum readers readers, const void *at, size_t length, bool synced) {
+    if (unlinkat(folder->handle, beside, 0) && errno != ENOENT) return trouble(folder, beside); /* what a crash left */
     int handle = openat(folder->handle, beside, O_WRONLY | O_CREAT | O_EXCL | O_CLOEXEC, (mode_t)readers);
-    if (handle < 0) return false;
-    bool written = write_full(handle, at, length);
-    return !close(handle) && written;
+    if (handle < 0) return trouble(folder, beside);
+    bool written = write_full(handle, at, length) && (!synced || !fsync(handle));
+    return !close(handle) && written ? DONE : trouble(folder, beside);
+}
+
+static void name_beside(char *beside, const char *name) {
+    snprintf(beside, NAME_ROOM, "%s.new", name);
+}
+
+enum status file_stage(const struct folder *folder, const char *name, enum readers readers, const void *at, size_t length) {
+    char beside[NAME_ROOM];
+    name_beside(beside, name);
+    return write_beside(folder, beside, readers, at, length, false);
+}
+
+enum status folder_sync_all(const struct folder *folder) {
+    if (!syncfs(folder->handle)) return DONE;
+    say("the folder %s: %s", folder->name, strerror(errno));
+    return TROUBLE;
+}
+
+enum status file_place(const struct folder *folder, const char *name) {
+    char beside[NAME_ROOM];
+    name_beside(beside, name);
+    return renameat(folder->handle, beside, folder->handle, name) ? trouble(folder, name) : DONE;
 }
 
 enum status file_write(const struct folder *folder, const char *name, enum readers readers, const void *at, size_t length) {
     char beside[NAME_ROOM];
-    snprintf(beside, sizeof beside, "%s.new", name);
-    if (!write_beside(folder, beside, readers, at, length)) return trouble(folder, beside);
-    if (renameat(folder->handle, beside, folder->handle, name)) return trouble(folder, name);
+    name_beside(beside, name);
+    enum status status = write_beside(folder, beside, readers, at, length, true);
+    if (!status) status = file_place(folder, name);
+    if (status) return status;
     return sync_names(folder, name) ? trouble(folder, name) : DONE;
 }
 
 enum status file_write_new(const struct folder *folder, const char *name, enum readers readers, const void *at, size_t length) {
     char beside[NAME_ROOM];
-    snprintf(beside, sizeof beside, "%s.new", name);
-    if (!write_beside(folder, beside, readers, at, length)) return trouble(folder, beside);
+    name_beside(beside, name);
+    enum status status = write_beside(folder, beside, readers, at, length, true);
+    if (status) return status;
     int failed = linkat(folder->handle, beside, folder->handle, name, 0);
     bool there = failed && errno == EEXIST;
     if (failed && !there) return trouble(folder, name);

@@ -51,6 +51,11 @@ enum status file_read(const struct folder *folder, const char *name, size_t leas
 enum status file_write(const struct folder *folder, const char *name, enum readers readers, const void *at, size_t length);
 /* The same, but REFUSED where the file is there already. */
 enum status file_write_new(const struct folder *folder, const char *name, enum readers readers, const void *at, size_t length);
+/* Writes many files, in three steps: each is written beside its place; all of them are then put on disk at once; and each gets its name, in the place of what
+ * was there. The names are on disk once that is done again. */
+enum status file_stage(const struct folder *folder, const char *name, enum readers readers, const void *at, size_t length);
+enum status folder_sync_all(const struct folder *folder);
+enum status file_place(const struct folder *folder, const char *name);
 /* Removes a file where it is there. */
 enum status file_remove(const struct folder *folder, const char *name);
 

@@ -1,4 +1,4 @@
-/* Publishing: a copy of what a member may have, file by file, and of nothing else. Each file is written whole or not at all, and a publication that was cut
+/* Publishing: a copy of what a member may have, file by file, and of nothing else. Each file is whole when it gets its name, and a publication that was cut
  * short is completed by the next one. */
 #include <stdint.h>
 #include <stdio.h>
@@ -126,23 +126,27 @@ static enum status make_folders(const struct folder *out, const char *path) {
     return status;
 }
 
-static enum status copy(const struct folder *from, const struct folder *out, const char *path) {
+/* Writes a copy of a file beside its place. */
+static enum status stage(const struct folder *from, const struct folder *out, const char *path) {
     struct bytes file = {0};
     enum status status = file_read(from, path, ANY_LENGTH, SIZE_MAX, &file);
     if (!status) status = make_folders(out, path);
-    if (!status) status = file_write(out, path, FOR_ALL, LENT(file));
+    if (!status) status = file_stage(out, path, FOR_ALL, LENT(file));
     bytes_free(&file);
     return status;
 }
 
+/* A disk is asked twice to have all of it, and not twice for each file of some thousands. */
 static enum status copy_all(const struct folder *from, const struct folder *out, const struct names *names) {
     enum status status = DONE;
     for (size_t i = 0; i < names->count && !status; i++) {
         progress("Files", i + 1, names->count);
-        status = copy(from, out, names->at[i]);
+        status = stage(from, out, names->at[i]);
     }
     progress_end();
-    return status;
+    if (!status) status = folder_sync_all(out);
+    for (size_t i = 0; i < names->count && !status; i++) status = file_place(out, names->at[i]);
+    return status ? status : folder_sync_all(out);
 }
 
 /* What is published, and what is not there yet. */

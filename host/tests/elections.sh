@@ -46,7 +46,7 @@ sizes() {
         expect 0 "" "$program" sample $words "$folder"
         expect 0 "All rounds accepted yes" "$program" run --draw-here "$folder"
         accepted "$folder"
-        # 2^-10 + (2/3)^17 is 1 in 502, 2^-128 + (2/3)^218 is 1 in 1.43 10^38
+        # 2^-10 + (2/3)^17 is 1 in 502, 2^-128 + (2/3)^218 is 1 in 1.42 10^38
         case $words in
         *"--rounds 10 "*) said "passes is at most 1 in 500." ;;
         *"--rounds 128 "*) said "passes is at most 1 in 140,000,000,000,000,000,000,000,000,000,000,000,000." ;;
@@ -103,12 +103,16 @@ fresh() {
 
 # A register that is full: every entry is used, and one more is refused.
 full() {
-    local folder=$room/full i
+    local folder=$room/full i mark zeros
     expect 0 "" "$program" sample --ring 4 --rounds 1 --ballots 1 "$folder"
     rm -r "$folder/ballots"
     mkdir "$folder/ballots"
-    # u = v = 0 is a ballot with no noise and no vote
-    for ((i = 1; i <= 4097; i++)); do { number "$i" 4; head -c 64 /dev/zero; } >"$folder/ballots/$i.ballot"; done
+    # u = v = 0 is a ballot with no noise and no vote; the mark stands before 64 zeros
+    zeros=$(printf '\\0%.0s' {1..64})
+    for ((i = 1; i <= 4097; i++)); do
+        printf -v mark '\\x%02x\\x%02x\\0\\0' $((i & 255)) $((i >> 8))
+        printf "$mark$zeros" >"$folder/ballots/$i.ballot"
+    done
     seq -f 'admit %.0f' 4097 >"$folder/log.txt"
     expect 1 "log.txt, line 4097, admit 4097: refused 35: the register is full" "$program" gather "$folder"
     seq -f 'admit %.0f' 4096 >"$folder/log.txt"

@@ -14,7 +14,7 @@
 #include <sys/syscall.h>
 #include <unistd.h>
 
-#define MOST 64
+#define MOST 256
 
 /* A name that was given to a file or a folder. What a rename puts it in the place of is kept, under a name of its own, until the folder around it,
  * `parent`, is synced. */
@@ -107,6 +107,15 @@ int fsync(int handle) {
         if (dirty[i] != handle) dirty[left++] = dirty[i];
     dirty_count = left;
     return (int)syscall(SYS_fsync, handle);
+}
+
+/* Everything is on disk after this. */
+int syncfs(int handle) {
+    step();
+    for (int i = 0; i < name_count; i++)
+        if (names[i].replaced) syscall(SYS_unlinkat, names[i].folder, names[i].kept, 0);
+    name_count = dirty_count = 0;
+    return (int)syscall(SYS_syncfs, handle);
 }
 
 /* Before a name is given. */

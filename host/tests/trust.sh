@@ -185,7 +185,7 @@ seed_known() {
     expect 1 "forged is not accepted" "$program" check "$folder"
 }
 
-# 2^-rounds + (2/3)^repeats, by hand: 1/2 + 2/3 is above 1; 1/4 + 8/27 = 0.546..; and for 40 and 68, 0.909.. + 1.059.. of 10^12, which is 1 in 5.08 10^11.
+# 2^-rounds + (2/3)^repeats, by hand: 1/2 + 2/3 is above 1; 1/4 + 8/27 = 0.546..; and for 40 and 68, 0.909.. + 1.061.. in 10^12, which is 1 in 5.07 10^11.
 chances() {
     local words
     for words in "1 100 in 100" "2 55 in 100" "40 1 in 500,000,000,000."; do
