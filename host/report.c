@@ -10,7 +10,6 @@
 
 /* Where an election stands, seen by a person who wants to go on with it. */
 enum stand {
-    NOT_READY,       /* lists or enrolment are missing or wrong, or a line of the log is */
     OPEN,            /* ballots are taken */
     COMMITTING,      /* the ballots are closed, and not every first message is made */
     AWAITING_SEED,   /* the first messages are made, and no seed is drawn */
@@ -24,7 +23,6 @@ enum stand {
 static const struct {
     const char *phase, *next;
 } words[] = {
-    [NOT_READY] = {"gathering ballots", "put right what is said above"},
     [OPEN] = {"gathering ballots", "take votes and withdrawals; when the poll ends, `election commit FOLDER`"},
     [COMMITTING] = {"the ballots are closed", "`election commit FOLDER` makes the first messages that are left"},
     [AWAITING_SEED] = {"committed", "publish the commitment, which `election commit FOLDER` prints; draw the seed in public; `election run FOLDER --seed SEED`"},
@@ -35,19 +33,19 @@ static const struct {
     [PUBLISHED] = {"a published election", "`election check FOLDER` checks it"},
 };
 
-/* Whether lists, enrolment and log are such that the ballots could be closed. Says what is wrong. */
+/* Whether lists, enrolment and log are such that the election can go on; says what is wrong. `after` is the session with the whole log taken. */
 static bool is_ready(const struct election *election, struct election *after) {
     struct paper paper = {0};
-    bool ready = !paper_read(election, &paper);
+    bool fresh = false;
+    bool ready = !log_rehearse(election, after) && !paper_read(election, &paper) && !lists_keep(after, &paper.lists, &fresh);
+    if (ready && election_phase(election) != GATHERING) ready = !enrolment_keep(after, &paper.enrolment, &fresh);
     paper_free(&paper);
-    return !log_rehearse(election, after) && ready;
+    return ready;
 }
 
-static enum stand stand_of(const struct election *election, bool stored, bool result, bool ready) {
+static enum stand stand_of(const struct election *election, bool stored, bool result) {
     switch (election_phase(election)) {
-    case GATHERING:
-        if (!stored && result) return PUBLISHED;
-        return ready ? OPEN : NOT_READY;
+    case GATHERING: return !stored && result ? PUBLISHED : OPEN;
     case CLOSED: return COMMITTING;
     case CLAIMED: return election_committed(election) < election->numbers.rounds ? COMMITTING : AWAITING_SEED;
     case DRAWN: return ANSWERING;
@@ -56,7 +54,7 @@ static enum stand stand_of(const struct election *election, bool stored, bool re
     }
 }
 
-static enum status print(const struct election *election, const struct election *after, enum stand stand) {
+static enum status print(const struct election *election, const struct election *after, enum stand stand, bool ready) {
     struct text text = {0};
     size_t standing = election_standing(after), rounds = election->numbers.rounds;
     unsigned long long waiting = (unsigned long long)(after->log_lines - election->log_lines);
@@ -67,7 +65,7 @@ static enum status print(const struct election *election, const struct election 
         text_add(&text, "Rounds committed    %zu of %zu\n", election_committed(election), rounds);
         text_add(&text, "Rounds checked      %zu of %zu\n", election_checked(election), rounds);
     }
-    text_add(&text, "Next                %s\n", words[stand].next);
+    text_add(&text, "Next                %s%s\n", ready ? "" : "put right what is said above; then ", words[stand].next);
     return text_print(&text);
 }
 
@@ -77,10 +75,10 @@ enum status report(const char *folder) {
     enum status status = election_look(&election, folder, &stored);
     if (!status) status = file_find(&election.folder, RESULT_TEXT, &result);
     if (!status) {
-        bool gathering = election_phase(&election) == GATHERING && (stored || !result);
+        enum stand stand = stand_of(&election, stored, result);
         after = election;
-        bool ready = !gathering || is_ready(&election, &after);
-        status = print(&election, &after, stand_of(&election, stored, result, ready));
+        bool ready = stand == PUBLISHED || is_ready(&election, &after);
+        status = print(&election, &after, stand, ready);
     }
     explicit_bzero(&after, sizeof after);
     election_end(&election);
