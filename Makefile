@@ -51,7 +51,7 @@ target/digest: host/digest.c include/jackdawnail.h $(library)
 	@mkdir -p target
 	$(CC) $(host_flags) -o $@ host/digest.c $(library)
 
-target/election: $(election_sources) $(host_headers) $(library)
+target/election: $(election_sources) $(host_headers) $(library) Makefile
 	@mkdir -p target
 	$(CC) $(host_flags) -o $@ $(election_sources) $(library)
 

@@ -1,5 +1,5 @@
-/* The words that say what an acceptance is worth. They are part of the result, which is compared byte for byte: the sums below are exact in the same way on
- * every machine, since they are single steps of IEEE arithmetic. */
+/* The words that say what an acceptance is worth. They are part of the result, which is compared byte for byte: the sums below are exact
+ * in the same way on every machine, since they are single steps of IEEE arithmetic. */
 #include "assurance.h"
 
 #include <stdio.h>
@@ -8,8 +8,9 @@
 #include "say.h"
 
 /* A session whose challenges come from a drawn seed. A kind of session that needs no draw has a sentence of its own. */
-const char condition_sentence[] = "The challenges of this election come from a drawn seed: "
-                                  "acceptance holds only if this seed was drawn after this commitment was public.";
+const char condition_sentence[] =
+    "The challenges of this election come from a drawn seed: "
+    "acceptance holds only if this seed was drawn after this commitment was public.";
 const char condition_reason[] = "Whoever knew the seed before that could have made any result pass.";
 
 /* x to the n. */

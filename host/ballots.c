@@ -92,11 +92,13 @@ enum status ballots_of_entry(const struct election *election, const struct ballo
     return REFUSED;
 }
 
-/* Whether a file of the folder of ballots is a ballot that no entry of the register names: one that is written under the name of no mark, too. */
+/* Whether a file of the folder of ballots is a ballot that no entry of the register names: one that is written under the name of no mark,
+ * too. */
 static bool is_unlogged(const struct election *election, const char *name) {
     uint64_t mark = 0;
     if (!is_ballot_name(name)) return false;
-    return !read_decimal(name, strlen(name) - strlen(BALLOT_END), UINT32_MAX, &mark) || entry_find(election, (uint32_t)mark) == election_used(election);
+    return !read_decimal(name, strlen(name) - strlen(BALLOT_END), UINT32_MAX, &mark) ||
+           entry_find(election, (uint32_t)mark) == election_used(election);
 }
 
 static enum status name_unlogged_files(const struct election *election) {

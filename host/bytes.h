@@ -45,7 +45,8 @@ uint64_t read64(const uint8_t *at);
 void write32(uint8_t *at, uint32_t value);
 void write64(uint8_t *at, uint64_t value);
 
-/* Reads a digest: 64 hexadecimal digits of either case, with or without blanks, hyphens and colons between. False, and no digest, where it is none. */
+/* Reads a digest: 64 hexadecimal digits of either case, with or without blanks, hyphens and colons between. False, and no digest, where it
+ * is none. */
 bool read_digest(const char *text, uint8_t *digest);
 
 /* Reads a decimal of digits alone with no leading zero, at most `most`. False, and no value, where it is none. */

@@ -23,7 +23,8 @@ static enum status encrypt(struct election *election, const struct bytes *messag
     return reply ? say_refused(reply, "making the ballot") : DONE;
 }
 
-enum status ballot_make(struct election *election, uint32_t mark, const struct bytes *message, const struct origin *origin, struct bytes *ballot) {
+enum status ballot_make(struct election *election, uint32_t mark, const struct bytes *message, const struct origin *origin,
+                        struct bytes *ballot) {
     uint8_t seed[SEED];
     enum status status = bytes_make(ballot, ballot_length(&election->numbers));
     if (!status) status = origin_seed(origin, FOR_BALLOT, mark, seed);

@@ -46,10 +46,12 @@ static enum status compare_named(const struct transcript *transcript, const stru
 /* The first lines of an acceptance: on what condition it holds, or that what the condition is about was named. */
 static void add_verdict(struct text *text, const struct expected *expected) {
     if (expected->committed.given && expected->seed.given)
-        text_add(text, "accepted: commitment and seed are the ones that you named.\nIt holds if that commitment was public before that seed was drawn.\n\n");
+        text_add(text,
+                 "accepted: commitment and seed are the ones that you named.\nIt holds if that commitment was public before that seed was "
+                 "drawn.\n\n");
     else
-        text_add(text, "accepted, on one condition. %s\n%s Check again with --committed and --seed, as the society published them.\n\n", condition_sentence,
-                 condition_reason);
+        text_add(text, "accepted, on one condition. %s\n%s Check again with --committed and --seed, as the society published them.\n\n",
+                 condition_sentence, condition_reason);
 }
 
 /* The lists that a counted ballot marked, by its place in the batch. */

@@ -19,7 +19,8 @@ struct named {
     uint8_t digest[DIGEST];
 };
 
-/* Where the seed of the draw comes from, where seed.bin is not there: it was named, or this machine draws it, which convinces nobody who does not trust it. */
+/* Where the seed of the draw comes from, where seed.bin is not there: it was named, or this machine draws it, which convinces nobody who
+ * does not trust it. */
 struct draw {
     struct named seed;
     bool here;

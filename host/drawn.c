@@ -9,7 +9,8 @@
 enum status seed_may_be_named(const struct election *election, const struct draw *draw) {
     if (!draw->seed.given) return DONE;
     if (election_phase(election) < CLAIMED || election_committed(election) < election->numbers.rounds) {
-        say("--seed: the first messages are not all made, and a seed that is known before shows nothing. First `election commit %s`; publish the commitment "
+        say("--seed: the first messages are not all made, and a seed that is known before shows nothing. First `election commit %s`; "
+            "publish the commitment "
             "that it prints; then draw the seed",
             election->folder.name);
         return REFUSED;
@@ -19,8 +20,8 @@ enum status seed_may_be_named(const struct election *election, const struct draw
     return REFUSED;
 }
 
-/* Two answers to one first message give the key away. A session that is drawn once answers once; but an old state.bin that is put back could be drawn
- * anew. So nothing is drawn where second messages are there already. */
+/* Two answers to one first message give the key away. A session that is drawn once answers once; but an old state.bin that is put back
+ * could be drawn anew. So nothing is drawn where second messages are there already. */
 static enum status not_answered(const struct election *election) {
     for (size_t round = 0; round < election->numbers.rounds; round++) {
         bool answered = false;
@@ -43,7 +44,8 @@ static enum status find_seed(const struct election *election, const struct draw 
     if (status || there) return status;
     if (draw->seed.given) return file_write(&election->folder, SEED_FILE, FOR_ALL, draw->seed.digest, SEED);
     if (!draw->here && !origin->given) {
-        say("the seed is not drawn yet. Publish the commitment (`election commit %s` prints it), draw the seed in public, and run again with --seed SEED. "
+        say("the seed is not drawn yet. Publish the commitment (`election commit %s` prints it), draw the seed in public, and run again "
+            "with --seed SEED. "
             "To try things, --draw-here has this machine draw it",
             election->folder.name);
         return TROUBLE;

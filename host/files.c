@@ -142,7 +142,8 @@ static bool write_full(int handle, const uint8_t *at, size_t length) {
 }
 
 /* Writes the file under a name of its own beside its place, NAME.new; has its bytes on disk where it is to be synced. */
-static enum status write_beside(const struct folder *folder, const char *beside, enum readers readers, const void *at, size_t length, bool synced) {
+static enum status write_beside(const struct folder *folder, const char *beside, enum readers readers, const void *at, size_t length,
+                                bool synced) {
     if (unlinkat(folder->handle, beside, 0) && errno != ENOENT) return trouble(folder, beside); /* what a crash left */
     int handle = openat(folder->handle, beside, O_WRONLY | O_CREAT | O_EXCL | O_CLOEXEC, (mode_t)readers);
     if (handle < 0) return trouble(folder, beside);

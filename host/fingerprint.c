@@ -1,4 +1,5 @@
-/* Commitment and fingerprint: SHA3-256 of a title that names the form, and parts of fixed lengths behind it, so that no two elections give the same string. */
+/* Commitment and fingerprint: SHA3-256 of a title that names the form, and parts of fixed lengths behind it, so that no two elections give
+ * the same string. */
 #include "fingerprint.h"
 
 #include <string.h>
@@ -11,8 +12,8 @@ static const char fingerprint_title[] = "jackdawnail fingerprint 1\n";
 #define MOST_MESSAGE (sizeof commitment_title + PARTS * DIGEST + 8 + MOST_ROUNDS * DIGEST)
 
 void commitment_of(const struct election *election, const struct paper *paper, uint8_t *commitment) {
-    const uint8_t *const parts[PARTS] = {election_sheet_digest(election), paper->lists.digest, paper->enrolment.digest, election_closing_digest(election),
-                                         election_claim_digest(election)};
+    const uint8_t *const parts[PARTS] = {election_sheet_digest(election), paper->lists.digest, paper->enrolment.digest,
+                                         election_closing_digest(election), election_claim_digest(election)};
     uint8_t message[MOST_MESSAGE], *end = message;
     size_t rounds = election->numbers.rounds;
     memcpy(end, commitment_title, sizeof commitment_title - 1);

@@ -1,6 +1,6 @@
-/* Two digests that people compare. The commitment covers all that has to stand before the seed is drawn; the fingerprint covers that and the seed, and so names
- * the whole election: whoever sees the same fingerprint sees the same sheet, lists, enrolment, ballots, claims, first messages and draw. docs/ELECTIONS.md has
- * the bytes that are hashed. */
+/* Two digests that people compare. The commitment covers all that has to stand before the seed is drawn; the fingerprint covers that and
+ * the seed, and so names the whole election: whoever sees the same fingerprint sees the same sheet, lists, enrolment, ballots, claims,
+ * first messages and draw. docs/ELECTIONS.md has the bytes that are hashed. */
 #ifndef FINGERPRINT_H
 #define FINGERPRINT_H
 #include "election.h"

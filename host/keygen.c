@@ -49,7 +49,8 @@ static enum status make_public_key(const struct new_sheet *numbers, const struct
 }
 
 /* The key first: a sheet whose key is lost would be of no use. */
-static enum status write_files(const struct folder *folder, const struct new_sheet *numbers, const struct bytes *key, const struct bytes *polynomials) {
+static enum status write_files(const struct folder *folder, const struct new_sheet *numbers, const struct bytes *key,
+                               const struct bytes *polynomials) {
     size_t ring = (size_t)numbers->ring;
     struct text text = {0};
     sheet_write(&text, numbers, polynomials->at);

@@ -8,11 +8,12 @@
 /* Room for what is said of a name. */
 #define FAULT_ROOM 120
 
-/* Whether people can read a name and tell it from others: valid UTF-8, not blank, nothing in it that cannot be seen or turns the order of what can.
- * Where it is not, `fault` says what is wrong, as the end of a sentence that begins with the line. */
+/* Whether people can read a name and tell it from others: valid UTF-8, not blank, nothing in it that cannot be seen or turns the order of
+ * what can. Where it is not, `fault` says what is wrong, as the end of a sentence that begins with the line. */
 bool name_reads(const uint8_t *at, size_t length, char *fault);
 
-/* Whether two names that read look alike: the same but for blanks around them, how many blanks stand between two words and which, and letters that are drawn alike. */
-bool names_alike(const char *left, const char *right);
+/* Writes down how a name that reads looks, zero-ended, in no more bytes than the name has: without blanks around it, with one blank for
+ * each run of them, and one letter for all that are drawn alike. Two names whose looks are the same look alike. */
+void name_looks(const char *name, char *looks);
 
 #endif

@@ -19,10 +19,15 @@ size_t lists_find(const struct lists *lists, const char *name) {
     return i;
 }
 
+/* What a name of the file looks like. */
+static char *looks_of(const struct lists *lists, const char *name) {
+    return (char *)lists->looks.at + (name - (const char *)lists->file.at);
+}
+
 /* The place of a name that looks like this one, or the count. */
 static size_t find_alike(const struct lists *lists, const char *name) {
     size_t i = 0;
-    while (i < lists->count && !names_alike(lists->names[i], name)) i++;
+    while (i < lists->count && strcmp(looks_of(lists, lists->names[i]), looks_of(lists, name))) i++;
     return i;
 }
 
@@ -34,6 +39,7 @@ static bool line_names(const struct lists *lists, uint8_t *at, uint8_t *end, siz
     }
     *end = 0;
     if (!name_reads(at, (size_t)(end - at), fault)) return false;
+    name_looks((char *)at, looks_of(lists, (char *)at));
     size_t alike = find_alike(lists, (char *)at);
     if (alike < lists->count)
         snprintf(fault, FAULT_ROOM, "looks like line %zu", alike + 1);
@@ -56,6 +62,7 @@ static uint8_t *add_line(const struct folder *folder, struct lists *lists, uint8
 
 enum status lists_read(const struct folder *folder, size_t most, struct lists *lists) {
     enum status status = file_read(folder, LISTS_FILE, 2, MOST_NAMES, &lists->file);
+    if (!status) status = bytes_make(&lists->looks, lists->file.length);
     if (status) return status;
     jdn_digest(LENT(lists->file), lists->digest, sizeof lists->digest);
     lists->count = 0;
@@ -69,6 +76,7 @@ enum status lists_read(const struct folder *folder, size_t most, struct lists *l
 void lists_free(struct lists *lists) {
     free(lists->names);
     bytes_free(&lists->file);
+    bytes_free(&lists->looks);
     *lists = (struct lists){0};
 }
 

@@ -6,9 +6,9 @@
 #define LISTS_FILE "lists.txt"
 #define ENROLLED_FILE "enrolled.txt"
 
-/* Names are zero-ended, in the bytes of the file. */
+/* Names are zero-ended, in the bytes of the file; what they look like (letters.h) stands at the same places of another run. */
 struct lists {
-    struct bytes file;
+    struct bytes file, looks;
     const char **names;
     size_t count;
     uint8_t digest[DIGEST]; /* of the file as it was read */

@@ -114,8 +114,8 @@ static enum status log_save(struct election *election, const struct bytes *log) 
     return election_save(election);
 }
 
-/* Goes past a line that was refused, in a session that is thrown away. A ballot that is no good has a blank one in its place, so that a line that withdraws it
- * is not called wrong too. */
+/* Goes past a line that was refused, in a session that is thrown away. A ballot that is no good has a blank one in its place, so that a
+ * line that withdraws it is not called wrong too. */
 static void skip_line(struct election *election, const struct bytes *log) {
     struct bytes blank = {0};
     struct line line = line_read(log, (size_t)election->log_length);

@@ -88,20 +88,25 @@ static const char numbers_help[] =
 /* In the order of an election. */
 static const struct command commands[] = {
     {"keygen", "FOLDER", 1, 1, TAKES_NUMBERS | TAKES_UNSAFE_SEED, do_keygen, "makes key/s, key/e and sheet.txt", numbers_help},
-    {"vote", "FOLDER MARK LIST..", 2, NO_LIMIT, TAKES_UNSAFE_SEED, do_vote, "makes a ballot for the named lists and adds its admission to the log",
-     "Prints the digest of the ballot: with the mark it finds the ballot again in what is published. Where a ballot with this mark is there and in no\n"
-     "line of the log, that one is admitted as it is. From the first ballot on lists.txt may not be changed. A list whose name begins with -- goes behind --.\n"},
+    {"vote", "FOLDER MARK LIST..", 2, NO_LIMIT, TAKES_UNSAFE_SEED, do_vote,
+     "makes a ballot for the named lists and adds its admission to the log",
+     "Prints the digest of the ballot: with the mark it finds the ballot again in what is published. Where a ballot with this mark\n"
+     "is there and in no line of the log, that one is admitted as it is. From the first ballot on lists.txt may not be changed.\n"
+     "A list whose name begins with -- goes behind --.\n"},
     {"withdraw", "FOLDER MARK", 2, 2, 0, do_withdraw, "adds a withdrawal to the log", "Possible until the ballots are closed.\n"},
     {"gather", "FOLDER", 1, 1, TAKES_UNSAFE_SEED, do_gather, "takes the log so far, and names every ballot that is no good",
      "Reads and judges lists.txt and enrolled.txt too. The noise of the ballots is looked at where key/ is there, all else without it.\n"},
-    {"commit", "FOLDER", 1, 1, TAKES_UNSAFE_SEED, do_commit, "closes the ballots, makes the first messages and prints the commitment to publish",
+    {"commit", "FOLDER", 1, 1, TAKES_UNSAFE_SEED, do_commit,
+     "closes the ballots, makes the first messages and prints the commitment to publish",
      "The commitment is to be public before the seed is drawn.\n"},
-    {"run", "FOLDER", 1, 1, TAKES_SEED | TAKES_DRAW | TAKES_UNSAFE_SEED, do_run, "runs the election from where it stands, to result.txt and result.html",
+    {"run", "FOLDER", 1, 1, TAKES_SEED | TAKES_DRAW | TAKES_UNSAFE_SEED, do_run,
+     "runs the election from where it stands, to result.txt and result.html",
      "  --seed SEED    the seed that was drawn in public after the commitment was: 64 hexadecimal digits. Or seed.bin holds it, 32 bytes\n"
      "  --draw-here    for trying only: this machine draws the seed, which is no public draw\n"},
     {"publish", "FOLDER OUT", 2, 2, 0, do_publish, "writes to the folder OUT exactly what a member may have",
      "Never key/ and never state.bin. OUT is made; what is there already may only be an earlier publication of this election.\n"},
-    {"check", "FOLDER", 1, 1, TAKES_SEED | TAKES_EXPECTED, do_check, "checks a published election, with no key: exit status 0 only if it is accepted",
+    {"check", "FOLDER", 1, 1, TAKES_SEED | TAKES_EXPECTED, do_check,
+     "checks a published election, with no key: exit status 0 only if it is accepted",
      "  --committed C    the commitment, as the society published it before the draw\n"
      "  --seed SEED      the seed, as it was drawn in public\n"
      "  --fingerprint F  the fingerprint that another member, or the society, reads out\n"
@@ -109,7 +114,8 @@ static const struct command commands[] = {
      "Without --committed and --seed an acceptance holds only if this seed was drawn after this commitment was public.\n"},
     {"status", "FOLDER", 1, 1, 0, do_status, "tells where an election stands and what to do next", ""},
     {"sample", "FOLDER", 1, 1, TAKES_NUMBERS | TAKES_BALLOTS | TAKES_UNSAFE_SEED, do_sample,
-     "makes a small election to try: its ring is too small for a real one", "  --ballots K    12 by default, and one that is withdrawn\n"
+     "makes a small election to try: its ring is too small for a real one",
+     "  --ballots K    12 by default, and one that is withdrawn\n"
      "and the options of keygen, with a ring of 64 and 2 rounds by default. To run it: election run --draw-here FOLDER\n"},
 };
 #define COMMANDS (sizeof commands / sizeof *commands)
@@ -136,7 +142,8 @@ static void add_usage(struct text *text) {
 }
 
 static void add_help(struct text *text, const struct command *command) {
-    text_add(text, "usage: election %s [OPTION..] %s\n\n%s\n%s%s", command->name, command->words, command->line, command->more[0] ? "\n" : "", command->more);
+    text_add(text, "usage: election %s [OPTION..] %s\n\n%s\n%s%s", command->name, command->words, command->line,
+             command->more[0] ? "\n" : "", command->more);
 }
 
 /* Help that was asked for: of a command, or of all. */
@@ -165,7 +172,8 @@ static enum status show_usage(void) {
 
 static enum status act(const struct command *command, char **words, size_t count) {
     bool small = !strcmp(command->name, "sample");
-    struct options options = {.numbers = {.modulus = MODULUS, .drown = DROWN, .ring = small ? 64 : 2048, .rounds = small ? 2 : 40}, .ballots = 12};
+    struct options options = {.numbers = {.modulus = MODULUS, .drown = DROWN, .ring = small ? 64 : 2048, .rounds = small ? 2 : 40},
+                              .ballots = 12};
     enum status status = USAGE;
     bool read = options_read(&options, command->takes, words, &count);
     if (read && options.help) {
@@ -173,7 +181,8 @@ static enum status act(const struct command *command, char **words, size_t count
     } else if (read && count >= command->least && count <= command->most) {
         status = command->act(&options, words, count);
     } else {
-        if (read) say("%s needs %s, and %s words are here", command->name, command->words, count < command->least ? "too few" : "too many");
+        if (read)
+            say("%s needs %s, and %s words are here", command->name, command->words, count < command->least ? "too few" : "too many");
         say("`election help %s` says more", command->name);
     }
     explicit_bzero(&options, sizeof options);

@@ -54,7 +54,8 @@ static enum status material_room(struct material *material, const struct numbers
     return status;
 }
 
-/* The secrets are s, e and the twelve r; the halves s1 and e1 follow from s0 and e0. A permutation has 3L = 42N entries, as a vector has. */
+/* The secrets are s, e and the twelve r; the halves s1 and e1 follow from s0 and e0. A permutation has
+ * 3L = 42N entries, as a vector has. */
 static void material_fill(struct material *material, const struct numbers *numbers, const struct key *key, struct source *source) {
     size_t ring = numbers->ring, entries = 42 * ring;
     memcpy(material->secrets.at, key->s.at, ring);
@@ -69,7 +70,8 @@ static void material_fill(struct material *material, const struct numbers *numbe
     source_bytes(source, LENT(material->salts));
 }
 
-enum status material_make(struct material *material, const struct numbers *numbers, const struct key *key, size_t ballots, const uint8_t *seed) {
+enum status material_make(struct material *material, const struct numbers *numbers, const struct key *key, size_t ballots,
+                          const uint8_t *seed) {
     struct source source;
     enum status status = material_room(material, numbers, ballots);
     if (status) return status;

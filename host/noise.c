@@ -30,7 +30,8 @@ static void room_free(struct room *room) {
     bytes_free(&room->share);
 }
 
-/* Whether each coefficient of v - s u is at most the bound in size: v and s u are below q, and of the two distances between them around q the shorter counts. */
+/* Whether each coefficient of v - s u is at most the bound in size: v and s u are below q, and of the two distances between them around q
+ * the shorter counts. */
 static bool within(const struct numbers *numbers, const uint8_t *v, const struct bytes *share) {
     bool all = true;
     for (size_t i = 0; i < numbers->ring; i++) {
@@ -48,7 +49,8 @@ static enum status examine(struct election *election, const struct ballots *ball
     size_t polynomial = 8 * election->numbers.ring;
     enum status status = ballots_of_entry(election, ballots, entry, &ballot);
     if (status) return status;
-    uint64_t reply = jdn_share(LENT(election->sheet), LENT(room->s), ballot.at + 4, polynomial, LENT(room->mask), LENT(room->share), LENT(election->scratch));
+    uint64_t reply = jdn_share(LENT(election->sheet), LENT(room->s), ballot.at + 4, polynomial, LENT(room->mask), LENT(room->share),
+                               LENT(election->scratch));
     if (reply) status = say_refused(reply, "the ballot with the mark %u", (unsigned)entry_mark(election, entry));
     if (!status && !within(&election->numbers, ballot.at + 4 + polynomial, &room->share)) {
         say("the ballot with the mark %u: refused 15: its noise is larger than that of any honestly made ballot. Withdraw this mark",

@@ -36,7 +36,8 @@ static bool read_number(const struct option *option, const char *value) {
     if (option->most == UINT64_MAX)
         say("%s %s: that is no whole number, in digits alone and with no zero before them", option->name, value);
     else
-        say("%s %s: a whole number from %llu to %llu is due", option->name, value, (unsigned long long)option->least, (unsigned long long)option->most);
+        say("%s %s: a whole number from %llu to %llu is due", option->name, value, (unsigned long long)option->least,
+            (unsigned long long)option->most);
     return false;
 }
 

@@ -22,8 +22,8 @@ struct options {
     bool help;
 };
 
-/* Parts the words of a command line, behind the command: options, wherever they stand, are read, and what is left is moved to the front, `count` of them.
- * Behind `--` nothing is an option. Says which option or value is wrong, and answers false. */
+/* Parts the words of a command line, behind the command: options, wherever they stand, are read, and what is left is moved to the front,
+ * `count` of them. Behind `--` nothing is an option. Says which option or value is wrong, and answers false. */
 bool options_read(struct options *options, unsigned takes, char **words, size_t *count);
 
 /* Reads a mark; says what is wrong with it. */

@@ -3,8 +3,8 @@
 
 #include "assurance.h"
 
-static const char head[] =
-    PAGE_START RESULT_FORM " -->\n<html lang=\"en\">\n<head>\n<meta charset=\"utf-8\">\n"
+static const char head[] = PAGE_START RESULT_FORM
+    " -->\n<html lang=\"en\">\n<head>\n<meta charset=\"utf-8\">\n"
     "<meta name=\"viewport\" content=\"width=device-width, initial-scale=1\">\n"
     "<meta http-equiv=\"Content-Security-Policy\" content=\"default-src 'none'; style-src 'unsafe-inline'\">\n"
     "<title>Result of the election</title>\n<style>\n"
@@ -71,7 +71,8 @@ static void page_assurance(const struct numbers *numbers, struct text *text) {
     text_add(text, "<strong>All rounds were accepted.</strong></p>\n");
     text_add(text, "<p class=\"condition\"><strong>%s</strong> %s</p>\n", condition_sentence, condition_reason);
     text_add(text, "<p>The chance that a false result passes is at most <strong>%s</strong>.</p>\n", words);
-    if (is_for_trying(numbers->ring, numbers->rounds, words)) text_add(text, "<p class=\"condition\"><strong>For trying only:</strong> %s.</p>\n", words);
+    if (is_for_trying(numbers->ring, numbers->rounds, words))
+        text_add(text, "<p class=\"condition\"><strong>For trying only:</strong> %s.</p>\n", words);
 }
 
 static void groups_row(struct text *text, const char *name, const uint8_t *digest) {
@@ -81,7 +82,9 @@ static void groups_row(struct text *text, const char *name, const uint8_t *diges
 }
 
 static void page_names(const struct result *result, struct text *text) {
-    text_add(text, "<p>The fingerprint names this election. Whoever checks it on another machine and sees the same fingerprint sees the same election: ");
+    text_add(text,
+             "<p>The fingerprint names this election. Whoever checks it on another machine and sees the same fingerprint sees the same "
+             "election: ");
     text_add(text, "read it to each other.</p>\n");
     table_start(text, "What names this election", "What", "Digits", "");
     groups_row(text, "Fingerprint", result->transcript->fingerprint);
@@ -104,7 +107,8 @@ static void page_digests(const struct result *result, struct text *text) {
 
 void result_page(const struct result *result, struct text *text) {
     text_add(text, "%s", head);
-    text_add(text, "<p>Turnout: <strong>%llu per thousand</strong> of those enrolled.</p>\n", (unsigned long long)result->transcript->paper.turnout);
+    text_add(text, "<p>Turnout: <strong>%llu per thousand</strong> of those enrolled.</p>\n",
+             (unsigned long long)result->transcript->paper.turnout);
     page_votes(result, text);
     page_turnout(result, text);
     page_assurance(&result->transcript->election.numbers, text);

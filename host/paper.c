@@ -40,8 +40,8 @@ static bool keep(uint8_t *kept, const uint8_t *digest, bool *fresh) {
 
 enum status lists_keep(struct election *election, const struct lists *lists, bool *fresh) {
     if (keep(election->lists_kept, lists->digest, fresh)) return DONE;
-    say("%s/%s was changed after the first ballot. A vote is a mark at the place of a line, so the file stays as it was then: put it back", election->folder.name,
-        LISTS_FILE);
+    say("%s/%s was changed after the first ballot. A vote is a mark at the place of a line, so the file stays as it was then: put it back",
+        election->folder.name, LISTS_FILE);
     return REFUSED;
 }
 

@@ -1,5 +1,5 @@
-/* Publishing: a copy of what a member may have, file by file, and of nothing else. Each file is whole when it gets its name, and a publication that was cut
- * short is completed by the next one. */
+/* Publishing: a copy of what a member may have, file by file, and of nothing else. Each file is whole when it gets its name, and a
+ * publication that was cut short is completed by the next one. */
 #include <stdint.h>
 #include <stdio.h>
 #include <string.h>
@@ -12,6 +12,7 @@
 #include "result.h"
 #include "rounds.h"
 #include "say.h"
+#include "state.h"
 
 #define PATH_ROOM 300
 
@@ -21,8 +22,8 @@ struct extent {
     size_t committed, checked;
 };
 
-/* A session that is stored says how far it is, so that what an earlier count left is not given away as if it were this one's. Where none is stored, what is
- * there was published before. */
+/* A session that is stored says how far it is, so that what an earlier count left is not given away as if it were this one's. Where none
+ * is stored, what is there was published before. */
 static struct extent extent_of(const struct election *election, bool stored) {
     enum phase phase = election_phase(election);
     size_t rounds = election->numbers.rounds;
@@ -45,8 +46,10 @@ static enum status add_single(const struct folder *folder, const struct extent *
     const struct {
         const char *name;
         bool due;
-    } single[] = {{"sheet.txt", true},   {LISTS_FILE, true},          {ENROLLED_FILE, true},         {LOG, true},
-                  {"ballots.bin", true}, {CLAIMS_FILE, extent->claimed}, {SEED_FILE, extent->drawn}, {RESULT_TEXT, extent->ended},
+    } single[] = {{"sheet.txt", true},         {LISTS_FILE, true},
+                  {ENROLLED_FILE, true},       {LOG, true},
+                  {"ballots.bin", true},       {CLAIMS_FILE, extent->claimed},
+                  {SEED_FILE, extent->drawn},  {RESULT_TEXT, extent->ended},
                   {RESULT_PAGE, extent->ended}};
     enum status status = DONE;
     for (size_t i = 0; i < sizeof single / sizeof *single && !status; i++)
@@ -162,8 +165,8 @@ enum status publish(const char *folder, const char *out_name) {
     struct folder out = {.handle = -1};
     struct names names = {0};
     bool stored = false;
-    enum status status = election_look(&election, folder, &stored);
-    if (!status) status = folder_lock(&election.folder);
+    enum status status = election_resume(&election, folder);
+    if (!status) status = file_find(&election.folder, STATE, &stored);
     struct extent extent = status ? (struct extent){0} : extent_of(&election, stored);
     if (!status) status = add_single(&election.folder, &extent, &names);
     if (!status) status = add_ballots(&election.folder, &names);

@@ -25,7 +25,9 @@ static const struct {
 } words[] = {
     [OPEN] = {"gathering ballots", "take votes and withdrawals; when the poll ends, `election commit FOLDER`"},
     [COMMITTING] = {"the ballots are closed", "`election commit FOLDER` makes the first messages that are left"},
-    [AWAITING_SEED] = {"committed", "publish the commitment, which `election commit FOLDER` prints; draw the seed in public; `election run FOLDER --seed SEED`"},
+    [AWAITING_SEED] =
+        {"committed",
+         "publish the commitment, which `election commit FOLDER` prints; draw the seed in public; `election run FOLDER --seed SEED`"},
     [ANSWERING] = {"drawn", "`election run FOLDER` answers and checks the rounds that are left"},
     [REFUSED_AT_LAST] = {"ended, refused", "a round was refused: nothing of this count may be published as a result (docs/ELECTIONS.md)"},
     [ACCEPTED] = {"ended, accepted", "`election run FOLDER` checks all rounds again and writes the result"},
@@ -33,7 +35,8 @@ static const struct {
     [PUBLISHED] = {"a published election", "`election check FOLDER` checks it"},
 };
 
-/* Whether lists, enrolment and log are such that the election can go on; says what is wrong. `after` is the session with the whole log taken. */
+/* Whether lists, enrolment and log are such that the election can go on; says what is wrong. `after` is the session with the whole log
+ * taken. */
 static bool is_ready(const struct election *election, struct election *after) {
     struct paper paper = {0};
     bool fresh = false;

@@ -126,9 +126,12 @@ static bool begins(const struct bytes *file, const char *start) {
 static enum status compare(const struct folder *folder, const struct form *form, const struct bytes *file, const struct text *text) {
     bool same = file->length == text->length && !memcmp(file->at, text->at, text->length);
     bool other = !begins(file, form->title) && (begins(file, form->other) || begins(file, form->before));
-    if (other) say("WARNING: %s/%s is of another form than `" RESULT_FORM "`, and was NOT COMPARED. What holds is printed here", folder->name, form->name);
+    if (other)
+        say("WARNING: %s/%s is of another form than `" RESULT_FORM "`, and was NOT COMPARED. What holds is printed here", folder->name,
+            form->name);
     if (same || other) return DONE;
-    say("%s/%s is not the result of this transcript%s", folder->name, form->name, form == &page_form ? "; without the page the rest can be checked" : "");
+    say("%s/%s is not the result of this transcript%s", folder->name, form->name,
+        form == &page_form ? "; without the page the rest can be checked" : "");
     return REFUSED;
 }
 

@@ -1,5 +1,5 @@
-/* The result of an accepted transcript: turnout and votes, as a text and as a page. Both follow from what is published, byte for byte. They name their form, so
- * that a release that writes another one knows that it cannot compare them. */
+/* The result of an accepted transcript: turnout and votes, as a text and as a page. Both follow from what is published, byte for byte.
+ * They name their form, so that a release that writes another one knows that it cannot compare them. */
 #ifndef RESULT_H
 #define RESULT_H
 #include "transcript.h"
@@ -42,7 +42,8 @@ void result_page(const struct result *result, struct text *text);
 enum status result_print(const struct result *result);
 /* Writes both files. */
 enum status result_write(const struct result *result);
-/* Compares result.txt, and result.html where it is there, with what they have to be. One of another form is not compared, and that is said. */
+/* Compares result.txt, and result.html where it is there, with what they have to be. One of another form is not compared, and that is
+ * said. */
 enum status result_compare(const struct result *result);
 
 #endif

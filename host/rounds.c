@@ -93,11 +93,11 @@ enum status round_commit(struct election *election, size_t round, const struct f
     return reply ? say_refused(reply, "the first message of round %zu", round) : DONE;
 }
 
-enum status round_check(struct election *election, size_t round, const struct batch *batch, const struct bytes *claims, const struct first *first,
-                        const struct second *second) {
+enum status round_check(struct election *election, size_t round, const struct batch *batch, const struct bytes *claims,
+                        const struct first *first, const struct second *second) {
     uint64_t reply =
-        jdn_check(election->image, JDN_IMAGE, LENT(election->sheet), LENT(batch->all), LENT(*claims), round, LENT(first->head), LENT(first->shares0),
-                  LENT(first->shares1), LENT(second->opening), LENT(second->answers), LENT(election->scratch));
+        jdn_check(election->image, JDN_IMAGE, LENT(election->sheet), LENT(batch->all), LENT(*claims), round, LENT(first->head),
+                  LENT(first->shares0), LENT(first->shares1), LENT(second->opening), LENT(second->answers), LENT(election->scratch));
     if (!reply) return DONE;
     batch_say_mark(batch, reply);
     return say_refused(reply, "round %zu", round);

@@ -1,5 +1,5 @@
-/* A whole election, step by step. Each step is saved when it is taken, and what a step needs from disk was written before it; so that after a crash
- * the next run goes on from the last step that was saved. */
+/* A whole election, step by step. Each step is saved when it is taken, and what a step needs from disk was written before it; so that
+ * after a crash the next run goes on from the last step that was saved. */
 #include <string.h>
 
 #include "ballots.h"
@@ -42,8 +42,8 @@ static enum status take_claims(struct counting *counting, struct first *first) {
     return DONE;
 }
 
-/* Produces, writes and commits the first message of the round that is due. Its seed is fresh, and is saved with the commitment and not before: a round
- * that a crash cut short is made anew from another seed. */
+/* Produces, writes and commits the first message of the round that is due. Its seed is fresh, and is saved with the commitment and not
+ * before: a round that a crash cut short is made anew from another seed. */
 static enum status commit_round(struct counting *counting) {
     struct election *election = counting->election;
     struct first first = {0};
@@ -156,31 +156,43 @@ static enum status print_gathered(const struct election *election) {
     return text_print(&text);
 }
 
-/* Reads and judges lists and enrolment. The lists are kept from the first time on; the enrolment from the closing on, or, in an election that the release
- * before closed, from now on. */
+/* Reads and judges lists and enrolment. The lists are kept from the first time on; the enrolment from the closing on, or, in an election
+ * that the release before closed, from now on. */
 static enum status hold_paper(struct counting *counting) {
     struct election *election = counting->election;
     bool fresh = false, late = election_phase(election) != GATHERING;
     enum status status = paper_read(election, &counting->paper);
     if (!status) status = lists_keep(election, &counting->paper.lists, &fresh);
     if (!status && late) status = enrolment_keep(election, &counting->paper.enrolment, &fresh);
-    if (!status && fresh && late) say("the release before kept neither lists nor enrolment when the ballots closed: they are kept from now on");
+    if (!status && fresh && late)
+        say("the release before kept neither lists nor enrolment when the ballots closed: they are kept from now on");
     return !status && fresh ? election_save(election) : status;
 }
 
-/* Takes the log, and looks at the ballots. The key is needed for their noise: while ballots are only gathered it may be elsewhere. */
-static enum status gather(struct counting *counting, enum goal goal) {
+/* Looks at the noise of the ballots, where that is still to be done and the key is there: while ballots are only gathered it may be
+ * elsewhere. */
+static enum status look_over(struct counting *counting, enum goal goal) {
     struct election *election = counting->election;
     bool keyed = true;
+    enum status status = goal == GATHERED ? key_find(election, &keyed) : DONE;
+    if (!status && !keyed)
+        say("key/ is not here: the noise of the ballots is looked at where it is, before they are closed. All else was");
+    if (status || !keyed || election_phase(election) >= ENDED_REFUSED) return status;
+    status = key_read(election, &counting->key);
+    if (status || election_phase(election) != GATHERING) return status;
+    return noise_examine(election, &counting->ballots, &counting->key);
+}
+
+/* Takes the log, and looks at the ballots. Where a line is refused, the ballots of the lines before it are looked at all the same. */
+static enum status gather(struct counting *counting, enum goal goal) {
+    struct election *election = counting->election;
     enum status status = hold_paper(counting);
     if (!status) status = ballots_open(election, &counting->ballots);
-    if (!status) status = log_take(election, &counting->ballots);
+    if (status) return status;
+    status = log_take(election, &counting->ballots);
     if (!status) status = ballots_name_unlogged(election, &counting->ballots);
-    if (!status && goal == GATHERED) status = key_find(election, &keyed);
-    if (!status && !keyed) say("key/ is not here: the noise of the ballots is looked at where it is, before they are closed. All else was");
-    if (!status && keyed && election_phase(election) < ENDED_REFUSED) status = key_read(election, &counting->key);
-    if (!status && keyed && election_phase(election) == GATHERING) status = noise_examine(election, &counting->ballots, &counting->key);
-    return status;
+    enum status looked = look_over(counting, goal);
+    return status ? status : looked;
 }
 
 /* The closing and what is kept from it on are saved together. */

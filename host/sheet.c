@@ -1,4 +1,5 @@
-/* Sheets. The library judges them, by a number; here the number gets the name of what is wrong (document 01, "Sheet" and "Refused because of the input"). */
+/* Sheets. The library judges them, by a number; here the number gets the name of what is wrong (document 01, "Sheet" and "Refused because
+ * of the input"). */
 #include "sheet.h"
 
 #include <string.h>
@@ -68,12 +69,15 @@ static bool modulus_fits(const struct new_sheet *numbers, const char *prefix) {
 bool sheet_numbers_fit(const struct new_sheet *numbers, const char *prefix) {
     static const char whole[] = "a whole number";
     return ring_fits(numbers->ring, prefix) && in_range(prefix, "modulus", numbers->modulus, 3, MOST_MODULUS, whole) &&
-           in_range(prefix, "drown", numbers->drown, 0, MOST_DROWN, whole) && in_range(prefix, "rounds", numbers->rounds, 1, MOST_ROUNDS, whole) &&
-           in_range(prefix, "repeats", numbers->repeats, least_repeats(numbers->rounds), MOST_REPEATS, "for so many rounds, a whole number") &&
+           in_range(prefix, "drown", numbers->drown, 0, MOST_DROWN, whole) &&
+           in_range(prefix, "rounds", numbers->rounds, 1, MOST_ROUNDS, whole) &&
+           in_range(prefix, "repeats", numbers->repeats, least_repeats(numbers->rounds), MOST_REPEATS,
+                    "for so many rounds, a whole number") &&
            modulus_fits(numbers, prefix);
 }
 
-/* The number of the line that has a name, or 0 where there is none such. The form of the sheet is the library's to judge, and was judged. */
+/* The number of the line that has a name, or 0 where there is none such. The form of the sheet was judged by
+ * the library. */
 static uint64_t number_of(const struct bytes *sheet, const char *name) {
     uint64_t value = 0;
     const char *at = (const char *)sheet->at, *end = at + sheet->length;
@@ -97,6 +101,6 @@ void sheet_explain(const struct bytes *sheet, unsigned refusal) {
     };
     if (refusal != 3 && refusal != 4) return;
     if (sheet_numbers_fit(&numbers, "sheet.txt: ") && refusal == 4)
-        say("sheet.txt: modulus %llu leaves no room for noise and masks with ring %llu and drown %llu", (unsigned long long)numbers.modulus,
-            (unsigned long long)numbers.ring, (unsigned long long)numbers.drown);
+        say("sheet.txt: modulus %llu leaves no room for noise and masks with ring %llu and drown %llu",
+            (unsigned long long)numbers.modulus, (unsigned long long)numbers.ring, (unsigned long long)numbers.drown);
 }

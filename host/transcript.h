@@ -1,5 +1,5 @@
-/* A transcript, gone through as a member does on another machine: the session is built anew from the published files, and nothing that the counting side says
- * of itself is taken over. */
+/* A transcript, gone through as a member does on another machine: the session is built anew from the published files, and nothing that the
+ * counting side says of itself is taken over. */
 #ifndef TRANSCRIPT_H
 #define TRANSCRIPT_H
 #include "ballots.h"

@@ -1,4 +1,5 @@
-/* Voting for lists, and withdrawing. Both look at the state and at the whole log before they write, so that no line is added that would block the election. */
+/* Voting for lists, and withdrawing. Both look at the state and at the whole log before they write, so that no line is added that would
+ * block the election. */
 #include <string.h>
 
 #include "ballots.h"
@@ -16,7 +17,8 @@ static enum status still_open(const struct election *election) {
 }
 
 /* A one at the coefficient of each named list. */
-static enum status fill_message(const struct election *election, const struct lists *lists, char *const *names, size_t count, struct bytes *message) {
+static enum status fill_message(const struct election *election, const struct lists *lists, char *const *names, size_t count,
+                                struct bytes *message) {
     enum status status = bytes_make(message, election->numbers.ring);
     for (size_t i = 0; i < count && !status; i++) {
         size_t place = lists_find(lists, names[i]);
@@ -36,14 +38,17 @@ static enum status would_admit(struct election *after, const struct bytes *ballo
     return reply ? say_refused(reply, "a vote with the mark %u", (unsigned)read32(ballot->at)) : DONE;
 }
 
-/* A ballot with this mark is there, and no line of the log admits it: the vote before this one stopped between its two writes, or another device left it. It is
- * admitted as it is. It is not written over, since it may be the only copy of somebody's vote. */
+/* A ballot with this mark is there, and no line of the log admits it: the vote before this one stopped between its two writes, or another
+ * device left it. It is admitted as it is. It is not written over, since it may be the only copy of somebody's vote. */
 static enum status complete(const struct election *election, struct election *after, uint32_t mark, struct bytes *ballot) {
     const struct ballots single = {0};
     enum status status = ballots_take(election, &single, mark, ballot);
     if (!status) status = would_admit(after, ballot);
     if (!status) status = log_add(&election->folder, "admit", mark);
-    if (!status) say("a ballot with the mark %u was there and was in no line of the log. It is admitted as it was made then, and no other one is made", (unsigned)mark);
+    if (!status)
+        say("a ballot with the mark %u was there and was in no line of the log. It is admitted as it was made then, and no other one is "
+            "made",
+            (unsigned)mark);
     return status;
 }
 

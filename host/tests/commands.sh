@@ -40,8 +40,10 @@ wrong_options() {
     wrong "--rounds 129 is outside its range: a whole number from 1 to 128" keygen "$room/none" --rounds 129
     wrong "--drown 41 is outside its range: a whole number from 0 to 40" keygen "$room/none" --drown 41
     # table 1 of document 000: 10 rounds need 17 repetitions
-    wrong "--repeats 16 is outside its range: for so many rounds, a whole number from 17 to 256" keygen "$room/none" --rounds 10 --repeats 16
-    wrong "--modulus 101 does not fit ring 4: twice the ring, 8, has to divide the modulus less one" keygen --ring 4 --modulus 101 "$room/none"
+    wrong "--repeats 16 is outside its range: for so many rounds, a whole number from 17 to 256" \
+        keygen "$room/none" --rounds 10 --repeats 16
+    wrong "--modulus 101 does not fit ring 4: twice the ring, 8, has to divide the modulus less one" \
+        keygen --ring 4 --modulus 101 "$room/none"
     expect 1 "leaves no room for noise and masks with ring 4 and drown 40" "$program" keygen --ring 4 --modulus 97 "$room/none"
     succeed "no folder is made" test ! -e "$room/none"
 }

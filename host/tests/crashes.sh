@@ -88,8 +88,8 @@ done_is_on_disk() {
     expect 0 "accepted" "$program" check "$folder"
 }
 
-# A cut vote leaves no half of a ballot, and a retry always completes it: the vote is counted once, whenever the cut came. Also the first vote of an election,
-# which has the lists kept.
+# A cut vote leaves no half of a ballot, and a retry always completes it: the vote is counted once, whenever the cut came. Also the first
+# vote of an election, which has the lists kept.
 every_cut_of_a_vote() {
     local folder=$room/cut count k
     rm -rf "$folder"
@@ -108,7 +108,8 @@ every_cut_of_a_vote() {
     done
 }
 
-# What is kept of lists and enrolment is kept with the closing: after a cut either both hold, or neither does and the ballots are not closed.
+# What is kept of lists and enrolment is kept with the closing: after a cut either both hold, or neither does and the ballots are not
+# closed.
 every_cut_of_a_commit() {
     local folder=$room/cut count k
     rm -rf "$folder"
@@ -138,7 +139,8 @@ every_cut_of_a_publication() {
         cut_at "$k" publish "$room/cut_done" "$folder"
         succeed "cut $k of a publication cuts" test $? -eq 137
         clean "$folder"
-        succeed "cut $k leaves whole files alone" test -z "$(diff -r "$folder" "$room/cut_whole" 2>&1 | grep -v "^Only in $room/cut_whole\|No such file")"
+        diff -r "$folder" "$room/cut_whole" 2>&1 | grep -v "^Only in $room/cut_whole\|No such file" >"$room/differences"
+        succeed "cut $k leaves whole files alone" test ! -s "$room/differences"
         expect 0 "files are published" "$program" publish "$room/cut_done" "$folder"
         succeed "cut $k of $count of a publication" diff -r "$folder" "$room/cut_whole"
     done

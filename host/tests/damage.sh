@@ -53,13 +53,14 @@ drop_line() { # FILE LINE
 
 missing_and_lengths() {
     local name
-    for name in sheet.txt log.txt lists.txt enrolled.txt claims.bin seed.bin result.txt ballots/1005.ballot rounds/000/head.bin rounds/000/shares0.bin \
-        rounds/001/shares1.bin rounds/000/opening.bin rounds/001/answers.bin; do
+    for name in sheet.txt log.txt lists.txt enrolled.txt claims.bin seed.bin result.txt ballots/1005.ballot rounds/000/head.bin \
+        rounds/000/shares0.bin rounds/001/shares1.bin rounds/000/opening.bin rounds/001/answers.bin; do
         damaged 3 "damaged/$name is missing" rm "$name"
     done
-    for name in claims.bin seed.bin ballots/1005.ballot rounds/000/head.bin rounds/000/shares0.bin rounds/001/shares1.bin rounds/000/opening.bin \
-        rounds/001/answers.bin; do
-        damaged 1 "damaged/$name: refused 1: it has $(($(size "$room/base/$name") + 1)) bytes where $(size "$room/base/$name") are due" longer "$name"
+    for name in claims.bin seed.bin ballots/1005.ballot rounds/000/head.bin rounds/000/shares0.bin rounds/001/shares1.bin \
+        rounds/000/opening.bin rounds/001/answers.bin; do
+        damaged 1 "damaged/$name: refused 1: it has $(($(size "$room/base/$name") + 1)) bytes where $(size "$room/base/$name") are due" \
+            longer "$name"
         damaged 1 "damaged/$name: refused 1: it has 7 bytes" truncate -s 7 "$name"
     done
     damaged 3 "seed.bin is no file" eval 'rm seed.bin; mkdir seed.bin'
@@ -75,7 +76,8 @@ sheets() {
     said "sheet.txt: repeats 1 is outside its range: for so many rounds, a whole number from 3 to 256"
     damaged 1 "sheet.txt: ring 4096 is outside its range: a power of two from 4 to 2048" swap sheet.txt '^ring=.*' ring=4096
     damaged 1 "sheet.txt: ring 12 is no power of two" swap sheet.txt '^ring=.*' ring=12
-    damaged 1 "sheet.txt: modulus 2 is outside its range: a whole number from 3 to 72057594037927935" swap sheet.txt '^modulus=.*' modulus=2
+    damaged 1 "sheet.txt: modulus 2 is outside its range: a whole number from 3 to 72057594037927935" \
+        swap sheet.txt '^modulus=.*' modulus=2
     damaged 1 "sheet.txt: drown 41 is outside its range: a whole number from 0 to 40" swap sheet.txt '^drown=.*' drown=41
     damaged 1 "sheet.txt: rounds 129 is outside its range: a whole number from 1 to 128" swap sheet.txt '^rounds=.*' rounds=129
     damaged 1 "sheet.txt: modulus 97 leaves no room for noise and masks with ring 16 and drown 40" swap sheet.txt '^modulus=.*' modulus=97
@@ -108,7 +110,8 @@ single_ballots() {
     damaged 1 "log.txt, line 5, admit 1004: refused 5: a number is out of range" poke $file $((4 + 7)) 255
     damaged 1 "round 0: refused 12: a mask is larger than the sheet allows (ballot 2 of the batch)" flip $file 4
     damaged 1 "ballot 2 of the batch has the mark 1004" flip $file 4
-    damaged 1 "round 0: refused 13: the claimed vote is not what the shares decrypt to (ballot 2 of the batch)" flip $file $((4 + polynomial))
+    damaged 1 "round 0: refused 13: the claimed vote is not what the shares decrypt to (ballot 2 of the batch)" \
+        flip $file $((4 + polynomial))
 }
 
 one_file_of_ballots() {
@@ -139,18 +142,22 @@ messages() {
     damaged 1 "round 0: refused 8: an opened commitment" flip $first $pair1
     damaged 1 "round 0: refused 11: the answer does not give the digests of the first message (repetition 1)" flip $first $pair0
     damaged 1 "round 0: refused 11: the answer does not give the digests of the first message (repetition 0)" flip $first $((digests + 32))
-    damaged 1 "round 0: refused 11: the answer does not give the digests of the first message (repetition 2)" flip $first $((digests + 2 * 96))
+    damaged 1 "round 0: refused 11: the answer does not give the digests of the first message (repetition 2)" \
+        flip $first $((digests + 2 * 96))
     # the digest that no answer opens: the round is accepted, but it is another transcript than the result names
     damaged 1 "result.txt is not the result of this transcript" flip $first $digests
     damaged 1 "round 0: refused 10: the answer does not hold as many of each of -1, 0 and 1 (repetition 0)" turn $answers 0
     damaged 1 "round 0: refused 11: the answer does not give the digests of the first message (repetition 0)" flip $answers $((42 * 16))
     damaged 1 "round 0: refused 9: the answer's permutation is no permutation (repetition 1)" flip $answers $answer2
-    damaged 1 "round 0: refused 11: the answer does not give the digests of the first message (repetition 1)" flip $answers $((answer2 + vector))
+    damaged 1 "round 0: refused 11: the answer does not give the digests of the first message (repetition 1)" \
+        flip $answers $((answer2 + vector))
     damaged 1 "round 0: refused 9: the answer's permutation is no permutation (repetition 2)" poke $answers $((answer3 + 3)) 1
-    damaged 1 "round 0: refused 11: the answer does not give the digests of the first message (repetition 2)" flip $answers $((answer3 + vector))
+    damaged 1 "round 0: refused 11: the answer does not give the digests of the first message (repetition 2)" \
+        flip $answers $((answer3 + vector))
     damaged 1 "round 0: refused 5" poke $answers $((answer3 + vector + coefficient - 1)) 255
     damaged 1 "round 0: refused 12: a mask is larger than the sheet allows (ballot 1 of the batch)" flip rounds/000/shares1.bin $polynomial
-    damaged 1 "round 0: refused 13: the claimed vote is not what the shares decrypt to (ballot 3 of the batch)" flip rounds/000/shares0.bin $((3 * polynomial))
+    damaged 1 "round 0: refused 13: the claimed vote is not what the shares decrypt to (ballot 3 of the batch)" \
+        flip rounds/000/shares0.bin $((3 * polynomial))
     # later rounds are worked through as the first is
     damaged 1 "round 1: refused 6" flip rounds/001/head.bin 0
     damaged 1 "round 1: refused 7" flip rounds/001/opening.bin 0

@@ -1,5 +1,6 @@
-# Folders that the release before stored, at several points of an election, are gone on with; and what it published is checked. They were made by that release
-# (host/tests/earlier): a folder is `base` with the files of its point over it. Of its state.bin the zeros of the empty register are left out.
+# Folders that the release before stored, at several points of an election, are gone on with; and what it published is checked. They were
+# made by that release (host/tests/earlier): a folder is `base` with the files of its point over it. Of its state.bin the zeros of the
+# empty register are left out.
 
 # The folder as it was stored.
 stored() { # POINT
@@ -24,7 +25,8 @@ gone_on() { # POINT OPTION..
     stored "$point"
     cp -r "$room/stored" "$room/stored_before"
     expect 0 "All rounds accepted yes" "$program" run "$@" "$room/stored"
-    [ "$point" = gathered ] || said "the release before kept neither lists nor enrolment when the ballots closed: they are kept from now on"
+    [ "$point" = gathered ] ||
+        said "the release before kept neither lists nor enrolment when the ballots closed: they are kept from now on"
     succeed "the votes of $point" diff <(told "$room/stored/result.txt") <(told host/tests/earlier/counted/result.txt)
     succeed "its state is of the form of today" test "$(head -n 1 "$room/stored/state.bin" | tr -d '\0')" = "jackdawnail 2"
     publish "$room/stored" "$room/other"

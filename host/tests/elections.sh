@@ -38,8 +38,9 @@ accepted() { # FOLDER
 
 sizes() {
     local folder=$room/sized words
-    for words in "--ring 4 --rounds 1 --ballots 1" "--ring 8 --rounds 3 --drown 0" "--ring 64 --rounds 2" "--ring 256 --rounds 1 --ballots 3 --repeats 5" \
-        "--ring 4 --modulus 193 --drown 0 --rounds 10 --ballots 2" "--ring 4 --rounds 128 --ballots 1"; do
+    for words in "--ring 4 --rounds 1 --ballots 1" "--ring 8 --rounds 3 --drown 0" "--ring 64 --rounds 2" \
+        "--ring 256 --rounds 1 --ballots 3 --repeats 5" "--ring 4 --modulus 193 --drown 0 --rounds 10 --ballots 2" \
+        "--ring 4 --rounds 128 --ballots 1"; do
         rm -rf "$folder"
         # the words of the options are meant to part
         # shellcheck disable=SC2086

@@ -44,12 +44,14 @@ noisy() {
     expect 0 "accepted" "$program" check "$room/fault"
 }
 
-# The largest noise that the sheet allows is taken, and one more is not: u = 0, so that v is the noise, and its bound is 2 (2 16 + 1) + 1 = 67 (document 01).
+# The largest noise that the sheet allows is taken, and one more is not: u = 0, so that v is the noise, and its bound is
+# 2 (2 16 + 1) + 1 = 67 (document 01).
 noise_bound() {
     local noise
     for noise in 67 68 36028797018820542 36028797018820541; do
         readied base_ready ""
-        { number 7 4; head -c $((polynomial + 8)) /dev/zero; number $noise 8; head -c $((polynomial - 16)) /dev/zero; } >"$room/fault/ballots/7.ballot"
+        { number 7 4; head -c $((polynomial + 8)) /dev/zero; number $noise 8; head -c $((polynomial - 16)) /dev/zero; } \
+            >"$room/fault/ballots/7.ballot"
         echo "admit 7" >>"$room/fault/log.txt"
         # q is 36028797018820609: q - 67 is as far from 0 as 67 is
         case $noise in
@@ -76,8 +78,15 @@ without_key() {
     said "ballots/1006.ballot: refused 1: it has 261 bytes where 260 are due"
     said "ballots/1008.ballot is missing"
     said "ballots/1010.ballot has the mark 1011 inside"
-    succeed "nothing else is named" test "$(grep -c "" "$room/said")" -eq 4
+    said "key/ is not here"
+    succeed "nothing else is named" test "$(grep -c "" "$room/said")" -eq 5
     succeed "the lines before are taken" test "$(byte_at "$room/fault/state.bin" $((16 + 73)))" -eq 3
+    # with the key, the noise of the lines before is found too
+    readied base_ready ""
+    poke "$room/fault/ballots/1001.ballot" $((4 + polynomial + 5)) 77
+    rm "$room/fault/ballots/1008.ballot"
+    expect 3 "ballots/1008.ballot is missing" "$program" gather "$room/fault"
+    said "the ballot with the mark 1001: refused 15"
 }
 
 states() {
@@ -134,7 +143,8 @@ held() {
     fault 1 "the ballot with the mark 1004 is not the one that was admitted" gather flip ballots/1004.ballot 4
     fault 1 "the ballot with the mark 1004 is not the one that was admitted" commit flip ballots/1004.ballot 200
     fault 3 "ballots/1004.ballot is missing" commit rm ballots/1004.ballot
-    fault 1 "round 0: refused 16: the sheet, the ballots, the claims or the first message are not those that the session holds by digest" commit flip claims.bin 0
+    fault 1 "round 0: refused 16: the sheet, the ballots, the claims or the first message are not those that the session holds" \
+        commit flip claims.bin 0
     fault 1 "round 1: refused 16" commit flip rounds/001/shares0.bin 0
     fault 3 "rounds/001/shares0.bin is missing" commit rm rounds/001/shares0.bin
     fault 1 "seed.bin: refused 1: it has 31 bytes where 32 are due" commit eval 'head -c 31 /dev/zero > seed.bin'

@@ -45,7 +45,8 @@ blank_or_alike() {
 }
 
 readable() {
-    listed 0 "Ballots standing    1" 'Jos\xc3\xa9 & S\xc3\xb6hne\n\xd0\x93\xd0\xb0\xd0\xbb\xd0\xba\xd0\xb0\n\xe9\xb4\x89\n\xf0\x9f\x90\xa6 Jay\n'
+    listed 0 "Ballots standing    1" \
+        'Jos\xc3\xa9 & S\xc3\xb6hne\n\xd0\x93\xd0\xb0\xd0\xbb\xd0\xba\xd0\xb0\n\xe9\xb4\x89\n\xf0\x9f\x90\xa6 Jay\n'
     listed 0 "Ballots standing    1" 'Grey Jay\nGreyJay\nGrey Ja\nrook\n'
     listed 0 "Ballots standing    1" ' Rook \n'
     listed 0 "Ballots standing    1" 'List 1\nList 10\nList 11\nList 2\n'

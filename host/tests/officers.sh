@@ -1,4 +1,5 @@
-# The officer's commands: votes that are not lost, lines that would block an election, what is kept, what is published, where an election stands.
+# The officer's commands: votes that are not lost, lines that would block an election, what is kept, what is published, where an election
+# stands.
 
 # A small election of one vote.
 office() {
@@ -18,7 +19,8 @@ half_a_vote() {
     sed -i '/admit 7/d' "$room/office/log.txt"
     expect 0 "office/ballots/7.ballot is admitted by no line of log.txt, and is not counted" "$program" gather "$room/office"
     cp "$room/office/ballots/7.ballot" "$room/ballot"
-    expect 0 "a ballot with the mark 7 was there and was in no line of the log. It is admitted as it was made then" "$program" vote "$room/office" 7 Rook
+    expect 0 "a ballot with the mark 7 was there and was in no line of the log. It is admitted as it was made then" \
+        "$program" vote "$room/office" 7 Rook
     said "Ballot   $digest"
     succeed "the ballot as it was" cmp "$room/office/ballots/7.ballot" "$room/ballot"
     succeed "its line" test "$(tail -n 1 "$room/office/log.txt")" = "admit 7"
@@ -43,7 +45,8 @@ disk_full_at_the_log() {
     office
     # a limit of one block of 1,024 bytes, which the log is above, and a ballot is below
     seq -f 'admit %.0f' 1000 1100 >"$room/lines"
-    (cd "$room/office" && while read -r _ mark; do { number "$mark" 4; head -c 64 /dev/zero; } >"ballots/$mark.ballot"; done <"$room/lines")
+    (cd "$room/office" && while read -r _ mark; do { number "$mark" 4; head -c 64 /dev/zero; } >"ballots/$mark.ballot"; done \
+        <"$room/lines")
     cat "$room/lines" >>"$room/office/log.txt"
     (trap '' XFSZ && ulimit -f 1 && "$program" vote "$room/office" 5 Rook) >"$room/said" 2>&1
     succeed "status 3 where the log cannot be written" test $? -eq 3

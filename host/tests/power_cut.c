@@ -1,7 +1,7 @@
-/* A power cut, for tests: preloaded before the host program, it ends it just before its K-th operation on files (POWER_CUT=K), and takes back what was
- * not on disk by then: bytes that were written and not synced (half of the file is cut off), and names that were given in a folder that was not synced
- * since. With POWER_CUT=0 the cut comes at the end of the program, so that what the program called done has to be on disk. POWER_COUNT=FILE writes down
- * how many operations there were. */
+/* A power cut, for tests: preloaded before the host program, it ends it just before its K-th operation on files (POWER_CUT=K), and takes
+ * back what was not on disk by then: bytes that were written and not synced (half of the file is cut off), and names that were given in a
+ * folder that was not synced since. With POWER_CUT=0 the cut comes at the end of the program, so that what the program called done has to
+ * be on disk. POWER_COUNT=FILE writes down how many operations there were. */
 #include <dlfcn.h>
 #include <fcntl.h>
 #include <signal.h>
@@ -16,8 +16,8 @@
 
 #define MOST 256
 
-/* A name that was given to a file or a folder. What a rename puts it in the place of is kept, under a name of its own, until the folder around it,
- * `parent`, is synced. */
+/* A name that was given to a file or a folder. What a rename puts it in the place of is kept, under a name of its own, until the folder
+ * around it, `parent`, is synced. */
 struct given {
     int folder;
     ino_t parent;

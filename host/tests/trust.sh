@@ -1,5 +1,5 @@
-# What "accepted" means: the fingerprint and the commitment, worked out here from the published files by the words of docs/ELECTIONS.md; results of other
-# forms; the chance of a false result; and two forgeries.
+# What "accepted" means: the fingerprint and the commitment, worked out here from the published files by the words of docs/ELECTIONS.md;
+# results of other forms; the chance of a false result; and two forgeries.
 
 # An election by the officer's walk, with a public draw: $room/walk, and what is published of it, $room/walked.
 draw=5eed000000000000000000000000000000000000000000000000000000005eed
@@ -52,20 +52,23 @@ fingerprints() {
     succeed "the commitment in the result" test "$(named "$room/walked" Commitment)" = "$commitment"
     succeed "the fingerprint in the result" test "$(named "$room/walked" Fingerprint)" = "$print"
     succeed "the fingerprint on the page" grep -qF "<th scope=\"row\">Fingerprint</th><td><code>$print</code>" "$room/walked/result.html"
-    succeed "the commitment on the page" grep -qF "<th scope=\"row\">Commitment</th><td><code>$commitment</code>" "$room/walked/result.html"
+    succeed "the commitment on the page" grep -qF "<th scope=\"row\">Commitment</th><td><code>$commitment</code>" \
+        "$room/walked/result.html"
     expect 0 "Fingerprint $print" "$program" check "$room/walked"
     expect 0 "accepted" "$program" check "$room/walked" --fingerprint "$print"
     expect 0 "accepted" "$program" check "$room/walked" --fingerprint "${print^^}"
     expect 0 "accepted" "$program" check "$room/walked" --fingerprint "$worked_fingerprint"
     expect 0 "accepted" "$program" check "$room/walked" --fingerprint "${print//-/ }"
-    expect 1 "the fingerprint of the election is $print, and not the one that you named" "$program" check "$room/walked" --fingerprint "$draw"
+    expect 1 "the fingerprint of the election is $print, and not the one that you named" \
+        "$program" check "$room/walked" --fingerprint "$draw"
     said "walked is not accepted"
 }
 
 # What is said with the commitment and the seed as they were published, and without them.
 conditions() {
     local condition="acceptance holds only if this seed was drawn after this commitment was public"
-    expect 0 "accepted: commitment and seed are the ones that you named" "$program" check "$room/walked" --committed "$commitment" --seed "$draw"
+    expect 0 "accepted: commitment and seed are the ones that you named" \
+        "$program" check "$room/walked" --committed "$commitment" --seed "$draw"
     said "It holds if that commitment was public before that seed was drawn"
     expect 0 "accepted, on one condition" "$program" check "$room/walked"
     said "$condition"
@@ -73,7 +76,8 @@ conditions() {
     expect 0 "accepted, on one condition" "$program" check "$room/walked" --committed "$commitment"
     expect 0 "accepted, on one condition" "$program" check "$room/walked" --seed "$draw"
     expect 1 "the seed is $(grouped "$draw"), and not the one that you named" "$program" check "$room/walked" --seed "${draw/5/6}"
-    expect 1 "the commitment is $commitment, and not the one that you named" "$program" check "$room/walked" --committed "$draw" --seed "$draw"
+    expect 1 "the commitment is $commitment, and not the one that you named" \
+        "$program" check "$room/walked" --committed "$draw" --seed "$draw"
     succeed "the condition in the result" grep -qF "$condition" "$room/walked/result.txt"
     succeed "the condition on the page" grep -qF "$condition" "$room/walked/result.html"
 }
@@ -145,8 +149,8 @@ move_share() { # FILE PLACE MODULUS
     number $((value + 1 < $3 ? value + 1 : value - 1)) 8 | dd of="$1" bs=8 seek="$2" conv=notrunc status=none
 }
 
-# Claims another vote: flips a coefficient of a claim, and in each round moves that coefficient of the share that is not opened, so that the sum is odd where it
-# was even. No answer changes: an answer is about the key, and the share that is opened is left alone.
+# Claims another vote: flips a coefficient of a claim, and in each round moves that coefficient of the share that is not opened, so that
+# the sum is odd where it was even. No answer changes: an answer is about the key, and the share that is opened is left alone.
 forge_vote() { # FOLDER PLACE
     local modulus round
     modulus=$(sed -n 's/^modulus=//p' "$1/sheet.txt")
@@ -156,8 +160,8 @@ forge_vote() { # FOLDER PLACE
     done
 }
 
-# The second forgery: who knows the seed beforehand makes any result pass. It cannot be seen in the transcript; so it is said, and it is refused where the
-# commitment is the one that was public.
+# The second forgery: who knows the seed beforehand makes any result pass. It cannot be seen in the transcript; so it is said, and it is
+# refused where the commitment is the one that was public.
 seed_known() {
     local folder=$room/forged
     rm -rf "$folder"
@@ -185,7 +189,8 @@ seed_known() {
     expect 1 "forged is not accepted" "$program" check "$folder"
 }
 
-# 2^-rounds + (2/3)^repeats, by hand: 1/2 + 2/3 is above 1; 1/4 + 8/27 = 0.546..; and for 40 and 68, 0.909.. + 1.061.. in 10^12, which is 1 in 5.07 10^11.
+# 2^-rounds + (2/3)^repeats, by hand: 1/2 + 2/3 is above 1; 1/4 + 8/27 = 0.546..; and for 40 and 68, 0.909.. + 1.061.. in 10^12, which is
+# 1 in 5.07 10^11.
 chances() {
     local words
     for words in "1 100 in 100" "2 55 in 100" "40 1 in 500,000,000,000."; do
@@ -194,7 +199,8 @@ chances() {
         expect 0 "The chance that a false result passes is at most ${words#* }" "$program" run "$room/chance" --draw-here
         said "FOR TRYING ONLY: its ring is 4, below 1,024"
         succeed "the chance on the page" grep -qF "at most <strong>$(sed 's/\.$//' <<<"${words#* }")</strong>" "$room/chance/result.html"
-        succeed "the warning on the page" grep -qF "<strong>For trying only:</strong> its ring is 4, below 1,024" "$room/chance/result.html"
+        succeed "the warning on the page" grep -qF "<strong>For trying only:</strong> its ring is 4, below 1,024" \
+            "$room/chance/result.html"
         if [ "${words%% *}" -lt 40 ]; then
             said "and its rounds are ${words%% *}, fewer than 40"
         else
