@@ -4,8 +4,10 @@
 #include "commands.h"
 #include "election.h"
 #include "log.h"
+#include "material.h"
 #include "paper.h"
 #include "result.h"
+#include "rounds.h"
 #include "say.h"
 
 /* Where an election stands, seen by a person who wants to go on with it. */
@@ -17,7 +19,7 @@ enum stand {
     REFUSED_AT_LAST, /* a round was refused */
     ACCEPTED,        /* accepted, and the result is not written */
     FINISHED,        /* the result is there */
-    PUBLISHED        /* no session is stored, and a result is there */
+    PUBLISHED        /* no session is stored and no key is there, but claims are */
 };
 
 static const struct {
@@ -32,7 +34,7 @@ static const struct {
     [REFUSED_AT_LAST] = {"ended, refused", "a round was refused: nothing of this count may be published as a result (docs/ELECTIONS.md)"},
     [ACCEPTED] = {"ended, accepted", "`election run FOLDER` checks all rounds again and writes the result"},
     [FINISHED] = {"ended, accepted", "`election publish FOLDER OUT`, and have OUT checked on another machine: `election check OUT`"},
-    [PUBLISHED] = {"a published election", "`election check FOLDER` checks it"},
+    [PUBLISHED] = {"a published election", "`election check FOLDER` checks it, when all of it is there"},
 };
 
 /* Whether lists, enrolment and log are such that the election can go on; says what is wrong. `after` is the session with the whole log
@@ -46,13 +48,18 @@ static bool is_ready(const struct election *election, struct election *after) {
     return ready;
 }
 
-static enum stand stand_of(const struct election *election, bool stored, bool result) {
+/* What else there is beside the session. */
+struct found {
+    bool stored, key, claims, result;
+};
+
+static enum stand stand_of(const struct election *election, const struct found *found) {
     switch (election_phase(election)) {
-    case GATHERING: return !stored && result ? PUBLISHED : OPEN;
+    case GATHERING: return !found->stored && !found->key && found->claims ? PUBLISHED : OPEN;
     case CLOSED: return COMMITTING;
     case CLAIMED: return election_committed(election) < election->numbers.rounds ? COMMITTING : AWAITING_SEED;
     case DRAWN: return ANSWERING;
-    case ENDED_ACCEPTED: return result ? FINISHED : ACCEPTED;
+    case ENDED_ACCEPTED: return found->result ? FINISHED : ACCEPTED;
     default: return REFUSED_AT_LAST;
     }
 }
@@ -74,11 +81,13 @@ static enum status print(const struct election *election, const struct election 
 
 enum status report(const char *folder) {
     struct election election, after = {0};
-    bool stored = false, result = false;
-    enum status status = election_look(&election, folder, &stored);
-    if (!status) status = file_find(&election.folder, RESULT_TEXT, &result);
+    struct found found = {0};
+    enum status status = election_look(&election, folder, &found.stored);
+    if (!status) status = key_find(&election, &found.key);
+    if (!status) status = file_find(&election.folder, CLAIMS_FILE, &found.claims);
+    if (!status) status = file_find(&election.folder, RESULT_TEXT, &found.result);
     if (!status) {
-        enum stand stand = stand_of(&election, stored, result);
+        enum stand stand = stand_of(&election, &found);
         after = election;
         bool ready = stand == PUBLISHED || is_ready(&election, &after);
         status = print(&election, &after, stand, ready);

@@ -10,6 +10,9 @@
 #define TITLE 16
 static const uint8_t title1[TITLE] = "jackdawnail 1\n", title2[TITLE] = "jackdawnail 2\n";
 
+/* A release whose images have another length has another form, and reads these by the length that they have. */
+_Static_assert(JDN_IMAGE == 4297, "forms 1 and 2 hold an image of 4,297 bytes");
+
 /* Where the parts stand in the file. */
 enum {
     AT_IMAGE = TITLE,

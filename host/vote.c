@@ -46,8 +46,7 @@ static enum status complete(const struct election *election, struct election *af
     if (!status) status = would_admit(after, ballot);
     if (!status) status = log_add(&election->folder, "admit", mark);
     if (!status)
-        say("a ballot with the mark %u was there and was in no line of the log. It is admitted as it was made then, and no other one is "
-            "made",
+        say("a ballot with the mark %u was there and was in no line of the log. It is admitted as it was made then: no other one is made",
             (unsigned)mark);
     return status;
 }

@@ -34,6 +34,11 @@ half_a_vote() {
     succeed "it is counted" grep -qx '      1  Jackdaw' "$room/office/result.txt"
     publish "$room/office" "$room/other"
     expect 0 "other/ballots/8.ballot is admitted by no line of log.txt, and is not counted" "$program" check "$room/other"
+    # also one under the name of no mark; and no name of a file speaks to the terminal
+    cp "$room/ballot" "$room/other/ballots/07.ballot"
+    cp "$room/ballot" "$room/other/ballots/$(printf '\33[2J').ballot"
+    expect 0 "other/ballots/07.ballot is admitted by no line of log.txt" "$program" check "$room/other"
+    said "other/ballots/?[2J.ballot is admitted by no line of log.txt"
     cat "$room/office/ballots"/{1,7}.ballot "$room/ballot" >"$room/other/ballots.bin"
     poke "$room/other/ballots.bin" $((2 * 68)) 9
     rm -r "$room/other/ballots"
@@ -213,11 +218,11 @@ standing() {
     said "election publish FOLDER OUT"
     rm "$room/office/result.txt"
     expect 0 "writes the result" "$program" status "$room/office"
-    rm "$room/office/state.bin"
     publish "$room/office" "$room/other"
-    "$program" run "$room/office" >"$room/said" 2>&1
-    touch "$room/other/result.txt"
     expect 0 "Phase               a published election" "$program" status "$room/other"
+    # to count anew, the counting side removes its state
+    rm "$room/office/state.bin"
+    expect 0 "Phase               gathering ballots" "$program" status "$room/office"
 }
 
 officers() {
