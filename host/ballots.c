@@ -10,9 +10,17 @@ void ballot_name(char *name, uint32_t mark) {
     snprintf(name, BALLOT_NAME_ROOM, BALLOT_FOLDER "/%u" BALLOT_END, (unsigned)mark);
 }
 
-bool is_ballot_name(const char *name) {
+/* Whether a name ends as those of ballots do. */
+static bool has_ballot_end(const char *name) {
     size_t length = strlen(name), end = strlen(BALLOT_END);
     return length > end && !strcmp(name + length - end, BALLOT_END);
+}
+
+bool is_ballot_name(const char *name, uint32_t *mark) {
+    uint64_t number = 0;
+    if (!has_ballot_end(name) || !read_decimal(name, strlen(name) - strlen(BALLOT_END), UINT32_MAX, &number)) return false;
+    *mark = (uint32_t)number;
+    return true;
 }
 
 /* The place of a mark among the first `count`, or `count`. */
@@ -95,10 +103,8 @@ enum status ballots_of_entry(const struct election *election, const struct ballo
 /* Whether a file of the folder of ballots is a ballot that no entry of the register names: one that is written under the name of no mark,
  * too. */
 static bool is_unlogged(const struct election *election, const char *name) {
-    uint64_t mark = 0;
-    if (!is_ballot_name(name)) return false;
-    return !read_decimal(name, strlen(name) - strlen(BALLOT_END), UINT32_MAX, &mark) ||
-           entry_find(election, (uint32_t)mark) == election_used(election);
+    uint32_t mark = 0;
+    return has_ballot_end(name) && (!is_ballot_name(name, &mark) || entry_find(election, mark) == election_used(election));
 }
 
 static enum status name_unlogged_files(const struct election *election) {

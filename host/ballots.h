@@ -40,7 +40,7 @@ void batch_say_mark(const struct batch *batch, uint64_t reply);
 #define BALLOT_END ".ballot"
 #define BALLOT_NAME_ROOM 32
 void ballot_name(char *name, uint32_t mark);
-/* Whether a file of that folder has the name of a ballot. */
-bool is_ballot_name(const char *name);
+/* Whether a file of that folder has the name of the ballot with a mark. */
+bool is_ballot_name(const char *name, uint32_t *mark);
 
 #endif

@@ -60,12 +60,14 @@ static enum status add_single(const struct folder *folder, const struct extent *
 static enum status add_ballots(const struct folder *folder, struct names *names) {
     struct names found = {0};
     bool there = false;
+    uint32_t mark = 0;
     char path[PATH_ROOM];
     enum status status = file_find(folder, BALLOT_FOLDER, &there);
     if (!status && there) status = folder_list(folder, BALLOT_FOLDER, &found);
     for (size_t i = 0; i < found.count && !status; i++) {
+        if (!is_ballot_name(found.at[i], &mark)) continue;
         snprintf(path, sizeof path, BALLOT_FOLDER "/%s", found.at[i]);
-        if (is_ballot_name(found.at[i])) status = names_add(names, path);
+        status = names_add(names, path);
     }
     names_free(&found);
     return status;

@@ -82,11 +82,22 @@ not_written_over() {
     succeed "no folder is made" test ! -e "$room/none"
 }
 
+# The papers lead through the commands that there are, and say the sizes that there are.
+papers() {
+    local name
+    for name in keygen vote withdraw gather commit run publish check status help; do
+        succeed "$name in docs/ELECTIONS.md" grep -qF "\`election $name" docs/ELECTIONS.md
+    done
+    succeed "README.md leads there" grep -qF '(docs/ELECTIONS.md)' README.md
+    succeed "the length of state.bin" grep -qF "| $(size "$room/places/state.bin" | sed 's/...$/,&/') |" docs/ELECTIONS.md
+}
+
 commands() {
     rm -rf "$room/places"
     wrong_words
     wrong_options
     helped
     places
+    papers
     not_written_over
 }

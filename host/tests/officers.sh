@@ -141,8 +141,10 @@ kept() {
 published() {
     local files="ballots/1.ballot enrolled.txt lists.txt log.txt sheet.txt"
     office
-    mkdir "$room/office/notes" && touch "$room/office/ballots/2.ballot.new" "$room/office/ballots/notes.txt"
+    mkdir "$room/office/notes"
+    touch "$room/office/ballots"/{2.ballot.new,notes.txt,07.ballot,.ballot} "$room/office/rounds"
     holds "gathering" $files
+    rm "$room/office/rounds"
     "$program" commit "$room/office" >"$room/said" 2>&1
     files+=" claims.bin rounds/000/head.bin rounds/000/shares0.bin rounds/000/shares1.bin"
     # what an earlier count left is no part of this one
