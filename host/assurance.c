@@ -3,7 +3,6 @@
 #include "assurance.h"
 
 #include <stdio.h>
-#include <string.h>
 
 #include "say.h"
 
@@ -42,8 +41,7 @@ void chance_in_words(const struct numbers *numbers, char *words) {
         return;
     }
     for (; odds >= 100; odds /= 10) zeros++;
-    strcpy(words, "1 in ");
-    write_grouped(words + strlen(words), (unsigned)odds, zeros);
+    write_grouped(words + snprintf(words, WORDS_ROOM, "1 in "), (unsigned)odds, zeros);
 }
 
 bool is_for_trying(size_t ring, size_t rounds, char *why) {

@@ -124,7 +124,7 @@ enum status numbers_read(const struct bytes *sheet, uint8_t *image, uint8_t *reg
     uint64_t reply = jdn_sheet(LENT(*sheet), about, sizeof about);
     if (!reply) reply = jdn_clear(image, JDN_IMAGE, reg, JDN_REGISTER, LENT(*sheet));
     if (reply) {
-        sheet_explain(sheet, JDN_NUMBER(reply));
+        sheet_explain(sheet, JDN_NUMBER(reply), "sheet.txt: ");
         return say_refused(reply, "sheet.txt");
     }
     numbers->ring = (size_t)read64(image + RING);

@@ -38,7 +38,7 @@ static enum status make_public_key(const struct new_sheet *numbers, const struct
     if (!status) status = bytes_make(&b, 8 * ring);
     if (!status) {
         uint64_t reply = jdn_keygen((uint8_t *)text.at, text.length, key->at, ring, key->at + ring, ring, LENT(b), LENT(scratch));
-        if (reply) sheet_explain(&(struct bytes){.at = (uint8_t *)text.at, .length = text.length}, JDN_NUMBER(reply));
+        if (reply) sheet_explain(&(struct bytes){.at = (uint8_t *)text.at, .length = text.length}, JDN_NUMBER(reply), "--");
         if (reply) status = say_refused(reply, "the numbers for a new sheet");
     }
     if (!status) memcpy(polynomials->at + 8 * ring, b.at, b.length);

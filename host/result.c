@@ -67,7 +67,7 @@ static void groups_line(struct text *text, const char *name, const uint8_t *dige
     text_add(text, "\n");
 }
 
-/* What names the election, and the condition on which its acceptance holds. */
+/* What names the election. */
 static void text_names(const struct result *result, struct text *text) {
     struct result_digest digests[MOST_RESULT_DIGESTS];
     size_t count = result_digests(result, digests);
@@ -83,6 +83,7 @@ static void text_names(const struct result *result, struct text *text) {
     }
 }
 
+/* How the count was shown, and how far that holds. */
 static void text_assurance(const struct numbers *numbers, struct text *text) {
     char words[WORDS_ROOM];
     chance_in_words(numbers, words);

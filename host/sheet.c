@@ -76,8 +76,7 @@ bool sheet_numbers_fit(const struct new_sheet *numbers, const char *prefix) {
            modulus_fits(numbers, prefix);
 }
 
-/* The number of the line that has a name, or 0 where there is none such. The form of the sheet was judged by
- * the library. */
+/* The number of the line that has a name, or 0 where there is none such. The form of the sheet was judged by the library. */
 static uint64_t number_of(const struct bytes *sheet, const char *name) {
     uint64_t value = 0;
     const char *at = (const char *)sheet->at, *end = at + sheet->length;
@@ -91,7 +90,7 @@ static uint64_t number_of(const struct bytes *sheet, const char *name) {
     return 0;
 }
 
-void sheet_explain(const struct bytes *sheet, unsigned refusal) {
+void sheet_explain(const struct bytes *sheet, unsigned refusal, const char *prefix) {
     const struct new_sheet numbers = {
         .ring = number_of(sheet, "ring"),
         .modulus = number_of(sheet, "modulus"),
@@ -100,7 +99,7 @@ void sheet_explain(const struct bytes *sheet, unsigned refusal) {
         .repeats = number_of(sheet, "repeats"),
     };
     if (refusal != 3 && refusal != 4) return;
-    if (sheet_numbers_fit(&numbers, "sheet.txt: ") && refusal == 4)
-        say("sheet.txt: modulus %llu leaves no room for noise and masks with ring %llu and drown %llu",
-            (unsigned long long)numbers.modulus, (unsigned long long)numbers.ring, (unsigned long long)numbers.drown);
+    if (sheet_numbers_fit(&numbers, prefix) && refusal == 4)
+        say("%smodulus %llu leaves no room for noise and masks with ring %llu and drown %llu", prefix, (unsigned long long)numbers.modulus,
+            (unsigned long long)numbers.ring, (unsigned long long)numbers.drown);
 }

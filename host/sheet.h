@@ -22,7 +22,8 @@ uint64_t least_repeats(uint64_t rounds);
 /* Whether the numbers of a new sheet are in their ranges and fit each other; says which one is not, with `prefix` before its name. */
 bool sheet_numbers_fit(const struct new_sheet *numbers, const char *prefix);
 
-/* Says which number of a sheet is outside its range, or does not fit, where the library refused it 3 or 4. */
-void sheet_explain(const struct bytes *sheet, unsigned refusal);
+/* Says which number of a sheet is outside its range, or does not fit, where the library refused it 3 or 4, with `prefix`
+ * before its name. */
+void sheet_explain(const struct bytes *sheet, unsigned refusal, const char *prefix);
 
 #endif

@@ -44,7 +44,7 @@ wrong_options() {
         keygen "$room/none" --rounds 10 --repeats 16
     wrong "--modulus 101 does not fit ring 4: twice the ring, 8, has to divide the modulus less one" \
         keygen --ring 4 --modulus 101 "$room/none"
-    expect 1 "leaves no room for noise and masks with ring 4 and drown 40" "$program" keygen --ring 4 --modulus 97 "$room/none"
+    expect 1 "--modulus 97 leaves no room for noise and masks with ring 4 and drown 40" "$program" keygen --ring 4 --modulus 97 "$room/none"
     succeed "no folder is made" test ! -e "$room/none"
 }
 
