@@ -44,7 +44,7 @@ struct election {
     struct numbers numbers;
     uint8_t image[JDN_IMAGE];
     uint8_t reg[JDN_REGISTER];
-    /* how far the log is taken */
+    /* how far the log is taken, and SHA3-256 of that */
     uint64_t log_length, log_lines;
     uint8_t log_digest[32];
     /* the seed of each round that the producer has to answer yet */

@@ -7,13 +7,16 @@
 static const char commitment_title[] = "jackdawnail commitment 1\n";
 static const char fingerprint_title[] = "jackdawnail fingerprint 1\n";
 
-/* Sheet, lists, enrolment, closing, claims, then the rounds' number and their digests. */
-#define PARTS 5
+/* Sheet, lists, enrolment, log, closing, claims, then the rounds' number and their digests. */
+#define PARTS 6
 #define MOST_MESSAGE (sizeof commitment_title + PARTS * DIGEST + 8 + MOST_ROUNDS * DIGEST)
 
 void commitment_of(const struct election *election, const struct paper *paper, uint8_t *commitment) {
-    const uint8_t *const parts[PARTS] = {election_sheet_digest(election), paper->lists.digest, paper->enrolment.digest,
-                                         election_closing_digest(election), election_claim_digest(election)};
+    const uint8_t *const parts[PARTS] = {
+        election_sheet_digest(election),   paper->lists.digest,
+        paper->enrolment.digest,           election->log_digest,
+        election_closing_digest(election), election_claim_digest(election),
+    };
     uint8_t message[MOST_MESSAGE], *end = message;
     size_t rounds = election->numbers.rounds;
     memcpy(end, commitment_title, sizeof commitment_title - 1);

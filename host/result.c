@@ -47,11 +47,9 @@ void result_free(struct result *result) {
 size_t result_digests(const struct result *result, struct result_digest *digests) {
     const struct election *election = &result->transcript->election;
     const struct paper *paper = &result->transcript->paper;
-    const struct result_digest parts[] = {{"sheet", election_sheet_digest(election)},
-                                          {"lists", paper->lists.digest},
-                                          {"enrolment", paper->enrolment.digest},
-                                          {"closing", election_closing_digest(election)},
-                                          {"claims", election_claim_digest(election)}};
+    const struct result_digest parts[] = {{"sheet", election_sheet_digest(election)},     {"lists", paper->lists.digest},
+                                          {"enrolment", paper->enrolment.digest},         {"log", election->log_digest},
+                                          {"closing", election_closing_digest(election)}, {"claims", election_claim_digest(election)}};
     size_t count = sizeof parts / sizeof *parts;
     memcpy(digests, parts, sizeof parts);
     for (size_t i = 0; i < election->numbers.rounds; i++, count++) {

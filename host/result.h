@@ -25,8 +25,8 @@ struct result_digest {
     char name[32];
     const uint8_t *digest;
 };
-/* Sheet, lists, enrolment, closing, claims, then the rounds. */
-#define MOST_RESULT_DIGESTS (5 + MOST_ROUNDS)
+/* Sheet, lists, enrolment, log, closing, claims, then the rounds. */
+#define MOST_RESULT_DIGESTS (6 + MOST_ROUNDS)
 /* Fills them in, in the order in which they are shown. Answers how many there are. */
 size_t result_digests(const struct result *result, struct result_digest *digests);
 

@@ -35,7 +35,7 @@ work_out() { # FOLDER MARK..
     rounds=$(ls "$folder/rounds" | wc -l)
     worked_commitment=$({
         printf 'jackdawnail commitment 1\n'
-        bytes "$sheet$(sha <"$folder/lists.txt")$(sha <"$folder/enrolled.txt")$closing$claims"
+        bytes "$sheet$(sha <"$folder/lists.txt")$(sha <"$folder/enrolled.txt")$(sha <"$folder/log.txt")$closing$claims"
         number "$rounds" 8
         for ((round = 0; round < rounds; round++)); do
             bytes "$({ bytes "$claims"; number "$round" 2; cat "$folder/rounds/00$round"/{head,shares0,shares1}.bin; } | sha)"
@@ -137,6 +137,19 @@ names_exchanged() {
     expect 1 "the commitment is" "$program" check "$folder" --committed "$commitment" --seed "$draw"
 }
 
+# A log with a ballot more that was withdrawn counts the same, and tells another number of withdrawals: that is another election too.
+withdrawal_added() {
+    local folder=$room/relogged
+    rm -rf "$folder"
+    cp -r "$room/walked" "$folder"
+    { number 15 4; head -c 64 /dev/zero; } >"$folder/ballots/15.ballot"
+    printf 'admit 15\nwithdraw 15\n' >>"$folder/log.txt"
+    tell_anew "$folder"
+    expect 0 "Ballots withdrawn   2" "$program" check "$folder"
+    expect 1 "the fingerprint of the election is" "$program" check "$folder" --fingerprint "$(named "$room/walked" Fingerprint)"
+    expect 1 "the commitment is" "$program" check "$folder" --committed "$commitment" --seed "$draw"
+}
+
 # The side that a round opens follows from the seed alone (document 01): the lowest bit of SHA3-256 of seed, round, 0.
 side_of() { # FOLDER ROUND
     echo $((0x$({ cat "$1/seed.bin"; number "$2" 2; number 0 2; } | sha | cut -c1-2) & 1))
@@ -226,6 +239,7 @@ trust() {
     conditions
     forms
     names_exchanged
+    withdrawal_added
     seed_known
     chances
     floors
