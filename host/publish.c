@@ -77,7 +77,8 @@ static enum status add_rounds(const struct folder *folder, const struct extent *
     char path[PATH_ROOM];
     enum status status = DONE;
     for (size_t i = 0; i < ROUND_PARTS * extent->committed && !status; i++) {
-        size_t round = i / ROUND_PARTS, part = i % ROUND_PARTS;
+        size_t round = i / ROUND_PARTS;
+        enum round_part part = (enum round_part)(i % ROUND_PARTS);
         if (part >= FIRST_PARTS && round >= extent->checked) continue;
         round_part_name(path, sizeof path, round, part);
         status = add_there(folder, path, names);

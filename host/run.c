@@ -175,7 +175,7 @@ static enum status look_over(struct counting *counting, enum goal goal) {
     struct election *election = counting->election;
     bool keyed = true;
     enum status status = goal == GATHERED ? key_find(election, &keyed) : DONE;
-    if (!status && !keyed)
+    if (!status && !keyed && election_phase(election) == GATHERING)
         say("key/ is not here: the noise of the ballots is looked at where it is, before they are closed. All else was");
     if (status || !keyed || election_phase(election) >= ENDED_REFUSED) return status;
     status = key_read(election, &counting->key);
