@@ -148,10 +148,10 @@ published() {
     "$program" commit "$room/office" >"$room/said" 2>&1
     files+=" claims.bin rounds/000/head.bin rounds/000/shares0.bin rounds/000/shares1.bin"
     # what an earlier count left is no part of this one
-    touch "$room/office/result.txt" "$room/office/rounds/000/opening.bin"
+    touch "$room/office"/{result.txt,result.html,seed.bin,rounds/000/opening.bin}
     holds "committed" $files
     said "There is no result among them yet"
-    rm "$room/office/result.txt" "$room/office/rounds/000/opening.bin"
+    rm "$room/office"/{result.txt,result.html,seed.bin,rounds/000/opening.bin}
     "$program" run --draw-here "$room/office" >"$room/said" 2>&1
     files+=" seed.bin rounds/000/opening.bin rounds/000/answers.bin result.txt result.html"
     holds "counted" $files

@@ -19,6 +19,9 @@ walk() {
     commitment=$(sed -n 's/^Commitment  //p' "$room/said")
     expect 3 "the seed is not drawn yet" "$program" run "$room/walk"
     succeed "no seed is drawn" test ! -e "$room/walk/seed.bin"
+    bytes "${draw/5/6}" >"$room/walk/seed.bin"
+    expect 1 "walk/seed.bin holds another seed" "$program" run "$room/walk" --seed "$draw"
+    rm "$room/walk/seed.bin"
     expect 0 "All rounds accepted yes" "$program" run "$room/walk" --seed "$(grouped "$draw" | tr a-f A-F)"
     succeed "the seed" cmp "$room/walk/seed.bin" <(bytes "$draw")
     expect 1 "was drawn with another seed" "$program" run "$room/walk" --seed "${draw/5/6}"
