@@ -28,7 +28,7 @@ replyOf (Failed number place) = reply.Refused number place
 replyOf Passed = reply.Taken
 
 module _ (s : Stored) where
-  -- before the round itself is looked at, for the plaintext modulus p
+  -- before the round itself is looked at
   unfoldable pub earlyTests : Inputs → List Test
   earlyTests x = order (x .sheet) ++ lentTests s x
 

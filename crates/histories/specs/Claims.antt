@@ -1,4 +1,4 @@
--- What is claimed of a session's steps (the second and the third demand; document 01, the paragraph on demand 3's last sentence), for the plaintext modulus p: that each step
+-- What is claimed of a session's steps (the second and the third demand; document 01, the paragraph on demand 3's last sentence): that each step
 -- is taken exactly under its conditions, and what holds of lists of steps. Assumes nothing.
 use mathlib.Core.Path.{_≡_}
 use mathlib.Core.Logic.{_↔_, _≢_, _⊎_}

@@ -1,4 +1,4 @@
--- Lists of a session's steps (document 01, "Register and session", and the paragraph on demand 3's last sentence), for the plaintext modulus p: what each step answers and
+-- Lists of a session's steps (document 01, "Register and session", and the paragraph on demand 3's last sentence): what each step answers and
 -- leaves, what was taken since the last clear taken, and the ballots admitted and not withdrawn. Assumes nothing.
 use mathlib.Core.Bool.{Bool, true, false, cond}
 use mathlib.Core.Path.{_≡_}

@@ -1,5 +1,5 @@
 -- What is shown of lists of a session's steps (histories, specs/Claims.antt), of lists of the exported calls over images: from a call of clear that is taken, over any bytes of
--- an image's length, for the plaintext modulus p. Assumes nothing.
+-- an image's length. Assumes nothing.
 use mathlib.Core.Path.{_≡_}
 use mathlib.Core.Bool.{false}
 use mathlib.Core.List.{List, [], _∷_}

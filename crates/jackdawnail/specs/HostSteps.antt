@@ -1,5 +1,5 @@
 -- The steps as the C host sees them (document 01, "Register and session"): the reply of each exported step, and the image and the register that it leaves, as its contract has
--- them (src/steps.rt), for the plaintext modulus p. A call does to the session in the image what the step over sessions does (histories, specs/Runs.antt), and so does a list
+-- them (src/steps.rt). A call does to the session in the image what the step over sessions does (histories, specs/Runs.antt), and so does a list
 -- of calls: what is shown of lists of steps holds of what the exported calls do (specs/HostClaims.antt). Assumes nothing.
 use mathlib.Core.Path.{_≡_}
 use mathlib.Core.List.{List, [], _∷_}

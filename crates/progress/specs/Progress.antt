@@ -28,7 +28,7 @@ ended-refused = 4
 abbrev pub ended-accepted : ℕ
 ended-accepted = 5
 
--- a known phase, counts within their limits, and numbers that 3 and 4 take, for the plaintext modulus p
+-- a known phase, counts within their limits, and numbers that 3 and 4 take
 unfoldable pub inLimits : Numbers → Progress → Bool
 inLimits k g =
     leb (g .phase) 5

@@ -1,4 +1,4 @@
-// The phase and the counts of a session (document 01, "Register and session"): which step is due, and how each moves them. A value that each step takes and hands back. p is 2.
+// The phase and the counts of a session (document 01, "Register and session"): which step is due, and how each moves them. A value that each step takes and hands back.
 use sheet_numbers::Numbers;
 ghost use mathlib.Core.Path.{_≡_};
 ghost use mathlib.Core.Bool.{_&&_};

@@ -6,7 +6,7 @@ use Rattle.progress.specs.Progress.{inLimits}
 use Rattle.progress.specs.declared.Progress.{Progress}
 use Rattle.session.specs.declared.Session.{Session}
 
--- a known phase, counts within their limits, and numbers that 3 and 4 take, for the plaintext modulus p
+-- a known phase, counts within their limits, and numbers that 3 and 4 take
 abbrev pub valid : Session → Bool
 valid s = inLimits (s .numbers) (s .progress)
 

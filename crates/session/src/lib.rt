@@ -1,4 +1,4 @@
-// The session of a count (document 01, "Register and session"): a value that each step takes and hands back with its answer. p is 2.
+// The session of a count (document 01, "Register and session"): a value that each step takes and hands back with its answer.
 mod checks;
 mod counting;
 mod gathering;

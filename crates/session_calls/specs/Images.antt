@@ -1,4 +1,4 @@
--- The steps of a session over its lent image (document 01, "Register and session"): their replies and what they leave, for the plaintext modulus p. An image of another length
+-- The steps of a session over its lent image (document 01, "Register and session"): their replies and what they leave. An image of another length
 -- is refused 1 before all else. Assumes nothing.
 use mathlib.Core.Bool.{cond}
 use Prim.Native.Nat.{ℕ, _*_}

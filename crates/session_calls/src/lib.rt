@@ -1,4 +1,4 @@
-// The steps of a session over its lent image (document 01, "Register and session"): the image is loaded, the step taken, and the session it leaves stored. p is 2.
+// The steps of a session over its lent image (document 01, "Register and session"): the image is loaded, the step taken, and the session it leaves stored.
 pub mod checks;
 
 use codec::Reply;

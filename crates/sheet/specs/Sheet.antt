@@ -1,4 +1,4 @@
--- Document 01, "Sheet" and the refusals 1 to 5: which sheet is taken, and what is handed out of it, for the plaintext modulus p. Assumes nothing.
+-- Document 01, "Sheet" and the refusals 1 to 5: which sheet is taken, and what is handed out of it. Assumes nothing.
 use mathlib.Core.Bool.{Bool, not, _&&_, _||_}
 use mathlib.Core.List.{List, [], _∷_, flatMap}
 use Prim.Native.Nat.{ℕ}
