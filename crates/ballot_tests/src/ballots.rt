@@ -6,7 +6,7 @@ ghost use mathlib.Core.Bool.{not};
 ghost use mathlib.Core.List.{[], _∷_};
 ghost use Prim.Native.Nat.{_+_, _*_, _%_, _≤_};
 ghost use lib.ListN.{length};
-ghost use Rattle.codec.specs.Bytes.{part, same};
+ghost use Rattle.codec.specs.Bytes.{part, same, zeros};
 ghost use Rattle.codec.specs.Reply.{test, first};
 ghost use Rattle.codec.specs.Lists.{list};
 ghost use Rattle.ring.specs.Poly.{Below};
@@ -83,8 +83,8 @@ fn test_at(
     )
 }
 
-// Every ballot, in order: `opened` is the opened side's shares.
-pub fn test_ballots(
+// Every ballot, in order.
+fn each_ballot(
     work: &mut [u8],
     s: &[u8],
     ballots: &[u8],
@@ -134,4 +134,39 @@ pub fn test_ballots(
         share += 8 * n;
     }
     Reply::Taken
+}
+
+// Every ballot, in order, and scratch zeroed: `opened` is the opened side's shares.
+pub fn test_ballots(
+    work: &mut [u8],
+    s: &[u8],
+    ballots: &[u8],
+    claims: &[u8],
+    shares0: &[u8],
+    shares1: &[u8],
+    opened: &[u8],
+    count: usize,
+    bound: u64,
+    n: usize,
+    q: u64,
+) -> Reply
+    requires { ⌜ Polynomial n q (now s) × (q % 2 ≡ 1) × (length (now work) ≡ scratchLength) × (count ≤ 4096) × Batch q n count (now ballots) (now claims) × Shares q n count (now shares0) × Shares q n count (now shares1) × Shares q n count (now opened) ⌝ }
+    ensures { λ reply. ⌜ reply ≡ first (each count (λ j. test 12 j (not (within bound n (worked q n 2 (poly (now (s .entry))) (uAt n (now (ballots .entry)) j) (shareAt n (now (opened .entry)) j)))) ∷ test 13 j (not (same (claimAt n (now (claims .entry)) j) (list n (reconstructed q 2 (vAt n (now (ballots .entry)) j) (shareAt n (now (shares0 .entry)) j) (shareAt n (now (shares1 .entry)) j))))) ∷ [])) ⌝ }
+    ensures { λ _. ⌜ now (work .exit) ≡ zeros (length (now (work .entry))) ⌝ }
+{
+    let reply = each_ballot(
+        work,
+        s,
+        ballots,
+        claims,
+        shares0,
+        shares1,
+        opened,
+        count,
+        bound,
+        n,
+        q,
+    );
+    codec::wipe(work);
+    reply
 }

@@ -3,7 +3,7 @@ ghost use mathlib.Core.Path.{_≡_};
 ghost use mathlib.Core.Bool.{_&&_};
 ghost use Prim.Native.Nat.{_+_, _*_, _≤_, _<_};
 ghost use lib.ListN.{length};
-ghost use Rattle.codec.specs.Bytes.{same};
+ghost use Rattle.codec.specs.Bytes.{same, zeros};
 ghost use Rattle.codec.specs.Lists.{list};
 ghost use Rattle.ring.specs.Poly.{plus, modulo, Below};
 ghost use Rattle.ring.specs.Slots.{poly, encode};
@@ -14,22 +14,24 @@ ghost use Rattle.commitment.specs.Commitment.{keysOf, threeOf, opens, PublicKey
 // Whether two lent halves of the key add to b.
 pub fn adds(work: &mut [u8], b0: &[u8], b1: &[u8], b: &[u8], n: usize, q: u64) -> bool
     requires { ⌜ Polynomial n q (now b0) × Polynomial n q (now b1) × Polynomial n q (now b) × (length (now work) ≡ scratchLength) ⌝ }
-    ensures { λ r. ⌜ r ≡ same (encode n (modulo q (plus (poly (now (b0 .entry))) (poly (now (b1 .entry)))))) (encode n (modulo q (poly (now (b .entry))))) ⌝ }
-    ensures { λ _. ⌜ length (now (work .exit)) ≡ length (now (work .entry)) ⌝ }
+    ensures { λ r. ⌜ (r ≡ same (encode n (modulo q (plus (poly (now (b0 .entry))) (poly (now (b1 .entry)))))) (encode n (modulo q (poly (now (b .entry)))))) × (now (work .exit) ≡ zeros (length (now (work .entry)))) ⌝ }
 {
     codec::copy(work, 0, b0);
     ring::add(work, 0, b1, n, q);
-    codec::equal(&work[0..8 * n], b)
+    let added = codec::equal(&work[0..8 * n], b);
+    codec::wipe(work);
+    added
 }
 
 // Whether a lent half of the key is a s + 2 e.
 pub fn is_key(work: &mut [u8], a: &[u8], half: &[u8], s: &[u8], e: &[u8], n: usize, q: u64) -> bool
     requires { ⌜ Polynomial n q (now a) × Polynomial n q (now s) × Polynomial n q (now e) × (length (now work) ≡ scratchLength) ⌝ }
-    ensures { λ r. ⌜ r ≡ same (now (half .entry)) (encode n (modulo q (key q n 2 (poly (now (a .entry))) (poly (now (s .entry))) (poly (now (e .entry)))))) ⌝ }
-    ensures { λ _. ⌜ length (now (work .exit)) ≡ length (now (work .entry)) ⌝ }
+    ensures { λ r. ⌜ (r ≡ same (now (half .entry)) (encode n (modulo q (key q n 2 (poly (now (a .entry))) (poly (now (s .entry))) (poly (now (e .entry))))))) × (now (work .exit) ≡ zeros (length (now (work .entry)))) ⌝ }
 {
     bgv::noisy_lent(work, a, s, e, n, q);
-    codec::equal(half, &work[0..8 * n])
+    let opened = codec::equal(half, &work[0..8 * n]);
+    codec::wipe(work);
+    opened
 }
 
 // Whether each byte of a claim is the vote that a polynomial in scratch stands for.
@@ -80,12 +82,13 @@ pub fn opens_pairs(
     q: u64,
 ) -> bool
     requires { ⌜ PublicKeys n q (now k) × Polynomial n q (now s) × Polynomial n q (now e) × (length (now rs) ≡ 3 * n) × (length (now re) ≡ 3 * n) × (length (now work) ≡ scratchLength) × (length (now first) ≡ 16 * n) × (length (now second) ≡ 16 * n) ⌝ }
-    ensures { λ r. ⌜ r ≡ (opens q n (keysOf n (now (k .entry))) (now (first .entry)) (threeOf q n (now (rs .entry))) (poly (now (s .entry))) && opens q n (keysOf n (now (k .entry))) (now (second .entry)) (threeOf q n (now (re .entry))) (poly (now (e .entry)))) ⌝ }
-    ensures { λ _. ⌜ length (now (work .exit)) ≡ length (now (work .entry)) ⌝ }
+    ensures { λ r. ⌜ (r ≡ (opens q n (keysOf n (now (k .entry))) (now (first .entry)) (threeOf q n (now (rs .entry))) (poly (now (s .entry))) && opens q n (keysOf n (now (k .entry))) (now (second .entry)) (threeOf q n (now (re .entry))) (poly (now (e .entry))))) × (now (work .exit) ≡ zeros (length (now (work .entry)))) ⌝ }
 {
     if commitment::opens(work, k, first, s, rs, n, q) {
-        commitment::opens(work, k, second, e, re, n, q)
-    } else {
-        false
+        let both = commitment::opens(work, k, second, e, re, n, q);
+        codec::wipe(work);
+        return both;
     }
+    codec::wipe(work);
+    false
 }

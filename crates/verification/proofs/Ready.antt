@@ -29,8 +29,8 @@ extract-passed : (P : Parameters) (m : ℕ) (x : Openings) → None (extractTest
     → (lentRanged P m x ≡ true) × (permutes (42 * P .N) (entries (answer2Of (P .N) (x .answer2) .p)) ≡ true) × (permutes (42 * P .N) (entries (answer3Of (P .N) (x .answer3) .p)) ≡ true)
 unfolding extractTests
 extract-passed P m x none =
-    let after0 = append-none (sideTests P m x 0 (x .shares0) (open0 P m x)) _ (none .1 .1) in
-    let after1 = append-none (sideTests P m x 1 (x .shares1) (open1 P m x)) _ (after0 .1) in
+    let after0 = append-none (sideTests P m (x .head) (x .ballots) (x .claims) (x .shares0) (x .shares1) 0 (x .shares0) (open0 P m x)) _ (none .1 .1) in
+    let after1 = append-none (sideTests P m (x .head) (x .ballots) (x .claims) (x .shares0) (x .shares1) 1 (x .shares1) (open1 P m x)) _ (after0 .1) in
     let later = after1 .1 .1 .1 in
     (not-false (lentRanged P m x) (none .0), not-false (permutes _ _) (later .0), not-false (permutes _ _) (later .1 .1 .0))
 

@@ -1,0 +1,25 @@
+-- What a check and the extractor are lent, from the names of their slices in a contract: what stands in them at entry. Assumes nothing.
+use denote.Ref.{RefT}
+use denote.Triple.Both.{Both}
+use Prim.Native.Nat.{ℕ}
+use Rattle.codec.specs.Bytes.{Bytes}
+use Rattle.transcript.specs.Round.{Round, roundOf}
+use Rattle.transcript.specs.Extractor.{Openings, openingsOf}
+
+-- a slice as an `ensures` sees it
+abbrev pub Slice : Type 0
+Slice = Both (RefT Bytes) (RefT Bytes)
+
+abbrev pub given : Slice → Bytes
+given s = s .entry .now
+
+abbrev pub left : Slice → Bytes
+left s = s .exit .now
+
+abbrev pub roundIn : (side : ℕ) (challenges ballots claims head shares0 shares1 opening answers : Slice) → Round
+roundIn side challenges ballots claims head shares0 shares1 opening answers =
+    roundOf side (given challenges) (given ballots) (given claims) (given head) (given shares0) (given shares1) (given opening) (given answers)
+
+abbrev pub openingsIn : (head shares0 shares1 ballots claims opening0 opening1 : Slice) (repetition : ℕ) (answer1 answer2 answer3 : Slice) → Openings
+openingsIn head shares0 shares1 ballots claims opening0 opening1 repetition answer1 answer2 answer3 =
+    openingsOf (given head) (given shares0) (given shares1) (given ballots) (given claims) (given opening0) (given opening1) repetition (given answer1) (given answer2) (given answer3)
