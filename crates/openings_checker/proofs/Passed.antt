@@ -25,11 +25,11 @@ module _ (P : Parameters) (m : ℕ) {a : Bytes} (p : Polynomial (P .N) (P .q) a)
       let a1 = both (ltb (x .repetition) repeats) _ t in
       let a2 = both (ballotsRanged P m (x .ballots)) _ (a1 .1) in
       let a3 = both (allBelow (P .p) (x .claims)) _ (a2 .1) in
-      let a4 = both (headRanged P (x .head)) _ (a3 .1) in
+      let a4 = both (headRanged (P .q) (P .N) (x .head)) _ (a3 .1) in
       let a5 = both (allBelow q (vector (x .shares0))) _ (a4 .1) in
       let a6 = both (allBelow q (vector (x .shares1))) _ (a5 .1) in
-      let a7 = both (openingRanged P (x .opening0)) _ (a6 .1) in
-      let a8 = both (openingRanged P (x .opening1)) _ (a7 .1) in
+      let a7 = both (openingRanged (P .q) (P .N) (x .opening0)) _ (a6 .1) in
+      let a8 = both (openingRanged (P .q) (P .N) (x .opening1)) _ (a7 .1) in
       let a9 = both (inRange q N 1 (x .answer1)) _ (a8 .1) in
       let a10 = both (inRange q N 2 (x .answer2)) (inRange q N 3 (x .answer3)) (a9 .1) in
       record {

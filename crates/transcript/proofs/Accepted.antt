@@ -39,7 +39,7 @@ module _ (P : Parameters) (m : ℕ) (positive : 0 < P .q) (fits : P .q ≤ 2 ^ 6
     -- ---- a round in range
 
     module _ (in-range : InRange P m r) where
-      head-ranged : headRanged P head ≡ true
+      head-ranged : headRanged (P .q) (P .N) head ≡ true
       head-ranged = head-exactly P m head .1 (in-range .head)
 
       key-means : (opensKey P head (r .side) opening ≡ true) ↔ Alike q N (keyAt N head (r .side)) (key q N p a (opening .s) (opening .e))

@@ -83,7 +83,7 @@ module _ (P : Parameters) (m : ℕ) (x : Material) where
         (coefficients-append (coefficientBytes q N f) (coefficientBytes q N g ++ pairs) (written-below f) (coefficients-append (coefficientBytes q N g) pairs (written-below g) c)) (omega arith)
         (append-assoc (coefficientBytes q N f) (coefficientBytes q N g ++ pairs) rest ∙ ap (λ (s : Bytes). coefficientBytes q N f ++ s) (append-assoc (coefficientBytes q N g) pairs rest))
 
-    head-ranged : headRanged P head ≡ true
+    head-ranged : headRanged (P .q) (P .N) head ≡ true
     unfolding headRanged producedHead
     head-ranged = ten-below _ _ (producedPairs P m x) _ pairs-below
 
@@ -108,7 +108,7 @@ module _ (P : Parameters) (m : ℕ) (x : Material) where
       hides-below : (at : ℕ) → at + 3 * N ≤ 14 * N → allBelow 3 (part (x .secrets) at (3 * N)) ≡ true
       hides-below at h = below-part 3 (x .secrets) at (3 * N) (let e = sized .secrets in omega arith) secrets-below
 
-      opening-ranged : (side : ℕ) → side < 2 → openingRanged P (producedOpening P m x side) ≡ true
+      opening-ranged : (side : ℕ) → side < 2 → openingRanged (P .q) (P .N) (producedOpening P m x side) ≡ true
       opening-ranged side h = unfold openingRanged in ap₂ _&&_ front back
         where
           two-below : (f g : Poly) (r : Bytes) → allBelow q (list (2 * N) (poly (coefficientBytes q N f ++ (coefficientBytes q N g ++ r)))) ≡ true
@@ -237,7 +237,7 @@ module _ (P : Parameters) (m : ℕ) (x : Material) where
           abbrev round : Round
           round = producedRound P m x side challenges
 
-          answers-ranged : answersRanged P (round .challenges) (round .answers) ≡ true
+          answers-ranged : answersRanged (P .q) (P .N) (P .repeats) (round .challenges) (round .answers) ≡ true
           unfolding answersRanged
           answers-ranged =
               all-complete repeats (λ i. (leb 1 (challengeAt round i) && leb (challengeAt round i) 3) && inRange q N (challengeAt round i) (answerAt N challenges (producedAnswers P m x challenges) i))

@@ -77,7 +77,7 @@ module _ (P : Parameters) (m : ℕ) (positive : 0 < P .q) (fits : P .q ≤ 2 ^ 6
   unfolding splits
   splits-exactly = (λ e. encode-decides q N positive fits (same-equal _ _ e), λ l. equal-same (encode-alike l))
 
-  module _ (sized : length head ≡ headLength N repeats) (octets : Octets head) (ranged : headRanged P head ≡ true) where
+  module _ (sized : length head ≡ headLength N repeats) (octets : Octets head) (ranged : headRanged (P .q) (P .N) head ≡ true) where
     in-range : HeadRanged P m head
     in-range = head-exactly P m head .0 ranged
 

@@ -27,10 +27,10 @@ module _ (P : Parameters) (m : ℕ) (r : Round) where
       ltb (r .side) 2
       && (ballotsRanged P m (r .ballots)
       && (allBelow p (r .claims)
-      && (headRanged P (r .head)
+      && (headRanged q N (r .head)
       && (allBelow q (vector (r .shares0))
       && (allBelow q (vector (r .shares1))
-      && openingRanged P (r .opening))))))
+      && openingRanged q N (r .opening))))))
 
   -- of the opening: 5, 6, 7, 8; by ballot 12, 13
   unfoldable pub openingTests : List Test

@@ -71,6 +71,21 @@ ofSide (suc i) x y = y
 abbrev pub sharesOf : Round → ℕ → Bytes
 sharesOf r i = ofSide i (r .shares0) (r .shares1)
 
+-- ---- 5: the coefficients and ternary bytes of an opening, the head of a first message, challenges and answers are in range
+
+unfoldable pub openingRanged : (q N : ℕ) → Bytes → Bool
+openingRanged q N o = allBelow q (list (2 * N) (poly o)) && allBelow 3 (part o (16 * N) (6 * N))
+
+-- b0, b1 and the committed pairs
+unfoldable pub headRanged : (q N : ℕ) → Bytes → Bool
+headRanged q N head = allBelow q (list (10 * N) (poly head))
+
+unfoldable pub answersRanged : (q N repeats : ℕ) (challenges answers : Bytes) → Bool
+answersRanged q N repeats challenges answers =
+    all repeats (λ i. isChallenge (getD challenges i 0) && inRange q N (getD challenges i 0) (answerAt N challenges answers i))
+
+-- ---- by ballot 12, 13
+
 -- 12: the mask of ballot j, worked out from the opened half s of the secret and that side's share, is at most B
 abbrev pub maskTest : (q N p B : ℕ) (s : Poly) (ballots shares : Bytes) → ℕ → Test
 maskTest q N p B s ballots shares j = test 12 j (not (within B N (worked q N p s (uAt N ballots j) (shareAt N shares j))))
@@ -88,19 +103,6 @@ votesTests q N p B m s ballots claims shares0 shares1 shares =
 -- for the parameters of a sheet
 module _ (P : Parameters) where
   open Parameters P using (q, N, p, B, repeats, a, b, k)
-
-  -- ---- 5: the coefficients and ternary bytes of an opening, the head of a first message, challenges and answers are in range
-
-  unfoldable pub openingRanged : Bytes → Bool
-  openingRanged o = allBelow q (list (2 * N) (poly o)) && allBelow 3 (part o (16 * N) (6 * N))
-
-  -- b0, b1 and the committed pairs
-  unfoldable pub headRanged : Bytes → Bool
-  headRanged head = allBelow q (list (10 * N) (poly head))
-
-  unfoldable pub answersRanged : (challenges answers : Bytes) → Bool
-  answersRanged challenges answers =
-      all repeats (λ i. isChallenge (getD challenges i 0) && inRange q N (getD challenges i 0) (answerAt N challenges answers i))
 
   -- ---- 6, 7, 8: the halves of the key
 
@@ -154,13 +156,13 @@ module _ (P : Parameters) (m : ℕ) where
   unfoldable pub ranged : Round → Bool
   ranged r =
       ltb (r .side) 2
-      && (answersRanged P (r .challenges) (r .answers)
+      && (answersRanged q N repeats (r .challenges) (r .answers)
       && (ballotsRanged (r .ballots)
       && (allBelow p (r .claims)
-      && (headRanged P (r .head)
+      && (headRanged q N (r .head)
       && (allBelow q (vector (r .shares0))
       && (allBelow q (vector (r .shares1))
-      && openingRanged P (r .opening)))))))
+      && openingRanged q N (r .opening)))))))
 
   -- ---- the order: 5, 6, 7, 8; by repetition 9, 10, 11; by ballot 12, 13
 
