@@ -8,7 +8,7 @@ ghost use mathlib.Core.Bool.{true, cond, not, _&&_};
 ghost use mathlib.Core.List.{[], _∷_, _++_};
 ghost use Prim.Native.Nat.{_+_, _*_, _≤_, _<_, _^_};
 ghost use lib.ListN.{length, take};
-ghost use Rattle.codec.specs.Bytes.{words, same};
+ghost use Rattle.codec.specs.Bytes.{words, same, zeros};
 ghost use Rattle.codec.specs.Reply.{test, first};
 ghost use Rattle.codec.specs.Lists.{allBelow};
 ghost use Rattle.sha3.specs.Sponge.{sha3};
@@ -97,9 +97,9 @@ fn test_permuted(
 fn test_first(work: &mut [u8], d: &[u8], answer: &[u8], place: u32, n: usize, q: u64) -> Reply
     requires { ⌜ (n ≤ 2048) × (3 ≤ q) × (q < 2 ^ 56) × (length (now work) ≡ scratchLength) × (length (now d) ≡ 96) × (length (now answer) ≡ 378 * n + 64) × (allBelow q (vector (answer1Of n (now answer) .t)) ≡ true) ⌝ }
     ensures { λ reply. ⌜ reply ≡ first (tests1 q n (keysOf n []) [] (now (d .entry)) place (answer1Of n (now (answer .entry)))) ⌝ }
-    ensures { λ _. ⌜ length (now (work .exit)) ≡ length (now (work .entry)) ⌝ }
+    ensures { λ _. ⌜ now (work .exit) ≡ zeros (length (now (work .entry))) ⌝ }
 {
-    test_balanced(
+    let reply = test_balanced(
         work,
         &d[32..64],
         &d[64..96],
@@ -110,7 +110,9 @@ fn test_first(work: &mut [u8], d: &[u8], answer: &[u8], place: u32, n: usize, q:
         place,
         n,
         q,
-    )
+    );
+    codec::wipe(work);
+    reply
 }
 
 // Answer 2 from its bytes.
@@ -126,9 +128,9 @@ fn test_second(
 ) -> Reply
     requires { ⌜ PublicKeys n q (now k) × (length (now work) ≡ scratchLength) × (length (now d) ≡ 96) × (length (now answer) ≡ 504 * n + 64) × (length (now c) ≡ 64 * n) × (allBelow q (vector (now c)) ≡ true) × (allBelow q (vector (answer2Of n (now answer) .u)) ≡ true) ⌝ }
     ensures { λ reply. ⌜ reply ≡ first (tests2 q n (keysOf n (now (k .entry))) (now (c .entry)) (now (d .entry)) place (answer2Of n (now (answer .entry)))) ⌝ }
-    ensures { λ _. ⌜ length (now (work .exit)) ≡ length (now (work .entry)) ⌝ }
+    ensures { λ _. ⌜ now (work .exit) ≡ zeros (length (now (work .entry))) ⌝ }
 {
-    test_permuted(
+    let reply = test_permuted(
         work,
         k,
         c,
@@ -143,7 +145,9 @@ fn test_second(
         place,
         n,
         q,
-    )
+    );
+    codec::wipe(work);
+    reply
 }
 
 // Answer 3 from its bytes.
@@ -159,9 +163,9 @@ fn test_third(
 ) -> Reply
     requires { ⌜ PublicKeys n q (now k) × (length (now work) ≡ scratchLength) × (length (now d) ≡ 96) × (length (now answer) ≡ 504 * n + 64) × (length (now c) ≡ 64 * n) × (allBelow q (vector (now c)) ≡ true) × (allBelow q (vector (answer3Of n (now answer) .r)) ≡ true) ⌝ }
     ensures { λ reply. ⌜ reply ≡ first (tests3 q n (keysOf n (now (k .entry))) (now (c .entry)) (now (d .entry)) place (answer3Of n (now (answer .entry)))) ⌝ }
-    ensures { λ _. ⌜ length (now (work .exit)) ≡ length (now (work .entry)) ⌝ }
+    ensures { λ _. ⌜ now (work .exit) ≡ zeros (length (now (work .entry))) ⌝ }
 {
-    test_permuted(
+    let reply = test_permuted(
         work,
         k,
         c,
@@ -176,10 +180,12 @@ fn test_third(
         place,
         n,
         q,
-    )
+    );
+    codec::wipe(work);
+    reply
 }
 
-// An answer to a challenge of 1, 2, 3 from its bytes.
+// An answer to a challenge of 1, 2, 3 from its bytes, and scratch zeroed.
 pub fn test_answer(
     work: &mut [u8],
     k: &[u8],
@@ -193,7 +199,7 @@ pub fn test_answer(
 ) -> Reply
     requires { ⌜ PublicKeys n q (now k) × (length (now work) ≡ scratchLength) × (length (now d) ≡ 96) × (length (now c) ≡ 64 * n) × (allBelow q (vector (now c)) ≡ true) × (length (now answer) ≡ answerLength n challenge) × (inRange q n challenge (now answer) ≡ true) ⌝ }
     ensures { λ reply. ⌜ reply ≡ first (answerTests q n (keysOf n (now (k .entry))) (now (c .entry)) (now (d .entry)) place challenge (now (answer .entry))) ⌝ }
-    ensures { λ _. ⌜ length (now (work .exit)) ≡ length (now (work .entry)) ⌝ }
+    ensures { λ _. ⌜ now (work .exit) ≡ zeros (length (now (work .entry))) ⌝ }
 {
     if challenge == 1 {
         return test_first(work, d, answer, place, n, q);

@@ -11,7 +11,7 @@ use Rattle.call.specs.Call.{Polynomial}
 use Rattle.vector.specs.Vector.{vector}
 use Rattle.stern.specs.Shortness.{inRange}
 use Rattle.transcript.specs.Round.{Parameters, ballotsRanged, openingRanged, headRanged}
-use Rattle.transcript.specs.Extractor.{Openings, lentRanged}
+use Rattle.transcript.specs.Extractor.{Openings, Lent, lentRanged}
 use Rattle.round_parts.proofs.Passed.{opening-passed, head-passed, batch-passed, shares-passed}
 use Rattle.openings_checker.specs.Lent.{OpeningsInRange}
 
@@ -19,7 +19,7 @@ use Rattle.openings_checker.specs.Lent.{OpeningsInRange}
 module _ (P : Parameters) (m : ℕ) {a : Bytes} (p : Polynomial (P .N) (P .q) a) where
   open Parameters P using (q, N, repeats)
 
-  pub openings-passed : (x : Openings) → Rattle.transcript.specs.Extractor.Lent P m x → lentRanged P m x ≡ true → OpeningsInRange q N m repeats x
+  pub openings-passed : (x : Openings) → Lent P m x → lentRanged P m x ≡ true → OpeningsInRange q N m repeats x
   unfolding lentRanged
   openings-passed x l t =
       let a1 = both (ltb (x .repetition) repeats) _ t in

@@ -1,5 +1,5 @@
 -- Parts of an opening and of the head of a first message, lent on: what they are, and that a test of them is the test of the places they stand at. Assumes nothing.
-use mathlib.Core.Path.{_≡_, refl, sym, ap, ap₂, subst, _∙_}
+use mathlib.Core.Path.{_≡_, refl, sym, ap, ap₂, _∙_}
 use mathlib.Core.Logic.{_≢_}
 use mathlib.Core.Bool.{Bool, not, _&&_}
 use mathlib.Core.List.{List, [], _∷_, _++_}
@@ -21,8 +21,8 @@ use Rattle.sheet_numbers.specs.declared.Numbers.{Numbers}
 use Rattle.call.specs.Call.{Polynomial}
 use Rattle.bgv.specs.Scheme.{key, worked, within, reconstructed}
 use Rattle.bgv.proofs.Form.{noisy-alike}
-use Rattle.commitment.specs.Commitment.{Keys, PublicKeys, keysOf, threeOf, row, opens, pairBytes}
-use Rattle.commitment.specs.Loaded.{aOf, bOf, keyBytes, Loaded}
+use Rattle.commitment.specs.Commitment.{Keys, keysOf, threeOf, row, opens, pairBytes}
+use Rattle.commitment.specs.Loaded.{aOf, bOf, keyBytes}
 use Rattle.commitment.proofs.Additive.{second-alike}
 use Rattle.transcript.specs.Layout.{Opening, each, uAt, vAt, shareAt, claimAt, keyAt, pairAt, openingOf}
 use Rattle.transcript.specs.Round.{ofSide, splits, opensKey, opensPairs, votesTests}
@@ -100,16 +100,6 @@ module _ (k : Numbers) (s : Bytes) where
 
   abbrev q : ℕ
   q = k .modulus
-
-  module _ (l : Loaded k s) where
-    pub a-lent : Polynomial n q (take (8 * n - 0) (drop 0 s))
-    a-lent = subst (Polynomial n q) (sym (a-cut k s)) (l .a)
-
-    pub b-lent : Polynomial n q (take (16 * n - 8 * n) (drop (8 * n) s))
-    b-lent = subst (Polynomial n q) (sym (b-cut k s)) (l .b)
-
-    pub keys-lent : PublicKeys n q (take (40 * n - 16 * n) (drop (16 * n) s))
-    keys-lent = subst (PublicKeys n q) (sym (keys-cut k s)) (l .keys)
 
   pub split-lent : (head : Bytes) → Head q n (k .repeats) head → {r : Bool}
       → r ≡ same (encode n (modulo q (plus (poly (take (8 * n - 0) head)) (poly (take (16 * n - 8 * n) (drop (8 * n) head)))))) (encode n (modulo q (poly (take (16 * n - 8 * n) (drop (8 * n) s)))))

@@ -52,6 +52,14 @@ openingsOf head shares0 shares1 ballots claims opening0 opening1 repetition answ
   answer3 = answer3;
 }
 
+-- the room for what it finds, and scratch
+pub record ExtractRoom : Type 0 where
+  pub out : Bytes
+  pub scratch : Bytes
+
+abbrev pub extractRoom : (out scratch : Bytes) → ExtractRoom
+extractRoom out scratch = record { out = out; scratch = scratch }
+
 -- the lengths are right, for m ballots, and the head of the first message is bytes
 pub record Lent (P : Parameters) (m : ℕ) (x : Openings) : Type 0 where
   pub head : length (x .head) ≡ headLength (P .N) (P .repeats)
@@ -135,13 +143,16 @@ module _ (P : Parameters) (m : ℕ) (x : Openings) where
       && (inRange q N 2 (x .answer2)
       && inRange q N 3 (x .answer3))))))))))
 
-  unfoldable pub extractTests : List Test
-  extractTests =
-      test 5 0 (not lentRanged)
-      ∷ splitTest P (x .head)
+  -- after 5
+  abbrev pub extractLater : List Test
+  extractLater =
+      splitTest P (x .head)
       ∷ (sideTests P m (x .head) (x .ballots) (x .claims) (x .shares0) (x .shares1) 0 (x .shares0) open0
       ++ (sideTests P m (x .head) (x .ballots) (x .claims) (x .shares0) (x .shares1) 1 (x .shares1) open1
       ++ threeTests P (x .head) (x .repetition) (x .answer1) (x .answer2) (x .answer3)))
+
+  unfoldable pub extractTests : List Test
+  extractTests = test 5 0 (not lentRanged) ∷ extractLater
 
   -- ---- what it finds
 

@@ -166,11 +166,14 @@ module _ (P : Parameters) (m : ℕ) where
 
   -- ---- the order: 5, 6, 7, 8; by repetition 9, 10, 11; by ballot 12, 13
 
-  unfoldable pub roundTests : Round → List Test
-  roundTests r =
+  -- after 5
+  abbrev pub roundLater : Round → List Test
+  roundLater r =
       let o = openingOf N (r .opening) in
-      test 5 0 (not (ranged r))
-      ∷ splitTest P (r .head)
+      splitTest P (r .head)
       ∷ (halfTests P (r .head) (r .side) o
       ++ (answersTests P (r .head) (r .challenges) (r .answers)
       ++ votesTests q N p B m (o .s) (r .ballots) (r .claims) (r .shares0) (r .shares1) (sharesOf r (r .side))))
+
+  unfoldable pub roundTests : Round → List Test
+  roundTests r = test 5 0 (not (ranged r)) ∷ roundLater r

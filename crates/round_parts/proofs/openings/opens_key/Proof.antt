@@ -2,7 +2,8 @@
 use Prim.Native.Nat.{_-_, _*_}
 use native.Mathlib.Omega.{arith}
 use borrow.Author.Needs.{needs}
-use Rattle.round_parts.proofs.Parts.{lent-on, a-lent, key-lent}
+use Rattle.transcript.proofs.Cut.{a-lent}
+use Rattle.round_parts.proofs.Parts.{lent-on, key-lent}
 use Rattle.round_parts.proofs.openings.opens_key.Statement.{statement}
 use Rattle.round_parts.proofs.openings.opens_key.Tie as tie
 

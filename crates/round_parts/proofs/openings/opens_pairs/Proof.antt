@@ -3,7 +3,8 @@ use Prim.Native.Nat.{_+_, _-_, _*_}
 use native.Mathlib.Omega.{arith}
 use borrow.Author.Needs.{needs}
 use Rattle.stern.proofs.Answered.{lent-length}
-use Rattle.round_parts.proofs.Parts.{lent-on, keys-lent, both-lent}
+use Rattle.transcript.proofs.Cut.{keys-lent}
+use Rattle.round_parts.proofs.Parts.{lent-on, both-lent}
 use Rattle.round_parts.proofs.openings.opens_pairs.Statement.{statement}
 use Rattle.round_parts.proofs.openings.opens_pairs.Tie as tie
 

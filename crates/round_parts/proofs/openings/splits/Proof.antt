@@ -2,7 +2,8 @@
 use Prim.Native.Nat.{_-_, _*_}
 use native.Mathlib.Omega.{arith}
 use borrow.Author.Needs.{needs}
-use Rattle.round_parts.proofs.Parts.{lent-on, b-lent, split-lent}
+use Rattle.transcript.proofs.Cut.{b-lent}
+use Rattle.round_parts.proofs.Parts.{lent-on, split-lent}
 use Rattle.round_parts.proofs.openings.splits.Statement.{statement}
 use Rattle.round_parts.proofs.openings.splits.Tie as tie
 
