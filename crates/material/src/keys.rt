@@ -16,7 +16,7 @@ fn is_key(work: &mut [u8], a: &[u8], b: &[u8], s: &[u8], e: &[u8], n: usize, q: 
     ensures { λ r. ⌜ r ≡ same (encode n (modulo q (key q n 2 (poly (now (a .entry))) (ternary q (now (s .entry))) (ternary q (now (e .entry)))))) (encode n (modulo q (poly (now (b .entry))))) ⌝ }
     ensures { λ _. ⌜ length (now (work .exit)) ≡ length (now (work .entry)) ⌝ }
 {
-    bgv::noisy(work, a, s, e, n, q);
+    bgv::noisy(work, a, s, e, 2, n, q);
     codec::equal(&work[0..8 * n], b)
 }
 

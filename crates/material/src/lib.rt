@@ -13,7 +13,7 @@ ghost use mathlib.Core.List.{_++_};
 ghost use Prim.Native.Nat.{_*_, _≤_, _<_, _^_};
 ghost use lib.ListN.{length};
 ghost use Rattle.codec.specs.Reply.{first, leaves};
-ghost use Rattle.sheet_numbers.specs.Bounds.{noise};
+ghost use Rattle.sheet_numbers.specs.Plain.{noiseOf};
 ghost use Rattle.call.specs.Call.{scratchLength, Polynomial};
 ghost use Rattle.commitment.specs.Loaded.{Loaded};
 ghost use Rattle.transcript.specs.Layout.{ballotLength};
@@ -73,6 +73,7 @@ fn decided(one: Reply, other: Reply) -> Reply
 
 // 12 by ballot, then 9 by repetition, then 15 by ballot. All three are worked out, and the first that refuses decides.
 fn test_each(
+    k: Numbers,
     work: &mut [u8],
     secrets: &[u8],
     masks0: &[u8],
@@ -85,11 +86,11 @@ fn test_each(
     n: usize,
     q: u64,
 ) -> Reply
-    requires { ⌜ (4 ≤ n) × (n ≤ 2048) × (3 ≤ q) × (q < 2 ^ 56) × (count ≤ 4096) × (repeats ≤ 256) × (length (now work) ≡ scratchLength) × (length (now secrets) ≡ 14 * n) × (length (now masks0) ≡ 8 * n * count) × (length (now masks1) ≡ 8 * n * count) × (length (now permutations) ≡ 168 * n * repeats) × (length (now ballots) ≡ ballotLength n * count) × (ballotsBelow q n count (now ballots) ≡ true) ⌝ }
-    ensures { λ reply. ⌜ reply ≡ first (maskTests n bound count (now (masks0 .entry)) (now (masks1 .entry)) ++ (permutationTests n repeats (now (permutations .entry)) ++ noiseTests q n (noise 2 n) count (now (secrets .entry)) (now (ballots .entry)))) ⌝ }
+    requires { ⌜ (4 ≤ n) × (n ≤ 2048) × (3 ≤ q) × (q < 2 ^ 56) × (count ≤ 4096) × (repeats ≤ 256) × (length (now work) ≡ scratchLength) × (length (now secrets) ≡ 14 * n) × (length (now masks0) ≡ 8 * n * count) × (length (now masks1) ≡ 8 * n * count) × (length (now permutations) ≡ 168 * n * repeats) × (length (now ballots) ≡ ballotLength n * count) × (ballotsBelow q n count (now ballots) ≡ true) × (k .ring ≤ 2048) ⌝ }
+    ensures { λ reply. ⌜ reply ≡ first (maskTests n bound count (now (masks0 .entry)) (now (masks1 .entry)) ++ (permutationTests n repeats (now (permutations .entry)) ++ noiseTests q n (noiseOf k) count (now (secrets .entry)) (now (ballots .entry)))) ⌝ }
     ensures { λ _. ⌜ length (now (work .exit)) ≡ length (now (work .entry)) ⌝ }
 {
-    let limit = sheet_numbers::noise_bound(n as u64);
+    let limit = sheet_numbers::noise_bound(k);
     let masked = masks::test_masks(masks0, masks1, count, bound, n);
     let permuting = permutations::test_permutations(work, permutations, repeats, n);
     let quiet = noise::test_noise(work, secrets, ballots, count, limit, n, q);
@@ -136,9 +137,10 @@ pub fn test_material(
             return Reply::Refused { number, place };
         }
     }
-    let bound = sheet_numbers::mask_bound(k.ring, k.drown);
+    let bound = sheet_numbers::mask_bound(k);
     let repeats = k.repeats as usize;
     test_each(
+        k,
         scratch,
         secrets,
         masks0,

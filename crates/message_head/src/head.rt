@@ -31,7 +31,7 @@ fn write_keys(
     ensures { λ _. ⌜ now (head .exit) ≡ put (now (head .entry)) 0 (coefficientBytes q n (key q n 2 (poly (now (a .entry))) (poly (now (s0 .entry))) (poly (now (e0 .entry)))) ++ coefficientBytes q n (key q n 2 (poly (now (a .entry))) (other q (ternary q (part (now (secrets .entry)) 0 n)) (poly (now (s0 .entry)))) (other q (ternary q (part (now (secrets .entry)) n n)) (poly (now (e0 .entry)))))) ⌝ }
     ensures { λ _. ⌜ length (now (work .exit)) ≡ length (now (work .entry)) ⌝ }
 {
-    scheme::written::lent_key(head, 0, work, a, s0, e0, n, q);
+    scheme::written::lent_key(head, 0, work, a, s0, e0, 2, n, q);
     scheme::written::other_key(
         head,
         8 * n,
@@ -41,6 +41,7 @@ fn write_keys(
         s0,
         &secrets[n..2 * n],
         e0,
+        2,
         n,
         q,
     );

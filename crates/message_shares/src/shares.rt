@@ -84,7 +84,7 @@ fn write_claim(claims: &mut [u8], at: usize, work: &mut [u8], v: &[u8], n: usize
 {
     ring::scale_slot(work, 0, q - 1, n, q);
     ring::add(work, 0, v, n, q);
-    bgv::plain(work, &mut claims[at..at + n], n, q);
+    bgv::plain(work, &mut claims[at..at + n], 2, n, q);
 }
 
 // The shares of both sides and the claim of one ballot, at places of their slices.

@@ -4,7 +4,7 @@ use mathlib.Core.List.{_++_}
 use Prim.Native.Nat.{ℕ}
 use borrow.Author.Needs.{needs}
 use Rattle.codec.specs.Reply.{first}
-use Rattle.sheet_numbers.specs.Bounds.{noise}
+use Rattle.sheet_numbers.specs.Plain.{noiseOf}
 use Rattle.material.specs.Parts.{maskTests, permutationTests, noiseTests}
 use Rattle.material.proofs.Sequence.{both-decided}
 use Rattle.material.proofs.test_each.Statement.{statement}
@@ -20,12 +20,12 @@ returns c =
     let a = c .before .before .before .before .before .before .before .before .before .before .before .before .before .before .before .before .before .before .args in
     let ms = maskTests (a .n) (a .bound) (a .count) (a .masks0 .now) (a .masks1 .now) in
     let ps = permutationTests (a .n) (a .repeats) (a .permutations .now) in
-    let ns = noiseTests (a .q) (a .n) (noise 2 (a .n)) (a .count) (a .secrets .now) (a .ballots .now) in
+    let ns = noiseTests (a .q) (a .n) (noiseOf (a .k)) (a .count) (a .secrets .now) (a .ballots .now) in
     let m = c .before .before .before .before .before .before .before .before .before .before .test-masks in
     let p = c .before .before .before .before .before .before .before .before .test-permutations in
     let v = c .before .before .before .before .test-noise in
     let d = c .before .decided in
-    let quiet = v .ensures .0 ∙ ap (λ (D : ℕ). first (noiseTests (a .q) (a .n) D (a .count) (a .secrets .now) (a .ballots .now))) (c .before .before .before .before .before .before .before .before .before .before .before .noise-bound .ensures) in (
+    let quiet = v .ensures .0 ∙ ap (λ (D : ℕ). first (noiseTests (a .q) (a .n) D (a .count) (a .secrets .now) (a .ballots .now))) (c .before .before .before .before .before .before .before .before .before .before .before .noise-bound .ensures .0) in (
       c .decided2 .ensures ∙ both-decided ms (ps ++ ns) (m .result) (d .result) (m .ensures) (d .ensures ∙ both-decided ps ns (p .result) (v .result) (p .ensures .0) quiet),
       v .ensures .1 ∙ p .ensures .1,
     )

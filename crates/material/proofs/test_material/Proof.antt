@@ -19,7 +19,7 @@ returns : tie.Need-returns
 returns c = let a = c .before .before .before .before .before .before .before .before .before .before .before .before .before .before .before .before .before .before .before .args in stopped (a .k) (a .public .now) (a .count) (lent (a .secrets .now) (a .s0 .now) (a .e0 .now) (a .masks0 .now) (a .masks1 .now) (a .vectors .now) (a .permutations .now) (a .ballots .now)) (a .asked) (c .before .before .before .before .before .test-secret .ensures) _ _ refl (c .before .reply .given .1)
 
 mask-bound-requires : tie.Need-mask-bound-requires
-mask-bound-requires c κs = let p = c .before .before .before .before .before .before .before .before .before .before .before .before .before .before .before .before .before .before .pre .0 in (p .a .ring-high, p .drown-high)
+mask-bound-requires c κs = let p = c .before .before .before .before .before .before .before .before .before .before .before .before .before .before .before .before .before .before .pre .0 in (p .a .ring-high, p .numbers .drown-high, p .numbers .plain-low, p .numbers .plain-high)
 
 test-each-requires : tie.Need-test-each-requires
 test-each-requires c κs =
@@ -31,7 +31,7 @@ test-each-requires c κs =
       p .0 .a .modulus-low,
       p .0 .a .modulus-high,
       p .1,
-      p .0 .repeats-high,
+      p .0 .numbers .repeats-high,
       s .1 ∙ p .2,
       p .3 .secrets,
       p .3 .masks0,

@@ -22,7 +22,7 @@ other-key-requires c κs =
     let n = a .n in
     let s = a .secrets .now in
     let l = c .before .before .before .before .before .before .before .before .lent-key in
-    (p .0, p .1, p .2, l .ensures .1 ∙ p .4, lent-length s 0 (n - 0) n (omega arith) (omega (arith, p .3)), lent-length s n (2 * n - n) n (omega arith) (omega (arith, p .3)), omega (arith, p .5, l .kept .0))
+    (p .0, p .1, p .2, l .ensures .1 ∙ p .4, lent-length s 0 (n - 0) n (omega arith) (omega (arith, p .3)), lent-length s n (2 * n - n) n (omega arith) (omega (arith, p .3)), omega (arith, p .5, l .kept .0), omega (arith, p .0 .modulus-low))
 
 returns : tie.Need-returns
 returns c =
