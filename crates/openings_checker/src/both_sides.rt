@@ -16,7 +16,8 @@ ghost use Rattle.codec.specs.Reply.{first};
 ghost use Rattle.call.specs.Call.{scratchLength};
 ghost use Rattle.commitment.specs.Loaded.{Loaded};
 ghost use Rattle.transcript.specs.Extractor.{Lent, openingsOf, lentRanged, extractLater, extractTests};
-ghost use Rattle.transcript.specs.RoundSlices.{given, left, openingsIn};
+ghost use Rattle.codec.specs.Slices.{given, left};
+ghost use Rattle.transcript.specs.RoundSlices.{openingsIn};
 ghost use Rattle.transcript.specs.Sheets.{parameters};
 ghost use Rattle.openings_checker.specs.Lent.{OpeningsInRange, OpeningsSized};
 

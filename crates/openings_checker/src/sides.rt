@@ -12,7 +12,7 @@ ghost use Rattle.call.specs.Call.{scratchLength};
 ghost use Rattle.commitment.specs.Loaded.{Loaded};
 ghost use Rattle.transcript.specs.Layout.{openingOf};
 ghost use Rattle.transcript.specs.Extractor.{sideTests};
-ghost use Rattle.transcript.specs.RoundSlices.{given, left};
+ghost use Rattle.codec.specs.Slices.{given, left};
 ghost use Rattle.transcript.specs.Sheets.{parameters};
 ghost use Rattle.transcript.specs.Method.{Batch, Shares};
 ghost use Rattle.round_parts.specs.Lent.{Opened};

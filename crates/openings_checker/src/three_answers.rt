@@ -14,7 +14,7 @@ ghost use Rattle.commitment.specs.Loaded.{keyBytes, Loaded};
 ghost use Rattle.stern.specs.Shortness.{answerLength, inRange, answerTests};
 ghost use Rattle.transcript.specs.Layout.{pairsOf};
 ghost use Rattle.transcript.specs.Extractor.{threeTests};
-ghost use Rattle.transcript.specs.RoundSlices.{given, left};
+ghost use Rattle.codec.specs.Slices.{given, left};
 ghost use Rattle.transcript.specs.Sheets.{parameters};
 ghost use Rattle.round_parts.specs.Lent.{Head};
 ghost use Rattle.openings_checker.specs.Lent.{Answered};

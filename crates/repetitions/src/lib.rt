@@ -15,7 +15,7 @@ ghost use Rattle.vector.specs.Vector.{vector};
 ghost use Rattle.stern.specs.Shortness.{answerLength, inRange, answerTests};
 ghost use Rattle.transcript.specs.Layout.{headLength, pairsOf};
 ghost use Rattle.transcript.specs.Round.{answersTests};
-ghost use Rattle.transcript.specs.RoundSlices.{given, left};
+ghost use Rattle.codec.specs.Slices.{given, left};
 ghost use Rattle.transcript.specs.Sheets.{parameters};
 ghost use Rattle.transcript.specs.Method.{Answers};
 

@@ -2,19 +2,20 @@
 use codec::Reply;
 use sheet_numbers::Numbers;
 ghost use mathlib.Core.Path.{_≡_};
-ghost use Prim.Native.Nat.{ℕ, _+_, _*_, _%_, _≤_, _<_};
+ghost use Prim.Native.Nat.{ℕ, _+_, _*_, _≤_, _<_};
 ghost use lib.ListN.{length};
 ghost use Rattle.codec.specs.Bytes.{zeros};
 ghost use Rattle.codec.specs.Reply.{first};
 ghost use Rattle.codec.specs.declared.Reply.the-variants.{Refused};
 ghost use Rattle.ring.specs.Slots.{slot};
 ghost use Rattle.sheet_numbers.specs.Plain.{plain, maskOf};
+ghost use Rattle.sheet_numbers.specs.Usable.{Usable};
 ghost use Rattle.call.specs.Call.{scratchLength};
 ghost use Rattle.commitment.specs.Loaded.{Loaded};
 ghost use Rattle.transcript.specs.Layout.{openingOf};
 ghost use Rattle.transcript.specs.Round as round;
 ghost use Rattle.transcript.specs.Round.{opensKey, opensPairs, halfTests, votesTests};
-ghost use Rattle.transcript.specs.RoundSlices.{given, left};
+ghost use Rattle.codec.specs.Slices.{given, left};
 ghost use Rattle.transcript.specs.Sheets.{parameters};
 ghost use Rattle.transcript.specs.Method.{Batch, Shares};
 ghost use Rattle.round_parts.specs.Lent.{Opened, Head};
@@ -59,12 +60,11 @@ fn opens_key(
     let n = k.ring as usize;
     ballot_tests::halves::is_key(
         work,
+        k,
         &public[0..8 * n],
         &head[at..at + 8 * n],
         &opening[0..8 * n],
         &opening[8 * n..16 * n],
-        n,
-        k.modulus,
     )
 }
 
@@ -134,16 +134,16 @@ pub fn test_votes(
     opened: &[u8],
     count: usize,
 ) -> Reply
-    requires { ⌜ Opened (k .modulus) (k .ring) (now opening) × (k .modulus % 2 ≡ 1) × (k .drown ≤ 40) × (length (now work) ≡ scratchLength) × (count ≤ 4096)
+    requires { ⌜ Usable k × Opened (k .modulus) (k .ring) (now opening) × (length (now work) ≡ scratchLength) × (count ≤ 4096)
                × Batch (k .modulus) (k .ring) count (now ballots) (now claims) × Shares (k .modulus) (k .ring) count (now shares0)
                × Shares (k .modulus) (k .ring) count (now shares1) × Shares (k .modulus) (k .ring) count (now opened) ⌝ }
     ensures { λ reply. ⌜ (reply ≡ first (votesTests (k .modulus) (k .ring) (plain k) (maskOf k) count (slot (given opening) 0) (given ballots)
               (given claims) (given shares0) (given shares1) (given opened))) × (left work ≡ zeros (length (given work))) ⌝ }
 {
     let n = k.ring as usize;
-    let bound = sheet_numbers::mask_bound(k.ring, k.drown);
     ballot_tests::ballots::test_ballots(
         work,
+        k,
         &opening[0..8 * n],
         ballots,
         claims,
@@ -151,8 +151,5 @@ pub fn test_votes(
         shares1,
         opened,
         count,
-        bound,
-        n,
-        k.modulus,
     )
 }

@@ -8,7 +8,7 @@ ghost use Rattle.sheet_numbers.specs.Plain.{plain};
 ghost use Rattle.stern.specs.Shortness.{answerLength, inRange};
 ghost use Rattle.transcript.specs.Layout.{ballotLength, answersLength};
 ghost use Rattle.transcript.specs.Round.{isChallenge, openingRanged, headRanged, answersRanged};
-ghost use Rattle.transcript.specs.RoundSlices.{given};
+ghost use Rattle.codec.specs.Slices.{given};
 ghost use Rattle.round_parts.specs.Lent.{messageRanged};
 
 // Whether b0, b1 and the committed pairs, with which the head of a first message begins, are below q.
@@ -85,7 +85,7 @@ pub fn message_ranged(
     if !ballot_tests::ranges::ballots_in_range(ballots, count, k.ring as usize, q) {
         return false;
     }
-    if !bgv::is_message(claims, 2) {
+    if !bgv::is_message(claims, sheet_numbers::plain(k)) {
         return false;
     }
     if !head_ranged(k, head) {

@@ -1,20 +1,8 @@
 -- What a check and the extractor are lent, from the names of their slices in a contract: what stands in them at entry, and in its room at exit. Assumes nothing.
-use denote.Ref.{RefT}
-use denote.Triple.Both.{Both}
 use Prim.Native.Nat.{ℕ}
-use Rattle.codec.specs.Bytes.{Bytes}
+use Rattle.codec.specs.Slices.{Slice, given, left}
 use Rattle.transcript.specs.Round.{Round, roundOf}
 use Rattle.transcript.specs.Extractor.{Openings, openingsOf, ExtractRoom, extractRoom}
-
--- a slice as an `ensures` sees it
-abbrev pub Slice : Type 0
-Slice = Both (RefT Bytes) (RefT Bytes)
-
-abbrev pub given : Slice → Bytes
-given s = s .entry .now
-
-abbrev pub left : Slice → Bytes
-left s = s .exit .now
 
 abbrev pub roundIn : (side : ℕ) (challenges ballots claims head shares0 shares1 opening answers : Slice) → Round
 roundIn side challenges ballots claims head shares0 shares1 opening answers =

@@ -11,7 +11,7 @@ returns : tie.Need-returns
 returns c = let o = §test-opening in (stopped _ _ (o .ensures .0) _ _ (§enum-told2 .given .1), o .ensures .1)
 
 test-votes-requires : tie.Need-test-votes-requires
-test-votes-requires c κs = let p = §pre in (p .1, p .0 .odd, p .0 .drown-high, still (§test-opening .ensures .1) ∙ p .2, p .5, p .6, p .7, p .8, p .9)
+test-votes-requires c κs = let p = §pre in (p .0 .numbers, p .1, still (§test-opening .ensures .1) ∙ p .2, p .5, p .6, p .7, p .8, p .9)
 
 returns-2 : tie.Need-returns-2
 returns-2 c =

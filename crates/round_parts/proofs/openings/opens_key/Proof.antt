@@ -12,7 +12,7 @@ is-key-requires c κs =
     let a = c .before .before .before .before .before .before .before .before .before .args in
     let p = c .before .before .before .before .before .before .before .before .before .pre in
     let n = a .k .ring in
-    (a-lent (a .k) (a .public .now) (p .0), lent-on (a .opening .now) 0 (8 * n - 0) (omega arith) (p .1 .s), lent-on (a .opening .now) (8 * n) (16 * n - 8 * n) (omega arith) (p .1 .e), p .2)
+    (p .0 .numbers, a-lent (a .k) (a .public .now) (p .0), lent-on (a .opening .now) 0 (8 * n - 0) (omega arith) (p .1 .s), lent-on (a .opening .now) (8 * n) (16 * n - 8 * n) (omega arith) (p .1 .e), p .2)
 
 returns : tie.Need-returns
 returns c = let a = c .before .before .before .before .before .before .before .before .before .before .before .before .args in (λ side. key-lent (a .k) (a .public .now) (a .head .now) side (a .opening .now) (c .before .before .before .before .before .before .before .before .before .before .before .before .pre .1) (c .before .before .is-key .ensures .0), c .before .before .is-key .ensures .1)
