@@ -36,14 +36,17 @@ fn test_at(
     place: u32,
 ) -> Reply
     requires { ⌜ Polynomial (k .ring) (k .modulus) (now s) × Usable k × (length (now work) ≡ scratchLength)
-               × (at + 4 + 16 * k .ring ≤ length (now ballots)) × (claim + k .ring ≤ length (now claims)) × (share + 8 * k .ring ≤ length (now shares0))
-               × (share + 8 * k .ring ≤ length (now shares1)) × (share + 8 * k .ring ≤ length (now opened)) ⌝ }
+        × (at + 4 + 16 * k .ring ≤ length (now ballots)) × (claim + k .ring ≤ length (now claims))
+        × (share + 8 * k .ring ≤ length (now shares0)) × (share + 8 * k .ring ≤ length (now shares1))
+        × (share + 8 * k .ring ≤ length (now opened)) ⌝ }
     requires { ⌜ Below (k .modulus) (2 * k .ring) (slot (now ballots) (at + 4)) × Below (k .modulus) (k .ring) (slot (now shares0) share)
-               × Below (k .modulus) (k .ring) (slot (now shares1) share) × Below (k .modulus) (k .ring) (slot (now opened) share) ⌝ }
+        × Below (k .modulus) (k .ring) (slot (now shares1) share) × Below (k .modulus) (k .ring) (slot (now opened) share) ⌝ }
     ensures { λ reply. let q = k .modulus in let n = k .ring in let p = plain k in
-              ⌜ (reply ≡ first (test 12 place (not (within (maskOf k) n (worked q n p (poly (given s)) (slot (given ballots) (at + 4)) (slot (given opened) share))))
-              ∷ test 13 place (not (same (part (given claims) claim n) (list n (reconstructed q p (slot (given ballots) (at + 4 + 8 * n))
-              (slot (given shares0) share) (slot (given shares1) share))))) ∷ [])) × (length (left work) ≡ length (given work)) ⌝ }
+        ⌜ (reply ≡ first (test 12 place (not (within (maskOf k) n
+        (worked q n p (poly (given s)) (slot (given ballots) (at + 4)) (slot (given opened) share))))
+        ∷ test 13 place (not (same (part (given claims) claim n)
+        (list n (reconstructed q p (slot (given ballots) (at + 4 + 8 * n)) (slot (given shares0) share) (slot (given shares1) share)))))
+        ∷ [])) × (length (left work) ≡ length (given work)) ⌝ }
 {
     let n = k.ring as usize;
     let end = share + 8 * n;
@@ -74,10 +77,10 @@ fn each_ballot(
     count: usize,
 ) -> Reply
     requires { ⌜ Polynomial (k .ring) (k .modulus) (now s) × Usable k × (length (now work) ≡ scratchLength) × (count ≤ 4096)
-               × Batch (k .modulus) (k .ring) count (now ballots) (now claims) × Shares (k .modulus) (k .ring) count (now shares0)
-               × Shares (k .modulus) (k .ring) count (now shares1) × Shares (k .modulus) (k .ring) count (now opened) ⌝ }
-    ensures { λ reply. ⌜ (reply ≡ first (votesTests (k .modulus) (k .ring) (plain k) (maskOf k) count (poly (given s)) (given ballots) (given claims)
-              (given shares0) (given shares1) (given opened))) × (length (left work) ≡ length (given work)) ⌝ }
+        × Batch (k .modulus) (k .ring) count (now ballots) (now claims) × Shares (k .modulus) (k .ring) count (now shares0)
+        × Shares (k .modulus) (k .ring) count (now shares1) × Shares (k .modulus) (k .ring) count (now opened) ⌝ }
+    ensures { λ reply. ⌜ (reply ≡ first (votesTests (k .modulus) (k .ring) (plain k) (maskOf k) count (poly (given s)) (given ballots)
+        (given claims) (given shares0) (given shares1) (given opened))) × (length (left work) ≡ length (given work)) ⌝ }
 {
     let n = k.ring as usize;
     let mut j = 0;
@@ -126,14 +129,12 @@ pub fn test_ballots(
     count: usize,
 ) -> Reply
     requires { ⌜ Polynomial (k .ring) (k .modulus) (now s) × Usable k × (length (now work) ≡ scratchLength) × (count ≤ 4096)
-               × Batch (k .modulus) (k .ring) count (now ballots) (now claims) × Shares (k .modulus) (k .ring) count (now shares0)
-               × Shares (k .modulus) (k .ring) count (now shares1) × Shares (k .modulus) (k .ring) count (now opened) ⌝ }
-    ensures { λ reply. ⌜ (reply ≡ first (votesTests (k .modulus) (k .ring) (plain k) (maskOf k) count (poly (given s)) (given ballots) (given claims)
-              (given shares0) (given shares1) (given opened))) × (left work ≡ zeros (length (given work))) ⌝ }
+        × Batch (k .modulus) (k .ring) count (now ballots) (now claims) × Shares (k .modulus) (k .ring) count (now shares0)
+        × Shares (k .modulus) (k .ring) count (now shares1) × Shares (k .modulus) (k .ring) count (now opened) ⌝ }
+    ensures { λ reply. ⌜ (reply ≡ first (votesTests (k .modulus) (k .ring) (plain k) (maskOf k) count (poly (given s)) (given ballots)
+        (given claims) (given shares0) (given shares1) (given opened))) × (left work ≡ zeros (length (given work))) ⌝ }
 {
-    let reply = each_ballot(
-        work, k, s, ballots, claims, shares0, shares1, opened, count,
-    );
+    let reply = each_ballot(work, k, s, ballots, claims, shares0, shares1, opened, count);
     codec::wipe(work);
     reply
 }

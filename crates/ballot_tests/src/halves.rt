@@ -18,7 +18,7 @@ ghost use Rattle.commitment.specs.Commitment.{keysOf, threeOf, opens, PublicKey
 pub fn adds(work: &mut [u8], b0: &[u8], b1: &[u8], b: &[u8], n: usize, q: u64) -> bool
     requires { ⌜ Polynomial n q (now b0) × Polynomial n q (now b1) × Polynomial n q (now b) × (length (now work) ≡ scratchLength) ⌝ }
     ensures { λ r. ⌜ (r ≡ same (encode n (modulo q (plus (poly (given b0)) (poly (given b1))))) (encode n (modulo q (poly (given b)))))
-              × (left work ≡ zeros (length (given work))) ⌝ }
+        × (left work ≡ zeros (length (given work))) ⌝ }
 {
     codec::copy(work, 0, b0);
     ring::add(work, 0, b1, n, q);
@@ -30,10 +30,10 @@ pub fn adds(work: &mut [u8], b0: &[u8], b1: &[u8], b: &[u8], n: usize, q: u64) -
 // Whether a lent half of the key is a s + p e.
 pub fn is_key(work: &mut [u8], k: Numbers, a: &[u8], half: &[u8], s: &[u8], e: &[u8]) -> bool
     requires { ⌜ Usable k × Polynomial (k .ring) (k .modulus) (now a) × Polynomial (k .ring) (k .modulus) (now s)
-               × Polynomial (k .ring) (k .modulus) (now e) × (length (now work) ≡ scratchLength) ⌝ }
-    ensures { λ r. ⌜ (r ≡ same (given half) (encode (k .ring) (modulo (k .modulus)
-              (key (k .modulus) (k .ring) (plain k) (poly (given a)) (poly (given s)) (poly (given e))))))
-              × (left work ≡ zeros (length (given work))) ⌝ }
+        × Polynomial (k .ring) (k .modulus) (now e) × (length (now work) ≡ scratchLength) ⌝ }
+    ensures { λ r. ⌜ (r ≡ same (given half) (encode (k .ring)
+        (modulo (k .modulus) (key (k .modulus) (k .ring) (plain k) (poly (given a)) (poly (given s)) (poly (given e))))))
+        × (left work ≡ zeros (length (given work))) ⌝ }
 {
     let n = k.ring as usize;
     bgv::noisy_lent(work, a, s, e, sheet_numbers::plain(k), n, k.modulus);
@@ -55,10 +55,12 @@ pub fn opens_pairs(
     n: usize,
     q: u64,
 ) -> bool
-    requires { ⌜ PublicKeys n q (now k) × Polynomial n q (now s) × Polynomial n q (now e) × (length (now rs) ≡ 3 * n) × (length (now re) ≡ 3 * n)
-               × (length (now work) ≡ scratchLength) × (length (now first) ≡ 16 * n) × (length (now second) ≡ 16 * n) ⌝ }
+    requires { ⌜ PublicKeys n q (now k) × Polynomial n q (now s) × Polynomial n q (now e) × (length (now rs) ≡ 3 * n)
+        × (length (now re) ≡ 3 * n) × (length (now work) ≡ scratchLength) × (length (now first) ≡ 16 * n)
+        × (length (now second) ≡ 16 * n) ⌝ }
     ensures { λ r. ⌜ (r ≡ (opens q n (keysOf n (given k)) (given first) (threeOf q n (given rs)) (poly (given s))
-              && opens q n (keysOf n (given k)) (given second) (threeOf q n (given re)) (poly (given e)))) × (left work ≡ zeros (length (given work))) ⌝ }
+        && opens q n (keysOf n (given k)) (given second) (threeOf q n (given re)) (poly (given e))))
+        × (left work ≡ zeros (length (given work))) ⌝ }
 {
     if commitment::opens(work, k, first, s, rs, n, q) {
         let both = commitment::opens(work, k, second, e, re, n, q);

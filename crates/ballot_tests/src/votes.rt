@@ -20,7 +20,8 @@ ghost use Rattle.bgv.specs.Scheme.{worked, within, reconstructed, rebuilt};
 
 // Whether each byte of a claim is the vote that a polynomial in scratch stands for.
 fn is_vote(work: &[u8], k: Numbers, claim: &[u8]) -> bool
-    requires { ⌜ Usable k × (8 * k .ring ≤ length (now work)) × (length (now claim) ≡ k .ring) × Below (k .modulus) (k .ring) (poly (now work)) ⌝ }
+    requires { ⌜ Usable k × (8 * k .ring ≤ length (now work)) × (length (now claim) ≡ k .ring)
+        × Below (k .modulus) (k .ring) (poly (now work)) ⌝ }
     ensures { λ r. ⌜ r ≡ same (given claim) (list (k .ring) (scheme.plain (k .modulus) (plain k) (poly (given work)))) ⌝ }
 {
     let n = k.ring as usize;
@@ -39,9 +40,10 @@ fn is_vote(work: &[u8], k: Numbers, claim: &[u8]) -> bool
 // Whether a claim is v - t0 - t1 centred, by p.
 fn is_claim(work: &mut [u8], k: Numbers, claim: &[u8], v: &[u8], t0: &[u8], t1: &[u8]) -> bool
     requires { ⌜ Usable k × Polynomial (k .ring) (k .modulus) (now v) × Polynomial (k .ring) (k .modulus) (now t0)
-               × Polynomial (k .ring) (k .modulus) (now t1) × (length (now work) ≡ scratchLength) × (length (now claim) ≡ k .ring) ⌝ }
-    ensures { λ r. ⌜ (r ≡ same (given claim) (list (k .ring) (scheme.plain (k .modulus) (plain k)
-              (rebuilt (k .modulus) (poly (given v)) (poly (given t0)) (poly (given t1)))))) × (length (left work) ≡ length (given work)) ⌝ }
+        × Polynomial (k .ring) (k .modulus) (now t1) × (length (now work) ≡ scratchLength) × (length (now claim) ≡ k .ring) ⌝ }
+    ensures { λ r. ⌜ (r ≡ same (given claim) (list (k .ring)
+        (scheme.plain (k .modulus) (plain k) (rebuilt (k .modulus) (poly (given v)) (poly (given t0)) (poly (given t1))))))
+        × (length (left work) ≡ length (given work)) ⌝ }
 {
     bgv::rebuilt(work, v, t0, t1, k.ring as usize, k.modulus);
     is_vote(work, k, claim)
@@ -61,12 +63,15 @@ pub fn test_ballot(
     place: u32,
 ) -> Reply
     requires { ⌜ Usable k × Polynomial (k .ring) (k .modulus) (now s) × Polynomial (k .ring) (k .modulus) (now u)
-               × Polynomial (k .ring) (k .modulus) (now v) × Polynomial (k .ring) (k .modulus) (now t0) × Polynomial (k .ring) (k .modulus) (now t1)
-               × Polynomial (k .ring) (k .modulus) (now t) × (length (now work) ≡ scratchLength) × (length (now claim) ≡ k .ring) ⌝ }
+        × Polynomial (k .ring) (k .modulus) (now v) × Polynomial (k .ring) (k .modulus) (now t0)
+        × Polynomial (k .ring) (k .modulus) (now t1) × Polynomial (k .ring) (k .modulus) (now t) × (length (now work) ≡ scratchLength)
+        × (length (now claim) ≡ k .ring) ⌝ }
     ensures { λ reply. let q = k .modulus in let n = k .ring in
-              ⌜ (reply ≡ first (test 12 place (not (within (maskOf k) n (worked q n (plain k) (poly (given s)) (poly (given u)) (poly (given t)))))
-              ∷ test 13 place (not (same (given claim) (list n (reconstructed q (plain k) (poly (given v)) (poly (given t0)) (poly (given t1)))))) ∷ []))
-              × (length (left work) ≡ length (given work)) ⌝ }
+        ⌜ (reply ≡ first (test 12 place (not (within (maskOf k) n
+        (worked q n (plain k) (poly (given s)) (poly (given u)) (poly (given t)))))
+        ∷ test 13 place (not (same (given claim) (list n
+        (reconstructed q (plain k) (poly (given v)) (poly (given t0)) (poly (given t1)))))) ∷ []))
+        × (length (left work) ≡ length (given work)) ⌝ }
 {
     let p = sheet_numbers::plain(k);
     let bound = sheet_numbers::mask_bound(k);

@@ -37,10 +37,11 @@ fn openings_ranged(
     answer3: &[u8],
     count: usize,
 ) -> bool
-    requires { ⌜ (k .ring ≤ 2048) × (count ≤ 4096) × OpeningsSized (k .ring) count (openingsOf (now head) (now shares0) (now shares1)
-               (now ballots) (now claims) (now opening0) (now opening1) repetition (now answer1) (now answer2) (now answer3)) ⌝ }
+    requires { ⌜ (k .ring ≤ 2048) × (count ≤ 4096)
+        × OpeningsSized (k .ring) count (openingsOf (now head) (now shares0) (now shares1) (now ballots) (now claims) (now opening0)
+        (now opening1) repetition (now answer1) (now answer2) (now answer3)) ⌝ }
     ensures { λ r. let x = openingsIn head shares0 shares1 ballots claims opening0 opening1 repetition answer1 answer2 answer3 in
-              ⌜ ((s : Bytes) → r ≡ lentRanged (parameters k s) count x) ⌝ }
+        ⌜ ((s : Bytes) → r ≡ lentRanged (parameters k s) count x) ⌝ }
 {
     if k.repeats as u64 <= repetition {
         return false;
@@ -76,22 +77,45 @@ fn test_ranged(
     count: usize,
 ) -> Reply
     requires { ⌜ Loaded k (now public) × (length (now work) ≡ scratchLength) × (count ≤ 4096)
-               × OpeningsInRange (k .modulus) (k .ring) count (k .repeats) (openingsOf (now head) (now shares0) (now shares1)
-               (now ballots) (now claims) (now opening0) (now opening1) repetition (now answer1) (now answer2) (now answer3)) ⌝ }
+        × OpeningsInRange (k .modulus) (k .ring) count (k .repeats)
+        (openingsOf (now head) (now shares0) (now shares1) (now ballots) (now claims) (now opening0) (now opening1) repetition
+        (now answer1) (now answer2) (now answer3)) ⌝ }
     ensures { λ reply. let x = openingsIn head shares0 shares1 ballots claims opening0 opening1 repetition answer1 answer2 answer3 in
-              ⌜ (reply ≡ first (extractLater (parameters k (given public)) count x)) × (left work ≡ zeros (length (given work))) ⌝ }
+        ⌜ (reply ≡ first (extractLater (parameters k (given public)) count x)) × (left work ≡ zeros (length (given work))) ⌝ }
 {
     if !splits(work, k, public, head) {
         return refused(6);
     }
     let zero = test_side(
-        work, k, public, head, ballots, claims, shares0, shares1, 0, shares0, opening0, count,
+        work,
+        k,
+        public,
+        head,
+        ballots,
+        claims,
+        shares0,
+        shares1,
+        0,
+        shares0,
+        opening0,
+        count,
     );
     let Reply::Taken = zero else {
         return zero;
     };
     let one = test_side(
-        work, k, public, head, ballots, claims, shares0, shares1, 1, shares1, opening1, count,
+        work,
+        k,
+        public,
+        head,
+        ballots,
+        claims,
+        shares0,
+        shares1,
+        1,
+        shares1,
+        opening1,
+        count,
     );
     let Reply::Taken = one else {
         return one;
@@ -118,19 +142,44 @@ pub fn check_openings(
     count: usize,
 ) -> Reply
     requires { ⌜ Loaded k (now public) × (length (now work) ≡ scratchLength) × (count ≤ 4096)
-               × Lent (parameters k (now public)) count (openingsOf (now head) (now shares0) (now shares1)
-               (now ballots) (now claims) (now opening0) (now opening1) repetition (now answer1) (now answer2) (now answer3)) ⌝ }
+        × Lent (parameters k (now public)) count (openingsOf (now head) (now shares0) (now shares1) (now ballots) (now claims)
+        (now opening0) (now opening1) repetition (now answer1) (now answer2) (now answer3)) ⌝ }
     ensures { λ reply. let x = openingsIn head shares0 shares1 ballots claims opening0 opening1 repetition answer1 answer2 answer3 in
-              ⌜ (reply ≡ first (extractTests (parameters k (given public)) count x)) × (left work ≡ zeros (length (given work))) ⌝ }
+        ⌜ (reply ≡ first (extractTests (parameters k (given public)) count x)) × (left work ≡ zeros (length (given work))) ⌝ }
 {
     if !openings_ranged(
-        k, head, shares0, shares1, ballots, claims, opening0, opening1, repetition, answer1, answer2, answer3, count,
+        k,
+        head,
+        shares0,
+        shares1,
+        ballots,
+        claims,
+        opening0,
+        opening1,
+        repetition,
+        answer1,
+        answer2,
+        answer3,
+        count,
     ) {
         codec::wipe(work);
         return refused(5);
     }
     test_ranged(
-        work, k, public, head, shares0, shares1, ballots, claims, opening0, opening1, repetition, answer1, answer2,
-        answer3, count,
+        work,
+        k,
+        public,
+        head,
+        shares0,
+        shares1,
+        ballots,
+        claims,
+        opening0,
+        opening1,
+        repetition,
+        answer1,
+        answer2,
+        answer3,
+        count,
     )
 }

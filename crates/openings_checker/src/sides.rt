@@ -33,15 +33,26 @@ pub fn test_side(
     count: usize,
 ) -> Reply
     requires { ⌜ Loaded k (now public) × Opened (k .modulus) (k .ring) (now opening) × (length (now work) ≡ scratchLength)
-               × (80 * k .ring ≤ length (now head)) × (side < 2) × (count ≤ 4096) × Batch (k .modulus) (k .ring) count (now ballots) (now claims)
-               × Shares (k .modulus) (k .ring) count (now shares0) × Shares (k .modulus) (k .ring) count (now shares1)
-               × Shares (k .modulus) (k .ring) count (now opened) ⌝ }
-    ensures { λ reply. ⌜ (reply ≡ first (sideTests (parameters k (given public)) count (given head) (given ballots) (given claims) (given shares0)
-              (given shares1) side (given opened) (openingOf (k .ring) (given opening)))) × (left work ≡ zeros (length (given work))) ⌝ }
+        × (80 * k .ring ≤ length (now head)) × (side < 2) × (count ≤ 4096) × Batch (k .modulus) (k .ring) count (now ballots) (now claims)
+        × Shares (k .modulus) (k .ring) count (now shares0) × Shares (k .modulus) (k .ring) count (now shares1)
+        × Shares (k .modulus) (k .ring) count (now opened) ⌝ }
+    ensures { λ reply. ⌜ (reply ≡ first (sideTests (parameters k (given public)) count (given head) (given ballots) (given claims)
+        (given shares0) (given shares1) side (given opened) (openingOf (k .ring) (given opening))))
+        × (left work ≡ zeros (length (given work))) ⌝ }
 {
     let reply = test_opening(work, k, public, head, side, opening);
     let Reply::Taken = reply else {
         return reply;
     };
-    test_votes(work, k, opening, ballots, claims, shares0, shares1, opened, count)
+    test_votes(
+        work,
+        k,
+        opening,
+        ballots,
+        claims,
+        shares0,
+        shares1,
+        opened,
+        count,
+    )
 }

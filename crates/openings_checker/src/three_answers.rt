@@ -22,9 +22,9 @@ ghost use Rattle.openings_checker.specs.Lent.{Answered};
 // Whether the numbers of the three answers are in range.
 pub fn answers_ranged(k: Numbers, answer1: &[u8], answer2: &[u8], answer3: &[u8]) -> bool
     requires { ⌜ (k .ring ≤ 2048) × (length (now answer1) ≡ answerLength (k .ring) 1) × (length (now answer2) ≡ answerLength (k .ring) 2)
-               × (length (now answer3) ≡ answerLength (k .ring) 3) ⌝ }
+        × (length (now answer3) ≡ answerLength (k .ring) 3) ⌝ }
     ensures { λ r. ⌜ r ≡ (inRange (k .modulus) (k .ring) 1 (given answer1)
-              && (inRange (k .modulus) (k .ring) 2 (given answer2) && inRange (k .modulus) (k .ring) 3 (given answer3))) ⌝ }
+        && (inRange (k .modulus) (k .ring) 2 (given answer2) && inRange (k .modulus) (k .ring) 3 (given answer3))) ⌝ }
 {
     let n = k.ring as usize;
     let q = k.modulus;
@@ -49,9 +49,10 @@ fn test_answer(
     place: u32,
 ) -> Reply
     requires { ⌜ Loaded k (now public) × (length (now work) ≡ scratchLength) × Head (k .modulus) (k .ring) (k .repeats) (now head)
-               × (digests + 96 ≤ length (now head)) × Answered (k .modulus) (k .ring) challenge (now answer) ⌝ }
-    ensures { λ reply. ⌜ (reply ≡ first (answerTests (k .modulus) (k .ring) (keysOf (k .ring) (keyBytes k (given public))) (pairsOf (k .ring) (given head))
-              (part (given head) digests 96) place challenge (given answer))) × (left work ≡ zeros (length (given work))) ⌝ }
+        × (digests + 96 ≤ length (now head)) × Answered (k .modulus) (k .ring) challenge (now answer) ⌝ }
+    ensures { λ reply. ⌜ (reply ≡ first (answerTests (k .modulus) (k .ring) (keysOf (k .ring) (keyBytes k (given public)))
+        (pairsOf (k .ring) (given head)) (part (given head) digests 96) place challenge (given answer)))
+        × (left work ≡ zeros (length (given work))) ⌝ }
 {
     repetitions::test_at(
         work,
@@ -79,10 +80,10 @@ pub fn test_answers(
     answer3: &[u8],
 ) -> Reply
     requires { ⌜ Loaded k (now public) × (length (now work) ≡ scratchLength) × (repetition < k .repeats)
-               × Head (k .modulus) (k .ring) (k .repeats) (now head) × Answered (k .modulus) (k .ring) 1 (now answer1)
-               × Answered (k .modulus) (k .ring) 2 (now answer2) × Answered (k .modulus) (k .ring) 3 (now answer3) ⌝ }
-    ensures { λ reply. ⌜ (reply ≡ first (threeTests (parameters k (given public)) (given head) repetition (given answer1) (given answer2) (given answer3)))
-              × (left work ≡ zeros (length (given work))) ⌝ }
+        × Head (k .modulus) (k .ring) (k .repeats) (now head) × Answered (k .modulus) (k .ring) 1 (now answer1)
+        × Answered (k .modulus) (k .ring) 2 (now answer2) × Answered (k .modulus) (k .ring) 3 (now answer3) ⌝ }
+    ensures { λ reply. ⌜ (reply ≡ first (threeTests (parameters k (given public)) (given head) repetition (given answer1) (given answer2)
+        (given answer3))) × (left work ≡ zeros (length (given work))) ⌝ }
 {
     let digests = 80 * (k.ring as usize) + 96 * (repetition as usize);
     let place = repetition as u32;

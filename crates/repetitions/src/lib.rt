@@ -32,12 +32,13 @@ pub fn test_at(
     size: usize,
     place: u32,
 ) -> Reply
-    requires { ⌜ Loaded k (now public) × (length (now work) ≡ scratchLength) × (80 * k .ring ≤ length (now head)) × (digests + 96 ≤ length (now head))
-               × (size ≡ answerLength (k .ring) challenge) × (at + size ≤ length (now answers)) ⌝ }
+    requires { ⌜ Loaded k (now public) × (length (now work) ≡ scratchLength) × (80 * k .ring ≤ length (now head))
+        × (digests + 96 ≤ length (now head)) × (size ≡ answerLength (k .ring) challenge) × (at + size ≤ length (now answers)) ⌝ }
     requires { ⌜ (allBelow (k .modulus) (vector (pairsOf (k .ring) (now head))) ≡ true)
-               × (inRange (k .modulus) (k .ring) challenge (part (now answers) at size) ≡ true) ⌝ }
-    ensures { λ reply. ⌜ (reply ≡ first (answerTests (k .modulus) (k .ring) (keysOf (k .ring) (keyBytes k (given public))) (pairsOf (k .ring) (given head))
-              (part (given head) digests 96) place challenge (part (given answers) at size))) × (left work ≡ zeros (length (given work))) ⌝ }
+        × (inRange (k .modulus) (k .ring) challenge (part (now answers) at size) ≡ true) ⌝ }
+    ensures { λ reply. ⌜ (reply ≡ first (answerTests (k .modulus) (k .ring) (keysOf (k .ring) (keyBytes k (given public)))
+        (pairsOf (k .ring) (given head)) (part (given head) digests 96) place challenge (part (given answers) at size)))
+        × (left work ≡ zeros (length (given work))) ⌝ }
 {
     let n = k.ring as usize;
     answers::testing::test_answer(
@@ -63,10 +64,10 @@ fn each_repetition(
     answers: &[u8],
 ) -> Reply
     requires { ⌜ Loaded k (now public) × (length (now work) ≡ scratchLength) × (length (now head) ≡ headLength (k .ring) (k .repeats))
-               × (allBelow (k .modulus) (vector (pairsOf (k .ring) (now head))) ≡ true)
-               × Answers (k .modulus) (k .ring) (k .repeats) (now challenges) (now answers) ⌝ }
+        × (allBelow (k .modulus) (vector (pairsOf (k .ring) (now head))) ≡ true)
+        × Answers (k .modulus) (k .ring) (k .repeats) (now challenges) (now answers) ⌝ }
     ensures { λ reply. ⌜ (reply ≡ first (answersTests (parameters k (given public)) (given head) (given challenges) (given answers)))
-              × (length (left work) ≡ length (given work)) ⌝ }
+        × (length (left work) ≡ length (given work)) ⌝ }
 {
     let n = k.ring as usize;
     let repeats = k.repeats as usize;
@@ -109,10 +110,10 @@ pub fn test_repetitions(
     answers: &[u8],
 ) -> Reply
     requires { ⌜ Loaded k (now public) × (length (now work) ≡ scratchLength) × (length (now head) ≡ headLength (k .ring) (k .repeats))
-               × (allBelow (k .modulus) (vector (pairsOf (k .ring) (now head))) ≡ true)
-               × Answers (k .modulus) (k .ring) (k .repeats) (now challenges) (now answers) ⌝ }
+        × (allBelow (k .modulus) (vector (pairsOf (k .ring) (now head))) ≡ true)
+        × Answers (k .modulus) (k .ring) (k .repeats) (now challenges) (now answers) ⌝ }
     ensures { λ reply. ⌜ (reply ≡ first (answersTests (parameters k (given public)) (given head) (given challenges) (given answers)))
-              × (left work ≡ zeros (length (given work))) ⌝ }
+        × (left work ≡ zeros (length (given work))) ⌝ }
 {
     let reply = each_repetition(work, k, public, head, challenges, answers);
     codec::wipe(work);

@@ -53,9 +53,10 @@ fn opens_key(
     opening: &[u8],
 ) -> bool
     requires { ⌜ Loaded k (now public) × Opened (k .modulus) (k .ring) (now opening) × (length (now work) ≡ scratchLength)
-               × (at + 8 * k .ring ≤ length (now head)) ⌝ }
-    ensures { λ r. ⌜ ((side : ℕ) → at ≡ 8 * k .ring * side → r ≡ opensKey (parameters k (given public)) (given head) side (openingOf (k .ring) (given opening)))
-              × (left work ≡ zeros (length (given work))) ⌝ }
+        × (at + 8 * k .ring ≤ length (now head)) ⌝ }
+    ensures { λ r. ⌜ ((side : ℕ) → at ≡ 8 * k .ring * side
+        → r ≡ opensKey (parameters k (given public)) (given head) side (openingOf (k .ring) (given opening)))
+        × (left work ≡ zeros (length (given work))) ⌝ }
 {
     let n = k.ring as usize;
     ballot_tests::halves::is_key(
@@ -78,9 +79,10 @@ fn opens_pairs(
     opening: &[u8],
 ) -> bool
     requires { ⌜ Loaded k (now public) × Opened (k .modulus) (k .ring) (now opening) × (length (now work) ≡ scratchLength)
-               × (at + 48 * k .ring ≤ length (now head)) ⌝ }
+        × (at + 48 * k .ring ≤ length (now head)) ⌝ }
     ensures { λ r. ⌜ ((side : ℕ) → at ≡ 16 * k .ring + 16 * k .ring * side
-              → r ≡ opensPairs (parameters k (given public)) (given head) side (openingOf (k .ring) (given opening))) × (left work ≡ zeros (length (given work))) ⌝ }
+        → r ≡ opensPairs (parameters k (given public)) (given head) side (openingOf (k .ring) (given opening)))
+        × (left work ≡ zeros (length (given work))) ⌝ }
 {
     let n = k.ring as usize;
     let end = at + 48 * n;
@@ -108,9 +110,9 @@ pub fn test_opening(
     opening: &[u8],
 ) -> Reply
     requires { ⌜ Loaded k (now public) × Opened (k .modulus) (k .ring) (now opening) × (length (now work) ≡ scratchLength)
-               × (80 * k .ring ≤ length (now head)) × (side < 2) ⌝ }
+        × (80 * k .ring ≤ length (now head)) × (side < 2) ⌝ }
     ensures { λ reply. ⌜ (reply ≡ first (halfTests (parameters k (given public)) (given head) side (openingOf (k .ring) (given opening))))
-              × (left work ≡ zeros (length (given work))) ⌝ }
+        × (left work ≡ zeros (length (given work))) ⌝ }
 {
     let n = k.ring as usize;
     if !opens_key(work, k, public, head, 8 * n * side, opening) {
@@ -135,10 +137,10 @@ pub fn test_votes(
     count: usize,
 ) -> Reply
     requires { ⌜ Usable k × Opened (k .modulus) (k .ring) (now opening) × (length (now work) ≡ scratchLength) × (count ≤ 4096)
-               × Batch (k .modulus) (k .ring) count (now ballots) (now claims) × Shares (k .modulus) (k .ring) count (now shares0)
-               × Shares (k .modulus) (k .ring) count (now shares1) × Shares (k .modulus) (k .ring) count (now opened) ⌝ }
-    ensures { λ reply. ⌜ (reply ≡ first (votesTests (k .modulus) (k .ring) (plain k) (maskOf k) count (slot (given opening) 0) (given ballots)
-              (given claims) (given shares0) (given shares1) (given opened))) × (left work ≡ zeros (length (given work))) ⌝ }
+        × Batch (k .modulus) (k .ring) count (now ballots) (now claims) × Shares (k .modulus) (k .ring) count (now shares0)
+        × Shares (k .modulus) (k .ring) count (now shares1) × Shares (k .modulus) (k .ring) count (now opened) ⌝ }
+    ensures { λ reply. ⌜ (reply ≡ first (votesTests (k .modulus) (k .ring) (plain k) (maskOf k) count (slot (given opening) 0)
+        (given ballots) (given claims) (given shares0) (given shares1) (given opened))) × (left work ≡ zeros (length (given work))) ⌝ }
 {
     let n = k.ring as usize;
     ballot_tests::ballots::test_ballots(

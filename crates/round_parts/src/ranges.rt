@@ -49,7 +49,7 @@ fn challenge_ranged(k: Numbers, challenge: u8, answer: &[u8]) -> bool
 // Whether every challenge and every answer, end to end, is in range.
 pub fn answers_ranged(k: Numbers, challenges: &[u8], answers: &[u8]) -> bool
     requires { ⌜ (k .ring ≤ 2048) × (k .repeats ≤ 256) × (length (now challenges) ≡ k .repeats)
-               × (length (now answers) ≡ answersLength (k .ring) (now challenges)) ⌝ }
+        × (length (now answers) ≡ answersLength (k .ring) (now challenges)) ⌝ }
     ensures { λ r. ⌜ r ≡ answersRanged (k .modulus) (k .ring) (k .repeats) (given challenges) (given answers) ⌝ }
 {
     let n = k.ring as usize;
@@ -78,8 +78,10 @@ pub fn message_ranged(
     shares1: &[u8],
     count: usize,
 ) -> bool
-    requires { ⌜ (k .ring ≤ 2048) × (count ≤ 4096) × (length (now ballots) ≡ ballotLength (k .ring) * count) × (80 * k .ring ≤ length (now head)) ⌝ }
-    ensures { λ r. ⌜ r ≡ messageRanged (k .modulus) (k .ring) (plain k) count (given ballots) (given claims) (given head) (given shares0) (given shares1) ⌝ }
+    requires { ⌜ (k .ring ≤ 2048) × (count ≤ 4096) × (length (now ballots) ≡ ballotLength (k .ring) * count)
+        × (80 * k .ring ≤ length (now head)) ⌝ }
+    ensures { λ r. ⌜ r ≡ messageRanged (k .modulus) (k .ring) (plain k) count (given ballots) (given claims) (given head) (given shares0)
+        (given shares1) ⌝ }
 {
     let q = k.modulus;
     if !ballot_tests::ranges::ballots_in_range(ballots, count, k.ring as usize, q) {
