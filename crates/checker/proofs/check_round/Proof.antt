@@ -16,25 +16,28 @@ x s = let a = s .args in roundOf (a .side) (a .challenges .now) (a .ballots .now
 
 round-ranged-requires : tie.Need-round-ranged-requires
 round-ranged-requires c κs =
-    let p = §pre in
+    let p = c .before .before .before .before .before .before .before .before .before .before .pre in
     let l = p .3 in
     (p .0 .numbers .ring-high, p .2, p .0 .numbers .repeats-high, l .challenges, l .answers, l .ballots, omega (arith, l .head), l .opening)
 
 returns : tie.Need-returns
 unfolding roundTests
-returns c = let t = §round-ranged in (§refused .ensures ∙ refuses 5 0 _ _ (ap not (sym (t .ensures (§args .public .now)) ∙ not-true (t .result) (§if1 .taken))), §wipe .ensures)
+returns c = let t = c .before .before .before .before .before .before .round-ranged in (c .refused .ensures ∙ refuses 5 0 _ _ (ap not (sym (t .ensures (c .before .before .before .before .before .before .before .before .before .before .before .before .before .before .before .before .before .args .public .now)) ∙ not-true (t .result) (c .before .before .before .before .before .if1 .taken))), c .before .before .before .wipe .ensures)
 
 check-ranged-requires : tie.Need-check-ranged-requires
 check-ranged-requires c κs =
-    let s = §start in
+    let s = c .before .before .before .before .before .before .before .before .before .before .before .before .before in
     let a = s .args in
     let p = s .pre in
-    let t = §round-ranged in
-    (p .0, p .1, p .2, round-passed (parameters (a .k) (a .public .now)) (a .count) (p .0 .a) (x s) (p .3) (sym (t .ensures (a .public .now)) ∙ not-false (t .result) (§if1 .left)))
+    let t = c .before .before .round-ranged in
+    (p .0, p .1, p .2, round-passed (parameters (a .k) (a .public .now)) (a .count) (p .0 .a) (x s) (p .3) (sym (t .ensures (a .public .now)) ∙ not-false (t .result) (c .before .if1 .left)))
 
 returns-2 : tie.Need-returns-2
 unfolding roundTests
 returns-2 c =
-    let t = §round-ranged in
-    let v = §check-ranged in
-    (v .ensures .0 ∙ sym (passes 5 0 _ _ (ap not (sym (t .ensures (§args .public .now)) ∙ not-false (t .result) (§if1 .left)))), v .ensures .1)
+    let t = c .before .before .before .before .before .round-ranged in
+    let v = c .before .before .check-ranged in
+    (v .ensures .0 ∙ sym (passes 5 0 _ _ (ap not (sym (t .ensures (c .before .before .before .before .before .before .before .before .before .before .before .before .before .before .before .before .args .public .now)) ∙ not-false (t .result) (c .before .before .before .before .if1 .left)))), v .ensures .1)
+
+pub check-round-spec : {M : Type 1} → statement M
+check-round-spec = tie.close (tie.spec round-ranged-requires (λ c κs. search needs) (λ c κs. search needs) (λ c. search needs) returns check-ranged-requires (λ c. search needs) returns-2)

@@ -14,8 +14,8 @@ use Rattle.extractor.proofs.find.Tie as tie
 
 collision-requires : tie.Need-collision-requires
 collision-requires c κs =
-    let a = §args in
-    let p = §pre in
+    let a = c .before .before .before .before .before .before .before .before .before .before .before .before .before .args in
+    let p = c .before .before .before .before .before .before .before .before .before .before .before .before .before .pre in
     let n = a .k .ring in (
       keys-lent (a .k) (a .public .now) (p .0),
       p .1,
@@ -27,17 +27,17 @@ collision-requires c κs =
 
 returns : tie.Need-returns
 returns c =
-    let a = §args in
-    let e = §collision .ensures in
-    (finds-digest (a .k) (a .public .now) (a .head .now) (a .opening0 .now) (a .opening1 .now) (a .answer1 .now) (a .answer2 .now) (a .answer3 .now) (e .0) (§if1 .taken) (wiped (§pre .2) (e .1 .1)), e .1 .0)
+    let a = c .before .before .before .before .before .before .before .before .before .before .before .before .before .before .before .before .before .before .before .args in
+    let e = c .before .before .before .before .before .collision .ensures in
+    (finds-digest (a .k) (a .public .now) (a .head .now) (a .opening0 .now) (a .opening1 .now) (a .answer1 .now) (a .answer2 .now) (a .answer3 .now) (e .0) (c .if1 .taken) (wiped (c .before .before .before .before .before .before .before .before .before .before .before .before .before .before .before .before .before .before .before .pre .2) (e .1 .1)), e .1 .0)
 
 solve-requires : tie.Need-solve-requires
 solve-requires c κs =
-    let a = §args in
-    let p = §pre in
+    let a = c .before .before .before .before .before .before .before .before .before .before .before .before .before .before .before .before .before .before .before .before .before .before .before .args in
+    let p = c .before .before .before .before .before .before .before .before .before .before .before .before .before .before .before .before .before .before .before .before .before .before .before .pre in
     let r = p .7 in
     let n = a .k .ring in
-    let e = §collision .ensures .1 in
+    let e = c .before .before .before .before .before .before .before .before .before .collision .ensures .1 in
     let l : 504 * n - 168 * n ≡ 336 * n = omega arith in
     let k = p .0 .numbers in (
       k .ring-high,
@@ -57,9 +57,12 @@ solve-requires c κs =
 
 returns-2 : tie.Need-returns-2
 returns-2 c =
-    let a = §args in
-    let e = §collision .ensures in
-    let f = §solve .ensures in (
-      finds-solved (a .k) (a .public .now) (a .head .now) (a .opening0 .now) (a .opening1 .now) (a .answer1 .now) (a .answer2 .now) (a .answer3 .now) (e .0) (§if1 .left) (f .0) (f .1 .0),
-      wiped (f .1 .1 ∙ still (e .1 .0)) (§wipe .ensures),
+    let a = c .before .before .before .before .before .before .before .before .before .before .before .before .before .before .before .before .before .before .before .before .before .before .before .before .before .before .before .before .before .before .before .before .args in
+    let e = c .before .before .before .before .before .before .before .before .before .before .before .before .before .before .before .before .before .before .collision .ensures in
+    let f = c .before .before .before .before .before .before .before .before .solve .ensures in (
+      finds-solved (a .k) (a .public .now) (a .head .now) (a .opening0 .now) (a .opening1 .now) (a .answer1 .now) (a .answer2 .now) (a .answer3 .now) (e .0) (c .before .before .before .before .before .before .before .before .before .before .before .before .before .if1 .left) (f .0) (f .1 .0),
+      wiped {m = length (c .before .before .before .before .before .before .before .before .before .before .before .before .before .before .before .before .before .before .before .before .before .before .before .before .before .before .before .before .before .before .before .before .args .work .now)} (f .1 .1 ∙ still (e .1 .0)) (c .before .before .wipe .ensures),
     )
+
+pub find-spec : {M : Type 1} → statement M
+find-spec = tie.close (tie.spec (λ c. search needs) (λ c. search needs) (λ c. search needs) (λ c. search needs) (λ c. search needs) (λ c. search needs) (λ c. search needs) (λ c. search needs) (λ c. search needs) (λ c. search needs) collision-requires (λ c. search needs) (λ c. search needs) returns (λ c. search needs) (λ c. search needs) (λ c. search needs) (λ c. search needs) (λ c. search needs) (λ c. search needs) (λ c. search needs) (λ c. search needs) (λ c. search needs) (λ c. search needs) solve-requires (λ c κs. search needs) (λ c. search needs) (λ c. search needs) returns-2)

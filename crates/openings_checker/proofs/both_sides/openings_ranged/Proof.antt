@@ -25,43 +25,46 @@ o1 s = openingRanged (s .args .k .modulus) (s .args .k .ring) (s .args .opening1
 returns : tie.Need-returns
 unfolding lentRanged
 returns c polynomials =
-    let s = §start in
+    let s = c .before .before .before .before .before .before .before .before .before .before .before in
     let a = s .args in
-    fails (ltb (a .repetition) (a .k .repeats)) _ refl (le-ltb (a .repetition) (a .k .repeats) (§if1 .taken))
+    fails (ltb (a .repetition) (a .k .repeats)) _ refl (le-ltb (a .repetition) (a .k .repeats) (c .if1 .taken))
 
 returns-2 : tie.Need-returns-2
 unfolding lentRanged ballotsRanged
 returns-2 c polynomials =
-    let s = §start in
+    let s = c .before .before .before .before .before .before .before .before .before .before .before .before .before in
     let a = s .args in
-    goes-on (ltb (a .repetition) (a .k .repeats)) _ refl (lt-ltb (a .repetition) (a .k .repeats) (§if1 .left))
-    (message-fails (a .k .modulus) (a .k .ring) (plain (a .k)) (a .count) (a .ballots .now) (a .claims .now) (a .head .now) (a .shares0 .now) (a .shares1 .now) (o0 s && (o1 s && three s)) (§message-ranged .ensures) (not-true (§message-ranged .result) (§if2 .taken)))
+    goes-on (ltb (a .repetition) (a .k .repeats)) _ refl (lt-ltb (a .repetition) (a .k .repeats) (c .before .before .if1 .left))
+    (message-fails (a .k .modulus) (a .k .ring) (plain (a .k)) (a .count) (a .ballots .now) (a .claims .now) (a .head .now) (a .shares0 .now) (a .shares1 .now) (o0 s && (o1 s && three s)) (c .before .message-ranged .ensures) (not-true (c .before .message-ranged .result) (c .if2 .taken)))
 
 returns-3 : tie.Need-returns-3
 unfolding lentRanged ballotsRanged
 returns-3 c polynomials =
-    let s = §start in
+    let s = c .before .before .before .before .before .before .before .before .before .before .before .before .before .before .before in
     let a = s .args in
-    goes-on (ltb (a .repetition) (a .k .repeats)) _ refl (lt-ltb (a .repetition) (a .k .repeats) (§if1 .left))
-    (message-passes (a .k .modulus) (a .k .ring) (plain (a .k)) (a .count) (a .ballots .now) (a .claims .now) (a .head .now) (a .shares0 .now) (a .shares1 .now) (o0 s && (o1 s && three s)) (§message-ranged .ensures) (not-false (§message-ranged .result) (§if2 .left))
-    (fails (o0 s) (o1 s && three s) (§opening-ranged .ensures) (not-true (§opening-ranged .result) (§if3 .taken))))
+    goes-on (ltb (a .repetition) (a .k .repeats)) _ refl (lt-ltb (a .repetition) (a .k .repeats) (c .before .before .before .before .if1 .left))
+    (message-passes (a .k .modulus) (a .k .ring) (plain (a .k)) (a .count) (a .ballots .now) (a .claims .now) (a .head .now) (a .shares0 .now) (a .shares1 .now) (o0 s && (o1 s && three s)) (c .before .before .before .message-ranged .ensures) (not-false (c .before .before .before .message-ranged .result) (c .before .before .if2 .left))
+    (fails (o0 s) (o1 s && three s) (c .before .opening-ranged .ensures) (not-true (c .before .opening-ranged .result) (c .if3 .taken))))
 
 returns-4 : tie.Need-returns-4
 unfolding lentRanged ballotsRanged
 returns-4 c polynomials =
-    let s = §start in
+    let s = c .before .before .before .before .before .before .before .before .before .before .before .before .before .before .before .before .before in
     let a = s .args in
-    goes-on (ltb (a .repetition) (a .k .repeats)) _ refl (lt-ltb (a .repetition) (a .k .repeats) (§if1 .left))
-    (message-passes (a .k .modulus) (a .k .ring) (plain (a .k)) (a .count) (a .ballots .now) (a .claims .now) (a .head .now) (a .shares0 .now) (a .shares1 .now) (o0 s && (o1 s && three s)) (§message-ranged .ensures) (not-false (§message-ranged .result) (§if2 .left))
-    (goes-on (o0 s) (o1 s && three s) (§opening-ranged .ensures) (not-false (§opening-ranged .result) (§if3 .left))
-    (fails (o1 s) (three s) (§opening-ranged2 .ensures) (not-true (§opening-ranged2 .result) (§if4 .taken)))))
+    goes-on (ltb (a .repetition) (a .k .repeats)) _ refl (lt-ltb (a .repetition) (a .k .repeats) (c .before .before .before .before .before .before .if1 .left))
+    (message-passes (a .k .modulus) (a .k .ring) (plain (a .k)) (a .count) (a .ballots .now) (a .claims .now) (a .head .now) (a .shares0 .now) (a .shares1 .now) (o0 s && (o1 s && three s)) (c .before .before .before .before .before .message-ranged .ensures) (not-false (c .before .before .before .before .before .message-ranged .result) (c .before .before .before .before .if2 .left))
+    (goes-on (o0 s) (o1 s && three s) (c .before .before .before .opening-ranged .ensures) (not-false (c .before .before .before .opening-ranged .result) (c .before .before .if3 .left))
+    (fails (o1 s) (three s) (c .before .opening-ranged2 .ensures) (not-true (c .before .opening-ranged2 .result) (c .if4 .taken)))))
 
 returns-5 : tie.Need-returns-5
 unfolding lentRanged ballotsRanged
 returns-5 c polynomials =
-    let s = §start in
+    let s = c .before .before .before .before .before .before .before .before .before .before .before .before .before .before .before .before .before .before in
     let a = s .args in
-    goes-on (ltb (a .repetition) (a .k .repeats)) _ refl (lt-ltb (a .repetition) (a .k .repeats) (§if1 .left))
-    (message-passes (a .k .modulus) (a .k .ring) (plain (a .k)) (a .count) (a .ballots .now) (a .claims .now) (a .head .now) (a .shares0 .now) (a .shares1 .now) (o0 s && (o1 s && three s)) (§message-ranged .ensures) (not-false (§message-ranged .result) (§if2 .left))
-    (goes-on (o0 s) (o1 s && three s) (§opening-ranged .ensures) (not-false (§opening-ranged .result) (§if3 .left))
-    (goes-on (o1 s) (three s) (§opening-ranged2 .ensures) (not-false (§opening-ranged2 .result) (§if4 .left)) (§answers-ranged .ensures))))
+    goes-on (ltb (a .repetition) (a .k .repeats)) _ refl (lt-ltb (a .repetition) (a .k .repeats) (c .before .before .before .before .before .before .before .if1 .left))
+    (message-passes (a .k .modulus) (a .k .ring) (plain (a .k)) (a .count) (a .ballots .now) (a .claims .now) (a .head .now) (a .shares0 .now) (a .shares1 .now) (o0 s && (o1 s && three s)) (c .before .before .before .before .before .before .message-ranged .ensures) (not-false (c .before .before .before .before .before .before .message-ranged .result) (c .before .before .before .before .before .if2 .left))
+    (goes-on (o0 s) (o1 s && three s) (c .before .before .before .before .opening-ranged .ensures) (not-false (c .before .before .before .before .opening-ranged .result) (c .before .before .before .if3 .left))
+    (goes-on (o1 s) (three s) (c .before .before .opening-ranged2 .ensures) (not-false (c .before .before .opening-ranged2 .result) (c .before .if4 .left)) (c .answers-ranged .ensures))))
+
+pub openings-ranged-spec : {M : Type 1} → statement M
+openings-ranged-spec = tie.close (tie.spec returns (λ c κs. search needs) returns-2 (λ c κs. search needs) returns-3 (λ c κs. search needs) returns-4 (λ c κs. search needs) returns-5)
