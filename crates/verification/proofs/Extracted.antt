@@ -35,9 +35,9 @@ module _ (P : Parameters) (x : Openings) (before : ExtractRoom) {r : Reply} {w :
       → ExtractWritten P x before (Found found) (extractRoom out w')
   extract-taken e f o z =
       let t = sym is ∙ e in
-      record { answer = extraction-found _ t f; out = o ∙ leaves-taken _ _ t; scratch = again (length (before .scratch)) (cleared e) z ∙ sym (swept-taken _ (before .scratch) t) }
+      record { told = extraction-found _ t f; out = o ∙ leaves-taken _ _ t; scratch = again (length (before .scratch)) (cleared e) z ∙ sym (swept-taken _ (before .scratch) t) }
 
   pub extract-refused : {n p : ℕ} → r ≡ reply.Refused n p → ExtractWritten P x before (Refused n p) (extractRoom (before .out) w)
   extract-refused {n} {p} e =
       let t = sym is ∙ e in
-      record { answer = extraction-refused _ n p _ t; out = leaves-refused _ _ _ _ t; scratch = left ∙ ap (λ (z : Reply). swept z (before .scratch)) is }
+      record { told = extraction-refused _ n p _ t; out = leaves-refused _ _ _ _ t; scratch = left ∙ ap (λ (z : Reply). swept z (before .scratch)) is }

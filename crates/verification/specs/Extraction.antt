@@ -24,7 +24,7 @@ answered (Refused number place) = number + 256 * place
 
 -- with the reply of the tests of what is lent
 pub record ExtractLeft (P : Parameters) (x : Openings) (before : ExtractRoom) (reply : Reply) (answer : Extraction) (after : ExtractRoom) : Type 0 where
-  pub answer : answer ≡ extraction reply (kind P (countOf (P .N) (x .ballots)) x)
+  pub told : answer ≡ extraction reply (kind P (countOf (P .N) (x .ballots)) x)
   pub out : after .out ≡ leaves reply (extracted P (countOf (P .N) (x .ballots)) x) (before .out)
   pub scratch : after .scratch ≡ swept reply (before .scratch)
 

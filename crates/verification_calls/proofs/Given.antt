@@ -37,9 +37,9 @@ pub extract-unread : (text : Bytes) {s : Reading} {i : ℕ} → s ≡ reading te
 unfolding extractReply extraction leaves
 extract-unread text {s} {i} f e x room {w} z =
     subst (λ (r : Reply). ExtractLeft (parametersOf text) x room r (found.Refused i 0) (extractRoom (room .out) w)) (refused-over text (openingsTests (parametersOf text) x room) f e)
-    (record { answer = refl; out = refl; scratch = z })
+    (record { told = refl; out = refl; scratch = z })
 
 -- with what it finds packed into an answer
 pub extract-packed : {text : Bytes} {x : Openings} {before after : ExtractRoom} {found : Extraction} {answer : ℕ} → answer ≡ answered found → ExtractCalled text x before found after
     → (answer ≡ answered (extractFound text x before)) × ExtractCalled text x before (extractFound text x before) after
-extract-packed {text} {x} {before} {after} e f = (e ∙ ap answered (f .answer), subst (λ (z : Extraction). ExtractCalled text x before z after) (f .answer) f)
+extract-packed {text} {x} {before} {after} e f = (e ∙ ap answered (f .told), subst (λ (z : Extraction). ExtractCalled text x before z after) (f .told) f)

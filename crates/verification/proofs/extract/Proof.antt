@@ -26,26 +26,29 @@ room s = extractRoom (s .args .out .now) (s .args .scratch .now)
 
 find-requires : tie.Need-find-requires
 find-requires c κs =
-    let s = §start in
+    let s = c .before .before .before .before .before .before .before .before .before .before .before .before .before .before .before .before .before .before .before .before .before .before in
     let a = s .args in
     let p = s .pre in
-    let o : Octets (a .head .now) = λ i l. omega (arith, §shared-slice-known2 .given i) in
-    let e = §openings-tests .ensures in
-    let t = §enum-told .given .1 in
+    let o : Octets (a .head .now) = λ i l. omega (arith, c .before .before .before .before .before .before .before .before .before .before .before .before .before .before .before .before .before .before .before .before .shared-slice-known2 .given i) in
+    let e = c .before .before .before .before .before .before .openings-tests .ensures in
+    let t = c .before .before .enum-told .given .1 in
     let r = search-ready (P s) (x s) (room s) (p .a) o (sym (e .0) ∙ t) in
     (p, still (e .1 ∙ swept-taken _ (a .scratch .now) t) ∙ r .0 .0, r .0 .1, r .0 .2, r .0 .3, r .0 .4, r .1 .0, r .1 .1)
 
 returns : tie.Need-returns
 returns c =
-    let s = §start in
+    let s = c .before .before .before .before .before .before .before .before .before .before .before .before .before .before .before .before .before .before .before .before .before .before .before .before .before .before .before in
     let a = s .args in
-    let e = §openings-tests .ensures in
-    let f = §find .ensures in
+    let e = c .before .before .before .before .before .before .before .before .before .before .before .openings-tests .ensures in
+    let f = c .before .before .before .before .find .ensures in
     let m = countOf (a .k .ring) (a .ballots .now) in
-    extract-taken (P s) (x s) (room s) (e .0) (e .1) (§enum-told .given .1) (f .0 .kind-is m (a .shares0 .now) (a .shares1 .now) (a .ballots .now) (a .claims .now) (a .repetition)) (f .0 .out-is m (a .shares0 .now) (a .shares1 .now) (a .ballots .now) (a .claims .now) (a .repetition)) (f .1)
+    extract-taken (P s) (x s) (room s) (e .0) (e .1) (c .before .before .before .before .before .before .before .enum-told .given .1) (f .0 .kind-is m (a .shares0 .now) (a .shares1 .now) (a .ballots .now) (a .claims .now) (a .repetition)) (f .0 .out-is m (a .shares0 .now) (a .shares1 .now) (a .ballots .now) (a .claims .now) (a .repetition)) (f .1)
 
 returns-2 : tie.Need-returns-2
 returns-2 c =
-    let s = §start in
-    let e = §openings-tests .ensures in
-    extract-refused (P s) (x s) (room s) (e .0) (e .1) (§reply .given .1)
+    let s = c .before .before .before .before .before .before .before .before .before .before .before .before .before .before .before .before .before .before .before .before .before in
+    let e = c .before .before .before .before .before .openings-tests .ensures in
+    extract-refused (P s) (x s) (room s) (e .0) (e .1) (c .before .reply .given .1)
+
+pub extract-spec : {M : Type 1} → statement M
+extract-spec = tie.close (tie.spec (λ c κs. search needs) (λ c. search needs) find-requires (λ c. search needs) (λ c. search needs) (λ c. search needs) returns (λ c. search needs) (λ c. search needs) returns-2)
