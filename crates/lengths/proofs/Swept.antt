@@ -1,5 +1,5 @@
 -- A call after its lengths: none of its tests refuses 1 or 31, so scratch is zeroed whatever it answers. Assumes nothing.
-use mathlib.Core.Path.{_≡_, ap, sym, _∙_}
+use mathlib.Core.Path.{_≡_, refl, ap, sym, _∙_}
 use mathlib.Core.Bool.{Bool, true, false, cond}
 use mathlib.Core.Logic.{_≢_}
 use mathlib.Core.List.{List, [], _∷_, _++_}
@@ -12,7 +12,7 @@ use Rattle.codec.specs.Reply.{Test, test, first}
 use Rattle.codec.specs.declared.Reply.{Reply}
 use Rattle.codec.specs.declared.Reply.the-variants.{Refused}
 use Rattle.call.specs.Call.{swept}
-use Rattle.call.proofs.Sweeping.{swept-taken, swept-refused}
+use Rattle.call.proofs.Sweeping.{swept-taken, swept-refused, kept-length}
 use Rattle.commitment.specs.Commitment.{Keys}
 use Rattle.stern.specs.Shortness.{answer1Of, answer2Of, answer3Of, tests1, tests2, tests3, answerTests}
 use Rattle.transcript.specs.Layout.{Opening, each, pairsOf, digestsAt, answerAt, openingOf}
@@ -107,3 +107,7 @@ swept-later (t ∷ ts) h r e w = by-test t ts r w (h .0) (t .holds) e (λ f. swe
 -- scratch of one length is left alike
 pub swept-alike : (ts : List Test) → Later ts → (r : Reply) → r ≡ first ts → (w w' : Bytes) → length w' ≡ length w → swept r w' ≡ swept r w
 swept-alike ts h r e w w' l = swept-later ts h r e w' ∙ ap zeros l ∙ sym (swept-later ts h r e w)
+
+-- a call that 1 refuses leaves it alone
+pub unswept : {r : Reply} {w : Bytes} → r ≡ Refused 1 0 → w ≡ swept r w
+unswept {r} {w} e = sym (kept-length r 1 0 w e refl)

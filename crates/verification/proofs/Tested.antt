@@ -1,14 +1,13 @@
 -- The order of the extractor: too many ballots, a slice of wrong length, and what is known of the lent slices where every length is right. Assumes nothing.
-use mathlib.Core.Path.{_≡_, refl, sym}
+use mathlib.Core.Path.{_≡_}
 use mathlib.Core.Bool.{Bool, true, false}
 use Prim.Native.Nat.{ℕ, _*_, _≤_, _<_}
 use lib.ListN.{length}
-use Rattle.codec.specs.Bytes.{Bytes, Octets}
+use Rattle.codec.specs.Bytes.{Octets}
 use Rattle.codec.specs.Reply.{first}
 use Rattle.codec.specs.declared.Reply.{Reply}
 use Rattle.codec.specs.declared.Reply.the-variants.{Refused}
-use Rattle.call.specs.Call.{scratchLength, swept}
-use Rattle.call.proofs.Sweeping.{kept-length}
+use Rattle.call.specs.Call.{scratchLength}
 use Rattle.transcript.specs.Round.{Parameters}
 use Rattle.transcript.specs.Extractor.{Openings, ExtractRoom, Lent, extractTests}
 use Rattle.lengths.specs.Calls.{countOf, messageSized, openingsSized, openingsTests}
@@ -63,7 +62,3 @@ module _ (P : Parameters) (x : Openings) (room : ExtractRoom) where
         t .0 .2,
         t .0 .3,
       )
-
--- a call that 1 refuses leaves scratch alone
-pub unswept : {r : Reply} {w : Bytes} → r ≡ Refused 1 0 → w ≡ swept r w
-unswept {r} {w} e = sym (kept-length r 1 0 w e refl)

@@ -27,19 +27,23 @@ use Rattle.verification_calls.specs.Replies.{extractReply, extractFound,
 pub extract-over : (text : Bytes) {public : Bytes} {s : Reading} {k : Numbers} → (s ≡ reading text) × (public ≡ loaded text (replicate 81920 0)) → s ≡ Taken k
     → (x : Openings) (before : ExtractRoom) {answer : Extraction} {after : ExtractRoom} → ExtractWritten (parameters k public) x before answer after → ExtractCalled text x before answer after
 unfolding extractReply
-extract-over text load e x before {answer} {after} f =
-    subst (λ (r : Reply). ExtractLeft (parametersOf text) x before r answer after) (over text (openingsTests (parametersOf text) x before) (lent text load e .said) refl)
-    (subst (λ (P : Parameters). ExtractWritten P x before answer after) (parameters-are text load e) f)
+extract-over text load e x before {answer} {after} f = record {
+  left =
+      subst (λ (r : Reply). ExtractLeft (parametersOf text) x before r answer after) (over text (openingsTests (parametersOf text) x before) (lent text load e .said) refl)
+      (subst (λ (P : Parameters). ExtractWritten P x before answer after) (parameters-are text load e) f);
+}
 
 -- it is refused
 pub extract-unread : (text : Bytes) {s : Reading} {i : ℕ} → s ≡ reading text → s ≡ Refused i → (x : Openings) (room : ExtractRoom) {w : Bytes} → w ≡ swept (reply.Refused i 0) (room .scratch)
     → ExtractCalled text x room (found.Refused i 0) (extractRoom (room .out) w)
 unfolding extractReply extraction leaves
-extract-unread text {s} {i} f e x room {w} z =
-    subst (λ (r : Reply). ExtractLeft (parametersOf text) x room r (found.Refused i 0) (extractRoom (room .out) w)) (refused-over text (openingsTests (parametersOf text) x room) f e)
-    (record { told = refl; out = refl; scratch = z })
+extract-unread text {s} {i} f e x room {w} z = record {
+  left =
+      subst (λ (r : Reply). ExtractLeft (parametersOf text) x room r (found.Refused i 0) (extractRoom (room .out) w)) (refused-over text (openingsTests (parametersOf text) x room) f e)
+      (record { told = refl; out = refl; scratch = z });
+}
 
 -- with what it finds packed into an answer
 pub extract-packed : {text : Bytes} {x : Openings} {before after : ExtractRoom} {found : Extraction} {answer : ℕ} → answer ≡ answered found → ExtractCalled text x before found after
     → (answer ≡ answered (extractFound text x before)) × ExtractCalled text x before (extractFound text x before) after
-extract-packed {text} {x} {before} {after} e f = (e ∙ ap answered (f .told), subst (λ (z : Extraction). ExtractCalled text x before z after) (f .told) f)
+extract-packed {text} {x} {before} {after} e f = (e ∙ ap answered (f .left .told), subst (λ (z : Extraction). ExtractCalled text x before z after) (f .left .told) f)

@@ -18,5 +18,5 @@ extractReply text x room = first (order text ++ openingsTests (parametersOf text
 abbrev pub extractFound : (text : Bytes) → Openings → ExtractRoom → Extraction
 extractFound text x room = extraction (extractReply text x room) (kind (parametersOf text) (ballotsIn text (x .ballots)) x)
 
-abbrev pub ExtractCalled : (text : Bytes) → Openings → (before : ExtractRoom) → Extraction → (after : ExtractRoom) → Type 0
-ExtractCalled text x before answer after = ExtractLeft (parametersOf text) x before (extractReply text x before) answer after
+pub record ExtractCalled (text : Bytes) (x : Openings) (before : ExtractRoom) (answer : Extraction) (after : ExtractRoom) : Type 0 where
+  pub left : ExtractLeft (parametersOf text) x before (extractReply text x before) answer after

@@ -15,13 +15,16 @@ abbrev room : tie.Start → ExtractRoom
 room s = extractRoom (s .args .out .now) (s .args .scratch .now)
 
 slice-aggregate-extract : tie.Need-slice-aggregate-extract
-slice-aggregate-extract c = sym (lent (§args .sheet .now) (§load .ensures) (§reading .given .1) .sized)
+slice-aggregate-extract c = sym (lent (c .before .before .before .before .before .before .before .before .before .before .before .before .before .before .before .before .before .before .before .args .sheet .now) (c .before .before .before .before .load .ensures) (c .before .before .reading .given .1) .sized)
 
 extract-requires : tie.Need-extract-requires
-extract-requires c κs = sheet-loaded (lent (§args .sheet .now) (§load .ensures) (§reading .given .1))
+extract-requires c κs = sheet-loaded (lent (c .before .before .before .before .before .before .before .before .before .before .before .before .before .before .before .before .before .before .before .before .before .args .sheet .now) (c .before .before .before .before .before .before .load .ensures) (c .before .before .before .before .reading .given .1))
 
 returns : tie.Need-returns
-returns c = let s = §start in extract-over (s .args .sheet .now) (§load .ensures) (§reading .given .1) (x s) (room s) (§extract .ensures)
+returns c = let s = c .before .before .before .before .before .before .before .before .before .before .before .before .before .before .before .before .before .before .before .before .before .before .before .before .before .before in extract-over (s .args .sheet .now) (c .before .before .before .before .before .before .before .before .before .before .before .load .ensures) (c .before .before .before .before .before .before .before .before .before .reading .given .1) (x s) (room s) (c .before .before .before .before .extract .ensures)
 
 returns-2 : tie.Need-returns-2
-returns-2 c = let s = §start in extract-unread (s .args .sheet .now) (§load .ensures .0) (§reading2 .given .1) (x s) (room s) (§sweep .ensures)
+returns-2 c = let s = c .before .before .before .before .before .before .before .before .before .before .before .before .before .before .before .before .before .before .before .before .before .before in extract-unread (s .args .sheet .now) (c .before .before .before .before .before .before .before .load .ensures .0) (c .before .before .before .before .before .reading2 .given .1) (x s) (room s) (c .before .before .sweep .ensures)
+
+pub extract-spec : {M : Type 1} → statement M
+extract-spec = tie.close (tie.spec (λ c κs. search needs) (λ c. search needs) slice-aggregate-extract extract-requires (λ c. search needs) (λ c κs. search needs) (λ c. search needs) (λ c. search needs) returns (λ c. search needs) returns-2)

@@ -7,8 +7,8 @@ use Rattle.codec.specs.Bytes.{Octets}
 use Rattle.transcript.specs.Round.{Parameters}
 use Rattle.transcript.specs.Extractor.{Openings, openingsOf, ExtractRoom, extractRoom}
 use Rattle.transcript.specs.Sheets.{parameters}
-use Rattle.lengths.proofs.Swept.{later-openings, swept-later}
-use Rattle.verification.proofs.Tested.{extract-many, extract-message, extract-openings, extract-rest, extract-lengths, unswept}
+use Rattle.lengths.proofs.Swept.{later-openings, swept-later, unswept}
+use Rattle.verification.proofs.Tested.{extract-many, extract-message, extract-openings, extract-rest, extract-lengths}
 use Rattle.verification.proofs.openings.openings_tests.Statement.{statement}
 use Rattle.verification.proofs.openings.openings_tests.Tie as tie
 
