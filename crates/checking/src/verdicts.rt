@@ -74,7 +74,8 @@ fn check_drawn(
     );
     match early {
         Reply::Refused { number, place } => {
-            call::sweep(early, scratch);
+            let reply = Reply::Refused { number, place };
+            call::sweep(reply, scratch);
             Verdict::Stopped { number, place }
         }
         Reply::Taken => verdict_of(checker::check_round(

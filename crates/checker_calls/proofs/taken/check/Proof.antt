@@ -19,36 +19,39 @@ x s = let a = s .args in roundOf (a .side) (a .challenges .now) (a .ballots .now
 
 returns : tie.Need-returns
 returns c =
-    let s = §start in
-    (check-many (P s) (x s) (s .args .scratch .now) (§count-of .ensures) (§refused .ensures) (omega (arith, §if1 .taken)), unswept (§refused .ensures))
+    let s = c .before .before .before .before .before .before .before .before .before .before .before .before .before in
+    (check-many (P s) (x s) (s .args .scratch .now) (c .before .before .count-of .ensures) (c .refused .ensures) (omega (arith, c .before .if1 .taken)), unswept (c .refused .ensures))
 
 returns-2 : tie.Need-returns-2
 returns-2 c =
-    let s = §start in
-    let z = §message-sized in
-    (check-message (P s) (x s) (s .args .scratch .now) (§count-of .ensures) (§refused2 .ensures) (omega (arith, §if1 .left)) (z .ensures) (not-true (z .result) (§if2 .taken)), unswept (§refused2 .ensures))
+    let s = c .before .before .before .before .before .before .before .before .before .before .before .before .before .before .before in
+    let z = c .before .before .message-sized in
+    (check-message (P s) (x s) (s .args .scratch .now) (c .before .before .before .before .count-of .ensures) (c .refused2 .ensures) (omega (arith, c .before .before .before .if1 .left)) (z .ensures) (not-true (z .result) (c .before .if2 .taken)), unswept (c .refused2 .ensures))
 
 returns-3 : tie.Need-returns-3
 returns-3 c =
-    let s = §start in
-    let z = §message-sized in
-    let t = §second-sized in
-    (check-second (P s) (x s) (s .args .scratch .now) (§count-of .ensures) (§refused3 .ensures) (omega (arith, §if1 .left)) (z .ensures) (not-false (z .result) (§if2 .left)) (t .ensures) (not-true (t .result) (§if3 .taken)), unswept (§refused3 .ensures))
+    let s = c .before .before .before .before .before .before .before .before .before .before .before .before .before .before .before .before .before .before in
+    let z = c .before .before .before .before .before .message-sized in
+    let t = c .before .before .second-sized in
+    (check-second (P s) (x s) (s .args .scratch .now) (c .before .before .before .before .before .before .before .count-of .ensures) (c .refused3 .ensures) (omega (arith, c .before .before .before .before .before .before .if1 .left)) (z .ensures) (not-false (z .result) (c .before .before .before .before .if2 .left)) (t .ensures) (not-true (t .result) (c .before .if3 .taken)), unswept (c .refused3 .ensures))
 
 check-round-requires : tie.Need-check-round-requires
 check-round-requires c κs =
-    let s = §start in
-    let z = §message-sized in
-    let t = §second-sized in
-    let l = check-lengths (P s) (x s) (s .args .scratch .now) (§count-of .result) (sym (z .ensures) ∙ not-false (z .result) (§if2 .left)) (sym (t .ensures) ∙ not-false (t .result) (§if3 .left)) in
-    (s .pre, l .1, omega (arith, §if1 .left), l .0)
+    let s = c .before .before .before .before .before .before .before .before .before .before .before .before .before .before .before .before .before .before in
+    let z = c .before .before .before .before .before .message-sized in
+    let t = c .before .before .second-sized in
+    let l = check-lengths (P s) (x s) (s .args .scratch .now) (c .before .before .before .before .before .before .before .count-of .result) (sym (z .ensures) ∙ not-false (z .result) (c .before .before .before .before .if2 .left)) (sym (t .ensures) ∙ not-false (t .result) (c .before .if3 .left)) in
+    (s .pre, l .1, omega (arith, c .before .before .before .before .before .before .if1 .left), l .0)
 
 returns-4 : tie.Need-returns-4
 returns-4 c =
-    let s = §start in
-    let z = §message-sized in
-    let t = §second-sized in
-    let e = §check-round .ensures in (
-      check-rest (P s) (x s) (s .args .scratch .now) (§count-of .ensures) (omega (arith, §if1 .left)) (z .ensures) (not-false (z .result) (§if2 .left)) (t .ensures) (not-false (t .result) (§if3 .left)) (e .0),
+    let s = c .before .before .before .before .before .before .before .before .before .before .before .before .before .before .before .before .before .before .before .before .before in
+    let z = c .before .before .before .before .before .before .before .before .message-sized in
+    let t = c .before .before .before .before .before .second-sized in
+    let e = c .before .before .check-round .ensures in (
+      check-rest (P s) (x s) (s .args .scratch .now) (c .before .before .before .before .before .before .before .before .before .before .count-of .ensures) (omega (arith, c .before .before .before .before .before .before .before .before .before .if1 .left)) (z .ensures) (not-false (z .result) (c .before .before .before .before .before .before .before .if2 .left)) (t .ensures) (not-false (t .result) (c .before .before .before .before .if3 .left)) (e .0),
       e .1 ∙ sym (swept-later _ (later-round _ _ _) _ (e .0) _),
     )
+
+pub check-spec : {M : Type 1} → statement M
+check-spec = tie.close (tie.spec (λ c κs. search needs) (λ c κs. search needs) returns (λ c κs. search needs) (λ c κs. search needs) returns-2 (λ c κs. search needs) (λ c κs. search needs) (λ c. search needs) returns-3 check-round-requires (λ c. search needs) returns-4)
