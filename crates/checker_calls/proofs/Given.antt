@@ -14,7 +14,7 @@ use Rattle.call.specs.Call.{swept}
 use Rattle.call.proofs.Lent.{lent}
 use Rattle.transcript.specs.Round.{Parameters, Round}
 use Rattle.transcript.specs.Sheets.{parameters}
-use Rattle.lengths.proofs.OverSheet.{parameters-are, over, refused-over}
+use Rattle.lengths.proofs.OverSheet.{parameters-are, order-taken, order-refused}
 use Rattle.checker_calls.specs.Replies.{checkTests, checkReply, CheckCalled}
 
 -- the sheet is taken
@@ -22,12 +22,12 @@ pub check-over : (text : Bytes) {public : Bytes} {s : Reading} {k : Numbers} →
     → (said ≡ first (checkTests (parameters k public) r w)) × (w' ≡ swept said w) → CheckCalled text r w said w'
 unfolding checkReply
 check-over text load e r w {said} f =
-    record { replied = over text _ (lent text load e .said) (subst (λ (P : Parameters). said ≡ first (checkTests P r w)) (parameters-are text load e) (f .0)); cleared = f .1 }
+    record { replied = order-taken text _ (lent text load e .said) (subst (λ (P : Parameters). said ≡ first (checkTests P r w)) (parameters-are text load e) (f .0)); cleared = f .1 }
 
 -- it is refused
 pub check-unread : (text : Bytes) {s : Reading} {i : ℕ} → s ≡ reading text → s ≡ Refused i → (r : Round) (w : Bytes) {w' : Bytes} → w' ≡ swept (reply.Refused i 0) w → CheckCalled text r w (reply.Refused i 0) w'
 unfolding checkReply
-check-unread text f e r w z = record { replied = refused-over text _ f e; cleared = z }
+check-unread text f e r w z = record { replied = order-refused text _ f e; cleared = z }
 
 -- with the reply packed into an answer
 pub check-packed : {text : Bytes} {r : Round} {w w' : Bytes} {said : Reply} {answer : ℕ} → answer ≡ packed said → CheckCalled text r w said w' → (answer ≡ packed (checkReply text r w)) × CheckCalled text r w (checkReply text r w) w'

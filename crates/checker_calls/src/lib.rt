@@ -1,4 +1,5 @@
-// The check of one round for tests and benchmarks outside the proof, with the side and the challenges lent; in the library a session draws them.
+// The check of one round for tests and benchmarks outside the proof, with the side and the challenges lent; in the library a session
+// draws them.
 // In C a slice is `uint8_t *, size_t`, and `const` where it is lent to be read.
 mod taken;
 

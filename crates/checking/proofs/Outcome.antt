@@ -14,7 +14,7 @@ use Rattle.call.specs.Call.{swept}
 use Rattle.transcript.specs.Round.{Parameters, Round, roundOf, roundTests}
 use Rattle.lengths.specs.Sheets.{parametersOf}
 use Rattle.lengths.proofs.Swept.{later-round, swept-later}
-use Rattle.lengths.proofs.OverSheet.{over, refused-over}
+use Rattle.lengths.proofs.OverSheet.{order-taken, order-refused}
 use Rattle.stored.specs.declared.Stored.{Stored}
 use Rattle.stored.specs.Stored.{Inputs, sideOf, challengesOf, drawnRound, lentTests}
 use Rattle.checking.specs.Check.{earlyTests, lateTests, verdict, replyOf, Checked}
@@ -51,8 +51,8 @@ drawn-round s x e f = ap₂ (λ (i : ℕ) (d : Bytes). roundOf i d (x .ballots) 
 module _ (s : Stored) (x : Inputs) where
   pub checked-over : {k : Numbers} {P : Parameters} {v : Verdict} {w : Bytes} → reading (x .sheet) ≡ Taken k → P ≡ parametersOf (x .sheet) → TakenChecked P s x v w → Checked s x v w
   unfolding earlyTests lateTests
-  checked-over said e f = (f .0 ∙ ap₂ verdict (over (x .sheet) (lentTests s x) said refl) (ap (λ (P : Parameters). first (roundTests P (s .closed) (drawnRound s x))) e), f .1)
+  checked-over said e f = (f .0 ∙ ap₂ verdict (order-taken (x .sheet) (lentTests s x) said refl) (ap (λ (P : Parameters). first (roundTests P (s .closed) (drawnRound s x))) e), f .1)
 
   pub checked-refused : {read : Reading} {i : ℕ} {w'' : Bytes} → read ≡ reading (x .sheet) → read ≡ Refused i → w'' ≡ swept (reply.Refused i 0) (x .scratch) → Checked s x (Stopped i 0) w''
   unfolding earlyTests lateTests
-  checked-refused f e z = (stopped (first (lateTests s x)) (refused-over (x .sheet) (lentTests s x) f e) refl, z)
+  checked-refused f e z = (stopped (first (lateTests s x)) (order-refused (x .sheet) (lentTests s x) f e) refl, z)

@@ -1,4 +1,5 @@
-// What a check comes to once the sheet is taken, with its numbers k: stopped before the round was looked at, failed by the round itself, or passed.
+// What a check comes to once the sheet is taken, with its numbers k: stopped before the round was looked at, failed by the round
+// itself, or passed.
 use crate::Verdict;
 use codec::Reply;
 use sheet_numbers::Numbers;

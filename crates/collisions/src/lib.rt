@@ -1,5 +1,5 @@
-// The lowest digest for which answers open two different strings (document 01, the extractor's paragraph). The strings are compared part by part: salts, permutations,
-// equations and vectors. Nothing is hashed.
+// The lowest digest for which answers open two different strings (document 01, the extractor's paragraph). The strings are compared
+// part by part: salts, permutations, equations and vectors. Nothing is hashed.
 use stern::equations::equation_pair;
 ghost use mathlib.Core.Path.{_≡_};
 ghost use mathlib.Core.Bool.{true, false};
@@ -235,7 +235,8 @@ fn third_agrees(answer1: &[u8], answer2: &[u8], n: usize, q: u64) -> bool
 
 // ---- all three
 
-// The lowest digest whose two strings differ, 0 if there is none. The first pair of equations is kept in the room for the second to be compared with.
+// The lowest digest whose two strings differ, 0 if there is none. The first pair of equations is kept in the room for the second to be
+// compared with.
 fn lowest(
     work: &mut [u8],
     room: &mut [u8],

@@ -37,7 +37,7 @@ pub extern "C" fn jdn_keygen(
     scratch: &mut [u8],
 ) -> u64
     ensures { λ answer. ⌜ Answered (keygenOrder (given sheet) (given s) (given e) (given b) (given scratch))
-              (keyOf (given sheet) (given s) (given e)) answer (given b) (left b) (given scratch) (left scratch) ⌝ }
+        (keyOf (given sheet) (given s) (given e)) answer (given b) (left b) (given scratch) (left scratch) ⌝ }
 {
     codec::pack(scheme_calls::keygen(sheet, s, e, b, scratch))
 }
@@ -54,7 +54,7 @@ pub extern "C" fn jdn_encrypt(
     scratch: &mut [u8],
 ) -> u64
     ensures { λ answer. ⌜ Answered (encryptOrder (given sheet) (given r) (given e1) (given e2) (given m) (given ciphertext) (given scratch))
-              (ciphertextOf (given sheet) (given r) (given e1) (given e2) (given m)) answer (given ciphertext) (left ciphertext) (given scratch) (left scratch) ⌝ }
+        (ciphertextOf (given sheet) (given r) (given e1) (given e2) (given m)) answer (given ciphertext) (left ciphertext) (given scratch) (left scratch) ⌝ }
 {
     codec::pack(scheme_calls::encrypt(sheet, r, e1, e2, m, ciphertext, scratch))
 }
@@ -69,7 +69,7 @@ pub extern "C" fn jdn_decrypt(
     scratch: &mut [u8],
 ) -> u64
     ensures { λ answer. ⌜ Answered (decryptOrder (given sheet) (given s) (given ciphertext) (given vote) (given scratch))
-              (voteOf (given sheet) (given s) (given ciphertext)) answer (given vote) (left vote) (given scratch) (left scratch) ⌝ }
+        (voteOf (given sheet) (given s) (given ciphertext)) answer (given vote) (left vote) (given scratch) (left scratch) ⌝ }
 {
     codec::pack(scheme_calls::decrypt(sheet, s, ciphertext, vote, scratch))
 }
@@ -86,7 +86,7 @@ pub extern "C" fn jdn_split(
     scratch: &mut [u8],
 ) -> u64
     ensures { λ answer. ⌜ Answered (splitOrder (given sheet) (given s) (given e) (given s0) (given e0) (given out) (given scratch))
-              (splitOf (given sheet) (given s) (given e) (given s0) (given e0)) answer (given out) (left out) (given scratch) (left scratch) ⌝ }
+        (splitOf (given sheet) (given s) (given e) (given s0) (given e0)) answer (given out) (left out) (given scratch) (left scratch) ⌝ }
 {
     codec::pack(scheme_calls::split(sheet, s, e, s0, e0, out, scratch))
 }
@@ -102,7 +102,7 @@ pub extern "C" fn jdn_share(
     scratch: &mut [u8],
 ) -> u64
     ensures { λ answer. ⌜ Answered (shareOrder (given sheet) (given «key_share») (given u) (given mask) (given t) (given scratch))
-              (shareOf (given sheet) (given «key_share») (given u) (given mask)) answer (given t) (left t) (given scratch) (left scratch) ⌝ }
+        (shareOf (given sheet) (given «key_share») (given u) (given mask)) answer (given t) (left t) (given scratch) (left scratch) ⌝ }
 {
     codec::pack(scheme_calls::share(sheet, key_share, u, mask, t, scratch))
 }
@@ -118,7 +118,7 @@ pub extern "C" fn jdn_reconstruct(
     scratch: &mut [u8],
 ) -> u64
     ensures { λ answer. ⌜ Answered (reconstructOrder (given sheet) (given v) (given t0) (given t1) (given vote) (given scratch))
-              (voteOfShares (given sheet) (given v) (given t0) (given t1)) answer (given vote) (left vote) (given scratch) (left scratch) ⌝ }
+        (voteOfShares (given sheet) (given v) (given t0) (given t1)) answer (given vote) (left vote) (given scratch) (left scratch) ⌝ }
 {
     codec::pack(scheme_calls::reconstruct(sheet, v, t0, t1, vote, scratch))
 }
@@ -133,7 +133,7 @@ pub extern "C" fn jdn_commitment(
     scratch: &mut [u8],
 ) -> u64
     ensures { λ answer. ⌜ Answered (commitmentOrder (given sheet) (given m) (given r) (given pair) (given scratch))
-              (pairOf (given sheet) (given m) (given r)) answer (given pair) (left pair) (given scratch) (left scratch) ⌝ }
+        (pairOf (given sheet) (given m) (given r)) answer (given pair) (left pair) (given scratch) (left scratch) ⌝ }
 {
     codec::pack(scheme_calls::commitment(sheet, m, r, pair, scratch))
 }

@@ -1,4 +1,5 @@
-// The tests of the extractor: 5, 6; for side 0 and then side 1 7, 8 and by ballot 12, 13; then for the three answers of a repetition 9, 10, 11.
+// The tests of the extractor: 5, 6; for side 0 and then side 1 7, 8 and by ballot 12, 13; then for the three answers of a repetition
+// 9, 10, 11.
 use crate::sides::test_side;
 use crate::three_answers::answers_ranged;
 use crate::three_answers::test_answers;

@@ -17,7 +17,7 @@ use Rattle.transcript.specs.Sheets.{parameters}
 use Rattle.transcript.specs.Extractor.{Openings, ExtractRoom, extractRoom}
 use Rattle.lengths.specs.Calls.{openingsTests}
 use Rattle.lengths.specs.Sheets.{parametersOf}
-use Rattle.lengths.proofs.OverSheet.{parameters-are, over, refused-over}
+use Rattle.lengths.proofs.OverSheet.{parameters-are, order-taken, order-refused}
 use Rattle.verification.specs.Extraction.{extraction, answered, ExtractLeft, ExtractWritten}
 use Rattle.verification.specs.declared.Extraction.{Extraction}
 use Rattle.verification.specs.declared.Extraction.the-variants as found
@@ -29,7 +29,7 @@ pub extract-over : (text : Bytes) {public : Bytes} {s : Reading} {k : Numbers} �
 unfolding extractReply
 extract-over text load e x before {answer} {after} f = record {
   left =
-      subst (λ (r : Reply). ExtractLeft (parametersOf text) x before r answer after) (over text (openingsTests (parametersOf text) x before) (lent text load e .said) refl)
+      subst (λ (r : Reply). ExtractLeft (parametersOf text) x before r answer after) (order-taken text (openingsTests (parametersOf text) x before) (lent text load e .said) refl)
       (subst (λ (P : Parameters). ExtractWritten P x before answer after) (parameters-are text load e) f);
 }
 
@@ -39,7 +39,7 @@ pub extract-unread : (text : Bytes) {s : Reading} {i : ℕ} → s ≡ reading te
 unfolding extractReply extraction leaves
 extract-unread text {s} {i} f e x room {w} z = record {
   left =
-      subst (λ (r : Reply). ExtractLeft (parametersOf text) x room r (found.Refused i 0) (extractRoom (room .out) w)) (refused-over text (openingsTests (parametersOf text) x room) f e)
+      subst (λ (r : Reply). ExtractLeft (parametersOf text) x room r (found.Refused i 0) (extractRoom (room .out) w)) (order-refused text (openingsTests (parametersOf text) x room) f e)
       (record { told = refl; out = refl; scratch = z });
 }
 

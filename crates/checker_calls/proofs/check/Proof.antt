@@ -2,7 +2,7 @@
 use mathlib.Core.Path.{sym}
 use borrow.Author.Needs.{needs}
 use Rattle.call.proofs.Lent.{lent}
-use Rattle.scheme_calls.proofs.Keys.{sheet-loaded}
+use Rattle.commitment.proofs.Sheets.{sheet-loaded}
 use Rattle.transcript.specs.Round.{Round, roundOf}
 use Rattle.checker_calls.proofs.Given.{check-over, check-unread}
 use Rattle.checker_calls.proofs.check.Statement.{statement}

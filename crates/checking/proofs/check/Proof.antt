@@ -2,7 +2,7 @@
 use mathlib.Core.Path.{sym}
 use borrow.Author.Needs.{needs}
 use Rattle.call.proofs.Lent.{lent}
-use Rattle.scheme_calls.proofs.Keys.{sheet-loaded}
+use Rattle.commitment.proofs.Sheets.{sheet-loaded}
 use Rattle.lengths.proofs.OverSheet.{parameters-are}
 use Rattle.stored.specs.Stored.{Inputs, inputsOf}
 use Rattle.checking.proofs.Outcome.{checked-over, checked-refused}

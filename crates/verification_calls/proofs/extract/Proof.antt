@@ -2,7 +2,7 @@
 use mathlib.Core.Path.{sym}
 use borrow.Author.Needs.{needs}
 use Rattle.call.proofs.Lent.{lent}
-use Rattle.scheme_calls.proofs.Keys.{sheet-loaded}
+use Rattle.commitment.proofs.Sheets.{sheet-loaded}
 use Rattle.transcript.specs.Extractor.{Openings, openingsOf, ExtractRoom, extractRoom}
 use Rattle.verification_calls.proofs.Given.{extract-over, extract-unread}
 use Rattle.verification_calls.proofs.extract.Statement.{statement}
