@@ -15,6 +15,7 @@ use Rattle.ring.specs.Poly.{Poly, sum, turn, coefficient, mul, plus, scale}
 use Rattle.ring.specs.Slots.{poly}
 use Rattle.ring.specs.Ternary.{meaning, ternary}
 use Rattle.sheet_numbers.specs.Bounds.{noise, mask, most, least, power}
+use Rattle.sheet_numbers.specs.Plain.{plain as sheet-plain}
 use Rattle.sheet_numbers.specs.Rules.{any, outside, unsound}
 use Rattle.sheet_lines.specs.Form.{decimal, listed, lines}
 use Rattle.sheet.specs.Form.{written}
@@ -137,5 +138,5 @@ rows =
 
 -- each row is as the paper says
 pub examples : map (λ (x : Row). x .got) rows ≡ map (λ (x : Row). x .said) rows
-unfolding rows centre remainder divide inverse multiplier sum turn coefficient mul plus scale meaning ternary noisy cipher-v opened plain worked rebuilt first within allBelow list poly signed words bytes number reading written lines listed decimal formed sheetOf rowsIn line values step digit any outside unsound unfit power least most
+unfolding rows centre remainder divide inverse multiplier sum turn coefficient mul plus scale meaning ternary noisy cipher-v opened plain worked rebuilt first within allBelow list poly signed words bytes number reading written lines listed decimal formed sheetOf rowsIn line values step digit any outside unsound sheet-plain unfit power least most
 examples = refl

@@ -3,6 +3,7 @@ use mathlib.Core.Path.{_≡_, refl}
 use mathlib.Core.List.{[], _∷_}
 use Rattle.codec.specs.Lists.{allBelow}
 use Rattle.codec.specs.Reply.{first}
+use Rattle.sheet_numbers.specs.Plain.{plain}
 use Rattle.sheet_numbers.specs.Bounds.{noise, mask, unknowns, most, least, power}
 use Rattle.sheet_numbers.specs.Rules.{any, outside, unsound}
 use Rattle.sheet_lines.specs.Form.{decimal, listed, lines}
@@ -18,7 +19,7 @@ unfolding written lines listed decimal
 as-written = refl
 
 as-read : reading text ≡ Taken (numbers 97)
-unfolding reading first formed sheetOf rows line values step digit any outside unsound unfit allBelow power least most
+unfolding reading first formed sheetOf rows line values step digit any outside unsound plain unfit allBelow power least most
 as-read = refl
 
 -- its D, B and L

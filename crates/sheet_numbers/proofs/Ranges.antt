@@ -63,7 +63,7 @@ none-at (false ∷ ts) zero e = refl
 none-at (false ∷ ts) (suc i) e = none-at ts i e
 
 pub in-range : (k : Numbers) → outside k ≡ false → InRange k
-unfolding outside
+unfolding outside plain
 in-range k e = record {
   ring-low = ltb-false _ _ (none-at (ranges k) 0 e);
   ring-high = ltb-false _ _ (none-at (ranges k) 1 e);
@@ -101,10 +101,12 @@ module _ (k : Numbers) (i : InRange k) (s : Sound k) where
   odd = omega (arith, i .modulus-low, s .divided, div-add-mod' (q - 1) (2 * k .ring), mul-left-comm ((q - 1) / (2 * k .ring)) 2 (k .ring))
 
   apart : Coprime (plain k) q
+  unfolding plain
   apart = odd-coprime q odd
 
   -- D is below (q - 1)/2, and p at most D
   plain-below : plain k < q
+  unfolding plain
   plain-below = omega (arith, s .noise-fits, mul-le-mul {n₁ = 1} {m₁ = noiseOf k} {n₂ = 1 + 2 ^ k .drown} {m₂ = noiseOf k} (omega arith) (omega arith), one-mul (noiseOf k))
 
   pub usable : Usable k

@@ -4,7 +4,7 @@ use Rattle.sheet_numbers.specs.Bounds.{noise, mask}
 use Rattle.sheet_numbers.specs.declared.Numbers.{Numbers}
 
 -- p: every sheet's is 2
-abbrev pub plain : Numbers → ℕ
+unfoldable pub plain : Numbers → ℕ
 plain k = 2
 
 -- D

@@ -3,6 +3,7 @@ use Prim.Native.Nat.{ℕ, _+_, _*_, _≤_}
 use native.Mathlib.Nat.{mul-le-mul}
 use native.Mathlib.Omega.{arith}
 use borrow.Author.Needs.{needs}
+use Rattle.sheet_numbers.specs.Plain.{plain}
 use Rattle.sheet_numbers.proofs.bounds.noise_bound.Statement.{statement}
 use Rattle.sheet_numbers.proofs.bounds.noise_bound.Tie as tie
 
@@ -16,7 +17,7 @@ add-result-2 : tie.Need-add-result-2
 add-result-2 c = omega (arith, few (c .before .plain .result) (c .before .before .args .k .ring) (omega arith) (omega arith))
 
 returns : tie.Need-returns
-returns c = rw (c .before .plain .ensures) (omega (arith, few 2 (c .before .before .args .k .ring) (omega arith) (omega arith)))
+returns c = rw (c .before .plain .ensures) (omega (arith, few (plain (c .before .before .args .k)) (c .before .before .args .k .ring) (omega arith) (omega arith)))
 
 pub noise-bound-spec : {M : Type 1} → statement M
 noise-bound-spec = tie.close (tie.spec (λ c κs. search needs) (λ c. search needs) (λ c. search needs) mul-result-2 add-result-2 (λ c. search needs) returns)
