@@ -17,7 +17,8 @@ ghost use Rattle.commitment.specs.Commitment.{keysOf, PublicKeys};
 ghost use Rattle.vector.specs.Vector.{vector, ternaries, add, subtract};
 ghost use Rattle.vector.specs.Permutation.{entries, apply, permutes, balanced};
 ghost use Rattle.stern.specs.Argument.{string1, string2, string3};
-ghost use Rattle.stern.specs.Shortness.{equations, sides, answer1Of, answer2Of, answer3Of, tests1, tests2, tests3, answerLength, answerTests, inRange};
+ghost use Rattle.stern.specs.Shortness.{equations, sides, answer1Of, answer2Of, answer3Of, tests1, tests2, tests3, answerLength};
+ghost use Rattle.stern.specs.Shortness.{answerTests, inRange};
 
 // Answer 1: there are L of each, and digests 2 and 3 are those of P(R) and of P(extended) + P(R).
 fn test_balanced(

@@ -1,6 +1,5 @@
 // What two openings and three answers to one first message give away (document 01, the extractor's paragraph): a collision of the
-// digest, a short vector on which the
-// commitment row is zero, or the key. specs/Extractor.antt of `transcript` says what is found.
+// digest, a short vector on which the commitment row is zero, or the key. specs/Extractor.antt of `transcript` says what is found.
 mod vectors;
 
 use crate::vectors::solve;
@@ -21,9 +20,8 @@ ghost use Rattle.transcript.specs.Sheets.{parameters};
 ghost use Rattle.collisions.specs.Collision.{Answers};
 ghost use Rattle.extractor.specs.Lent.{Finds};
 
-// 1, 2, 3: the lowest digest whose two strings differ, with zeros in the output; else 4, 5: the nonzero vector for s, for e; else 6:
-// the key.
-// It is called once every test is passed, so nothing is refused any more and the output is used on the way. Scratch is zeroed.
+// 1, 2, 3: the lowest digest whose two strings differ, with zeros in the output; else 4, 5: the nonzero vector for s, for e; else 6: the
+// key. It is called once every test is passed, so nothing is refused any more and the output is used on the way. Scratch is zeroed.
 pub fn find(
     work: &mut [u8],
     k: Numbers,

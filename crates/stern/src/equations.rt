@@ -1,6 +1,5 @@
 // The four equations of the shortness argument, two at a time: the pair made from the summed r of two sides and a message, which stand
-// in a lent vector, is left in
-// scratch, where a commitment leaves it.
+// in a lent vector, is left in scratch, where a commitment leaves it.
 ghost use mathlib.Core.Path.{_≡_};
 ghost use mathlib.Core.Bool.{true};
 ghost use Prim.Native.Nat.{_+_, _*_, _/_, _≤_, _<_, _^_};
