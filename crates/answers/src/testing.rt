@@ -8,7 +8,7 @@ ghost use mathlib.Core.Bool.{true, cond, not, _&&_};
 ghost use mathlib.Core.List.{[], _∷_, _++_};
 ghost use Prim.Native.Nat.{_+_, _*_, _≤_, _<_, _^_};
 ghost use lib.ListN.{length, take};
-ghost use Rattle.codec.specs.Bytes.{words, same};
+ghost use Rattle.codec.specs.Bytes.{words, same, zeros};
 ghost use Rattle.codec.specs.Reply.{test, first};
 ghost use Rattle.codec.specs.Lists.{allBelow};
 ghost use Rattle.sha3.specs.Sponge.{sha3};
@@ -17,7 +17,8 @@ ghost use Rattle.commitment.specs.Commitment.{keysOf, PublicKeys};
 ghost use Rattle.vector.specs.Vector.{vector, ternaries, add, subtract};
 ghost use Rattle.vector.specs.Permutation.{entries, apply, permutes, balanced};
 ghost use Rattle.stern.specs.Argument.{string1, string2, string3};
-ghost use Rattle.stern.specs.Shortness.{equations, sides, answer1Of, answer2Of, answer3Of, tests1, tests2, tests3, answerLength, answerTests, inRange};
+ghost use Rattle.stern.specs.Shortness.{equations, sides, answer1Of, answer2Of, answer3Of, tests1, tests2, tests3, answerLength};
+ghost use Rattle.stern.specs.Shortness.{answerTests, inRange};
 
 // Answer 1: there are L of each, and digests 2 and 3 are those of P(R) and of P(extended) + P(R).
 fn test_balanced(
@@ -32,8 +33,12 @@ fn test_balanced(
     n: usize,
     q: u64,
 ) -> Reply
-    requires { ⌜ (n ≤ 2048) × (3 ≤ q) × (q < 2 ^ 56) × (length (now work) ≡ scratchLength) × (length (now w) ≡ 42 * n) × (length (now t) ≡ 336 * n) × (length (now salt2) ≡ 32) × (length (now salt3) ≡ 32) × (allBelow q (vector (now t)) ≡ true) ⌝ }
-    ensures { λ reply. ⌜ reply ≡ first (test 10 place (not (balanced (14 * n) (now (w .entry)))) ∷ test 11 place (not (same (now (two .entry)) (sha3 (string2 (now (salt2 .entry)) (now (t .entry)))) && same (now (three .entry)) (sha3 (string3 (now (salt3 .entry)) (add q (ternaries q (now (w .entry))) (vector (now (t .entry)))))))) ∷ []) ⌝ }
+    requires { ⌜ (n ≤ 2048) × (3 ≤ q) × (q < 2 ^ 56) × (length (now work) ≡ scratchLength) × (length (now w) ≡ 42 * n)
+        × (length (now t) ≡ 336 * n) × (length (now salt2) ≡ 32) × (length (now salt3) ≡ 32) × (allBelow q (vector (now t)) ≡ true) ⌝ }
+    ensures { λ reply. ⌜ reply ≡ first (test 10 place (not (balanced (14 * n) (now (w .entry))))
+        ∷ test 11 place (not (same (now (two .entry)) (sha3 (string2 (now (salt2 .entry)) (now (t .entry))))
+        && same (now (three .entry)) (sha3 (string3 (now (salt3 .entry))
+        (add q (ternaries q (now (w .entry))) (vector (now (t .entry)))))))) ∷ []) ⌝ }
     ensures { λ _. ⌜ length (now (work .exit)) ≡ length (now (work .entry)) ⌝ }
 {
     if !vector_tests::is_balanced(w, 14 * n) {
@@ -60,7 +65,8 @@ fn both_equal(a: &[u8], b: &[u8], c: &[u8], d: &[u8]) -> bool
     }
 }
 
-// Answers 2 and 3: P is a permutation, and two digests are those of the equations and of P applied to the vector x, which is extended + R or R.
+// Answers 2 and 3: P is a permutation, and two digests are those of the equations and of P applied to the vector x, which is extended
+// + R or R.
 fn test_permuted(
     work: &mut [u8],
     k: &[u8],
@@ -77,8 +83,16 @@ fn test_permuted(
     n: usize,
     q: u64,
 ) -> Reply
-    requires { ⌜ PublicKeys n q (now k) × (length (now work) ≡ scratchLength) × (length (now p) ≡ 168 * n) × (length (now x) ≡ 336 * n) × (length (now salt1) ≡ 32) × (length (now salt) ≡ 32) × (allBelow q (vector (now x)) ≡ true) × (length (now c) ≡ 64 * n) × (allBelow q (vector (now c)) ≡ true) ⌝ }
-    ensures { λ reply. ⌜ reply ≡ first (test 9 place (not (permutes (42 * n) (entries (now (p .entry))))) ∷ test 11 place (not (same (now (one .entry)) (sha3 (string1 (now (salt1 .entry)) (now (p .entry)) (cond less (subtract q (equations q n (keysOf n (now (k .entry))) (take (14 * n) (vector (now (x .entry))))) (sides q n (now (c .entry)))) (equations q n (keysOf n (now (k .entry))) (take (14 * n) (vector (now (x .entry)))))))) && same (now (other .entry)) (sha3 (lead ∷ (now (salt .entry) ++ words (apply (entries (now (p .entry))) (vector (now (x .entry))))))))) ∷ []) ⌝ }
+    requires { ⌜ PublicKeys n q (now k) × (length (now work) ≡ scratchLength) × (length (now p) ≡ 168 * n) × (length (now x) ≡ 336 * n)
+        × (length (now salt1) ≡ 32) × (length (now salt) ≡ 32) × (allBelow q (vector (now x)) ≡ true) × (length (now c) ≡ 64 * n)
+        × (allBelow q (vector (now c)) ≡ true) ⌝ }
+    ensures { λ reply. ⌜ reply ≡ first (test 9 place (not (permutes (42 * n) (entries (now (p .entry)))))
+        ∷ test 11 place (not (same (now (one .entry))
+        (sha3 (string1 (now (salt1 .entry)) (now (p .entry))
+        (cond less (subtract q (equations q n (keysOf n (now (k .entry))) (take (14 * n) (vector (now (x .entry)))))
+        (sides q n (now (c .entry)))) (equations q n (keysOf n (now (k .entry))) (take (14 * n) (vector (now (x .entry))))))))
+        && same (now (other .entry)) (sha3 (lead ∷ (now (salt .entry)
+        ++ words (apply (entries (now (p .entry))) (vector (now (x .entry))))))))) ∷ []) ⌝ }
     ensures { λ _. ⌜ length (now (work .exit)) ≡ length (now (work .entry)) ⌝ }
 {
     if !vector_tests::is_permutation(p, work, 0, 42 * n) {
@@ -95,11 +109,12 @@ fn test_permuted(
 
 // Answer 1 from its bytes; the keys and the committed pairs do not enter.
 fn test_first(work: &mut [u8], d: &[u8], answer: &[u8], place: u32, n: usize, q: u64) -> Reply
-    requires { ⌜ (n ≤ 2048) × (3 ≤ q) × (q < 2 ^ 56) × (length (now work) ≡ scratchLength) × (length (now d) ≡ 96) × (length (now answer) ≡ 378 * n + 64) × (allBelow q (vector (answer1Of n (now answer) .t)) ≡ true) ⌝ }
+    requires { ⌜ (n ≤ 2048) × (3 ≤ q) × (q < 2 ^ 56) × (length (now work) ≡ scratchLength) × (length (now d) ≡ 96)
+        × (length (now answer) ≡ 378 * n + 64) × (allBelow q (vector (answer1Of n (now answer) .t)) ≡ true) ⌝ }
     ensures { λ reply. ⌜ reply ≡ first (tests1 q n (keysOf n []) [] (now (d .entry)) place (answer1Of n (now (answer .entry)))) ⌝ }
-    ensures { λ _. ⌜ length (now (work .exit)) ≡ length (now (work .entry)) ⌝ }
+    ensures { λ _. ⌜ now (work .exit) ≡ zeros (length (now (work .entry))) ⌝ }
 {
-    test_balanced(
+    let reply = test_balanced(
         work,
         &d[32..64],
         &d[64..96],
@@ -110,7 +125,9 @@ fn test_first(work: &mut [u8], d: &[u8], answer: &[u8], place: u32, n: usize, q:
         place,
         n,
         q,
-    )
+    );
+    codec::wipe(work);
+    reply
 }
 
 // Answer 2 from its bytes.
@@ -124,11 +141,14 @@ fn test_second(
     n: usize,
     q: u64,
 ) -> Reply
-    requires { ⌜ PublicKeys n q (now k) × (length (now work) ≡ scratchLength) × (length (now d) ≡ 96) × (length (now answer) ≡ 504 * n + 64) × (length (now c) ≡ 64 * n) × (allBelow q (vector (now c)) ≡ true) × (allBelow q (vector (answer2Of n (now answer) .u)) ≡ true) ⌝ }
-    ensures { λ reply. ⌜ reply ≡ first (tests2 q n (keysOf n (now (k .entry))) (now (c .entry)) (now (d .entry)) place (answer2Of n (now (answer .entry)))) ⌝ }
-    ensures { λ _. ⌜ length (now (work .exit)) ≡ length (now (work .entry)) ⌝ }
+    requires { ⌜ PublicKeys n q (now k) × (length (now work) ≡ scratchLength) × (length (now d) ≡ 96)
+        × (length (now answer) ≡ 504 * n + 64) × (length (now c) ≡ 64 * n) × (allBelow q (vector (now c)) ≡ true)
+        × (allBelow q (vector (answer2Of n (now answer) .u)) ≡ true) ⌝ }
+    ensures { λ reply. ⌜ reply ≡ first (tests2 q n (keysOf n (now (k .entry))) (now (c .entry)) (now (d .entry)) place
+        (answer2Of n (now (answer .entry)))) ⌝ }
+    ensures { λ _. ⌜ now (work .exit) ≡ zeros (length (now (work .entry))) ⌝ }
 {
-    test_permuted(
+    let reply = test_permuted(
         work,
         k,
         c,
@@ -143,7 +163,9 @@ fn test_second(
         place,
         n,
         q,
-    )
+    );
+    codec::wipe(work);
+    reply
 }
 
 // Answer 3 from its bytes.
@@ -157,11 +179,14 @@ fn test_third(
     n: usize,
     q: u64,
 ) -> Reply
-    requires { ⌜ PublicKeys n q (now k) × (length (now work) ≡ scratchLength) × (length (now d) ≡ 96) × (length (now answer) ≡ 504 * n + 64) × (length (now c) ≡ 64 * n) × (allBelow q (vector (now c)) ≡ true) × (allBelow q (vector (answer3Of n (now answer) .r)) ≡ true) ⌝ }
-    ensures { λ reply. ⌜ reply ≡ first (tests3 q n (keysOf n (now (k .entry))) (now (c .entry)) (now (d .entry)) place (answer3Of n (now (answer .entry)))) ⌝ }
-    ensures { λ _. ⌜ length (now (work .exit)) ≡ length (now (work .entry)) ⌝ }
+    requires { ⌜ PublicKeys n q (now k) × (length (now work) ≡ scratchLength) × (length (now d) ≡ 96)
+        × (length (now answer) ≡ 504 * n + 64) × (length (now c) ≡ 64 * n) × (allBelow q (vector (now c)) ≡ true)
+        × (allBelow q (vector (answer3Of n (now answer) .r)) ≡ true) ⌝ }
+    ensures { λ reply. ⌜ reply ≡ first (tests3 q n (keysOf n (now (k .entry))) (now (c .entry)) (now (d .entry)) place
+        (answer3Of n (now (answer .entry)))) ⌝ }
+    ensures { λ _. ⌜ now (work .exit) ≡ zeros (length (now (work .entry))) ⌝ }
 {
-    test_permuted(
+    let reply = test_permuted(
         work,
         k,
         c,
@@ -176,10 +201,12 @@ fn test_third(
         place,
         n,
         q,
-    )
+    );
+    codec::wipe(work);
+    reply
 }
 
-// An answer to a challenge of 1, 2, 3 from its bytes.
+// An answer to a challenge of 1, 2, 3 from its bytes, and scratch zeroed.
 pub fn test_answer(
     work: &mut [u8],
     k: &[u8],
@@ -191,9 +218,12 @@ pub fn test_answer(
     n: usize,
     q: u64,
 ) -> Reply
-    requires { ⌜ PublicKeys n q (now k) × (length (now work) ≡ scratchLength) × (length (now d) ≡ 96) × (length (now c) ≡ 64 * n) × (allBelow q (vector (now c)) ≡ true) × (length (now answer) ≡ answerLength n challenge) × (inRange q n challenge (now answer) ≡ true) ⌝ }
-    ensures { λ reply. ⌜ reply ≡ first (answerTests q n (keysOf n (now (k .entry))) (now (c .entry)) (now (d .entry)) place challenge (now (answer .entry))) ⌝ }
-    ensures { λ _. ⌜ length (now (work .exit)) ≡ length (now (work .entry)) ⌝ }
+    requires { ⌜ PublicKeys n q (now k) × (length (now work) ≡ scratchLength) × (length (now d) ≡ 96) × (length (now c) ≡ 64 * n)
+        × (allBelow q (vector (now c)) ≡ true) × (length (now answer) ≡ answerLength n challenge)
+        × (inRange q n challenge (now answer) ≡ true) ⌝ }
+    ensures { λ reply. ⌜ reply ≡ first (answerTests q n (keysOf n (now (k .entry))) (now (c .entry)) (now (d .entry)) place challenge
+        (now (answer .entry))) ⌝ }
+    ensures { λ _. ⌜ now (work .exit) ≡ zeros (length (now (work .entry))) ⌝ }
 {
     if challenge == 1 {
         return test_first(work, d, answer, place, n, q);

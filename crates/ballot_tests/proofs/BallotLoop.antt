@@ -19,12 +19,12 @@ use Rattle.transcript.specs.Method.{Batch, Shares}
 use Rattle.transcript.proofs.Compared.{within-alike, vote-alike, lent-alike}
 use Rattle.transcript.proofs.Many.{each-more, each-refused, each-taken, stretch}
 
-module _ (q n bound : ℕ) (s ballots claims shares0 shares1 opened : Bytes) where
+module _ (q n p bound : ℕ) (s ballots claims shares0 shares1 opened : Bytes) where
   -- the tests of the ballot, claim and shares at places
   abbrev at-places : (at claim share place : ℕ) → List Test
   at-places at claim share place =
-      test 12 place (not (within bound n (worked q n 2 (poly s) (slot ballots (at + 4)) (slot opened share))))
-      ∷ test 13 place (not (same (part claims claim n) (list n (reconstructed q 2 (slot ballots (at + 4 + 8 * n)) (slot shares0 share) (slot shares1 share)))))
+      test 12 place (not (within bound n (worked q n p (poly s) (slot ballots (at + 4)) (slot opened share))))
+      ∷ test 13 place (not (same (part claims claim n) (list n (reconstructed q p (slot ballots (at + 4 + 8 * n)) (slot shares0 share) (slot shares1 share)))))
       ∷ []
 
   -- the same from parts that are lent with lengths that are differences of places
@@ -48,13 +48,13 @@ module _ (q n bound : ℕ) (s ballots claims shares0 shares1 opened : Bytes) whe
     alike-v = lent-alike n q ballots (at + 4 + 8 * n) (at + 4 + 16 * n - (at + 4 + 8 * n)) (omega arith) (omega arith)
 
     pub lent-tests : {r : Reply}
-        → r ≡ first (test 12 place (not (within bound n (worked q n 2 (poly s) lent-u (lent opened)))) ∷ test 13 place (not (same (take (claim + n - claim) (drop claim claims)) (list n (reconstructed q 2 lent-v (lent shares0) (lent shares1))))) ∷ [])
+        → r ≡ first (test 12 place (not (within bound n (worked q n p (poly s) lent-u (lent opened)))) ∷ test 13 place (not (same (take (claim + n - claim) (drop claim claims)) (list n (reconstructed q p lent-v (lent shares0) (lent shares1))))) ∷ [])
         → r ≡ first (at-places at claim share place)
     lent-tests e =
         let m : claim + n - claim ≡ n = omega arith in
         e
-        ∙ ap₂ (λ (y z : Bool). first (test 12 place (not y) ∷ test 13 place (not z) ∷ [])) (within-alike q n 2 bound (poly s) alike-u (alike-at opened lo))
-        (ap₂ same (ap (λ (k : ℕ). take k (drop claim claims)) m) (vote-alike q n 2 alike-v (alike-at shares0 l0) (alike-at shares1 l1)))
+        ∙ ap₂ (λ (y z : Bool). first (test 12 place (not y) ∷ test 13 place (not z) ∷ [])) (within-alike q n p bound (poly s) alike-u (alike-at opened lo))
+        (ap₂ same (ap (λ (k : ℕ). take k (drop claim claims)) m) (vote-alike q n p alike-v (alike-at shares0 l0) (alike-at shares1 l1)))
 
   -- of ballot j
   abbrev pub ballotTests : ℕ → List Test

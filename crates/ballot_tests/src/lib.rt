@@ -2,3 +2,4 @@
 pub mod ballots;
 pub mod halves;
 pub mod ranges;
+mod votes;

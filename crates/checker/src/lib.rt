@@ -8,22 +8,29 @@ use round_parts::openings::test_votes;
 use round_parts::ranges::answers_ranged;
 use round_parts::ranges::message_ranged;
 use round_parts::ranges::opening_ranged;
+use sheet_numbers::Numbers;
 ghost use mathlib.Core.Path.{_≡_};
 ghost use mathlib.Core.List.{_++_};
-ghost use Prim.Native.Nat.{_*_, _%_, _≤_};
+ghost use Prim.Native.Nat.{_*_, _≤_};
 ghost use lib.ListN.{length};
+ghost use Rattle.codec.specs.Bytes.{Bytes, zeros};
+ghost use Rattle.codec.specs.Slices.{given, left};
 ghost use Rattle.codec.specs.Reply.{first};
-ghost use Rattle.ring.specs.Slots.{poly, slot};
-ghost use Rattle.call.specs.Call.{scratchLength, Polynomial};
-ghost use Rattle.commitment.specs.Commitment.{keysOf, PublicKeys};
+ghost use Rattle.ring.specs.Slots.{slot};
+ghost use Rattle.sheet_numbers.specs.Plain.{plain, maskOf};
+ghost use Rattle.sheet_numbers.specs.Usable.{Usable};
+ghost use Rattle.call.specs.Call.{scratchLength};
+ghost use Rattle.commitment.specs.Loaded.{Loaded};
 ghost use Rattle.transcript.specs.Layout.{ballotLength, answersLength};
-ghost use Rattle.transcript.specs.Round.{Lengths, ranged, roundTests};
-ghost use Rattle.transcript.specs.Method.{parameters, Batch, Shares};
+ghost use Rattle.transcript.specs.Round.{Lengths, roundOf, ofSide, ranged, answersTests, votesTests, roundLater, roundTests};
+ghost use Rattle.transcript.specs.RoundSlices.{roundIn};
+ghost use Rattle.transcript.specs.Sheets.{parameters};
+ghost use Rattle.transcript.specs.Method.{Batch, Shares};
 ghost use Rattle.round_parts.specs.Lent.{Opened, RoundInRange};
-ghost use Rattle.round_parts.specs.Orders.{roundOf, rangeParameters, ofSide, voteTests, answersTests, laterTests};
 
-// 5: whether all that is lent is in range. The bound and the polynomials of the sheet do not enter.
+// 5: whether all that is lent is in range. The polynomials of the sheet, whatever they are, do not enter.
 fn round_ranged(
+    k: Numbers,
     side: u64,
     challenges: &[u8],
     ballots: &[u8],
@@ -34,28 +41,29 @@ fn round_ranged(
     opening: &[u8],
     answers: &[u8],
     count: usize,
-    repeats: usize,
-    n: usize,
-    q: u64,
 ) -> bool
-    requires { ⌜ (n ≤ 2048) × (count ≤ 4096) × (repeats ≤ 256) × (length (now challenges) ≡ repeats) × (length (now answers) ≡ answersLength n (now challenges)) × (length (now ballots) ≡ ballotLength n * count) × (80 * n ≤ length (now head)) × (length (now opening) ≡ 22 * n) ⌝ }
-    ensures { λ r. ⌜ r ≡ ranged (rangeParameters n q repeats) count (roundOf side (now (challenges .entry)) (now (ballots .entry)) (now (claims .entry)) (now (head .entry)) (now (shares0 .entry)) (now (shares1 .entry)) (now (opening .entry)) (now (answers .entry))) ⌝ }
+    requires { ⌜ (k .ring ≤ 2048) × (count ≤ 4096) × (k .repeats ≤ 256) × (length (now challenges) ≡ k .repeats)
+        × (length (now answers) ≡ answersLength (k .ring) (now challenges)) × (length (now ballots) ≡ ballotLength (k .ring) * count)
+        × (80 * k .ring ≤ length (now head)) × (length (now opening) ≡ 22 * k .ring) ⌝ }
+    ensures { λ r. let x = roundIn side challenges ballots claims head shares0 shares1 opening answers in
+        ⌜ ((s : Bytes) → r ≡ ranged (parameters k s) count x) ⌝ }
 {
     if 2 <= side {
         return false;
     }
-    if !answers_ranged(challenges, answers, repeats, n, q) {
+    if !answers_ranged(k, challenges, answers) {
         return false;
     }
-    if !message_ranged(ballots, claims, head, shares0, shares1, count, n, q) {
+    if !message_ranged(k, ballots, claims, head, shares0, shares1, count) {
         return false;
     }
-    opening_ranged(opening, n, q)
+    opening_ranged(k, opening)
 }
 
-// By ballot 12, 13, with the shares of the opened side.
+// By ballot 12, 13, with the shares of the opened side; and scratch zeroed.
 fn check_votes(
     work: &mut [u8],
+    k: Numbers,
     side: u64,
     opening: &[u8],
     ballots: &[u8],
@@ -63,17 +71,18 @@ fn check_votes(
     shares0: &[u8],
     shares1: &[u8],
     count: usize,
-    bound: u64,
-    n: usize,
-    q: u64,
 ) -> Reply
-    requires { ⌜ Opened q n (now opening) × (q % 2 ≡ 1) × (length (now work) ≡ scratchLength) × (count ≤ 4096) × Batch q n count (now ballots) (now claims) × Shares q n count (now shares0) × Shares q n count (now shares1) ⌝ }
-    ensures { λ reply. ⌜ reply ≡ first (voteTests q n bound count (slot (now (opening .entry)) 0) (now (ballots .entry)) (now (claims .entry)) (now (shares0 .entry)) (now (shares1 .entry)) (ofSide side (now (shares0 .entry)) (now (shares1 .entry)))) ⌝ }
-    ensures { λ _. ⌜ length (now (work .exit)) ≡ length (now (work .entry)) ⌝ }
+    requires { ⌜ Usable k × Opened (k .modulus) (k .ring) (now opening) × (length (now work) ≡ scratchLength) × (count ≤ 4096)
+        × Batch (k .modulus) (k .ring) count (now ballots) (now claims) × Shares (k .modulus) (k .ring) count (now shares0)
+        × Shares (k .modulus) (k .ring) count (now shares1) ⌝ }
+    ensures { λ reply. ⌜ (reply ≡ first (votesTests (k .modulus) (k .ring) (plain k) (maskOf k) count (slot (given opening) 0)
+        (given ballots) (given claims) (given shares0) (given shares1) (ofSide side (given shares0) (given shares1))))
+        × (left work ≡ zeros (length (given work))) ⌝ }
 {
     if side == 0 {
         return test_votes(
             work,
+            k,
             opening,
             ballots,
             claims,
@@ -81,13 +90,11 @@ fn check_votes(
             shares1,
             shares0,
             count,
-            bound,
-            n,
-            q,
         );
     }
     test_votes(
         work,
+        k,
         opening,
         ballots,
         claims,
@@ -95,16 +102,14 @@ fn check_votes(
         shares1,
         shares1,
         count,
-        bound,
-        n,
-        q,
     )
 }
 
-// By repetition 9, 10, 11, then by ballot 12, 13.
+// By repetition 9, 10, 11, then by ballot 12, 13; and scratch zeroed.
 fn check_answers(
     work: &mut [u8],
-    k: &[u8],
+    k: Numbers,
+    public: &[u8],
     side: u64,
     challenges: &[u8],
     ballots: &[u8],
@@ -115,21 +120,21 @@ fn check_answers(
     opening: &[u8],
     answers: &[u8],
     count: usize,
-    repeats: usize,
-    bound: u64,
-    n: usize,
-    q: u64,
 ) -> Reply
-    requires { ⌜ PublicKeys n q (now k) × (q % 2 ≡ 1) × (length (now work) ≡ scratchLength) × (count ≤ 4096) × (repeats ≤ 256) × RoundInRange q n count repeats (roundOf side (now challenges) (now ballots) (now claims) (now head) (now shares0) (now shares1) (now opening) (now answers)) ⌝ }
-    ensures { λ reply. ⌜ reply ≡ first (answersTests q n (keysOf n (now (k .entry))) repeats (now (head .entry)) (now (challenges .entry)) (now (answers .entry)) ++ voteTests q n bound count (slot (now (opening .entry)) 0) (now (ballots .entry)) (now (claims .entry)) (now (shares0 .entry)) (now (shares1 .entry)) (ofSide side (now (shares0 .entry)) (now (shares1 .entry)))) ⌝ }
-    ensures { λ _. ⌜ length (now (work .exit)) ≡ length (now (work .entry)) ⌝ }
+    requires { ⌜ Loaded k (now public) × (length (now work) ≡ scratchLength) × (count ≤ 4096)
+        × RoundInRange (k .modulus) (k .ring) count (k .repeats)
+        (roundOf side (now challenges) (now ballots) (now claims) (now head) (now shares0) (now shares1) (now opening) (now answers)) ⌝ }
+    ensures { λ reply. ⌜ (reply ≡ first (answersTests (parameters k (given public)) (given head) (given challenges) (given answers)
+        ++ votesTests (k .modulus) (k .ring) (plain k) (maskOf k) count (slot (given opening) 0) (given ballots) (given claims)
+        (given shares0) (given shares1) (ofSide side (given shares0) (given shares1)))) × (left work ≡ zeros (length (given work))) ⌝ }
 {
-    let answered = test_repetitions(work, k, head, challenges, answers, repeats, n, q);
+    let answered = test_repetitions(work, k, public, head, challenges, answers);
     let Reply::Taken = answered else {
         return answered;
     };
     check_votes(
         work,
+        k,
         side,
         opening,
         ballots,
@@ -137,18 +142,14 @@ fn check_answers(
         shares0,
         shares1,
         count,
-        bound,
-        n,
-        q,
     )
 }
 
-// 6, 7, 8, then the answers and the ballots, of a round that is in range.
+// 6, 7, 8, then the answers and the ballots, of a round that is in range; and scratch zeroed.
 fn check_ranged(
     work: &mut [u8],
-    a: &[u8],
-    b: &[u8],
-    k: &[u8],
+    k: Numbers,
+    public: &[u8],
     side: u64,
     challenges: &[u8],
     ballots: &[u8],
@@ -159,25 +160,24 @@ fn check_ranged(
     opening: &[u8],
     answers: &[u8],
     count: usize,
-    repeats: usize,
-    bound: u64,
-    n: usize,
-    q: u64,
 ) -> Reply
-    requires { ⌜ Polynomial n q (now a) × Polynomial n q (now b) × PublicKeys n q (now k) × (q % 2 ≡ 1) × (length (now work) ≡ scratchLength) × (count ≤ 4096) × (repeats ≤ 256) × RoundInRange q n count repeats (roundOf side (now challenges) (now ballots) (now claims) (now head) (now shares0) (now shares1) (now opening) (now answers)) ⌝ }
-    ensures { λ reply. ⌜ reply ≡ first (laterTests q n bound count repeats (poly (now (a .entry))) (poly (now (b .entry))) (keysOf n (now (k .entry))) (roundOf side (now (challenges .entry)) (now (ballots .entry)) (now (claims .entry)) (now (head .entry)) (now (shares0 .entry)) (now (shares1 .entry)) (now (opening .entry)) (now (answers .entry)))) ⌝ }
-    ensures { λ _. ⌜ length (now (work .exit)) ≡ length (now (work .entry)) ⌝ }
+    requires { ⌜ Loaded k (now public) × (length (now work) ≡ scratchLength) × (count ≤ 4096)
+        × RoundInRange (k .modulus) (k .ring) count (k .repeats)
+        (roundOf side (now challenges) (now ballots) (now claims) (now head) (now shares0) (now shares1) (now opening) (now answers)) ⌝ }
+    ensures { λ reply. let x = roundIn side challenges ballots claims head shares0 shares1 opening answers in
+        ⌜ (reply ≡ first (roundLater (parameters k (given public)) count x)) × (left work ≡ zeros (length (given work))) ⌝ }
 {
-    if !splits(work, head, b, repeats, n, q) {
+    if !splits(work, k, public, head) {
         return refused(6);
     }
-    let opened = test_opening(work, a, k, head, side as usize, opening, n, q);
+    let opened = test_opening(work, k, public, head, side as usize, opening);
     let Reply::Taken = opened else {
         return opened;
     };
     check_answers(
         work,
         k,
+        public,
         side,
         challenges,
         ballots,
@@ -188,19 +188,14 @@ fn check_ranged(
         opening,
         answers,
         count,
-        repeats,
-        bound,
-        n,
-        q,
     )
 }
 
-// The whole check of a round whose lengths are right, for the polynomials of a sheet and `count` ballots.
+// The whole check of a round whose lengths are right, for a sheet that was taken and `count` ballots; and scratch zeroed.
 pub fn check_round(
     work: &mut [u8],
-    a: &[u8],
-    b: &[u8],
-    k: &[u8],
+    k: Numbers,
+    public: &[u8],
     side: u64,
     challenges: &[u8],
     ballots: &[u8],
@@ -211,37 +206,14 @@ pub fn check_round(
     opening: &[u8],
     answers: &[u8],
     count: usize,
-    repeats: usize,
-    bound: u64,
-    n: usize,
-    q: u64,
 ) -> Reply
-    requires { ⌜ Polynomial n q (now a) × Polynomial n q (now b) × PublicKeys n q (now k) × (q % 2 ≡ 1) × (length (now work) ≡ scratchLength) × (count ≤ 4096) × (repeats ≤ 256) ⌝ }
-    requires { ⌜ Lengths (parameters 2 n q bound repeats (now a) (now b) (now k)) count (roundOf side (now challenges) (now ballots) (now claims) (now head) (now shares0) (now shares1) (now opening) (now answers)) ⌝ }
-    ensures { λ reply. ⌜ reply ≡ first (roundTests (parameters 2 n q bound repeats (now (a .entry)) (now (b .entry)) (now (k .entry))) count (roundOf side (now (challenges .entry)) (now (ballots .entry)) (now (claims .entry)) (now (head .entry)) (now (shares0 .entry)) (now (shares1 .entry)) (now (opening .entry)) (now (answers .entry)))) ⌝ }
-    ensures { λ _. ⌜ length (now (work .exit)) ≡ length (now (work .entry)) ⌝ }
+    requires { ⌜ Loaded k (now public) × (length (now work) ≡ scratchLength) × (count ≤ 4096)
+        × Lengths (parameters k (now public)) count
+        (roundOf side (now challenges) (now ballots) (now claims) (now head) (now shares0) (now shares1) (now opening) (now answers)) ⌝ }
+    ensures { λ reply. let x = roundIn side challenges ballots claims head shares0 shares1 opening answers in
+        ⌜ (reply ≡ first (roundTests (parameters k (given public)) count x)) × (left work ≡ zeros (length (given work))) ⌝ }
 {
     if !round_ranged(
-        side,
-        challenges,
-        ballots,
-        claims,
-        head,
-        shares0,
-        shares1,
-        opening,
-        answers,
-        count,
-        repeats,
-        n,
-        q,
-    ) {
-        return refused(5);
-    }
-    check_ranged(
-        work,
-        a,
-        b,
         k,
         side,
         challenges,
@@ -253,9 +225,23 @@ pub fn check_round(
         opening,
         answers,
         count,
-        repeats,
-        bound,
-        n,
-        q,
+    ) {
+        codec::wipe(work);
+        return refused(5);
+    }
+    check_ranged(
+        work,
+        k,
+        public,
+        side,
+        challenges,
+        ballots,
+        claims,
+        head,
+        shares0,
+        shares1,
+        opening,
+        answers,
+        count,
     )
 }

@@ -1,12 +1,13 @@
 -- The check of one round over the sheet and lent bytes, with side and challenges lent (document 01, the order of check). It has no session: 31 and 16, and lengths by the
 -- number that was closed, are the session's. Assumes nothing.
+use mathlib.Core.Path.{_≡_}
 use mathlib.Core.Bool.{_&&_}
 use mathlib.Core.List.{List, _∷_, _++_}
-use Prim.Native.Nat.{ℕ}
 use Rattle.codec.specs.Bytes.{Bytes}
 use Rattle.codec.specs.Reply.{Test, first}
 use Rattle.codec.specs.declared.Reply.{Reply}
 use Rattle.sheet.specs.Sheet.{order}
+use Rattle.call.specs.Call.{swept}
 use Rattle.transcript.specs.Round.{Parameters, Round, roundTests}
 use Rattle.lengths.specs.Calls.{countOf, lengthsTest, messageSized, secondSized}
 use Rattle.lengths.specs.Sheets.{parametersOf}
@@ -21,3 +22,7 @@ checkTests P r scratch =
 
 unfoldable pub checkReply : (text : Bytes) → Round → (scratch : Bytes) → Reply
 checkReply text r scratch = first (order text ++ checkTests (parametersOf text) r scratch)
+
+pub record CheckCalled (text : Bytes) (r : Round) (scratch : Bytes) (reply : Reply) (scratch' : Bytes) : Type 0 where
+  pub replied : reply ≡ checkReply text r scratch
+  pub cleared : scratch' ≡ swept reply scratch

@@ -1,14 +1,14 @@
-// The check of one round for tests and benchmarks outside the proof, with the side and the challenges lent; in the library a session draws them.
+// The check of one round for tests and benchmarks outside the proof, with the side and the challenges lent; in the library a session
+// draws them.
 // In C a slice is `uint8_t *, size_t`, and `const` where it is lent to be read.
-mod parted;
 mod taken;
 
 use codec::Reply;
 ghost use mathlib.Core.Path.{_≡_};
+ghost use Rattle.codec.specs.Slices.{given, left};
 ghost use Rattle.codec.specs.Reply.{packed};
-ghost use Rattle.call.specs.Call.{swept};
-ghost use Rattle.round_parts.specs.Orders.{roundOf};
-ghost use Rattle.checker_calls.specs.Replies.{checkReply};
+ghost use Rattle.transcript.specs.RoundSlices.{roundIn};
+ghost use Rattle.checker_calls.specs.Replies.{checkReply, CheckCalled};
 
 // Checks one round with the side and the challenges that are lent.
 fn check(
@@ -24,36 +24,26 @@ fn check(
     answers: &[u8],
     scratch: &mut [u8],
 ) -> Reply
-    ensures { λ reply. ⌜ reply ≡ checkReply (now (sheet .entry)) (roundOf side (now (challenges .entry)) (now (ballots .entry)) (now (claims .entry)) (now (head .entry)) (now (shares0 .entry)) (now (shares1 .entry)) (now (opening .entry)) (now (answers .entry))) (now (scratch .entry)) ⌝ }
-    ensures { λ reply. ⌜ now (scratch .exit) ≡ swept reply (now (scratch .entry)) ⌝ }
+    ensures { λ reply. let x = roundIn side challenges ballots claims head shares0 shares1 opening answers in
+        ⌜ CheckCalled (given sheet) x (given scratch) reply (left scratch) ⌝ }
 {
     let mut public = [0u8; 81920];
     let reading = sheet::load(sheet, &mut public);
     match reading {
-        sheet::Reading::Taken(k) => {
-            let n = k.ring as usize;
-            let repeats = k.repeats as usize;
-            let bound = sheet_numbers::mask_bound(k);
-            let reply = parted::check(
-                &public,
-                side,
-                challenges,
-                ballots,
-                claims,
-                head,
-                shares0,
-                shares1,
-                opening,
-                answers,
-                scratch,
-                repeats,
-                bound,
-                n,
-                k.modulus,
-            );
-            call::sweep(reply, scratch);
-            reply
-        }
+        sheet::Reading::Taken(k) => taken::check(
+            k,
+            &public,
+            side,
+            challenges,
+            ballots,
+            claims,
+            head,
+            shares0,
+            shares1,
+            opening,
+            answers,
+            scratch,
+        ),
         sheet::Reading::Refused { number } => {
             let reply = Reply::Refused { number, place: 0 };
             call::sweep(reply, scratch);
@@ -77,8 +67,9 @@ pub extern "C" fn checker_calls_round(
     answers: &[u8],
     scratch: &mut [u8],
 ) -> u64
-    ensures reply { λ answer. ⌜ answer ≡ packed (checkReply (now (sheet .entry)) (roundOf side (now (challenges .entry)) (now (ballots .entry)) (now (claims .entry)) (now (head .entry)) (now (shares0 .entry)) (now (shares1 .entry)) (now (opening .entry)) (now (answers .entry))) (now (scratch .entry))) ⌝ }
-    ensures swept { λ _. ⌜ now (scratch .exit) ≡ swept (checkReply (now (sheet .entry)) (roundOf side (now (challenges .entry)) (now (ballots .entry)) (now (claims .entry)) (now (head .entry)) (now (shares0 .entry)) (now (shares1 .entry)) (now (opening .entry)) (now (answers .entry))) (now (scratch .entry))) (now (scratch .entry)) ⌝ }
+    ensures { λ answer. let x = roundIn side challenges ballots claims head shares0 shares1 opening answers in
+        let reply = checkReply (given sheet) x (given scratch) in
+        ⌜ (answer ≡ packed reply) × CheckCalled (given sheet) x (given scratch) reply (left scratch) ⌝ }
 {
     codec::pack(check(
         sheet,

@@ -13,8 +13,7 @@ use Rattle.codec.proofs.Replies.{taken-exactly}
 use Rattle.sheet.specs.Reader.{sheetOf}
 use Rattle.sheet_numbers.specs.declared.Numbers.{Numbers}
 use Rattle.call.specs.Call.{scratchLength}
-use Rattle.transcript.specs.Round.{Lengths}
-use Rattle.round_parts.specs.Orders.{roundOf}
+use Rattle.transcript.specs.Round.{Lengths, roundOf}
 use Rattle.lengths.specs.Calls.{messageSized, secondSized}
 use Rattle.transcript.specs.Sheets as sheets
 use Rattle.lengths.proofs.Sizes.{check-lengths}

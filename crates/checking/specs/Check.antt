@@ -1,11 +1,15 @@
 -- The check of a round against what a session holds (document 01, "Refused because of the state", the order of check after 31): the sheet's 1 to 5, then 1, 16, and the
 -- round's own 5 to 13. What is held, what is lent, 1 and 16 are those of the crate `stored`. Assumes nothing.
+use mathlib.Core.Path.{_≡_}
 use mathlib.Core.List.{List, _++_}
 use Prim.Native.Nat.{ℕ}
+use Rattle.codec.specs.Bytes.{Bytes}
+use Rattle.codec.specs.Slices.{Slice, given}
 use Rattle.codec.specs.Reply.{Test, first}
 use Rattle.codec.specs.declared.Reply.{Reply}
 use Rattle.codec.specs.declared.Reply.the-variants as reply
 use Rattle.sheet.specs.Sheet.{order}
+use Rattle.call.specs.Call.{swept}
 use Rattle.transcript.specs.Round.{roundTests}
 use Rattle.lengths.specs.Sheets.{parametersOf}
 use Rattle.stored.specs.declared.Stored.{Stored}
@@ -39,3 +43,12 @@ module _ (s : Stored) where
 -- what a check comes to
 abbrev pub outcome : Stored → Inputs → Verdict
 outcome s x = verdict (first (earlyTests s x)) (first (lateTests s x))
+
+-- the verdict, and scratch, which is zeroed unless the verdict is 1 or 31
+abbrev pub Checked : Stored → Inputs → Verdict → (scratch : Bytes) → Type 0
+Checked s x v scratch = (v ≡ outcome s x) × (scratch ≡ swept (replyOf v) (x .scratch))
+
+-- what is lent, from the names of its slices in a contract
+abbrev pub inputsIn : (sheet ballots claims head shares0 shares1 opening answers scratch : Slice) → Inputs
+inputsIn sheet ballots claims head shares0 shares1 opening answers scratch =
+    inputsOf (given sheet) (given ballots) (given claims) (given head) (given shares0) (given shares1) (given opening) (given answers) (given scratch)

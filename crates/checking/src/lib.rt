@@ -1,12 +1,12 @@
-// The check of a round against what a session holds (document 01, the order of check after 31). p is 2.
+// The check of a round against what a session holds (document 01, the order of check after 31).
 mod verdicts;
 
 use codec::Reply;
 use stored::Stored;
 ghost use mathlib.Core.Path.{_≡_};
-ghost use Rattle.call.specs.Call.{swept};
-ghost use Rattle.stored.specs.Stored.{Within, inputsOf};
-ghost use Rattle.checking.specs.Check.{outcome, replyOf};
+ghost use Rattle.codec.specs.Slices.{left};
+ghost use Rattle.stored.specs.Stored.{Within};
+ghost use Rattle.checking.specs.Check.{replyOf, Checked, inputsIn};
 
 // What a check comes to: stopped before the round was looked at, failed by the round itself, or passed.
 pub enum Verdict {
@@ -40,30 +40,25 @@ pub fn check(
     scratch: &mut [u8],
 ) -> Verdict
     requires { ⌜ Within held ⌝ }
-    ensures { λ v. ⌜ v ≡ outcome held (inputsOf (now (sheet .entry)) (now (ballots .entry)) (now (claims .entry)) (now (head .entry)) (now (shares0 .entry)) (now (shares1 .entry)) (now (opening .entry)) (now (answers .entry)) (now (scratch .entry))) ⌝ }
-    ensures { λ v. ⌜ now (scratch .exit) ≡ swept (replyOf v) (now (scratch .entry)) ⌝ }
+    ensures { λ v. ⌜ Checked held (inputsIn sheet ballots claims head shares0 shares1 opening answers scratch) v (left scratch) ⌝ }
 {
     let mut public = [0u8; 81920];
     let reading = sheet::load(sheet, &mut public);
     match reading {
-        sheet::Reading::Taken(k) => {
-            let checked = verdicts::check_taken(
-                &public,
-                k,
-                held,
-                sheet,
-                ballots,
-                claims,
-                head,
-                shares0,
-                shares1,
-                opening,
-                answers,
-                scratch,
-            );
-            call::sweep(reply_of(checked), scratch);
-            checked
-        }
+        sheet::Reading::Taken(k) => verdicts::check_taken(
+            k,
+            &public,
+            held,
+            sheet,
+            ballots,
+            claims,
+            head,
+            shares0,
+            shares1,
+            opening,
+            answers,
+            scratch,
+        ),
         sheet::Reading::Refused { number } => {
             let reply = Reply::Refused { number, place: 0 };
             call::sweep(reply, scratch);

@@ -1,12 +1,13 @@
-// The lowest digest for which answers open two different strings (document 01, the extractor's paragraph). The strings are compared part by part: salts, permutations,
-// equations and vectors. Nothing is hashed.
+// The lowest digest for which answers open two different strings (document 01, the extractor's paragraph). The strings are compared
+// part by part: salts, permutations, equations and vectors. Nothing is hashed.
 use stern::equations::equation_pair;
 ghost use mathlib.Core.Path.{_≡_};
 ghost use mathlib.Core.Bool.{true, false};
 ghost use mathlib.Core.List.{_++_};
 ghost use Prim.Native.Nat.{_+_, _*_, _≤_, _<_, _^_};
 ghost use lib.ListN.{length, take};
-ghost use Rattle.codec.specs.Bytes.{part, put, words, same};
+ghost use Rattle.codec.specs.Bytes.{part, put, words, same, zeros};
+ghost use Rattle.codec.specs.Slices.{given, left};
 ghost use Rattle.codec.specs.Lists.{allBelow};
 ghost use Rattle.call.specs.Call.{scratchLength};
 ghost use Rattle.commitment.specs.Commitment.{keysOf, pairBytes, PublicKeys};
@@ -22,7 +23,8 @@ ghost use Rattle.collisions.specs.Collision.{Answers, differing};
 // Copies the pair that stands in scratch into 16n bytes of room.
 fn keep_pair(room: &mut [u8], work: &[u8], n: usize)
     requires { ⌜ (16 * n ≤ length (now room)) × (49152 + 8 * n ≤ length (now work)) ⌝ }
-    ensures { λ _. ⌜ now (room .exit) ≡ put (now (room .entry)) 0 (part (now (work .entry)) 0 (8 * n) ++ part (now (work .entry)) 49152 (8 * n)) ⌝ }
+    ensures { λ _. ⌜ now (room .exit) ≡ put (now (room .entry)) 0 (part (now (work .entry)) 0 (8 * n)
+        ++ part (now (work .entry)) 49152 (8 * n)) ⌝ }
 {
     codec::copy(room, 0, &work[0..8 * n]);
     codec::copy(
@@ -35,7 +37,8 @@ fn keep_pair(room: &mut [u8], work: &[u8], n: usize)
 // Whether the pair that stands in scratch is the one that was kept.
 fn is_kept(room: &[u8], work: &[u8], n: usize) -> bool
     requires { ⌜ (16 * n ≤ length (now room)) × (49152 + 8 * n ≤ length (now work)) ⌝ }
-    ensures { λ yes. ⌜ yes ≡ same (part (now (room .entry)) 0 (16 * n)) (part (now (work .entry)) 0 (8 * n) ++ part (now (work .entry)) 49152 (8 * n)) ⌝ }
+    ensures { λ yes. ⌜ yes ≡ same (part (now (room .entry)) 0 (16 * n)) (part (now (work .entry)) 0 (8 * n)
+        ++ part (now (work .entry)) 49152 (8 * n)) ⌝ }
 {
     if !codec::equal(&room[0..8 * n], &work[0..8 * n]) {
         return false;
@@ -60,9 +63,13 @@ fn pairs_agree(
     n: usize,
     q: u64,
 ) -> bool
-    requires { ⌜ PublicKeys n q (now k) × (length (now work) ≡ scratchLength) × (16 * n ≤ length (now room)) × (length (now u) ≡ 336 * n) × (length (now r) ≡ 336 * n) × (length (now c) ≡ 64 * n) ⌝ }
-    requires { ⌜ (first + 6 * n ≤ 42 * n) × (message + n ≤ 42 * n) × (from + 4 * n ≤ 8 * n) × (allBelow q (vector (now u)) ≡ true) × (allBelow q (vector (now r)) ≡ true) × (allBelow q (vector (now c)) ≡ true) ⌝ }
-    ensures { λ yes. ⌜ yes ≡ same (pairBytes q n (equationPair q n (keysOf n (now (k .entry))) (now (c .entry)) true (now (u .entry)) first message from)) (pairBytes q n (equationPair q n (keysOf n (now (k .entry))) (now (c .entry)) false (now (r .entry)) first message from)) ⌝ }
+    requires { ⌜ PublicKeys n q (now k) × (length (now work) ≡ scratchLength) × (16 * n ≤ length (now room)) × (length (now u) ≡ 336 * n)
+        × (length (now r) ≡ 336 * n) × (length (now c) ≡ 64 * n) ⌝ }
+    requires { ⌜ (first + 6 * n ≤ 42 * n) × (message + n ≤ 42 * n) × (from + 4 * n ≤ 8 * n) × (allBelow q (vector (now u)) ≡ true)
+        × (allBelow q (vector (now r)) ≡ true) × (allBelow q (vector (now c)) ≡ true) ⌝ }
+    ensures { λ yes. ⌜ yes ≡ same (pairBytes q n (equationPair q n (keysOf n (now (k .entry))) (now (c .entry)) true
+        (now (u .entry)) first message from)) (pairBytes q n
+        (equationPair q n (keysOf n (now (k .entry))) (now (c .entry)) false (now (r .entry)) first message from)) ⌝ }
     ensures { λ _. ⌜ (length (now (work .exit)) ≡ length (now (work .entry))) × (length (now (room .exit)) ≡ length (now (room .entry))) ⌝ }
 {
     equation_pair(work, k, c, true, u, first, message, from, n, q);
@@ -82,9 +89,11 @@ fn equations_agree(
     n: usize,
     q: u64,
 ) -> bool
-    requires { ⌜ PublicKeys n q (now k) × (length (now work) ≡ scratchLength) × (16 * n ≤ length (now room)) × (length (now u) ≡ 336 * n) × (length (now r) ≡ 336 * n) × (length (now c) ≡ 64 * n) ⌝ }
+    requires { ⌜ PublicKeys n q (now k) × (length (now work) ≡ scratchLength) × (16 * n ≤ length (now room)) × (length (now u) ≡ 336 * n)
+        × (length (now r) ≡ 336 * n) × (length (now c) ≡ 64 * n) ⌝ }
     requires { ⌜ (allBelow q (vector (now u)) ≡ true) × (allBelow q (vector (now r)) ≡ true) × (allBelow q (vector (now c)) ≡ true) ⌝ }
-    ensures { λ yes. ⌜ yes ≡ same (words (subtract q (equations q n (keysOf n (now (k .entry))) (take (14 * n) (vector (now (u .entry))))) (sides q n (now (c .entry))))) (words (equations q n (keysOf n (now (k .entry))) (take (14 * n) (vector (now (r .entry)))))) ⌝ }
+    ensures { λ yes. ⌜ yes ≡ same (words (subtract q (equations q n (keysOf n (now (k .entry))) (take (14 * n) (vector (now (u .entry)))))
+        (sides q n (now (c .entry))))) (words (equations q n (keysOf n (now (k .entry))) (take (14 * n) (vector (now (r .entry)))))) ⌝ }
     ensures { λ _. ⌜ (length (now (work .exit)) ≡ length (now (work .entry))) × (length (now (room .exit)) ≡ length (now (room .entry))) ⌝ }
 {
     if !pairs_agree(work, room, k, c, u, r, 2 * n, 0, 0, n, q) {
@@ -96,7 +105,8 @@ fn equations_agree(
 // Whether answers 2 and 3 have one salt 1 and one P.
 fn starts_agree(answer2: &[u8], answer3: &[u8], n: usize) -> bool
     requires { ⌜ (n ≤ 2048) × (length (now answer2) ≡ 504 * n + 64) × (length (now answer3) ≡ 504 * n + 64) ⌝ }
-    ensures { λ yes. ⌜ yes ≡ same (answer2Of n (now (answer2 .entry)) .salt1 ++ answer2Of n (now (answer2 .entry)) .p) (answer3Of n (now (answer3 .entry)) .salt1 ++ answer3Of n (now (answer3 .entry)) .p) ⌝ }
+    ensures { λ yes. ⌜ yes ≡ same (answer2Of n (now (answer2 .entry)) .salt1
+        ++ answer2Of n (now (answer2 .entry)) .p) (answer3Of n (now (answer3 .entry)) .salt1 ++ answer3Of n (now (answer3 .entry)) .p) ⌝ }
 {
     let salt = 504 * n;
     if !codec::equal(&answer2[salt..salt + 32], &answer3[salt..salt + 32]) {
@@ -116,9 +126,13 @@ fn first_agrees(
     n: usize,
     q: u64,
 ) -> bool
-    requires { ⌜ PublicKeys n q (now k) × (length (now work) ≡ scratchLength) × (16 * n ≤ length (now room)) × (length (now answer2) ≡ 504 * n + 64) × (length (now answer3) ≡ 504 * n + 64) × (length (now c) ≡ 64 * n) ⌝ }
-    requires { ⌜ (allBelow q (vector (answer2Of n (now answer2) .u)) ≡ true) × (allBelow q (vector (answer3Of n (now answer3) .r)) ≡ true) × (allBelow q (vector (now c)) ≡ true) ⌝ }
-    ensures { λ yes. ⌜ yes ≡ same (one-by2 (setting q n (keysOf n (now (k .entry))) (now (c .entry))) (answer2Of n (now (answer2 .entry)))) (one-by3 (setting q n (keysOf n (now (k .entry))) (now (c .entry))) (answer3Of n (now (answer3 .entry)))) ⌝ }
+    requires { ⌜ PublicKeys n q (now k) × (length (now work) ≡ scratchLength) × (16 * n ≤ length (now room))
+        × (length (now answer2) ≡ 504 * n + 64) × (length (now answer3) ≡ 504 * n + 64) × (length (now c) ≡ 64 * n) ⌝ }
+    requires { ⌜ (allBelow q (vector (answer2Of n (now answer2) .u)) ≡ true) × (allBelow q (vector (answer3Of n (now answer3) .r)) ≡ true)
+        × (allBelow q (vector (now c)) ≡ true) ⌝ }
+    ensures { λ yes. ⌜ yes ≡ same (one-by2 (setting q n (keysOf n (now (k .entry))) (now (c .entry)))
+        (answer2Of n (now (answer2 .entry)))) (one-by3 (setting q n (keysOf n (now (k .entry))) (now (c .entry)))
+        (answer3Of n (now (answer3 .entry)))) ⌝ }
     ensures { λ _. ⌜ (length (now (work .exit)) ≡ length (now (work .entry))) × (length (now (room .exit)) ≡ length (now (room .entry))) ⌝ }
 {
     if !starts_agree(answer2, answer3, n) {
@@ -140,7 +154,8 @@ fn first_agrees(
 
 // Whether the bytes t are those of a vector in the order of the permutation p.
 fn is_gathered(work: &mut [u8], p: &[u8], x: &[u8], t: &[u8], n: usize) -> bool
-    requires { ⌜ (n ≤ 2048) × (length (now work) ≡ scratchLength) × (length (now p) ≡ 168 * n) × (length (now x) ≡ 336 * n) × (allBelow (42 * n) (entries (now p)) ≡ true) ⌝ }
+    requires { ⌜ (n ≤ 2048) × (length (now work) ≡ scratchLength) × (length (now p) ≡ 168 * n) × (length (now x) ≡ 336 * n)
+        × (allBelow (42 * n) (entries (now p)) ≡ true) ⌝ }
     ensures { λ yes. ⌜ yes ≡ same (now (t .entry)) (words (apply (entries (now (p .entry))) (vector (now (x .entry))))) ⌝ }
     ensures { λ _. ⌜ length (now (work .exit)) ≡ length (now (work .entry)) ⌝ }
 {
@@ -150,8 +165,11 @@ fn is_gathered(work: &mut [u8], p: &[u8], x: &[u8], t: &[u8], n: usize) -> bool
 
 // String 2 of answers 1 and 3.
 fn second_agrees(work: &mut [u8], answer1: &[u8], answer3: &[u8], n: usize) -> bool
-    requires { ⌜ (n ≤ 2048) × (length (now work) ≡ scratchLength) × (length (now answer1) ≡ 378 * n + 64) × (length (now answer3) ≡ 504 * n + 64) × (allBelow (42 * n) (entries (answer3Of n (now answer3) .p)) ≡ true) ⌝ }
-    ensures { λ yes. ⌜ yes ≡ same (string2 (answer1Of n (now (answer1 .entry)) .salt2) (answer1Of n (now (answer1 .entry)) .t)) (string2 (answer3Of n (now (answer3 .entry)) .salt2) (words (apply (entries (answer3Of n (now (answer3 .entry)) .p)) (vector (answer3Of n (now (answer3 .entry)) .r))))) ⌝ }
+    requires { ⌜ (n ≤ 2048) × (length (now work) ≡ scratchLength) × (length (now answer1) ≡ 378 * n + 64)
+        × (length (now answer3) ≡ 504 * n + 64) × (allBelow (42 * n) (entries (answer3Of n (now answer3) .p)) ≡ true) ⌝ }
+    ensures { λ yes. ⌜ yes ≡ same (string2 (answer1Of n (now (answer1 .entry)) .salt2) (answer1Of n (now (answer1 .entry)) .t))
+        (string2 (answer3Of n (now (answer3 .entry)) .salt2)
+        (words (apply (entries (answer3Of n (now (answer3 .entry)) .p)) (vector (answer3Of n (now (answer3 .entry)) .r))))) ⌝ }
     ensures { λ _. ⌜ length (now (work .exit)) ≡ length (now (work .entry)) ⌝ }
 {
     let one = 378 * n;
@@ -172,9 +190,11 @@ fn second_agrees(work: &mut [u8], answer1: &[u8], answer3: &[u8], n: usize) -> b
 
 // Whether the numbers of ternary bytes w plus t are those of u in the order of the permutation p.
 fn sums_agree(w: &[u8], t: &[u8], p: &[u8], u: &[u8], n: usize, q: u64) -> bool
-    requires { ⌜ (1 < q) × (q < 2 ^ 56) × (length (now w) ≡ n) × (length (now t) ≡ 8 * n) × (length (now p) ≡ 4 * n) × (length (now u) ≡ 8 * n) ⌝ }
+    requires { ⌜ (1 < q) × (q < 2 ^ 56) × (length (now w) ≡ n) × (length (now t) ≡ 8 * n) × (length (now p) ≡ 4 * n)
+        × (length (now u) ≡ 8 * n) ⌝ }
     requires { ⌜ (allBelow q (vector (now t)) ≡ true) × (allBelow q (vector (now u)) ≡ true) × (allBelow n (entries (now p)) ≡ true) ⌝ }
-    ensures { λ yes. ⌜ yes ≡ same (words (add q (ternaries q (now (w .entry))) (vector (now (t .entry))))) (words (apply (entries (now (p .entry))) (vector (now (u .entry))))) ⌝ }
+    ensures { λ yes. ⌜ yes ≡ same (words (add q (ternaries q (now (w .entry))) (vector (now (t .entry)))))
+        (words (apply (entries (now (p .entry))) (vector (now (u .entry))))) ⌝ }
 {
     let mut i = 0;
     while i < n {
@@ -191,8 +211,12 @@ fn sums_agree(w: &[u8], t: &[u8], p: &[u8], u: &[u8], n: usize, q: u64) -> bool
 // String 3 of answers 1 and 2.
 fn third_agrees(answer1: &[u8], answer2: &[u8], n: usize, q: u64) -> bool
     requires { ⌜ (n ≤ 2048) × (1 < q) × (q < 2 ^ 56) × (length (now answer1) ≡ 378 * n + 64) × (length (now answer2) ≡ 504 * n + 64) ⌝ }
-    requires { ⌜ (allBelow q (vector (answer1Of n (now answer1) .t)) ≡ true) × (allBelow q (vector (answer2Of n (now answer2) .u)) ≡ true) × (allBelow (42 * n) (entries (answer2Of n (now answer2) .p)) ≡ true) ⌝ }
-    ensures { λ yes. ⌜ yes ≡ same (string3 (answer1Of n (now (answer1 .entry)) .salt3) (add q (ternaries q (answer1Of n (now (answer1 .entry)) .w)) (vector (answer1Of n (now (answer1 .entry)) .t)))) (string3 (answer2Of n (now (answer2 .entry)) .salt3) (apply (entries (answer2Of n (now (answer2 .entry)) .p)) (vector (answer2Of n (now (answer2 .entry)) .u)))) ⌝ }
+    requires { ⌜ (allBelow q (vector (answer1Of n (now answer1) .t)) ≡ true) × (allBelow q (vector (answer2Of n (now answer2) .u)) ≡ true)
+        × (allBelow (42 * n) (entries (answer2Of n (now answer2) .p)) ≡ true) ⌝ }
+    ensures { λ yes. ⌜ yes ≡ same (string3 (answer1Of n (now (answer1 .entry)) .salt3)
+        (add q (ternaries q (answer1Of n (now (answer1 .entry)) .w)) (vector (answer1Of n (now (answer1 .entry)) .t))))
+        (string3 (answer2Of n (now (answer2 .entry)) .salt3)
+        (apply (entries (answer2Of n (now (answer2 .entry)) .p)) (vector (answer2Of n (now (answer2 .entry)) .u)))) ⌝ }
 {
     let one = 378 * n + 32;
     let two = 504 * n + 32;
@@ -211,8 +235,9 @@ fn third_agrees(answer1: &[u8], answer2: &[u8], n: usize, q: u64) -> bool
 
 // ---- all three
 
-// The lowest digest whose two strings differ, 0 if there is none. The first pair of equations is kept in the room for the second to be compared with.
-pub fn collision(
+// The lowest digest whose two strings differ, 0 if there is none. The first pair of equations is kept in the room for the second to be
+// compared with.
+fn lowest(
     work: &mut [u8],
     room: &mut [u8],
     k: &[u8],
@@ -223,8 +248,10 @@ pub fn collision(
     n: usize,
     q: u64,
 ) -> u8
-    requires { ⌜ PublicKeys n q (now k) × (length (now work) ≡ scratchLength) × (16 * n ≤ length (now room)) × (length (now c) ≡ 64 * n) × (allBelow q (vector (now c)) ≡ true) × Answers q n (now answer1) (now answer2) (now answer3) ⌝ }
-    ensures { λ digest. ⌜ digest ≡ differing (setting q n (keysOf n (now (k .entry))) (now (c .entry))) (answer1Of n (now (answer1 .entry))) (answer2Of n (now (answer2 .entry))) (answer3Of n (now (answer3 .entry))) ⌝ }
+    requires { ⌜ PublicKeys n q (now k) × (length (now work) ≡ scratchLength) × (16 * n ≤ length (now room)) × (length (now c) ≡ 64 * n)
+        × (allBelow q (vector (now c)) ≡ true) × Answers q n (now answer1) (now answer2) (now answer3) ⌝ }
+    ensures { λ digest. ⌜ digest ≡ differing (setting q n (keysOf n (now (k .entry))) (now (c .entry)))
+        (answer1Of n (now (answer1 .entry))) (answer2Of n (now (answer2 .entry))) (answer3Of n (now (answer3 .entry))) ⌝ }
     ensures { λ _. ⌜ (length (now (work .exit)) ≡ length (now (work .entry))) × (length (now (room .exit)) ≡ length (now (room .entry))) ⌝ }
 {
     if !first_agrees(work, room, k, c, answer2, answer3, n, q) {
@@ -237,4 +264,28 @@ pub fn collision(
         return 3;
     }
     0
+}
+
+// The same, with scratch and the room zeroed.
+pub fn collision(
+    work: &mut [u8],
+    room: &mut [u8],
+    k: &[u8],
+    c: &[u8],
+    answer1: &[u8],
+    answer2: &[u8],
+    answer3: &[u8],
+    n: usize,
+    q: u64,
+) -> u8
+    requires { ⌜ PublicKeys n q (now k) × (length (now work) ≡ scratchLength) × (16 * n ≤ length (now room)) × (length (now c) ≡ 64 * n)
+        × (allBelow q (vector (now c)) ≡ true) × Answers q n (now answer1) (now answer2) (now answer3) ⌝ }
+    ensures { λ digest. ⌜ digest ≡ differing (setting q n (keysOf n (now (k .entry))) (now (c .entry)))
+        (answer1Of n (now (answer1 .entry))) (answer2Of n (now (answer2 .entry))) (answer3Of n (now (answer3 .entry))) ⌝ }
+    ensures { λ _. ⌜ (left work ≡ zeros (length (given work))) × (left room ≡ zeros (length (given room))) ⌝ }
+{
+    let digest = lowest(work, room, k, c, answer1, answer2, answer3, n, q);
+    codec::wipe(work);
+    codec::wipe(room);
+    digest
 }

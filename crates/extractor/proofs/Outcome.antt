@@ -1,4 +1,4 @@
--- What is answered and written by what differs, what is zero and what is not; and that shares, ballots, claims and the repetition do not enter. Assumes nothing.
+-- What is answered and written by what differs, what is zero and what is not; and the same by a sheet. Assumes nothing.
 use mathlib.Core.Path.{_≡_, refl, sym, ap, _∙_}
 use mathlib.Core.Logic.{_≢_}
 use mathlib.Core.Bool.{Bool, true, false, cond, not}
@@ -11,13 +11,17 @@ use lib.ListN.{take, drop}
 use Rattle.codec.specs.Bytes.{Bytes, part, zeros, same}
 use Rattle.ring.specs.Poly.{modulo}
 use Rattle.ring.specs.Slots.{encode}
-use Rattle.commitment.specs.Commitment.{Keys, Three}
+use Rattle.sheet_numbers.specs.declared.Numbers.{Numbers}
+use Rattle.commitment.specs.Commitment.{Three, keysOf}
+use Rattle.commitment.specs.Loaded as commitment
 use Rattle.stern.specs.Argument.{Setting, Answer1, Answer2, Answer3, one-by2, one-by3, two-by1, two-by3, three-by1, three-by2}
 use Rattle.stern.specs.Shortness.{polynomial, setting, answer1Of, answer2Of, answer3Of}
 use Rattle.transcript.specs.Round.{Parameters}
-use Rattle.transcript.specs.Extractor.{Openings, threeBytes, isZero, ternaryBytes, pairs, open0, open1, unknowns, vector-s, vector-e, kind, extracted}
+use Rattle.transcript.specs.Sheets.{parameters}
+use Rattle.transcript.specs.Extractor.{Openings, openingsOf, threeBytes, isZero, ternaryBytes, pairs, open0, open1, unknowns, vector-s, vector-e, kind, extracted}
+use Rattle.transcript.proofs.Cut.{keys-cut}
 use Rattle.transcript.proofs.ExtractionWritten.{collision-written}
-use Rattle.extractor.specs.Lent.{openingsOf}
+use Rattle.extractor.specs.Lent.{Finds}
 use Rattle.collisions.specs.Collision.{differing}
 use Rattle.extractor.specs.Method.{unknownsOf, lessUnknowns, excess, solved, written}
 use Rattle.extractor.proofs.Unknowns.{lent-excess}
@@ -85,10 +89,10 @@ module _ (P : Parameters) (m : ℕ) (x : Openings) where
   abbrev agree3 : Bool
   agree3 = same (three-by1 s one) (three-by2 s two)
 
-  abbrev pub lowest : ℕ
+  abbrev lowest : ℕ
   lowest = differing s one two three
 
-  abbrev pub keyBytes : Bytes
+  abbrev keyBytes : Bytes
   keyBytes = ternaryBytes q N (polynomial N (unknowns P m x) 0) ++ (ternaryBytes q N (polynomial N (unknowns P m x) 1) ++ zeros (22 * N))
 
   -- a digest's strings differ
@@ -129,7 +133,7 @@ module _ (P : Parameters) (m : ℕ) (x : Openings) where
     lent-digest : d ≡ lowest
     lent-digest = ed ∙ ap (λ (j : ℕ). differing (setting q N k (take j (drop (16 * N) (x .head)))) one two three) ei
 
-    pub lent-found : d ≢ 0 → (d ≡ kind P m x) × (zeros (24 * N) ≡ extracted P m x)
+    lent-found : d ≢ 0 → (d ≡ kind P m x) × (zeros (24 * N) ≡ extracted P m x)
     lent-found h = digest-found d lent-digest h
 
     abbrev z : ℕ → List ℕ
@@ -141,7 +145,7 @@ module _ (P : Parameters) (m : ℕ) (x : Openings) where
     abbrev for-e : ℕ → Three
     for-e j = lessUnknowns q N (open0 P m x .re) (open1 P m x .re) (z j) 8
 
-    pub lent-solved : d ≡ 0 → (j r : ℕ) (out : Bytes) → j ≡ 336 * N → r ≡ solved q N (for-s j) (for-e j)
+    lent-solved : d ≡ 0 → (j r : ℕ) (out : Bytes) → j ≡ 336 * N → r ≡ solved q N (for-s j) (for-e j)
         → out ≡ written q N (for-s j) (for-e j) (ternaryBytes q N (polynomial N (z j) 0) ++ (ternaryBytes q N (polynomial N (z j) 1) ++ zeros (22 * N)))
         → (r ≡ kind P m x) × (out ≡ extracted P m x)
     lent-solved h j r out e er eo =
@@ -150,18 +154,35 @@ module _ (P : Parameters) (m : ℕ) (x : Openings) where
           eo ∙ ap (λ (l : ℕ). written q N (for-s l) (for-e l) (ternaryBytes q N (polynomial N (z l) 0) ++ (ternaryBytes q N (polynomial N (z l) 1) ++ zeros (22 * N)))) e ∙ none-written none,
         )
 
--- ---- only q, N, the public polynomials, the head, the openings and the answers enter
+-- ---- by a sheet's numbers and polynomials, whose keys are lent on
 
--- parameters with only these
-abbrev bare : (q N : ℕ) → Keys → Parameters
-bare q N k = record { q = q; N = N; p = 0; B = 0; D = 0; repeats = 0; a = λ i. 0; b = λ i. 0; k = k }
+module _ (k : Numbers) (s head opening0 opening1 answer1 answer2 answer3 : Bytes) where
+  abbrev n : ℕ
+  n = k .ring
 
-module _ (P P' : Parameters) (m m' : ℕ) (x x' : Openings) (eq : P .q ≡ P' .q) (en : P .N ≡ P' .N) (ek : P .k ≡ P' .k) (head : x .head ≡ x' .head) (opening0 : x .opening0 ≡ x' .opening0)
-    (opening1 : x .opening1 ≡ x' .opening1) (answer1 : x .answer1 ≡ x' .answer1) (answer2 : x .answer2 ≡ x' .answer2) (answer3 : x .answer3 ≡ x' .answer3) where
-  pub kind-alike : kind P m x ≡ kind P' m' x'
-  unfolding kind
-  kind-alike = λ i. kind (bare (eq i) (en i) (ek i)) 0 (openingsOf (head i) (opening0 i) (opening1 i) (answer1 i) (answer2 i) (answer3 i))
+  abbrev digest-by : (keys : Bytes) → ℕ
+  digest-by keys = differing (setting (k .modulus) n (keysOf n keys) (take (80 * n - 16 * n) (drop (16 * n) head))) (answer1Of n answer1) (answer2Of n answer2) (answer3Of n answer3)
 
-  pub extracted-alike : extracted P m x ≡ extracted P' m' x'
-  unfolding kind extracted
-  extracted-alike = λ i. extracted (bare (eq i) (en i) (ek i)) 0 (openingsOf (head i) (opening0 i) (opening1 i) (answer1 i) (answer2 i) (answer3 i))
+  -- what is lent beside them
+  abbrev lent : (shares0 shares1 ballots claims : Bytes) (repetition : ℕ) → Openings
+  lent shares0 shares1 ballots claims repetition = openingsOf head shares0 shares1 ballots claims opening0 opening1 repetition answer1 answer2 answer3
+
+  module _ {d : ℕ} (e : d ≡ digest-by (take (40 * n - 16 * n) (drop (16 * n) s))) where
+    keyed : d ≡ digest-by (commitment.keyBytes k s)
+    keyed = e ∙ ap digest-by (keys-cut k s)
+
+    pub finds-digest : {out : Bytes} → d ≢ 0 → out ≡ zeros (24 * n) → Finds (parameters k s) head opening0 opening1 answer1 answer2 answer3 d out
+    finds-digest h o = record {
+      kind-is = λ m a b c f i. lent-found (parameters k s) m (lent a b c f i) (80 * n - 16 * n) d (omega arith) keyed h .0;
+      out-is = λ m a b c f i. o ∙ lent-found (parameters k s) m (lent a b c f i) (80 * n - 16 * n) d (omega arith) keyed h .1;
+    }
+
+    abbrev unknown-numbers : List ℕ
+    unknown-numbers = unknownsOf (k .modulus) n (take (504 * n - 168 * n) (drop (168 * n) answer2)) (take (504 * n - 168 * n) (drop (168 * n) answer3))
+
+    pub finds-solved : {r : ℕ} {out : Bytes} → d ≡ 0 → r ≡ kind-of (k .modulus) n opening0 opening1 unknown-numbers → out ≡ bytes-of (k .modulus) n opening0 opening1 unknown-numbers
+        → Finds (parameters k s) head opening0 opening1 answer1 answer2 answer3 r out
+    finds-solved {r} {out} h er eo = record {
+      kind-is = λ m a b c f i. lent-solved (parameters k s) m (lent a b c f i) (80 * n - 16 * n) d (omega arith) keyed h (504 * n - 168 * n) r out (omega arith) er eo .0;
+      out-is = λ m a b c f i. lent-solved (parameters k s) m (lent a b c f i) (80 * n - 16 * n) d (omega arith) keyed h (504 * n - 168 * n) r out (omega arith) er eo .1;
+    }

@@ -1,20 +1,13 @@
--- What the search for a collision, a short vector or the key is lent. Assumes nothing.
-use mathlib.Core.List.{[]}
+-- What the search for a collision, a short vector or the key comes to, by what it is lent: a first message, two openings and three answers. Assumes nothing.
+use mathlib.Core.Path.{_≡_}
+use Prim.Native.Nat.{ℕ}
 use Rattle.codec.specs.Bytes.{Bytes}
-use Rattle.transcript.specs.Extractor.{Openings}
+use Rattle.transcript.specs.Round.{Parameters}
+use Rattle.transcript.specs.Extractor.{Openings, openingsOf, kind, extracted}
 
--- a first message, two openings and three answers; shares, ballots, claims and the repetition do not enter
-abbrev pub openingsOf : (head opening0 opening1 answer1 answer2 answer3 : Bytes) → Openings
-openingsOf head opening0 opening1 answer1 answer2 answer3 = record {
-  head = head;
-  shares0 = [];
-  shares1 = [];
-  ballots = [];
-  claims = [];
-  opening0 = opening0;
-  opening1 = opening1;
-  repetition = 0;
-  answer1 = answer1;
-  answer2 = answer2;
-  answer3 = answer3;
-}
+-- shares, ballots, claims and a repetition, whatever they are, do not enter
+pub record Finds (P : Parameters) (head opening0 opening1 answer1 answer2 answer3 : Bytes) (found : ℕ) (out : Bytes) : Type 0 where
+  pub kind-is : (m : ℕ) (shares0 shares1 ballots claims : Bytes) (repetition : ℕ)
+      → found ≡ kind P m (openingsOf head shares0 shares1 ballots claims opening0 opening1 repetition answer1 answer2 answer3)
+  pub out-is : (m : ℕ) (shares0 shares1 ballots claims : Bytes) (repetition : ℕ)
+      → out ≡ extracted P m (openingsOf head shares0 shares1 ballots claims opening0 opening1 repetition answer1 answer2 answer3)

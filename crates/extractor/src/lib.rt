@@ -1,29 +1,31 @@
-// What two openings and three answers to one first message give away (document 01, the extractor's paragraph): a collision of the digest, a short vector on which the
-// commitment row is zero, or the key. specs/Extractor.antt of `transcript` says what is found.
+// What two openings and three answers to one first message give away (document 01, the extractor's paragraph): a collision of the
+// digest, a short vector on which the commitment row is zero, or the key. specs/Extractor.antt of `transcript` says what is found.
 mod vectors;
 
 use crate::vectors::solve;
 use collisions::collision;
+use sheet_numbers::Numbers;
 ghost use mathlib.Core.Path.{_≡_};
 ghost use mathlib.Core.Bool.{true};
-ghost use mathlib.Core.List.{[]};
 ghost use Prim.Native.Nat.{_*_, _≤_};
 ghost use lib.ListN.{length};
+ghost use Rattle.codec.specs.Bytes.{zeros};
+ghost use Rattle.codec.specs.Slices.{given, left};
 ghost use Rattle.codec.specs.Lists.{allBelow};
 ghost use Rattle.call.specs.Call.{scratchLength};
-ghost use Rattle.commitment.specs.Commitment.{PublicKeys};
+ghost use Rattle.commitment.specs.Loaded.{Loaded};
 ghost use Rattle.vector.specs.Vector.{vector};
 ghost use Rattle.transcript.specs.Layout.{pairsOf};
-ghost use Rattle.transcript.specs.Method.{parameters};
-ghost use Rattle.transcript.specs.Extractor.{kind, extracted};
+ghost use Rattle.transcript.specs.Sheets.{parameters};
 ghost use Rattle.collisions.specs.Collision.{Answers};
-ghost use Rattle.extractor.specs.Lent.{openingsOf};
+ghost use Rattle.extractor.specs.Lent.{Finds};
 
-// 1, 2, 3: the lowest digest whose two strings differ, with zeros in the output; else 4, 5: the nonzero vector for s, for e; else 6: the key. It is called once every
-// test is passed, so nothing is refused any more and the output is used on the way.
+// 1, 2, 3: the lowest digest whose two strings differ, with zeros in the output; else 4, 5: the nonzero vector for s, for e; else 6: the
+// key. It is called once every test is passed, so nothing is refused any more and the output is used on the way. Scratch is zeroed.
 pub fn find(
     work: &mut [u8],
-    k: &[u8],
+    k: Numbers,
+    public: &[u8],
     head: &[u8],
     opening0: &[u8],
     opening1: &[u8],
@@ -31,19 +33,20 @@ pub fn find(
     answer2: &[u8],
     answer3: &[u8],
     out: &mut [u8],
-    n: usize,
-    q: u64,
 ) -> u8
-    requires { ⌜ PublicKeys n q (now k) × (length (now work) ≡ scratchLength) × (length (now out) ≡ 24 * n) × (80 * n ≤ length (now head)) × (length (now opening0) ≡ 22 * n) × (length (now opening1) ≡ 22 * n) ⌝ }
-    requires { ⌜ (allBelow q (vector (pairsOf n (now head))) ≡ true) × Answers q n (now answer1) (now answer2) (now answer3) ⌝ }
-    ensures { λ r. ⌜ r ≡ kind (parameters 2 n q 0 0 [] [] (now (k .entry))) 0 (openingsOf (now (head .entry)) (now (opening0 .entry)) (now (opening1 .entry)) (now (answer1 .entry)) (now (answer2 .entry)) (now (answer3 .entry))) ⌝ }
-    ensures { λ _. ⌜ now (out .exit) ≡ extracted (parameters 2 n q 0 0 [] [] (now (k .entry))) 0 (openingsOf (now (head .entry)) (now (opening0 .entry)) (now (opening1 .entry)) (now (answer1 .entry)) (now (answer2 .entry)) (now (answer3 .entry))) ⌝ }
-    ensures { λ _. ⌜ length (now (work .exit)) ≡ length (now (work .entry)) ⌝ }
+    requires { ⌜ Loaded k (now public) × (length (now work) ≡ scratchLength) × (length (now out) ≡ 24 * k .ring)
+        × (80 * k .ring ≤ length (now head)) × (length (now opening0) ≡ 22 * k .ring) × (length (now opening1) ≡ 22 * k .ring)
+        × (allBelow (k .modulus) (vector (pairsOf (k .ring) (now head))) ≡ true)
+        × Answers (k .modulus) (k .ring) (now answer1) (now answer2) (now answer3) ⌝ }
+    ensures { λ r. ⌜ Finds (parameters k (given public)) (given head) (given opening0) (given opening1) (given answer1) (given answer2)
+        (given answer3) r (left out) × (left work ≡ zeros (length (given work))) ⌝ }
 {
+    let n = k.ring as usize;
+    let q = k.modulus;
     let digest = collision(
         work,
         out,
-        k,
+        &public[16 * n..40 * n],
         &head[16 * n..80 * n],
         answer1,
         answer2,
@@ -52,10 +55,9 @@ pub fn find(
         q,
     );
     if digest != 0 {
-        codec::wipe(out);
         return digest;
     }
-    solve(
+    let kind = solve(
         work,
         out,
         opening0,
@@ -64,5 +66,7 @@ pub fn find(
         &answer3[168 * n..504 * n],
         n,
         q,
-    )
+    );
+    codec::wipe(work);
+    kind
 }

@@ -25,7 +25,8 @@ fn unknown(u: &[u8], r: &[u8], i: usize, n: usize, q: u64) -> u64
 
 // Number i of the openings' summed r less the summed r of the unknowns.
 fn excess(r0: &[u8], r1: &[u8], u: &[u8], r: &[u8], first: usize, i: usize, n: usize, q: u64) -> u64
-    requires { ⌜ (n ≤ 2048) × (3 ≤ q) × (q < 2 ^ 56) × (length (now r0) ≡ 3 * n) × (length (now r1) ≡ 3 * n) × Masked q n (now u) (now r) × (first + 6 * n ≤ 14 * n) × (i < 3 * n) ⌝ }
+    requires { ⌜ (n ≤ 2048) × (3 ≤ q) × (q < 2 ^ 56) × (length (now r0) ≡ 3 * n) × (length (now r1) ≡ 3 * n) × Masked q n (now u) (now r)
+        × (first + 6 * n ≤ 14 * n) × (i < 3 * n) ⌝ }
     ensures { λ v. ⌜ v ≡ excess q n (now (r0 .entry)) (now (r1 .entry)) (unknownsOf q n (now (u .entry)) (now (r .entry))) first i % q ⌝ }
 {
     let x = ring::from_ternary(r0[i], q);
@@ -48,8 +49,10 @@ fn write_excess(
     n: usize,
     q: u64,
 )
-    requires { ⌜ (n ≤ 2048) × (3 ≤ q) × (q < 2 ^ 56) × (length (now r0) ≡ 3 * n) × (length (now r1) ≡ 3 * n) × Masked q n (now u) (now r) × (first + 6 * n ≤ 14 * n) × (length (now out) ≡ 24 * n) ⌝ }
-    ensures { λ _. ⌜ now (out .exit) ≡ encode (3 * n) (modulo q (excess q n (now (r0 .entry)) (now (r1 .entry)) (unknownsOf q n (now (u .entry)) (now (r .entry))) first)) ⌝ }
+    requires { ⌜ (n ≤ 2048) × (3 ≤ q) × (q < 2 ^ 56) × (length (now r0) ≡ 3 * n) × (length (now r1) ≡ 3 * n) × Masked q n (now u) (now r)
+        × (first + 6 * n ≤ 14 * n) × (length (now out) ≡ 24 * n) ⌝ }
+    ensures { λ _. ⌜ now (out .exit) ≡ encode (3 * n)
+        (modulo q (excess q n (now (r0 .entry)) (now (r1 .entry)) (unknownsOf q n (now (u .entry)) (now (r .entry))) first)) ⌝ }
 {
     let mut i = 0;
     while i < 3 * n {
@@ -71,9 +74,12 @@ fn vanishes(
     n: usize,
     q: u64,
 ) -> bool
-    requires { ⌜ (n ≤ 2048) × (3 ≤ q) × (q < 2 ^ 56) × (length (now r0) ≡ 3 * n) × (length (now r1) ≡ 3 * n) × Masked q n (now u) (now r) × (first + 6 * n ≤ 14 * n) × (length (now out) ≡ 24 * n) × (length (now work) ≡ scratchLength) ⌝ }
+    requires { ⌜ (n ≤ 2048) × (3 ≤ q) × (q < 2 ^ 56) × (length (now r0) ≡ 3 * n) × (length (now r1) ≡ 3 * n) × Masked q n (now u) (now r)
+        × (first + 6 * n ≤ 14 * n) × (length (now out) ≡ 24 * n) × (length (now work) ≡ scratchLength) ⌝ }
     ensures { λ yes. ⌜ yes ≡ same (now (out .exit)) (zeros (24 * n)) ⌝ }
-    ensures { λ _. ⌜ (now (out .exit) ≡ encode (3 * n) (modulo q (excess q n (now (r0 .entry)) (now (r1 .entry)) (unknownsOf q n (now (u .entry)) (now (r .entry))) first))) × (length (now (work .exit)) ≡ length (now (work .entry))) ⌝ }
+    ensures { λ _. ⌜ (now (out .exit) ≡ encode (3 * n)
+        (modulo q (excess q n (now (r0 .entry)) (now (r1 .entry)) (unknownsOf q n (now (u .entry)) (now (r .entry))) first)))
+        × (length (now (work .exit)) ≡ length (now (work .entry))) ⌝ }
 {
     write_excess(out, r0, r1, u, r, first, n, q);
     vector::clear(work, 0, 24 * n);
@@ -98,7 +104,8 @@ fn to_ternary(v: u64) -> u8
 // The first two polynomials of the unknowns, s and e, as ternary bytes.
 fn write_secrets(out: &mut [u8], u: &[u8], r: &[u8], n: usize, q: u64)
     requires { ⌜ (n ≤ 2048) × (q < 2 ^ 56) × Masked q n (now u) (now r) × (length (now out) ≡ 24 * n) ⌝ }
-    ensures { λ _. ⌜ now (out .exit) ≡ put (now (out .entry)) 0 (ternaryBytes q (2 * n) (from (unknownsOf q n (now (u .entry)) (now (r .entry))) 0)) ⌝ }
+    ensures { λ _. ⌜ now (out .exit) ≡ put (now (out .entry)) 0
+        (ternaryBytes q (2 * n) (from (unknownsOf q n (now (u .entry)) (now (r .entry))) 0)) ⌝ }
 {
     let mut i = 0;
     while i < 2 * n {
@@ -111,7 +118,8 @@ fn write_secrets(out: &mut [u8], u: &[u8], r: &[u8], n: usize, q: u64)
 // s and e, and then zeros.
 fn write_key(out: &mut [u8], u: &[u8], r: &[u8], n: usize, q: u64)
     requires { ⌜ (n ≤ 2048) × (q < 2 ^ 56) × Masked q n (now u) (now r) × (length (now out) ≡ 24 * n) ⌝ }
-    ensures { λ _. ⌜ now (out .exit) ≡ ternaryBytes q n (polynomial n (unknownsOf q n (now (u .entry)) (now (r .entry))) 0) ++ (ternaryBytes q n (polynomial n (unknownsOf q n (now (u .entry)) (now (r .entry))) 1) ++ zeros (22 * n)) ⌝ }
+    ensures { λ _. ⌜ now (out .exit) ≡ ternaryBytes q n (polynomial n (unknownsOf q n (now (u .entry)) (now (r .entry))) 0)
+        ++ (ternaryBytes q n (polynomial n (unknownsOf q n (now (u .entry)) (now (r .entry))) 1) ++ zeros (22 * n)) ⌝ }
 {
     write_secrets(out, u, r, n, q);
     vector::clear(out, 2 * n, 22 * n);
@@ -128,9 +136,19 @@ pub fn solve(
     n: usize,
     q: u64,
 ) -> u8
-    requires { ⌜ (n ≤ 2048) × (3 ≤ q) × (q < 2 ^ 56) × (length (now work) ≡ scratchLength) × (length (now out) ≡ 24 * n) × (length (now opening0) ≡ 22 * n) × (length (now opening1) ≡ 22 * n) × Masked q n (now u) (now r) ⌝ }
-    ensures { λ kind. ⌜ kind ≡ solved q n (lessUnknowns q n (part (now (opening0 .entry)) (16 * n) (3 * n)) (part (now (opening1 .entry)) (16 * n) (3 * n)) (unknownsOf q n (now (u .entry)) (now (r .entry))) 2) (lessUnknowns q n (part (now (opening0 .entry)) (19 * n) (3 * n)) (part (now (opening1 .entry)) (19 * n) (3 * n)) (unknownsOf q n (now (u .entry)) (now (r .entry))) 8) ⌝ }
-    ensures { λ _. ⌜ now (out .exit) ≡ written q n (lessUnknowns q n (part (now (opening0 .entry)) (16 * n) (3 * n)) (part (now (opening1 .entry)) (16 * n) (3 * n)) (unknownsOf q n (now (u .entry)) (now (r .entry))) 2) (lessUnknowns q n (part (now (opening0 .entry)) (19 * n) (3 * n)) (part (now (opening1 .entry)) (19 * n) (3 * n)) (unknownsOf q n (now (u .entry)) (now (r .entry))) 8) (ternaryBytes q n (polynomial n (unknownsOf q n (now (u .entry)) (now (r .entry))) 0) ++ (ternaryBytes q n (polynomial n (unknownsOf q n (now (u .entry)) (now (r .entry))) 1) ++ zeros (22 * n))) ⌝ }
+    requires { ⌜ (n ≤ 2048) × (3 ≤ q) × (q < 2 ^ 56) × (length (now work) ≡ scratchLength) × (length (now out) ≡ 24 * n)
+        × (length (now opening0) ≡ 22 * n) × (length (now opening1) ≡ 22 * n) × Masked q n (now u) (now r) ⌝ }
+    ensures { λ kind. ⌜ kind ≡ solved q n (lessUnknowns q n (part (now (opening0 .entry)) (16 * n) (3 * n))
+        (part (now (opening1 .entry)) (16 * n) (3 * n)) (unknownsOf q n (now (u .entry)) (now (r .entry))) 2)
+        (lessUnknowns q n (part (now (opening0 .entry)) (19 * n) (3 * n)) (part (now (opening1 .entry)) (19 * n) (3 * n))
+        (unknownsOf q n (now (u .entry)) (now (r .entry))) 8) ⌝ }
+    ensures { λ _. ⌜ now (out .exit) ≡ written q n
+        (lessUnknowns q n (part (now (opening0 .entry)) (16 * n) (3 * n)) (part (now (opening1 .entry)) (16 * n) (3 * n))
+        (unknownsOf q n (now (u .entry)) (now (r .entry))) 2)
+        (lessUnknowns q n (part (now (opening0 .entry)) (19 * n) (3 * n)) (part (now (opening1 .entry)) (19 * n) (3 * n))
+        (unknownsOf q n (now (u .entry)) (now (r .entry))) 8)
+        (ternaryBytes q n (polynomial n (unknownsOf q n (now (u .entry)) (now (r .entry))) 0)
+        ++ (ternaryBytes q n (polynomial n (unknownsOf q n (now (u .entry)) (now (r .entry))) 1) ++ zeros (22 * n))) ⌝ }
     ensures { λ _. ⌜ length (now (work .exit)) ≡ length (now (work .entry)) ⌝ }
 {
     let s = 16 * n;

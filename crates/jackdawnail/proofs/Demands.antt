@@ -18,6 +18,7 @@ use Rattle.sheet.specs.declared.Reading.the-variants as reading
 use Rattle.call.specs.Call.{scratchLength}
 use Rattle.bgv.proofs.Sheets.{sheet-sound}
 use Rattle.bgv.proofs.Ballot.{honest-noise, honest-decrypts}
+use Rattle.transcript.specs.Extractor.{extractRoom}
 use Rattle.transcript.proofs.Many.{append-none}
 use Rattle.transcript.proofs.Passed.{producer-exactly}
 use Rattle.transcript.proofs.Honest.{honest-round}
@@ -94,15 +95,15 @@ unfolding extractReply openingsTests
 extracts text x out scratch octets o1 o2 o3 e =
     let P = parametersOf text in
     let m = ballotsIn text (x .ballots) in
-    let parts = append-none (order text) (openingsTests P x out scratch) (taken-exactly _ .0 e) in
+    let parts = append-none (order text) (openingsTests P x (extractRoom out scratch)) (taken-exactly _ .0 e) in
     let sheet = taken-exactly (order text) .1 (parts .0) in
     let r = sheet-exactly text .0 (parts .0) .inside in
-    let message = lent-message P x out scratch m in
-    let openings = lent-openings P x out scratch m in
+    let message = lent-message P x (extractRoom out scratch) m in
+    let openings = lent-openings P x (extractRoom out scratch) m in
     let sized = both message openings (both (leb m 4096) (message && openings) (not-false (leb m 4096 && (message && openings)) (parts .1 .0)) .1) in
     let three : 2 < P .q = omega (arith, r .modulus-low) in
     let fits : P .q ≤ 2 ^ 64 = omega (arith, r .modulus-high) in
-    let lent = extract-lengths P x out scratch m octets (sized .0) (sized .1) .0 in
+    let lent = extract-lengths P x (extractRoom out scratch) m octets (sized .0) (sized .1) .0 in
     let ok = sheet-sound text (sheetOf text .numbers) (read text sheet) in
     (extraction P m x three fits lent (parts .1 .1) ok, hashed P m x o1 o2 o3, lowest P m x (omega arith) fits, output P m x three fits lent (parts .1 .1) ok)
 

@@ -18,7 +18,7 @@ use Rattle.call.specs.Call.{scratchLength}
 use Rattle.stern.specs.Shortness.{answerLength}
 use Rattle.transcript.specs.Layout.{answersLength}
 use Rattle.transcript.specs.Round.{Parameters, Round, Lengths, challengeAt, roundTests}
-use Rattle.transcript.specs.Extractor.{Openings, extractTests}
+use Rattle.transcript.specs.Extractor.{Openings, extractRoom, extractTests}
 use Rattle.transcript.specs.Refuses.{openingBy, answerBy, OfLent, OpensLent, AnswersLent}
 use Rattle.transcript.proofs.Answers.{answersLength-more, prefix-le}
 use Rattle.transcript.proofs.Many.{for-sides, for-challenges, append-none}
@@ -152,7 +152,7 @@ module _ (text : Bytes) (x : Openings) (o0 : AcceptedOpening text x 0) (o1 : Acc
       ap₂ _&&_ (equal-same (cc (opening-size 0 (omega arith), opening-size 1 (omega arith), e, f)))
       (equal-same (cc (answer-size 1 (omega arith) (omega arith), answer-size 2 (omega arith) (omega arith), answer-size 3 (omega arith) (omega arith))))
 
-  pub extractor-takes : (out scratch : Bytes) → length out ≡ 24 * P .N → length scratch ≡ scratchLength → extractReply text x out scratch ≡ Taken
+  pub extractor-takes : (out scratch : Bytes) → length out ≡ 24 * P .N → length scratch ≡ scratchLength → extractReply text x (extractRoom out scratch) ≡ Taken
   unfolding extractReply openingsTests
   extractor-takes out scratch e f =
       let first-opened = opens-passed 0 (omega arith) in

@@ -18,7 +18,7 @@ use Rattle.bgv.specs.Examples.{Row}
 use Rattle.transcript.specs.Round.{Parameters, Round, roundTests}
 use Rattle.transcript.specs.Producer.{Material, Sized, producedRound}
 use Rattle.transcript.specs.Suitable.{Suitable}
-use Rattle.transcript.specs.Extractor.{Openings, Lent, extractTests, kind, extracted, Found, Hashed, Lowest, Output}
+use Rattle.transcript.specs.Extractor.{Openings, extractRoom, Lent, extractTests, kind, extracted, Found, Hashed, Lowest, Output}
 use Rattle.transcript.specs.Refuses.{openingTests, repetitionTests, OpensLent, AnswersLent, lentRound, Lending, ChecksTake, ChecksRefuse}
 use Rattle.lengths.specs.Sheets.{parametersOf, ballotsIn}
 use Rattle.transcript.specs.Writes.{firstRoom}
@@ -99,7 +99,7 @@ Yields text x =
 -- where the extractor does not refuse, it finds one of the three
 abbrev pub Extracts : Type 0
 Extracts = (text : Bytes) (x : Openings) (out scratch : Bytes) → Octets (x .head) → Octets (x .answer1) → Octets (x .answer2) → Octets (x .answer3)
-    → extractReply text x out scratch ≡ Taken → Yields text x
+    → extractReply text x (extractRoom out scratch) ≡ Taken → Yields text x
 
 -- a check that was accepted, of any round of the session in any image, lent this sheet
 pub record AcceptedCheck (text : Bytes) : Type 0 where
@@ -127,7 +127,7 @@ abbrev pub AcceptedYields : Type 0
 AcceptedYields = (text : Bytes) (x : Openings) → Octets (x .head) → Octets (x .answer1) → Octets (x .answer2) → Octets (x .answer3)
     → AcceptedOpening text x 0 → AcceptedOpening text x 1 → AcceptedAnswer text x 1 → AcceptedAnswer text x 2 → AcceptedAnswer text x 3
     → Yields text x
-    × ((out scratch : Bytes) → length out ≡ 24 * parametersOf text .N → length scratch ≡ scratchLength → extractReply text x out scratch ≡ Taken)
+    × ((out scratch : Bytes) → length out ≡ 24 * parametersOf text .N → length scratch ≡ scratchLength → extractReply text x (extractRoom out scratch) ≡ Taken)
 
 -- the extractor refuses exactly where the checks of those openings and answers would, and then as one of them does
 abbrev pub RefusesAsChecks : Type 0

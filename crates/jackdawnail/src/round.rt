@@ -1,15 +1,13 @@
 // The calls of a round: the producer's two, the extractor and the opened share.
 ghost use mathlib.Core.Path.{_≡_};
 ghost use lib.ListN.{length};
-ghost use Rattle.codec.specs.Reply.{packed, leaves};
-ghost use Rattle.call.specs.Call.{swept};
-ghost use Rattle.transcript.specs.Extractor.{kind, extracted};
-ghost use Rattle.openings_checker.specs.Orders.{openingsOf};
-ghost use Rattle.lengths.specs.Sheets.{parametersOf, ballotsIn};
-ghost use Rattle.verification.specs.Extraction.{extraction, answered};
+ghost use Rattle.codec.specs.Slices.{given};
+ghost use Rattle.codec.specs.Reply.{packed};
+ghost use Rattle.transcript.specs.RoundSlices.{openingsIn, extractIn, extractOut};
+ghost use Rattle.verification.specs.Extraction.{answered};
 ghost use Rattle.rounds.specs.Lent.{materialIn, firstIn, firstOut, secondIn, secondOut};
 ghost use Rattle.round_calls.specs.Replies.{firstReply, FirstCalled, secondReply, SecondCalled};
-ghost use Rattle.verification_calls.specs.Replies.{extractReply};
+ghost use Rattle.verification_calls.specs.Replies.{extractFound, ExtractCalled};
 ghost use Rattle.opened_share.specs.Opened.{openedReply};
 
 // The producer's first call: the first message and the claims.
@@ -110,9 +108,9 @@ pub extern "C" fn jdn_extract(
     out: &mut [u8],
     scratch: &mut [u8],
 ) -> u64
-    ensures reply { λ answer. ⌜ answer ≡ answered (extraction (extractReply (now (sheet .entry)) (openingsOf (now (head .entry)) (now (shares0 .entry)) (now (shares1 .entry)) (now (ballots .entry)) (now (claims .entry)) (now (opening0 .entry)) (now (opening1 .entry)) repetition (now (answer1 .entry)) (now (answer2 .entry)) (now (answer3 .entry))) (now (out .entry)) (now (scratch .entry))) (kind (parametersOf (now (sheet .entry))) (ballotsIn (now (sheet .entry)) (now (ballots .entry))) (openingsOf (now (head .entry)) (now (shares0 .entry)) (now (shares1 .entry)) (now (ballots .entry)) (now (claims .entry)) (now (opening0 .entry)) (now (opening1 .entry)) repetition (now (answer1 .entry)) (now (answer2 .entry)) (now (answer3 .entry))))) ⌝ }
-    ensures output { λ _. ⌜ now (out .exit) ≡ leaves (extractReply (now (sheet .entry)) (openingsOf (now (head .entry)) (now (shares0 .entry)) (now (shares1 .entry)) (now (ballots .entry)) (now (claims .entry)) (now (opening0 .entry)) (now (opening1 .entry)) repetition (now (answer1 .entry)) (now (answer2 .entry)) (now (answer3 .entry))) (now (out .entry)) (now (scratch .entry))) (extracted (parametersOf (now (sheet .entry))) (ballotsIn (now (sheet .entry)) (now (ballots .entry))) (openingsOf (now (head .entry)) (now (shares0 .entry)) (now (shares1 .entry)) (now (ballots .entry)) (now (claims .entry)) (now (opening0 .entry)) (now (opening1 .entry)) repetition (now (answer1 .entry)) (now (answer2 .entry)) (now (answer3 .entry)))) (now (out .entry)) ⌝ }
-    ensures swept { λ _. ⌜ now (scratch .exit) ≡ swept (extractReply (now (sheet .entry)) (openingsOf (now (head .entry)) (now (shares0 .entry)) (now (shares1 .entry)) (now (ballots .entry)) (now (claims .entry)) (now (opening0 .entry)) (now (opening1 .entry)) repetition (now (answer1 .entry)) (now (answer2 .entry)) (now (answer3 .entry))) (now (out .entry)) (now (scratch .entry))) (now (scratch .entry)) ⌝ }
+    ensures { λ answer. let x = openingsIn head shares0 shares1 ballots claims opening0 opening1 repetition answer1 answer2 answer3 in
+        let before = extractIn out scratch in let found = extractFound (given sheet) x before in
+        ⌜ (answer ≡ answered found) × ExtractCalled (given sheet) x before found (extractOut out scratch) ⌝ }
 {
     verification::pack(verification_calls::extract(
         sheet,

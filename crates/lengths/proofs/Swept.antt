@@ -1,5 +1,5 @@
 -- A call after its lengths: none of its tests refuses 1 or 31, so scratch is zeroed whatever it answers. Assumes nothing.
-use mathlib.Core.Path.{_≡_, ap, sym, _∙_}
+use mathlib.Core.Path.{_≡_, refl, ap, sym, _∙_}
 use mathlib.Core.Bool.{Bool, true, false, cond}
 use mathlib.Core.Logic.{_≢_}
 use mathlib.Core.List.{List, [], _∷_, _++_}
@@ -12,11 +12,11 @@ use Rattle.codec.specs.Reply.{Test, test, first}
 use Rattle.codec.specs.declared.Reply.{Reply}
 use Rattle.codec.specs.declared.Reply.the-variants.{Refused}
 use Rattle.call.specs.Call.{swept}
-use Rattle.call.proofs.Sweeping.{swept-taken, swept-refused}
+use Rattle.call.proofs.Sweeping.{swept-taken, swept-refused, kept-length}
 use Rattle.commitment.specs.Commitment.{Keys}
 use Rattle.stern.specs.Shortness.{answer1Of, answer2Of, answer3Of, tests1, tests2, tests3, answerTests}
 use Rattle.transcript.specs.Layout.{Opening, each, pairsOf, digestsAt, answerAt, openingOf}
-use Rattle.transcript.specs.Round.{Parameters, Round, challengeAt, sharesOf, roundTests, maskTest, claimTest}
+use Rattle.transcript.specs.Round.{Parameters, Round, challengeAt, sharesOf, votesTests, roundTests}
 use Rattle.transcript.specs.Producer.{Material, producerTests}
 use Rattle.transcript.specs.Extractor.{Openings, pairs, digests, open0, open1, extractTests, sideTests}
 
@@ -67,7 +67,7 @@ module _ (P : Parameters) (m : ℕ) where
       (later-append _ _ (later-one (P .repeats) 9 _ (λ h. omega arith) (λ h. omega arith)) (later-one m 15 _ (λ h. omega arith) (λ h. omega arith)))))
 
   -- the mask and the claim of each ballot
-  later-ballots : (ballots claims shares shares0 shares1 : Bytes) (o : Opening) → Later (each m (λ j. maskTest P m ballots shares o j ∷ claimTest P m ballots claims shares0 shares1 j ∷ []))
+  later-ballots : (ballots claims shares shares0 shares1 : Bytes) (o : Opening) → Later (votesTests (P .q) (P .N) (P .p) (P .B) m (o .s) ballots claims shares0 shares1 shares)
   later-ballots ballots claims shares shares0 shares1 o =
       later-each m _ (λ j. later-test 12 j _ _ (λ h. omega arith) (λ h. omega arith) (later-test 13 j _ _ (λ h. omega arith) (λ h. omega arith) later-none))
 
@@ -89,7 +89,7 @@ module _ (P : Parameters) (m : ℕ) where
       (later-append _ _ (side 1 (x .shares1) (open1 P m x))
       (later-append _ _ (later-answer (P .q) (P .N) (P .k) (pairs P m x) (digests P m x) (x .repetition) 1 (x .answer1)) (later-append _ _ (later-answer (P .q) (P .N) (P .k) (pairs P m x) (digests P m x) (x .repetition) 2 (x .answer2)) (later-answer (P .q) (P .N) (P .k) (pairs P m x) (digests P m x) (x .repetition) 3 (x .answer3)))))))
     where
-      side : (i : ℕ) (shares : Bytes) (o : Opening) → Later (sideTests P m x i shares o)
+      side : (i : ℕ) (shares : Bytes) (o : Opening) → Later (sideTests P m (x .head) (x .ballots) (x .claims) (x .shares0) (x .shares1) i shares o)
       side i shares o = later-test 7 0 _ _ (λ h. omega arith) (λ h. omega arith) (later-test 8 0 _ _ (λ h. omega arith) (λ h. omega arith) (later-ballots (x .ballots) (x .claims) shares (x .shares0) (x .shares1) o))
 
 -- ---- scratch
@@ -107,3 +107,7 @@ swept-later (t ∷ ts) h r e w = by-test t ts r w (h .0) (t .holds) e (λ f. swe
 -- scratch of one length is left alike
 pub swept-alike : (ts : List Test) → Later ts → (r : Reply) → r ≡ first ts → (w w' : Bytes) → length w' ≡ length w → swept r w' ≡ swept r w
 swept-alike ts h r e w w' l = swept-later ts h r e w' ∙ ap zeros l ∙ sym (swept-later ts h r e w)
+
+-- a call that 1 refuses leaves it alone
+pub unswept : {r : Reply} {w : Bytes} → r ≡ Refused 1 0 → w ≡ swept r w
+unswept {r} {w} e = sym (kept-length r 1 0 w e refl)

@@ -13,7 +13,7 @@ use Rattle.transcript.specs.Layout.{ballotLength, headLength, answersLength}
 use Rattle.transcript.specs.Round.{Parameters}
 use Rattle.transcript.specs.Producer.{Material, askedRanged, producerTests}
 use Rattle.transcript.specs.Writes.{FirstRoom}
-use Rattle.transcript.specs.Extractor.{Openings, extractTests}
+use Rattle.transcript.specs.Extractor.{Openings, ExtractRoom, extractTests}
 
 -- the room for an opening and answers, and scratch
 pub record SecondRoom : Type 0 where
@@ -85,10 +85,10 @@ module _ (P : Parameters) where
       ∷ producerTests P m x (askedRanged P m x side challenges)
 
   -- the extractor
-  unfoldable pub openingsTests : Openings → (out scratch : Bytes) → List Test
-  openingsTests x out scratch =
+  unfoldable pub openingsTests : Openings → ExtractRoom → List Test
+  openingsTests x r =
       let m = countOf N (x .ballots) in
       lengthsTest m
       (messageSized N repeats m (x .head) (x .shares0) (x .shares1) (x .ballots) (x .claims)
-      && openingsSized N (x .opening0) (x .opening1) (x .answer1) (x .answer2) (x .answer3) out scratch)
+      && openingsSized N (x .opening0) (x .opening1) (x .answer1) (x .answer2) (x .answer3) (r .out) (r .scratch))
       ∷ extractTests P m x

@@ -11,7 +11,7 @@ use Rattle.call.specs.Call.{Polynomial}
 use Rattle.vector.specs.Vector.{vector}
 use Rattle.stern.specs.Shortness.{inRange}
 use Rattle.transcript.specs.Round.{Parameters, ballotsRanged, openingRanged, headRanged}
-use Rattle.transcript.specs.Extractor.{Openings, lentRanged}
+use Rattle.transcript.specs.Extractor.{Openings, Lent, lentRanged}
 use Rattle.round_parts.proofs.Passed.{opening-passed, head-passed, batch-passed, shares-passed}
 use Rattle.openings_checker.specs.Lent.{OpeningsInRange}
 
@@ -19,17 +19,17 @@ use Rattle.openings_checker.specs.Lent.{OpeningsInRange}
 module _ (P : Parameters) (m : ℕ) {a : Bytes} (p : Polynomial (P .N) (P .q) a) where
   open Parameters P using (q, N, repeats)
 
-  pub openings-passed : (x : Openings) → Rattle.transcript.specs.Extractor.Lent P m x → lentRanged P m x ≡ true → OpeningsInRange q N m repeats x
+  pub openings-passed : (x : Openings) → Lent P m x → lentRanged P m x ≡ true → OpeningsInRange q N m repeats x
   unfolding lentRanged
   openings-passed x l t =
       let a1 = both (ltb (x .repetition) repeats) _ t in
       let a2 = both (ballotsRanged P m (x .ballots)) _ (a1 .1) in
       let a3 = both (allBelow (P .p) (x .claims)) _ (a2 .1) in
-      let a4 = both (headRanged P m (x .head)) _ (a3 .1) in
+      let a4 = both (headRanged (P .q) (P .N) (x .head)) _ (a3 .1) in
       let a5 = both (allBelow q (vector (x .shares0))) _ (a4 .1) in
       let a6 = both (allBelow q (vector (x .shares1))) _ (a5 .1) in
-      let a7 = both (openingRanged P m (x .opening0)) _ (a6 .1) in
-      let a8 = both (openingRanged P m (x .opening1)) _ (a7 .1) in
+      let a7 = both (openingRanged (P .q) (P .N) (x .opening0)) _ (a6 .1) in
+      let a8 = both (openingRanged (P .q) (P .N) (x .opening1)) _ (a7 .1) in
       let a9 = both (inRange q N 1 (x .answer1)) _ (a8 .1) in
       let a10 = both (inRange q N 2 (x .answer2)) (inRange q N 3 (x .answer3)) (a9 .1) in
       record {

@@ -2,10 +2,11 @@
 -- this file. Assumes nothing.
 use mathlib.Core.Path.{_≡_}
 use mathlib.Core.Bool.{true}
-use Prim.Native.Nat.{ℕ, _<_}
+use Prim.Native.Nat.{ℕ, _*_, _≤_, _<_}
 use lib.ListN.{length}
 use Rattle.codec.specs.Bytes.{Bytes}
 use Rattle.stern.specs.Shortness.{answerLength, inRange}
+use Rattle.transcript.specs.Layout.{ballotLength}
 use Rattle.transcript.specs.Extractor.{Openings}
 use Rattle.transcript.specs.Method.{Batch, Shares}
 use Rattle.round_parts.specs.Lent.{Opened, Head}
@@ -14,6 +15,16 @@ use Rattle.round_parts.specs.Lent.{Opened, Head}
 pub record Answered (q n challenge : ℕ) (answer : Bytes) : Type 0 where
   pub sized : length answer ≡ answerLength n challenge
   pub ranged : inRange q n challenge answer ≡ true
+
+-- the lengths that the tests of ranges go by
+pub record OpeningsSized (n count : ℕ) (x : Openings) : Type 0 where
+  pub ballots : length (x .ballots) ≡ ballotLength n * count
+  pub head : 80 * n ≤ length (x .head)
+  pub opening0 : length (x .opening0) ≡ 22 * n
+  pub opening1 : length (x .opening1) ≡ 22 * n
+  pub answer1 : length (x .answer1) ≡ answerLength n 1
+  pub answer2 : length (x .answer2) ≡ answerLength n 2
+  pub answer3 : length (x .answer3) ≡ answerLength n 3
 
 -- all that is lent to the extractor
 pub record OpeningsInRange (q n count repeats : ℕ) (x : Openings) : Type 0 where

@@ -1,22 +1,41 @@
 -- The loop over repetitions: where the digests and the answer of repetition i stand, and what its reply adds. Assumes nothing.
-use mathlib.Core.Path.{_≡_, refl, sym, ap, _∙_}
+use mathlib.Core.Path.{_≡_, refl, sym, ap, ap₂, _∙_}
 use mathlib.Core.Bool.{true}
 use mathlib.Core.List.{List}
-use Prim.Native.Nat.{ℕ, suc, _+_, _*_, _≤_, _<_}
+use Prim.Native.Nat.{ℕ, suc, _+_, _-_, _*_, _≤_, _<_}
 use native.Mathlib.Nat.{mul-le-mul}
 use native.Mathlib.Numerals.{add-one}
 use native.Mathlib.Omega.{arith}
-use lib.ListN.{length, take, getD}
+use lib.ListN.{length, take, drop, getD}
 use Rattle.codec.specs.Bytes.{Bytes, part}
 use Rattle.codec.specs.Reply.{Test, first, None}
 use Rattle.codec.specs.declared.Reply.{Reply}
 use Rattle.codec.specs.declared.Reply.the-variants.{Taken, Refused}
-use Rattle.commitment.specs.Commitment.{Keys}
+use Rattle.sheet_numbers.specs.declared.Numbers.{Numbers}
+use Rattle.commitment.specs.Commitment.{Keys, keysOf}
+use Rattle.commitment.specs.Loaded.{keyBytes}
 use Rattle.stern.specs.Shortness.{answerLength, inRange, answerTests}
 use Rattle.transcript.specs.Layout.{each, pairsOf, digestsAt, answersLength, answerAt}
 use Rattle.transcript.specs.Method.{Answers}
+use Rattle.transcript.proofs.Cut.{keys-cut}
 use Rattle.transcript.proofs.Many.{each-more, each-refused, each-taken}
 use Rattle.transcript.proofs.Answers.{answersLength-more, prefix-le, all-le}
+
+-- one repetition, from parts that are lent with lengths that are differences of places
+module _ (k : Numbers) (s head : Bytes) (digests : ℕ) (answers : Bytes) (at size place challenge : ℕ) where
+  abbrev n : ℕ
+  n = k .ring
+
+  abbrev told : (keys : Bytes) (pairs d answer : ℕ) → Reply
+  told keys pairs d answer =
+      first (answerTests (k .modulus) n (keysOf n keys) (take pairs (drop (16 * n) head)) (take d (drop digests head)) place challenge (take answer (drop at answers)))
+
+  pub at-lent : {r : Reply} → r ≡ told (take (40 * n - 16 * n) (drop (16 * n) s)) (80 * n - 16 * n) (digests + 96 - digests) (at + size - at) → r ≡ told (keyBytes k s) (64 * n) 96 size
+  at-lent e =
+      let x : 80 * n - 16 * n ≡ 64 * n = omega arith in
+      let y : digests + 96 - digests ≡ 96 = omega arith in
+      let z : at + size - at ≡ size = omega arith in
+      e ∙ ap₂ (λ (w : Bytes) (i : ℕ). told w i (digests + 96 - digests) (at + size - at)) (keys-cut k s) x ∙ ap₂ (told (keyBytes k s) (64 * n)) y z
 
 module _ (q n : ℕ) (k : Keys) (head challenges answers : Bytes) where
   abbrev pub repetitionTests : ℕ → List Test

@@ -1,23 +1,29 @@
 // The tests of the answers in a check: by repetition 9, 10, 11, the lowest repetition first.
 use codec::Reply;
+use sheet_numbers::Numbers;
 ghost use mathlib.Core.Path.{_≡_};
 ghost use mathlib.Core.Bool.{true};
 ghost use Prim.Native.Nat.{_+_, _*_, _≤_};
-ghost use lib.ListN.{length, getD};
-ghost use Rattle.codec.specs.Bytes.{part};
+ghost use lib.ListN.{length};
+ghost use Rattle.codec.specs.Bytes.{part, zeros};
 ghost use Rattle.codec.specs.Reply.{first};
 ghost use Rattle.codec.specs.Lists.{allBelow};
 ghost use Rattle.call.specs.Call.{scratchLength};
-ghost use Rattle.commitment.specs.Commitment.{keysOf, PublicKeys};
+ghost use Rattle.commitment.specs.Commitment.{keysOf};
+ghost use Rattle.commitment.specs.Loaded.{keyBytes, Loaded};
 ghost use Rattle.vector.specs.Vector.{vector};
 ghost use Rattle.stern.specs.Shortness.{answerLength, inRange, answerTests};
-ghost use Rattle.transcript.specs.Layout.{each, headLength, pairsOf, digestsAt, answerAt};
+ghost use Rattle.transcript.specs.Layout.{headLength, pairsOf};
+ghost use Rattle.transcript.specs.Round.{answersTests};
+ghost use Rattle.codec.specs.Slices.{given, left};
+ghost use Rattle.transcript.specs.Sheets.{parameters};
 ghost use Rattle.transcript.specs.Method.{Answers};
 
-// One repetition where its digests and its answer stand.
+// One repetition where its digests and its answer stand, and scratch zeroed.
 pub fn test_at(
     work: &mut [u8],
-    k: &[u8],
+    k: Numbers,
+    public: &[u8],
     head: &[u8],
     digests: usize,
     challenge: u8,
@@ -25,42 +31,46 @@ pub fn test_at(
     at: usize,
     size: usize,
     place: u32,
-    n: usize,
-    q: u64,
 ) -> Reply
-    requires { ⌜ PublicKeys n q (now k) × (length (now work) ≡ scratchLength) × (80 * n ≤ length (now head)) × (digests + 96 ≤ length (now head)) × (size ≡ answerLength n challenge) × (at + size ≤ length (now answers)) ⌝ }
-    requires { ⌜ (allBelow q (vector (pairsOf n (now head))) ≡ true) × (inRange q n challenge (part (now answers) at size) ≡ true) ⌝ }
-    ensures { λ reply. ⌜ reply ≡ first (answerTests q n (keysOf n (now (k .entry))) (pairsOf n (now (head .entry))) (part (now (head .entry)) digests 96) place challenge (part (now (answers .entry)) at size)) ⌝ }
-    ensures { λ _. ⌜ length (now (work .exit)) ≡ length (now (work .entry)) ⌝ }
+    requires { ⌜ Loaded k (now public) × (length (now work) ≡ scratchLength) × (80 * k .ring ≤ length (now head))
+        × (digests + 96 ≤ length (now head)) × (size ≡ answerLength (k .ring) challenge) × (at + size ≤ length (now answers)) ⌝ }
+    requires { ⌜ (allBelow (k .modulus) (vector (pairsOf (k .ring) (now head))) ≡ true)
+        × (inRange (k .modulus) (k .ring) challenge (part (now answers) at size) ≡ true) ⌝ }
+    ensures { λ reply. ⌜ (reply ≡ first (answerTests (k .modulus) (k .ring) (keysOf (k .ring) (keyBytes k (given public)))
+        (pairsOf (k .ring) (given head)) (part (given head) digests 96) place challenge (part (given answers) at size)))
+        × (left work ≡ zeros (length (given work))) ⌝ }
 {
+    let n = k.ring as usize;
     answers::testing::test_answer(
         work,
-        k,
+        &public[16 * n..40 * n],
         &head[16 * n..80 * n],
         &head[digests..digests + 96],
         challenge,
         &answers[at..at + size],
         place,
         n,
-        q,
+        k.modulus,
     )
 }
 
 // Every repetition, in order.
-pub fn test_repetitions(
+fn each_repetition(
     work: &mut [u8],
-    k: &[u8],
+    k: Numbers,
+    public: &[u8],
     head: &[u8],
     challenges: &[u8],
     answers: &[u8],
-    repeats: usize,
-    n: usize,
-    q: u64,
 ) -> Reply
-    requires { ⌜ PublicKeys n q (now k) × (length (now work) ≡ scratchLength) × (repeats ≤ 256) × (length (now head) ≡ headLength n repeats) × (allBelow q (vector (pairsOf n (now head))) ≡ true) × Answers q n repeats (now challenges) (now answers) ⌝ }
-    ensures { λ reply. ⌜ reply ≡ first (each repeats (λ i. answerTests q n (keysOf n (now (k .entry))) (pairsOf n (now (head .entry))) (digestsAt n (now (head .entry)) i) i (getD (now (challenges .entry)) i 0) (answerAt n (now (challenges .entry)) (now (answers .entry)) i))) ⌝ }
-    ensures { λ _. ⌜ length (now (work .exit)) ≡ length (now (work .entry)) ⌝ }
+    requires { ⌜ Loaded k (now public) × (length (now work) ≡ scratchLength) × (length (now head) ≡ headLength (k .ring) (k .repeats))
+        × (allBelow (k .modulus) (vector (pairsOf (k .ring) (now head))) ≡ true)
+        × Answers (k .modulus) (k .ring) (k .repeats) (now challenges) (now answers) ⌝ }
+    ensures { λ reply. ⌜ (reply ≡ first (answersTests (parameters k (given public)) (given head) (given challenges) (given answers)))
+        × (length (left work) ≡ length (given work)) ⌝ }
 {
+    let n = k.ring as usize;
+    let repeats = k.repeats as usize;
     let mut i = 0;
     let mut at = 0;
     while i < repeats {
@@ -69,6 +79,7 @@ pub fn test_repetitions(
         let reply = test_at(
             work,
             k,
+            public,
             head,
             80 * n + 96 * i,
             challenge,
@@ -76,8 +87,6 @@ pub fn test_repetitions(
             at,
             size,
             i as u32,
-            n,
-            q,
         );
         match reply {
             Reply::Taken => {}
@@ -89,4 +98,24 @@ pub fn test_repetitions(
         at += size;
     }
     Reply::Taken
+}
+
+// Every repetition, in order, and scratch zeroed.
+pub fn test_repetitions(
+    work: &mut [u8],
+    k: Numbers,
+    public: &[u8],
+    head: &[u8],
+    challenges: &[u8],
+    answers: &[u8],
+) -> Reply
+    requires { ⌜ Loaded k (now public) × (length (now work) ≡ scratchLength) × (length (now head) ≡ headLength (k .ring) (k .repeats))
+        × (allBelow (k .modulus) (vector (pairsOf (k .ring) (now head))) ≡ true)
+        × Answers (k .modulus) (k .ring) (k .repeats) (now challenges) (now answers) ⌝ }
+    ensures { λ reply. ⌜ (reply ≡ first (answersTests (parameters k (given public)) (given head) (given challenges) (given answers)))
+        × (left work ≡ zeros (length (given work))) ⌝ }
+{
+    let reply = each_repetition(work, k, public, head, challenges, answers);
+    codec::wipe(work);
+    reply
 }

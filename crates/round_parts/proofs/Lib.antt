@@ -1,4 +1,3 @@
 pub mod Ranged
-pub mod InOrder
 pub mod Parts
 pub mod Passed

@@ -36,7 +36,7 @@ module _ (P : Parameters) (m : ℕ) {a : Bytes} (p : Polynomial (P .N) (P .q) a)
   public-part l s b d at e h f =
       lent-public N q s at (8 * N) (omega arith) (omega arith) (p .ring-low) (p .ring-high) (p .modulus-low) (p .modulus-high) (below-slot q l s d N at e h b)
 
-  pub opening-passed : (opening : Bytes) → length opening ≡ 22 * N → openingRanged P m opening ≡ true → Opened q N opening
+  pub opening-passed : (opening : Bytes) → length opening ≡ 22 * N → openingRanged (P .q) (P .N) opening ≡ true → Opened q N opening
   unfolding openingRanged
   opening-passed opening l t =
       let b = below-sound q (2 * N) (poly opening) (both _ _ t .0) in
@@ -46,7 +46,7 @@ module _ (P : Parameters) (m : ℕ) {a : Bytes} (p : Polynomial (P .N) (P .q) a)
         e = public-part (2 * N) opening b N (8 * N) (omega arith) (omega arith) (omega arith);
       }
 
-  pub head-passed : (head : Bytes) → length head ≡ headLength N repeats → headRanged P m head ≡ true → Head q N repeats head
+  pub head-passed : (head : Bytes) → length head ≡ headLength N repeats → headRanged (P .q) (P .N) head ≡ true → Head q N repeats head
   unfolding headRanged
   head-passed head l t =
       let b = below-sound q (10 * N) (poly head) t in
@@ -89,12 +89,12 @@ module _ (P : Parameters) (m : ℕ) {a : Bytes} (p : Polynomial (P .N) (P .q) a)
   unfolding ranged answersRanged
   round-passed r l t =
       let a1 = both (ltb (r .side) 2) _ t in
-      let a2 = both (answersRanged P m r) _ (a1 .1) in
+      let a2 = both (answersRanged (P .q) (P .N) (P .repeats) (r .challenges) (r .answers)) _ (a1 .1) in
       let a3 = both (ballotsRanged P m (r .ballots)) _ (a2 .1) in
       let a4 = both (allBelow (P .p) (r .claims)) _ (a3 .1) in
-      let a5 = both (headRanged P m (r .head)) _ (a4 .1) in
+      let a5 = both (headRanged (P .q) (P .N) (r .head)) _ (a4 .1) in
       let a6 = both (allBelow q (vector (r .shares0))) _ (a5 .1) in
-      let a7 = both (allBelow q (vector (r .shares1))) (openingRanged P m (r .opening)) (a6 .1) in
+      let a7 = both (allBelow q (vector (r .shares1))) (openingRanged (P .q) (P .N) (r .opening)) (a6 .1) in
       record {
         side = ltb-true (r .side) 2 (a1 .0);
         answers = record {

@@ -17,9 +17,10 @@ use Rattle.call.proofs.Order.{fails, goes-on}
 use Rattle.vector.specs.Vector.{vector}
 use Rattle.stern.specs.Shortness.{answerLength, inRange}
 use Rattle.transcript.specs.Layout.{uAt, answersLength, answerAt}
-use Rattle.transcript.specs.Round.{isChallenge}
+use Rattle.transcript.specs.Round.{isChallenge, headRanged}
 use Rattle.transcript.proofs.Answers.{answersLength-more}
 use Rattle.transcript.proofs.Answers.{prefix-le, all-le}
+use Rattle.round_parts.specs.Lent.{messageRanged}
 
 -- ---- a part, lent with a length that is a difference of places
 
@@ -44,29 +45,23 @@ grouped true true false d e o = refl
 grouped true true true false e o = refl
 grouped true true true true e o = refl
 
-module _ (q n count : ℕ) (ballots claims head shares0 shares1 : Bytes) (rest : Bool) where
+module _ (q n p m : ℕ) (ballots claims head shares0 shares1 : Bytes) (rest : Bool) where
   abbrev ballots-pass : Bool
-  ballots-pass = all count (λ j. allBelow q (list (2 * n) (uAt n ballots j)))
+  ballots-pass = all m (λ j. allBelow q (list (2 * n) (uAt n ballots j)))
 
-  abbrev claims-pass : Bool
-  claims-pass = allBelow 2 claims
+  -- the message's own and then the rest, one after the other
+  abbrev onwards : Bool
+  onwards = ballots-pass && (allBelow p claims && (headRanged q n head && (allBelow q (vector shares0) && (allBelow q (vector shares1) && rest))))
 
-  abbrev head-passes : Bool
-  head-passes = allBelow q (list (10 * n) (poly head))
+  module _ {x : Bool} (is : x ≡ messageRanged q n p m ballots claims head shares0 shares1) where
+    regrouped : (messageRanged q n p m ballots claims head shares0 shares1 && rest) ≡ onwards
+    regrouped = grouped ballots-pass (allBelow p claims) (headRanged q n head) (allBelow q (vector shares0)) (allBelow q (vector shares1)) rest
 
-  abbrev shares-pass : Bytes → Bool
-  shares-pass shares = allBelow q (vector shares)
+    pub message-fails : x ≡ false → false ≡ onwards
+    message-fails f = fails (messageRanged q n p m ballots claims head shares0 shares1) rest is f ∙ regrouped
 
-  module _ {x : Bool} (is : x ≡ (ballots-pass && (claims-pass && (head-passes && (shares-pass shares0 && shares-pass shares1))))) where
-    regrouped : ((ballots-pass && (claims-pass && (head-passes && (shares-pass shares0 && shares-pass shares1)))) && rest)
-        ≡ (ballots-pass && (claims-pass && (head-passes && (shares-pass shares0 && (shares-pass shares1 && rest)))))
-    regrouped = grouped ballots-pass claims-pass head-passes (shares-pass shares0) (shares-pass shares1) rest
-
-    pub message-fails : x ≡ false → false ≡ (ballots-pass && (claims-pass && (head-passes && (shares-pass shares0 && (shares-pass shares1 && rest)))))
-    message-fails f = fails (ballots-pass && (claims-pass && (head-passes && (shares-pass shares0 && shares-pass shares1)))) rest is f ∙ regrouped
-
-    pub message-passes : {y : Bool} → x ≡ true → y ≡ rest → y ≡ (ballots-pass && (claims-pass && (head-passes && (shares-pass shares0 && (shares-pass shares1 && rest)))))
-    message-passes t f = goes-on (ballots-pass && (claims-pass && (head-passes && (shares-pass shares0 && shares-pass shares1)))) rest is t f ∙ regrouped
+    pub message-passes : {y : Bool} → x ≡ true → y ≡ rest → y ≡ onwards
+    message-passes t f = goes-on (messageRanged q n p m ballots claims head shares0 shares1) rest is t f ∙ regrouped
 
 -- one of many fails
 pub all-fails : (n : ℕ) (f : ℕ → Bool) (j : ℕ) → j < n → f j ≡ false → false ≡ all n f

@@ -1,15 +1,21 @@
 -- What the inner functions of a check are given: parts of a round that passed the tests of lengths and ranges. The contracts of the whole orders do not cite this file. Assumes nothing.
 use mathlib.Core.Path.{_≡_}
-use mathlib.Core.Bool.{true}
+use mathlib.Core.Bool.{Bool, true, _&&_}
 use Prim.Native.Nat.{ℕ, _*_, _<_}
 use lib.ListN.{length}
 use Rattle.codec.specs.Bytes.{Bytes, part}
-use Rattle.codec.specs.Lists.{allBelow}
+use Rattle.codec.specs.Lists.{list, allBelow, all}
 use Rattle.call.specs.Call.{Polynomial}
 use Rattle.vector.specs.Vector.{vector}
-use Rattle.transcript.specs.Layout.{headLength, pairsOf}
-use Rattle.transcript.specs.Round.{Round}
+use Rattle.transcript.specs.Layout.{headLength, uAt, pairsOf}
+use Rattle.transcript.specs.Round.{Round, headRanged}
 use Rattle.transcript.specs.Method.{Batch, Shares, Answers}
+
+-- 5 for m ballots, their claims and a first message
+abbrev pub messageRanged : (q n p m : ℕ) (ballots claims head shares0 shares1 : Bytes) → Bool
+messageRanged q n p m ballots claims head shares0 shares1 =
+    all m (λ j. allBelow q (list (2 * n) (uAt n ballots j)))
+    && (allBelow p claims && (headRanged q n head && (allBelow q (vector shares0) && allBelow q (vector shares1))))
 
 -- an opening
 pub record Opened (q n : ℕ) (opening : Bytes) : Type 0 where

@@ -1,21 +1,24 @@
 // The tests of an opening: 6, 7 and 8, and by ballot 12 and 13.
 use codec::Reply;
+use sheet_numbers::Numbers;
 ghost use mathlib.Core.Path.{_≡_};
-ghost use mathlib.Core.Bool.{_&&_};
-ghost use Prim.Native.Nat.{_+_, _*_, _%_, _≤_, _<_};
+ghost use Prim.Native.Nat.{ℕ, _+_, _*_, _≤_, _<_};
 ghost use lib.ListN.{length};
-ghost use Rattle.codec.specs.Bytes.{part, same};
+ghost use Rattle.codec.specs.Bytes.{zeros};
 ghost use Rattle.codec.specs.Reply.{first};
 ghost use Rattle.codec.specs.declared.Reply.the-variants.{Refused};
-ghost use Rattle.ring.specs.Poly.{plus, modulo};
-ghost use Rattle.ring.specs.Slots.{poly, slot, encode};
-ghost use Rattle.call.specs.Call.{scratchLength, Polynomial};
-ghost use Rattle.bgv.specs.Scheme.{key};
-ghost use Rattle.commitment.specs.Commitment.{keysOf, threeOf, opens, PublicKeys};
-ghost use Rattle.transcript.specs.Layout.{keyAt, openingOf};
+ghost use Rattle.ring.specs.Slots.{slot};
+ghost use Rattle.sheet_numbers.specs.Plain.{plain, maskOf};
+ghost use Rattle.sheet_numbers.specs.Usable.{Usable};
+ghost use Rattle.call.specs.Call.{scratchLength};
+ghost use Rattle.commitment.specs.Loaded.{Loaded};
+ghost use Rattle.transcript.specs.Layout.{openingOf};
+ghost use Rattle.transcript.specs.Round as round;
+ghost use Rattle.transcript.specs.Round.{opensKey, opensPairs, halfTests, votesTests};
+ghost use Rattle.codec.specs.Slices.{given, left};
+ghost use Rattle.transcript.specs.Sheets.{parameters};
 ghost use Rattle.transcript.specs.Method.{Batch, Shares};
 ghost use Rattle.round_parts.specs.Lent.{Opened, Head};
-ghost use Rattle.round_parts.specs.Orders.{openingTests, voteTests};
 
 // A refusal that names no place.
 pub fn refused(number: u8) -> Reply
@@ -25,57 +28,67 @@ pub fn refused(number: u8) -> Reply
 }
 
 // Whether b0 and b1 of a first message add to b.
-pub fn splits(work: &mut [u8], head: &[u8], b: &[u8], repeats: usize, n: usize, q: u64) -> bool
-    requires { ⌜ Polynomial n q (now b) × Head q n repeats (now head) × (length (now work) ≡ scratchLength) ⌝ }
-    ensures { λ r. ⌜ r ≡ same (encode n (modulo q (plus (keyAt n (now (head .entry)) 0) (keyAt n (now (head .entry)) 1)))) (encode n (modulo q (poly (now (b .entry))))) ⌝ }
-    ensures { λ _. ⌜ length (now (work .exit)) ≡ length (now (work .entry)) ⌝ }
+pub fn splits(work: &mut [u8], k: Numbers, public: &[u8], head: &[u8]) -> bool
+    requires { ⌜ Loaded k (now public) × Head (k .modulus) (k .ring) (k .repeats) (now head) × (length (now work) ≡ scratchLength) ⌝ }
+    ensures { λ r. ⌜ (r ≡ round.splits (parameters k (given public)) (given head)) × (left work ≡ zeros (length (given work))) ⌝ }
 {
-    ballot_tests::halves::adds(work, &head[0..8 * n], &head[8 * n..16 * n], b, n, q)
+    let n = k.ring as usize;
+    ballot_tests::halves::adds(
+        work,
+        &head[0..8 * n],
+        &head[8 * n..16 * n],
+        &public[8 * n..16 * n],
+        n,
+        k.modulus,
+    )
 }
 
 // Whether the half of the key at a place of a first message is that of an opening.
 fn opens_key(
     work: &mut [u8],
-    a: &[u8],
+    k: Numbers,
+    public: &[u8],
     head: &[u8],
     at: usize,
     opening: &[u8],
-    n: usize,
-    q: u64,
 ) -> bool
-    requires { ⌜ Polynomial n q (now a) × Opened q n (now opening) × (length (now work) ≡ scratchLength) × (at + 8 * n ≤ length (now head)) ⌝ }
-    ensures { λ r. ⌜ r ≡ same (part (now (head .entry)) at (8 * n)) (encode n (modulo q (key q n 2 (poly (now (a .entry))) (slot (now (opening .entry)) 0) (slot (now (opening .entry)) (8 * n))))) ⌝ }
-    ensures { λ _. ⌜ length (now (work .exit)) ≡ length (now (work .entry)) ⌝ }
+    requires { ⌜ Loaded k (now public) × Opened (k .modulus) (k .ring) (now opening) × (length (now work) ≡ scratchLength)
+        × (at + 8 * k .ring ≤ length (now head)) ⌝ }
+    ensures { λ r. ⌜ ((side : ℕ) → at ≡ 8 * k .ring * side
+        → r ≡ opensKey (parameters k (given public)) (given head) side (openingOf (k .ring) (given opening)))
+        × (left work ≡ zeros (length (given work))) ⌝ }
 {
+    let n = k.ring as usize;
     ballot_tests::halves::is_key(
         work,
-        a,
+        k,
+        &public[0..8 * n],
         &head[at..at + 8 * n],
         &opening[0..8 * n],
         &opening[8 * n..16 * n],
-        n,
-        q,
     )
 }
 
 // Whether the pair at a place of a first message, and the one two pairs further on, are those of an opening.
 fn opens_pairs(
     work: &mut [u8],
-    k: &[u8],
+    k: Numbers,
+    public: &[u8],
     head: &[u8],
     at: usize,
     opening: &[u8],
-    n: usize,
-    q: u64,
 ) -> bool
-    requires { ⌜ PublicKeys n q (now k) × Opened q n (now opening) × (length (now work) ≡ scratchLength) × (at + 48 * n ≤ length (now head)) ⌝ }
-    ensures { λ r. ⌜ r ≡ (opens q n (keysOf n (now (k .entry))) (part (now (head .entry)) at (16 * n)) (threeOf q n (part (now (opening .entry)) (16 * n) (3 * n))) (slot (now (opening .entry)) 0) && opens q n (keysOf n (now (k .entry))) (part (now (head .entry)) (at + 32 * n) (16 * n)) (threeOf q n (part (now (opening .entry)) (19 * n) (3 * n))) (slot (now (opening .entry)) (8 * n))) ⌝ }
-    ensures { λ _. ⌜ length (now (work .exit)) ≡ length (now (work .entry)) ⌝ }
+    requires { ⌜ Loaded k (now public) × Opened (k .modulus) (k .ring) (now opening) × (length (now work) ≡ scratchLength)
+        × (at + 48 * k .ring ≤ length (now head)) ⌝ }
+    ensures { λ r. ⌜ ((side : ℕ) → at ≡ 16 * k .ring + 16 * k .ring * side
+        → r ≡ opensPairs (parameters k (given public)) (given head) side (openingOf (k .ring) (given opening)))
+        × (left work ≡ zeros (length (given work))) ⌝ }
 {
+    let n = k.ring as usize;
     let end = at + 48 * n;
     ballot_tests::halves::opens_pairs(
         work,
-        k,
+        &public[16 * n..40 * n],
         &head[at..at + 16 * n],
         &head[at + 32 * n..end],
         &opening[0..8 * n],
@@ -83,30 +96,29 @@ fn opens_pairs(
         &opening[16 * n..19 * n],
         &opening[19 * n..22 * n],
         n,
-        q,
+        k.modulus,
     )
 }
 
 // The half of the key and the pairs of a side: 7, then 8.
 pub fn test_opening(
     work: &mut [u8],
-    a: &[u8],
-    k: &[u8],
+    k: Numbers,
+    public: &[u8],
     head: &[u8],
     side: usize,
     opening: &[u8],
-    n: usize,
-    q: u64,
 ) -> Reply
-    requires { ⌜ Polynomial n q (now a) × PublicKeys n q (now k) × Opened q n (now opening) × (length (now work) ≡ scratchLength) × (80 * n ≤ length (now head)) × (side < 2) ⌝ }
-    ensures { λ reply. ⌜ reply ≡ first (openingTests q n (poly (now (a .entry))) (keysOf n (now (k .entry))) (now (head .entry)) side (openingOf n (now (opening .entry)))) ⌝ }
-    ensures { λ _. ⌜ length (now (work .exit)) ≡ length (now (work .entry)) ⌝ }
+    requires { ⌜ Loaded k (now public) × Opened (k .modulus) (k .ring) (now opening) × (length (now work) ≡ scratchLength)
+        × (80 * k .ring ≤ length (now head)) × (side < 2) ⌝ }
+    ensures { λ reply. ⌜ (reply ≡ first (halfTests (parameters k (given public)) (given head) side (openingOf (k .ring) (given opening))))
+        × (left work ≡ zeros (length (given work))) ⌝ }
 {
-    let at = 8 * n * side;
-    if !opens_key(work, a, head, at, opening, n, q) {
+    let n = k.ring as usize;
+    if !opens_key(work, k, public, head, 8 * n * side, opening) {
         return refused(7);
     }
-    if !opens_pairs(work, k, head, 16 * n + 2 * at, opening, n, q) {
+    if !opens_pairs(work, k, public, head, 16 * n + 16 * n * side, opening) {
         return refused(8);
     }
     Reply::Taken
@@ -115,6 +127,7 @@ pub fn test_opening(
 // Every ballot by the opened half of the secret: 12, then 13. `opened` is the opened side's shares.
 pub fn test_votes(
     work: &mut [u8],
+    k: Numbers,
     opening: &[u8],
     ballots: &[u8],
     claims: &[u8],
@@ -122,16 +135,17 @@ pub fn test_votes(
     shares1: &[u8],
     opened: &[u8],
     count: usize,
-    bound: u64,
-    n: usize,
-    q: u64,
 ) -> Reply
-    requires { ⌜ Opened q n (now opening) × (q % 2 ≡ 1) × (length (now work) ≡ scratchLength) × (count ≤ 4096) × Batch q n count (now ballots) (now claims) × Shares q n count (now shares0) × Shares q n count (now shares1) × Shares q n count (now opened) ⌝ }
-    ensures { λ reply. ⌜ reply ≡ first (voteTests q n bound count (slot (now (opening .entry)) 0) (now (ballots .entry)) (now (claims .entry)) (now (shares0 .entry)) (now (shares1 .entry)) (now (opened .entry))) ⌝ }
-    ensures { λ _. ⌜ length (now (work .exit)) ≡ length (now (work .entry)) ⌝ }
+    requires { ⌜ Usable k × Opened (k .modulus) (k .ring) (now opening) × (length (now work) ≡ scratchLength) × (count ≤ 4096)
+        × Batch (k .modulus) (k .ring) count (now ballots) (now claims) × Shares (k .modulus) (k .ring) count (now shares0)
+        × Shares (k .modulus) (k .ring) count (now shares1) × Shares (k .modulus) (k .ring) count (now opened) ⌝ }
+    ensures { λ reply. ⌜ (reply ≡ first (votesTests (k .modulus) (k .ring) (plain k) (maskOf k) count (slot (given opening) 0)
+        (given ballots) (given claims) (given shares0) (given shares1) (given opened))) × (left work ≡ zeros (length (given work))) ⌝ }
 {
+    let n = k.ring as usize;
     ballot_tests::ballots::test_ballots(
         work,
+        k,
         &opening[0..8 * n],
         ballots,
         claims,
@@ -139,8 +153,5 @@ pub fn test_votes(
         shares1,
         opened,
         count,
-        bound,
-        n,
-        q,
     )
 }

@@ -1,39 +1,41 @@
 // Refusal 5: whether coefficients, claims, ternary bytes and challenges are in range.
+use sheet_numbers::Numbers;
 ghost use mathlib.Core.Path.{_≡_};
 ghost use mathlib.Core.Bool.{_&&_};
-ghost use Prim.Native.Nat.{_+_, _*_, _≤_};
-ghost use lib.ListN.{length, getD};
-ghost use Rattle.codec.specs.Bytes.{part};
-ghost use Rattle.codec.specs.Lists.{list, allBelow, all};
-ghost use Rattle.ring.specs.Slots.{poly};
-ghost use Rattle.vector.specs.Vector.{vector};
+ghost use Prim.Native.Nat.{_*_, _≤_};
+ghost use lib.ListN.{length};
+ghost use Rattle.sheet_numbers.specs.Plain.{plain};
 ghost use Rattle.stern.specs.Shortness.{answerLength, inRange};
-ghost use Rattle.transcript.specs.Layout.{ballotLength, uAt, answersLength, answerAt};
-ghost use Rattle.transcript.specs.Round.{isChallenge};
+ghost use Rattle.transcript.specs.Layout.{ballotLength, answersLength};
+ghost use Rattle.transcript.specs.Round.{isChallenge, openingRanged, headRanged, answersRanged};
+ghost use Rattle.codec.specs.Slices.{given};
+ghost use Rattle.round_parts.specs.Lent.{messageRanged};
 
 // Whether b0, b1 and the committed pairs, with which the head of a first message begins, are below q.
-pub fn head_ranged(head: &[u8], n: usize, q: u64) -> bool
-    requires { ⌜ (n ≤ 2048) × (80 * n ≤ length (now head)) ⌝ }
-    ensures { λ r. ⌜ r ≡ allBelow q (list (10 * n) (poly (now (head .entry)))) ⌝ }
+pub fn head_ranged(k: Numbers, head: &[u8]) -> bool
+    requires { ⌜ (k .ring ≤ 2048) × (80 * k .ring ≤ length (now head)) ⌝ }
+    ensures { λ r. ⌜ r ≡ headRanged (k .modulus) (k .ring) (given head) ⌝ }
 {
-    ring::in_range(&head[0..80 * n], q)
+    let n = k.ring as usize;
+    ring::in_range(&head[0..80 * n], k.modulus)
 }
 
 // Whether the two polynomials of an opening are below q, and the bytes behind them ternary.
-pub fn opening_ranged(opening: &[u8], n: usize, q: u64) -> bool
-    requires { ⌜ (n ≤ 2048) × (length (now opening) ≡ 22 * n) ⌝ }
-    ensures { λ r. ⌜ r ≡ (allBelow q (list (2 * n) (poly (now (opening .entry)))) && allBelow 3 (part (now (opening .entry)) (16 * n) (6 * n))) ⌝ }
+pub fn opening_ranged(k: Numbers, opening: &[u8]) -> bool
+    requires { ⌜ (k .ring ≤ 2048) × (length (now opening) ≡ 22 * k .ring) ⌝ }
+    ensures { λ r. ⌜ r ≡ openingRanged (k .modulus) (k .ring) (given opening) ⌝ }
 {
-    if !ring::in_range(&opening[0..16 * n], q) {
+    let n = k.ring as usize;
+    if !ring::in_range(&opening[0..16 * n], k.modulus) {
         return false;
     }
     ring::is_ternary(&opening[16 * n..22 * n])
 }
 
 // Whether a challenge is 1, 2 or 3, and the numbers of its answer are in range.
-pub fn challenge_ranged(challenge: u8, answer: &[u8], n: usize, q: u64) -> bool
-    requires { ⌜ (n ≤ 2048) × (length (now answer) ≡ answerLength n challenge) ⌝ }
-    ensures { λ r. ⌜ r ≡ (isChallenge challenge && inRange q n challenge (now (answer .entry))) ⌝ }
+fn challenge_ranged(k: Numbers, challenge: u8, answer: &[u8]) -> bool
+    requires { ⌜ (k .ring ≤ 2048) × (length (now answer) ≡ answerLength (k .ring) challenge) ⌝ }
+    ensures { λ r. ⌜ r ≡ (isChallenge challenge && inRange (k .modulus) (k .ring) challenge (given answer)) ⌝ }
 {
     if challenge < 1 {
         return false;
@@ -41,20 +43,23 @@ pub fn challenge_ranged(challenge: u8, answer: &[u8], n: usize, q: u64) -> bool
     if 3 < challenge {
         return false;
     }
-    answers::layout::answer_ranged(challenge, answer, n, q)
+    answers::layout::answer_ranged(challenge, answer, k.ring as usize, k.modulus)
 }
 
 // Whether every challenge and every answer, end to end, is in range.
-pub fn answers_ranged(challenges: &[u8], answers: &[u8], repeats: usize, n: usize, q: u64) -> bool
-    requires { ⌜ (n ≤ 2048) × (repeats ≤ 256) × (length (now challenges) ≡ repeats) × (length (now answers) ≡ answersLength n (now challenges)) ⌝ }
-    ensures { λ r. ⌜ r ≡ all repeats (λ i. isChallenge (getD (now (challenges .entry)) i 0) && inRange q n (getD (now (challenges .entry)) i 0) (answerAt n (now (challenges .entry)) (now (answers .entry)) i)) ⌝ }
+pub fn answers_ranged(k: Numbers, challenges: &[u8], answers: &[u8]) -> bool
+    requires { ⌜ (k .ring ≤ 2048) × (k .repeats ≤ 256) × (length (now challenges) ≡ k .repeats)
+        × (length (now answers) ≡ answersLength (k .ring) (now challenges)) ⌝ }
+    ensures { λ r. ⌜ r ≡ answersRanged (k .modulus) (k .ring) (k .repeats) (given challenges) (given answers) ⌝ }
 {
+    let n = k.ring as usize;
+    let repeats = k.repeats as usize;
     let mut i = 0;
     let mut at = 0;
     while i < repeats {
         let challenge = challenges[i];
         let end = at + answers::layout::answer_length(n, challenge);
-        if !challenge_ranged(challenge, &answers[at..end], n, q) {
+        if !challenge_ranged(k, challenge, &answers[at..end]) {
             return false;
         }
         i += 1;
@@ -65,25 +70,27 @@ pub fn answers_ranged(challenges: &[u8], answers: &[u8], repeats: usize, n: usiz
 
 // Whether ballots, claims and a first message are in range.
 pub fn message_ranged(
+    k: Numbers,
     ballots: &[u8],
     claims: &[u8],
     head: &[u8],
     shares0: &[u8],
     shares1: &[u8],
     count: usize,
-    n: usize,
-    q: u64,
 ) -> bool
-    requires { ⌜ (n ≤ 2048) × (count ≤ 4096) × (length (now ballots) ≡ ballotLength n * count) × (80 * n ≤ length (now head)) ⌝ }
-    ensures { λ r. ⌜ r ≡ (all count (λ j. allBelow q (list (2 * n) (uAt n (now (ballots .entry)) j))) && (allBelow 2 (now (claims .entry)) && (allBelow q (list (10 * n) (poly (now (head .entry)))) && (allBelow q (vector (now (shares0 .entry))) && allBelow q (vector (now (shares1 .entry))))))) ⌝ }
+    requires { ⌜ (k .ring ≤ 2048) × (count ≤ 4096) × (length (now ballots) ≡ ballotLength (k .ring) * count)
+        × (80 * k .ring ≤ length (now head)) ⌝ }
+    ensures { λ r. ⌜ r ≡ messageRanged (k .modulus) (k .ring) (plain k) count (given ballots) (given claims) (given head) (given shares0)
+        (given shares1) ⌝ }
 {
-    if !ballot_tests::ranges::ballots_in_range(ballots, count, n, q) {
+    let q = k.modulus;
+    if !ballot_tests::ranges::ballots_in_range(ballots, count, k.ring as usize, q) {
         return false;
     }
-    if !bgv::is_message(claims, 2) {
+    if !bgv::is_message(claims, sheet_numbers::plain(k)) {
         return false;
     }
-    if !head_ranged(head, n, q) {
+    if !head_ranged(k, head) {
         return false;
     }
     if !ring::in_range(shares0, q) {

@@ -56,9 +56,12 @@ pub fn equations_digest(
     n: usize,
     q: u64,
 ) -> [u8; 32]
-    requires { ⌜ PublicKeys n q (now k) × (length (now work) ≡ scratchLength) × (length (now x) ≡ 336 * n) × Below q (length (now x) / 8) (poly (now x)) ⌝ }
+    requires { ⌜ PublicKeys n q (now k) × (length (now work) ≡ scratchLength) × (length (now x) ≡ 336 * n)
+        × Below q (length (now x) / 8) (poly (now x)) ⌝ }
     requires { ⌜ (less ≡ true → (length (now c) ≡ 64 * n) × Below q (length (now c) / 8) (poly (now c))) × (length (now salt) ≡ 32) ⌝ }
-    ensures { λ r. ⌜ r ≡ sha3 (string1 (now (salt .entry)) (now (p .entry)) (cond less (subtract q (equations q n (keysOf n (now (k .entry))) (take (14 * n) (vector (now (x .entry))))) (sides q n (now (c .entry)))) (equations q n (keysOf n (now (k .entry))) (take (14 * n) (vector (now (x .entry))))))) ⌝ }
+    ensures { λ r. ⌜ r ≡ sha3 (string1 (now (salt .entry)) (now (p .entry))
+        (cond less (subtract q (equations q n (keysOf n (now (k .entry))) (take (14 * n) (vector (now (x .entry)))))
+        (sides q n (now (c .entry)))) (equations q n (keysOf n (now (k .entry))) (take (14 * n) (vector (now (x .entry))))))) ⌝ }
     ensures { λ _. ⌜ length (now (work .exit)) ≡ length (now (work .entry)) ⌝ }
 {
     let a = begin(1, salt).absorbed(p);
@@ -77,7 +80,8 @@ pub fn gathered_digest(
     salt: &[u8],
     n: usize,
 ) -> [u8; 32]
-    requires { ⌜ (n ≤ 2048) × (length (now work) ≡ scratchLength) × (length (now p) ≡ 168 * n) × (length (now x) ≡ 336 * n) × (length (now salt) ≡ 32) × (allBelow (42 * n) (entries (now p)) ≡ true) ⌝ }
+    requires { ⌜ (n ≤ 2048) × (length (now work) ≡ scratchLength) × (length (now p) ≡ 168 * n) × (length (now x) ≡ 336 * n)
+        × (length (now salt) ≡ 32) × (allBelow (42 * n) (entries (now p)) ≡ true) ⌝ }
     ensures { λ r. ⌜ r ≡ sha3 (lead ∷ (now (salt .entry) ++ words (apply (entries (now (p .entry))) (vector (now (x .entry)))))) ⌝ }
     ensures { λ _. ⌜ length (now (work .exit)) ≡ length (now (work .entry)) ⌝ }
 {
@@ -95,9 +99,11 @@ pub fn masked_digest(
     n: usize,
     q: u64,
 ) -> [u8; 32]
-    requires { ⌜ (n ≤ 2048) × (3 ≤ q) × (q < 2 ^ 56) × (length (now work) ≡ scratchLength) × (length (now p) ≡ 168 * n) × (length (now x) ≡ 14 * n) × (length (now r) ≡ 336 * n) × (length (now salt) ≡ 32) ⌝ }
+    requires { ⌜ (n ≤ 2048) × (3 ≤ q) × (q < 2 ^ 56) × (length (now work) ≡ scratchLength) × (length (now p) ≡ 168 * n)
+        × (length (now x) ≡ 14 * n) × (length (now r) ≡ 336 * n) × (length (now salt) ≡ 32) ⌝ }
     requires { ⌜ (allBelow (42 * n) (entries (now p)) ≡ true) × (allBelow q (vector (now r)) ≡ true) ⌝ }
-    ensures { λ d. ⌜ d ≡ sha3 (string3 (now (salt .entry)) (apply (entries (now (p .entry))) (add q (ternaries q (extend (14 * n) (now (x .entry)))) (vector (now (r .entry)))))) ⌝ }
+    ensures { λ d. ⌜ d ≡ sha3 (string3 (now (salt .entry))
+        (apply (entries (now (p .entry))) (add q (ternaries q (extend (14 * n) (now (x .entry)))) (vector (now (r .entry)))))) ⌝ }
     ensures { λ _. ⌜ length (now (work .exit)) ≡ length (now (work .entry)) ⌝ }
 {
     let minus = 14 * n - ring::count_of(x, 2);

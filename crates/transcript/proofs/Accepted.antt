@@ -39,13 +39,13 @@ module _ (P : Parameters) (m : ℕ) (positive : 0 < P .q) (fits : P .q ≤ 2 ^ 6
     -- ---- a round in range
 
     module _ (in-range : InRange P m r) where
-      head-ranged : headRanged P m head ≡ true
+      head-ranged : headRanged (P .q) (P .N) head ≡ true
       head-ranged = head-exactly P m head .1 (in-range .head)
 
-      key-means : (opensKey P m head (r .side) opening ≡ true) ↔ Alike q N (keyAt N head (r .side)) (key q N p a (opening .s) (opening .e))
+      key-means : (opensKey P head (r .side) opening ≡ true) ↔ Alike q N (keyAt N head (r .side)) (key q N p a (opening .s) (opening .e))
       key-means = key-exactly P m positive fits head sized octets head-ranged (r .side) (in-range .side) opening
 
-      pairs-mean : (opensPairs P m head (r .side) opening ≡ true)
+      pairs-mean : (opensPairs P head (r .side) opening ≡ true)
           ↔ (Opens q N k (pairOf N (pairAt N head (r .side))) (threeOf q N (opening .rs)) (opening .s) × Opens q N k (pairOf N (pairAt N head (2 + r .side))) (threeOf q N (opening .re)) (opening .e))
       pairs-mean = pairs-exactly P m positive fits head sized octets head-ranged (r .side) (in-range .side) opening
 

@@ -45,12 +45,12 @@ module _ (P : Parameters) (m : ℕ) (x : Openings) where
     claimed : (j : ℕ) → j < m → claimAt N (x .claims) j ≡ list N (reconstructed q p (vAt N (x .ballots) j) (shareAt N (x .shares0) j) (shareAt N (x .shares1) j))
 
   module _ (three : 2 < q) (fits : q ≤ 2 ^ 64) (lent : Lent P m x) where
-    side-passed : headRanged P m (x .head) ≡ true → (side : ℕ) → side < 2 → (shares : Bytes) (o : Opening) → None (sideTests P m x side shares o) → Side side shares o
+    side-passed : headRanged (P .q) (P .N) (x .head) ≡ true → (side : ℕ) → side < 2 → (shares : Bytes) (o : Opening) → None (sideTests P m (x .head) (x .ballots) (x .claims) (x .shares0) (x .shares1) side shares o) → Side side shares o
     side-passed ranged side two shares o n =
-        let pair = pairs-exactly P m (omega arith) fits (x .head) (lent .head) (lent .octets) ranged side two o .0 (not-false (opensPairs P m (x .head) side o) (n .1 .0)) in
-        let ballot = none-each m (λ j. maskTest P m (x .ballots) shares o j ∷ claimTest P m (x .ballots) (x .claims) (x .shares0) (x .shares1) j ∷ []) (n .1 .1) in
+        let pair = pairs-exactly P m (omega arith) fits (x .head) (lent .head) (lent .octets) ranged side two o .0 (not-false (opensPairs P (x .head) side o) (n .1 .0)) in
+        let ballot = none-each m (λ j. maskTest q N p B (o .s) (x .ballots) shares j ∷ claimTest q N p (x .ballots) (x .claims) (x .shares0) (x .shares1) j ∷ []) (n .1 .1) in
         record {
-          key-opened = key-exactly P m (omega arith) fits (x .head) (lent .head) (lent .octets) ranged side two o .0 (not-false (opensKey P m (x .head) side o) (n .0));
+          key-opened = key-exactly P m (omega arith) fits (x .head) (lent .head) (lent .octets) ranged side two o .0 (not-false (opensKey P (x .head) side o) (n .0));
           s-committed = pair .0;
           e-committed = pair .1;
           masked = λ j l. within-sound B N (worked q N p (o .s) (uAt N (x .ballots) j) (shareAt N shares j)) (not-false (within B N (worked q N p (o .s) (uAt N (x .ballots) j) (shareAt N shares j))) (ballot j l .0));
@@ -81,29 +81,29 @@ module _ (P : Parameters) (m : ℕ) (x : Openings) where
       abbrev group3 : List Test
       group3 = tests3 q N k (pairs P m x) (digests P m x) (x .repetition) third
 
-      groups : None (sideTests P m x 0 (x .shares0) (open0 P m x)) × None (sideTests P m x 1 (x .shares1) (open1 P m x)) × None group1 × None group2 × None group3
+      groups : None (sideTests P m (x .head) (x .ballots) (x .claims) (x .shares0) (x .shares1) 0 (x .shares0) (open0 P m x)) × None (sideTests P m (x .head) (x .ballots) (x .claims) (x .shares0) (x .shares1) 1 (x .shares1) (open1 P m x)) × None group1 × None group2 × None group3
       unfolding extractTests
       groups =
-          let f = append-none (sideTests P m x 0 (x .shares0) (open0 P m x)) (sideTests P m x 1 (x .shares1) (open1 P m x) ++ (group1 ++ (group2 ++ group3))) (none .1 .1) in
-          let g = append-none (sideTests P m x 1 (x .shares1) (open1 P m x)) (group1 ++ (group2 ++ group3)) (f .1) in
+          let f = append-none (sideTests P m (x .head) (x .ballots) (x .claims) (x .shares0) (x .shares1) 0 (x .shares0) (open0 P m x)) (sideTests P m (x .head) (x .ballots) (x .claims) (x .shares0) (x .shares1) 1 (x .shares1) (open1 P m x) ++ (group1 ++ (group2 ++ group3))) (none .1 .1) in
+          let g = append-none (sideTests P m (x .head) (x .ballots) (x .claims) (x .shares0) (x .shares1) 1 (x .shares1) (open1 P m x)) (group1 ++ (group2 ++ group3)) (f .1) in
           let h = append-none group1 (group2 ++ group3) (g .1) in
           let i = append-none group2 group3 (h .1) in
           (f .0, g .0, h .0, i .0, i .1)
 
-      ranges : (headRanged P m (x .head) ≡ true) × (allBelow q (vector (one .t)) ≡ true) × (allBelow q (vector (two .u)) ≡ true) × (allBelow q (vector (third .r)) ≡ true)
+      ranges : (headRanged (P .q) (P .N) (x .head) ≡ true) × (allBelow q (vector (one .t)) ≡ true) × (allBelow q (vector (two .u)) ≡ true) × (allBelow q (vector (third .r)) ≡ true)
       unfolding extractTests lentRanged
       ranges =
           let two-three = inRange q N 2 (x .answer2) && inRange q N 3 (x .answer3) in
           let answers = inRange q N 1 (x .answer1) && two-three in
-          let openings = openingRanged P m (x .opening0) && (openingRanged P m (x .opening1) && answers) in
+          let openings = openingRanged (P .q) (P .N) (x .opening0) && (openingRanged (P .q) (P .N) (x .opening1) && answers) in
           let shares = allBelow q (vector (x .shares0)) && (allBelow q (vector (x .shares1)) && openings) in
-          let message = headRanged P m (x .head) && shares in
+          let message = headRanged (P .q) (P .N) (x .head) && shares in
           let claims = allBelow p (x .claims) && message in
           let ballots = ballotsRanged P m (x .ballots) && claims in
           let e = both (ltb (x .repetition) (P .repeats)) ballots (not-false (lentRanged P m x) (none .0)) .1 in
-          let f = both (headRanged P m (x .head)) shares (both (allBelow p (x .claims)) message (both (ballotsRanged P m (x .ballots)) claims e .1) .1) in
+          let f = both (headRanged (P .q) (P .N) (x .head)) shares (both (allBelow p (x .claims)) message (both (ballotsRanged P m (x .ballots)) claims e .1) .1) in
           let g = both (allBelow q (vector (x .shares1))) openings (both (allBelow q (vector (x .shares0))) (allBelow q (vector (x .shares1)) && openings) (f .1) .1) .1 in
-          let h = both (inRange q N 1 (x .answer1)) two-three (both (openingRanged P m (x .opening1)) answers (both (openingRanged P m (x .opening0)) (openingRanged P m (x .opening1) && answers) g .1) .1) in
+          let h = both (inRange q N 1 (x .answer1)) two-three (both (openingRanged (P .q) (P .N) (x .opening1)) answers (both (openingRanged (P .q) (P .N) (x .opening0)) (openingRanged (P .q) (P .N) (x .opening1) && answers) g .1) .1) in
           let i = both (inRange q N 2 (x .answer2)) (inRange q N 3 (x .answer3)) (h .1) in
           (f .0, both (allBelow 3 (one .w)) (allBelow q (vector (one .t))) (h .0) .1, i .0, i .1)
 
@@ -179,7 +179,7 @@ module _ (P : Parameters) (m : ℕ) (x : Openings) where
           matches = noisy-alike q N p alike-refl (alike-sym sums) (alike-sym errors)
               so alike-eq (noisy-adds q N p a (open0 P m x .s) (open1 P m x .s) (open0 P m x .e) (open1 P m x .e))
               so alike-sym (alike-plus (side0 .key-opened) (side1 .key-opened))
-              so splits-exactly P m (omega arith) fits (x .head) .0 (not-false (splits P m (x .head)) (none .1 .0));
+              so splits-exactly P m (omega arith) fits (x .head) .0 (not-false (splits P (x .head)) (none .1 .0));
           opens = λ j l noise. sym (side0 .claimed j l ∙ list-cong N (decrypts j l noise));
         }
           where

@@ -83,7 +83,7 @@ module _ (P : Parameters) (m : ℕ) (x : Material) where
         (coefficients-append (coefficientBytes q N f) (coefficientBytes q N g ++ pairs) (written-below f) (coefficients-append (coefficientBytes q N g) pairs (written-below g) c)) (omega arith)
         (append-assoc (coefficientBytes q N f) (coefficientBytes q N g ++ pairs) rest ∙ ap (λ (s : Bytes). coefficientBytes q N f ++ s) (append-assoc (coefficientBytes q N g) pairs rest))
 
-    head-ranged : headRanged P m head ≡ true
+    head-ranged : headRanged (P .q) (P .N) head ≡ true
     unfolding headRanged producedHead
     head-ranged = ten-below _ _ (producedPairs P m x) _ pairs-below
 
@@ -108,7 +108,7 @@ module _ (P : Parameters) (m : ℕ) (x : Material) where
       hides-below : (at : ℕ) → at + 3 * N ≤ 14 * N → allBelow 3 (part (x .secrets) at (3 * N)) ≡ true
       hides-below at h = below-part 3 (x .secrets) at (3 * N) (let e = sized .secrets in omega arith) secrets-below
 
-      opening-ranged : (side : ℕ) → side < 2 → openingRanged P m (producedOpening P m x side) ≡ true
+      opening-ranged : (side : ℕ) → side < 2 → openingRanged (P .q) (P .N) (producedOpening P m x side) ≡ true
       opening-ranged side h = unfold openingRanged in ap₂ _&&_ front back
         where
           two-below : (f g : Poly) (r : Bytes) → allBelow q (list (2 * N) (poly (coefficientBytes q N f ++ (coefficientBytes q N g ++ r)))) ≡ true
@@ -176,7 +176,7 @@ module _ (P : Parameters) (m : ℕ) (x : Material) where
 
       -- ---- 6: the halves of the key add up to b
 
-      key-splits : splits P m head ≡ true
+      key-splits : splits P head ≡ true
       key-splits =
           splits-exactly P m positive fits head .1
           (alike-plus (key-alike P m x positive fits 0 (omega arith)) (key-alike P m x positive fits 1 (omega arith))
@@ -207,7 +207,7 @@ module _ (P : Parameters) (m : ℕ) (x : Material) where
         opened-e : Alike q N (opening .e) (half-e P m x side)
         opened-e = opening-e P m x sized positive fits side low
 
-        key-opens : opensKey P m head side opening ≡ true
+        key-opens : opensKey P head side opening ≡ true
         unfolding opensKey
         key-opens = equal-same (key-written P m x side low ∙ encode-alike (noisy-alike q N p alike-refl (alike-sym opened-s) (alike-sym opened-e)))
 
@@ -219,7 +219,7 @@ module _ (P : Parameters) (m : ℕ) (x : Material) where
             (e ∙ ap (λ (t : Bytes). pairBytesOf P m x t f) (sym er)
             ∙ ap (λ (t : Bytes). coefficientBytes q N (committed q N k (threeOf q N r') f .one) ++ t) (encode-alike (second-alike q N k (record { r1 = alike-refl; r2 = alike-refl; r3 = alike-refl }) (alike-sym l))))
 
-        pairs-open : opensPairs P m head side opening ≡ true
+        pairs-open : opensPairs P head side opening ≡ true
         unfolding opensPairs
         pairs-open =
             let w = opening-written P m x sized side low in
@@ -237,7 +237,7 @@ module _ (P : Parameters) (m : ℕ) (x : Material) where
           abbrev round : Round
           round = producedRound P m x side challenges
 
-          answers-ranged : answersRanged P m round ≡ true
+          answers-ranged : answersRanged (P .q) (P .N) (P .repeats) (round .challenges) (round .answers) ≡ true
           unfolding answersRanged
           answers-ranged =
               all-complete repeats (λ i. (leb 1 (challengeAt round i) && leb (challengeAt round i) 3) && inRange q N (challengeAt round i) (answerAt N challenges (producedAnswers P m x challenges) i))
@@ -260,7 +260,7 @@ module _ (P : Parameters) (m : ℕ) (x : Material) where
               (answer-none i (getD challenges i 0) h)
 
           ballot-none : (j : ℕ) → j < m
-              → None (maskTest P m (x .ballots) (sharesOf round side) opening j ∷ claimTest P m (x .ballots) (producedClaims P m x) (producedShares P m x 0) (producedShares P m x 1) j ∷ [])
+              → None (maskTest q N p B (opening .s) (x .ballots) (sharesOf round side) j ∷ claimTest q N p (x .ballots) (producedClaims P m x) (producedShares P m x 0) (producedShares P m x 1) j ∷ [])
           ballot-none j l =
               let shares = ap (λ (s : Bytes). within B N (worked q N p (opening .s) (u j) (shareAt N s j))) (opened-shares side challenges side low) in
               (ap not (shares ∙ mask-bounded j l), (ap not (equal-same (claim-is j l)), tt))

@@ -117,7 +117,7 @@ module _ (P : Parameters) (m : ℕ) where
 
   -- ---- the head
 
-  pub head-exactly : (head : Bytes) → (headRanged P m head ≡ true) ↔ HeadRanged P m head
+  pub head-exactly : (head : Bytes) → (headRanged (P .q) (P .N) head ≡ true) ↔ HeadRanged P m head
   unfolding headRanged
   head-exactly head = (λ e. sound (below-sound q (10 * N) (poly head) e), λ r. below-complete q (10 * N) (poly head) (complete r))
     where
@@ -149,7 +149,7 @@ module _ (P : Parameters) (m : ℕ) where
 
   -- ---- an opening
 
-  pub opening-exactly : (o : Bytes) → (openingRanged P m o ≡ true) ↔ OpeningRanged P m (openingOf N o)
+  pub opening-exactly : (o : Bytes) → (openingRanged (P .q) (P .N) o ≡ true) ↔ OpeningRanged P m (openingOf N o)
   unfolding openingRanged
   opening-exactly o = (sound, complete)
     where
@@ -184,14 +184,14 @@ module _ (P : Parameters) (m : ℕ) where
     abbrev answer : ℕ → Bytes
     answer i = answerAt N (r .challenges) (r .answers) i
 
-    answers-sound : answersRanged P m r ≡ true → (i : ℕ) → i < repeats → ((1 ≤ challenge i) × (challenge i ≤ 3)) × AnswerRanged q N (challenge i) (answer i)
+    answers-sound : answersRanged (P .q) (P .N) (P .repeats) (r .challenges) (r .answers) ≡ true → (i : ℕ) → i < repeats → ((1 ≤ challenge i) × (challenge i ≤ 3)) × AnswerRanged q N (challenge i) (answer i)
     unfolding answersRanged
     answers-sound h i l =
         let one = both (isChallenge (challenge i)) (inRange q N (challenge i) (answer i)) (all-sound repeats (λ j. isChallenge (challenge j) && inRange q N (challenge j) (answer j)) h i l) in
         let c = both (leb 1 (challenge i)) (leb (challenge i) 3) (one .0) in
         ((leb-true 1 _ (c .0), leb-true _ 3 (c .1)), answer-sound q N (answer i) (challenge i) (one .1))
 
-    answers-complete : InRange P m r → answersRanged P m r ≡ true
+    answers-complete : InRange P m r → answersRanged (P .q) (P .N) (P .repeats) (r .challenges) (r .answers) ≡ true
     unfolding answersRanged
     answers-complete s =
         all-complete repeats (λ j. isChallenge (challenge j) && inRange q N (challenge j) (answer j))
@@ -204,12 +204,12 @@ module _ (P : Parameters) (m : ℕ) where
     unfolding ranged
     in-range h =
         let after-side = both (ltb (r .side) 2) _ h in
-        let after-answers = both (answersRanged P m r) _ (after-side .1) in
+        let after-answers = both (answersRanged (P .q) (P .N) (P .repeats) (r .challenges) (r .answers)) _ (after-side .1) in
         let after-ballots = both (ballotsRanged P m (r .ballots)) _ (after-answers .1) in
         let after-claims = both (allBelow p (r .claims)) _ (after-ballots .1) in
-        let after-head = both (headRanged P m (r .head)) _ (after-claims .1) in
+        let after-head = both (headRanged (P .q) (P .N) (r .head)) _ (after-claims .1) in
         let after-shares0 = both (allBelow q (vector (r .shares0))) _ (after-head .1) in
-        let after-shares1 = both (allBelow q (vector (r .shares1))) (openingRanged P m (r .opening)) (after-shares0 .1) in
+        let after-shares1 = both (allBelow q (vector (r .shares1))) (openingRanged (P .q) (P .N) (r .opening)) (after-shares0 .1) in
         record {
           side = ltb-true (r .side) 2 (after-side .0);
           challenges = λ i l. answers-sound (after-answers .0) i l .0;

@@ -30,9 +30,9 @@ use Rattle.transcript.proofs.Many.{for-challenges, none-append, append-
 module _ (P : Parameters) (m : ℕ) (r : Round) where
   open Parameters P using (q, N, k, repeats)
 
-  ranged-parts : ranged P m r ≡ (answersRanged P m r && openedRanged P m r)
+  ranged-parts : ranged P m r ≡ (answersRanged (P .q) (P .N) (P .repeats) (r .challenges) (r .answers) && openedRanged P m r)
   unfolding ranged openedRanged
-  ranged-parts = swap (ltb (r .side) 2) (answersRanged P m r) _
+  ranged-parts = swap (ltb (r .side) 2) (answersRanged (P .q) (P .N) (P .repeats) (r .challenges) (r .answers)) _
 
   abbrev in-range : ℕ → Bool
   in-range i = isChallenge (challengeAt r i) && inRange q N (challengeAt r i) (answerAt N (r .challenges) (r .answers) i)
@@ -40,7 +40,7 @@ module _ (P : Parameters) (m : ℕ) (r : Round) where
   parted : None (roundTests P m r) → None (openingTests P m r) × ((i : ℕ) → i < repeats → None (repetitionTests P m r i))
   unfolding roundTests openingTests repetitionTests answersRanged
   parted none =
-      let range = both (answersRanged P m r) (openedRanged P m r) (sym ranged-parts ∙ not-false (ranged P m r) (none .0)) in
+      let range = both (answersRanged (P .q) (P .N) (P .repeats) (r .challenges) (r .answers)) (openedRanged P m r) (sym ranged-parts ∙ not-false (ranged P m r) (none .0)) in
       let rest = append-none (each repeats (answer-tests P m r)) (each m (ballot-tests P m r)) (none .1 .1 .1 .1) in (
         (ap not (range .1), (none .1 .0, (none .1 .1 .0, (none .1 .1 .1 .0, rest .1)))),
         λ i l. (ap not (all-sound repeats (λ j. in-range j) (range .0) i l), none-each repeats (answer-tests P m r) (rest .0) i l),
@@ -74,24 +74,24 @@ module _ (P : Parameters) (m : ℕ) (x : Openings) where
   in-repeats = ltb (x .repetition) repeats
 
   abbrev message : Bool
-  message = ballotsRanged P m (x .ballots) && (allBelow p (x .claims) && (headRanged P m (x .head) && (allBelow q (vector (x .shares0)) && allBelow q (vector (x .shares1)))))
+  message = ballotsRanged P m (x .ballots) && (allBelow p (x .claims) && (headRanged (P .q) (P .N) (x .head) && (allBelow q (vector (x .shares0)) && allBelow q (vector (x .shares1)))))
 
   message-and : (f : Bool)
-      → (ballotsRanged P m (x .ballots) && (allBelow p (x .claims) && (headRanged P m (x .head) && (allBelow q (vector (x .shares0)) && (allBelow q (vector (x .shares1)) && f))))) ≡ (message && f)
-  message-and f = front (ballotsRanged P m (x .ballots)) (allBelow p (x .claims)) (headRanged P m (x .head)) (allBelow q (vector (x .shares0))) (allBelow q (vector (x .shares1))) f
+      → (ballotsRanged P m (x .ballots) && (allBelow p (x .claims) && (headRanged (P .q) (P .N) (x .head) && (allBelow q (vector (x .shares0)) && (allBelow q (vector (x .shares1)) && f))))) ≡ (message && f)
+  message-and f = front (ballotsRanged P m (x .ballots)) (allBelow p (x .claims)) (headRanged (P .q) (P .N) (x .head)) (allBelow q (vector (x .shares0))) (allBelow q (vector (x .shares1))) f
 
   abbrev adds : Bool
-  adds = splits P m (x .head)
+  adds = splits P (x .head)
 
   abbrev opening-ranged : ℕ → Bool
-  opening-ranged i = openingRanged P m (openingBy x i)
+  opening-ranged i = openingRanged (P .q) (P .N) (openingBy x i)
 
   abbrev answer-ranged : ℕ → Bool
   answer-ranged c = inRange q N c (answerBy x c)
 
   abbrev side-tests : ℕ → List Test
-  side-tests zero = sideTests P m x 0 (x .shares0) (open0 P m x)
-  side-tests (suc i) = sideTests P m x 1 (x .shares1) (open1 P m x)
+  side-tests zero = sideTests P m (x .head) (x .ballots) (x .claims) (x .shares0) (x .shares1) 0 (x .shares0) (open0 P m x)
+  side-tests (suc i) = sideTests P m (x .head) (x .ballots) (x .claims) (x .shares0) (x .shares1) 1 (x .shares1) (open1 P m x)
 
   abbrev answer-tests-of : ℕ → List Test
   answer-tests-of c = answerTests q N k (pairs P m x) (digests P m x) (x .repetition) c (answerBy x c)

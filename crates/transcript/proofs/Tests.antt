@@ -30,13 +30,13 @@ use Rattle.transcript.proofs.Ranged.{head-exactly}
 -- ---- the tests of a repetition and of a ballot
 
 module _ (P : Parameters) (m : ℕ) (r : Round) where
-  open Parameters P using (q, N, k)
+  open Parameters P using (q, N, p, B, k)
 
   abbrev pub answer-tests : ℕ → List Test
   answer-tests i = answerTests q N k (pairsOf N (r .head)) (digestsAt N (r .head) i) i (challengeAt r i) (answerAt N (r .challenges) (r .answers) i)
 
   abbrev pub ballot-tests : ℕ → List Test
-  ballot-tests j = maskTest P m (r .ballots) (sharesOf r (r .side)) (openingOf N (r .opening)) j ∷ claimTest P m (r .ballots) (r .claims) (r .shares0) (r .shares1) j ∷ []
+  ballot-tests j = maskTest q N p B (openingOf N (r .opening) .s) (r .ballots) (sharesOf r (r .side)) j ∷ claimTest q N p (r .ballots) (r .claims) (r .shares0) (r .shares1) j ∷ []
 
 -- ---- equal bytes
 
@@ -73,15 +73,15 @@ module _ (P : Parameters) (m : ℕ) (positive : 0 < P .q) (fits : P .q ≤ 2 ^ 6
 
   -- ---- 6, 7: the halves of b
 
-  pub splits-exactly : (splits P m head ≡ true) ↔ Alike q N (plus (keyAt N head 0) (keyAt N head 1)) b
+  pub splits-exactly : (splits P head ≡ true) ↔ Alike q N (plus (keyAt N head 0) (keyAt N head 1)) b
   unfolding splits
   splits-exactly = (λ e. encode-decides q N positive fits (same-equal _ _ e), λ l. equal-same (encode-alike l))
 
-  module _ (sized : length head ≡ headLength N repeats) (octets : Octets head) (ranged : headRanged P m head ≡ true) where
+  module _ (sized : length head ≡ headLength N repeats) (octets : Octets head) (ranged : headRanged (P .q) (P .N) head ≡ true) where
     in-range : HeadRanged P m head
     in-range = head-exactly P m head .0 ranged
 
-    pub key-exactly : (side : ℕ) → side < 2 → (o : Opening) → (opensKey P m head side o ≡ true) ↔ Alike q N (keyAt N head side) (key q N p a (o .s) (o .e))
+    pub key-exactly : (side : ℕ) → side < 2 → (o : Opening) → (opensKey P head side o ≡ true) ↔ Alike q N (keyAt N head side) (key q N p a (o .s) (o .e))
     unfolding opensKey
     key-exactly side low o = (
       λ e. slot-alike q N positive fits head (8 * N * side) (key q N p a (o .s) (o .e)) (same-equal _ _ e),
@@ -96,7 +96,7 @@ module _ (P : Parameters) (m : ℕ) (positive : 0 < P .q) (fits : P .q ≤ 2 ^ 6
         (length-part head (16 * N + 16 * N * i) (16 * N) (omega (arith, stretch (16 * N) i 4 four))) (in-range .first-halves i four) (in-range .second-halves i four) k
 
     -- the pairs of s_i and e_i
-    pub pairs-exactly : (side : ℕ) → side < 2 → (o : Opening) → (opensPairs P m head side o ≡ true)
+    pub pairs-exactly : (side : ℕ) → side < 2 → (o : Opening) → (opensPairs P head side o ≡ true)
         ↔ (Opens q N k (pairOf N (pairAt N head side)) (threeOf q N (o .rs)) (o .s) × Opens q N k (pairOf N (pairAt N head (2 + side))) (threeOf q N (o .re)) (o .e))
     unfolding opensPairs
     pairs-exactly side low o =

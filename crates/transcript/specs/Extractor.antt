@@ -19,7 +19,7 @@ use Rattle.vector.specs.Vector.{vector}
 use Rattle.stern.specs.Argument.{Setting, Answer1, Answer2, Answer3, solution, one-by2, one-by3, two-by1, two-by3, three-by1, three-by2}
 use Rattle.stern.specs.Shortness.{polynomial, threeFrom, setting, answerLength, answer1Of, answer2Of, answer3Of, tests1, tests2, tests3, inRange}
 use Rattle.transcript.specs.Layout.{Opening, each, ballotLength, headLength, uAt, vAt, claimAt, pairsOf, digestsAt, openingOf}
-use Rattle.transcript.specs.Round.{Parameters, ballotsRanged, openingRanged, headRanged, splits, opensKey, opensPairs, maskTest, claimTest}
+use Rattle.transcript.specs.Round.{Parameters, ballotsRanged, openingRanged, headRanged, splitTest, halfTests, votesTests}
 use Rattle.transcript.specs.Accepted.{EachBelow}
 
 -- what the extractor is lent: the first message, ballots, claims, both openings, a repetition and its three answers
@@ -35,6 +35,30 @@ pub record Openings : Type 0 where
   pub answer1 : Bytes
   pub answer2 : Bytes
   pub answer3 : Bytes
+
+-- the same from the slices one by one
+abbrev pub openingsOf : (head shares0 shares1 ballots claims opening0 opening1 : Bytes) (repetition : ℕ) (answer1 answer2 answer3 : Bytes) → Openings
+openingsOf head shares0 shares1 ballots claims opening0 opening1 repetition answer1 answer2 answer3 = record {
+  head = head;
+  shares0 = shares0;
+  shares1 = shares1;
+  ballots = ballots;
+  claims = claims;
+  opening0 = opening0;
+  opening1 = opening1;
+  repetition = repetition;
+  answer1 = answer1;
+  answer2 = answer2;
+  answer3 = answer3;
+}
+
+-- the room for what it finds, and scratch
+pub record ExtractRoom : Type 0 where
+  pub out : Bytes
+  pub scratch : Bytes
+
+abbrev pub extractRoom : (out scratch : Bytes) → ExtractRoom
+extractRoom out scratch = record { out = out; scratch = scratch }
 
 -- the lengths are right, for m ballots, and the head of the first message is bytes
 pub record Lent (P : Parameters) (m : ℕ) (x : Openings) : Type 0 where
@@ -71,6 +95,23 @@ isZero q N r = same (threeBytes q N r) (zeros (24 * N))
 abbrev pub ternaryBytes : (q N : ℕ) → Poly → Bytes
 ternaryBytes q N f = list N (λ i. cond (eqb (f i % q) 1) 1 (cond (eqb (f i % q) 0) 0 2))
 
+-- ---- stretches of its order
+
+module _ (P : Parameters) where
+  open Parameters P using (q, N, p, B, k)
+
+  -- of a side's opening, for m ballots: 7, 8; by ballot 12, 13
+  abbrev pub sideTests : (m : ℕ) (head ballots claims shares0 shares1 : Bytes) (side : ℕ) (shares : Bytes) → Opening → List Test
+  sideTests m head ballots claims shares0 shares1 side shares o =
+      halfTests P head side o ++ votesTests q N p B m (o .s) ballots claims shares0 shares1 shares
+
+  -- of the three answers in repetition i, by answer 9, 10, 11; the place is the repetition
+  abbrev pub threeTests : (head : Bytes) (i : ℕ) (answer1 answer2 answer3 : Bytes) → List Test
+  threeTests head i answer1 answer2 answer3 =
+      tests1 q N k (pairsOf N head) (digestsAt N head i) i (answer1Of N answer1)
+      ++ (tests2 q N k (pairsOf N head) (digestsAt N head i) i (answer2Of N answer2)
+      ++ tests3 q N k (pairsOf N head) (digestsAt N head i) i (answer3Of N answer3))
+
 module _ (P : Parameters) (m : ℕ) (x : Openings) where
   open Parameters P using (q, N, p, D, repeats, a, b, k)
 
@@ -93,31 +134,25 @@ module _ (P : Parameters) (m : ℕ) (x : Openings) where
       ltb (x .repetition) repeats
       && (ballotsRanged P m (x .ballots)
       && (allBelow p (x .claims)
-      && (headRanged P m (x .head)
+      && (headRanged q N (x .head)
       && (allBelow q (vector (x .shares0))
       && (allBelow q (vector (x .shares1))
-      && (openingRanged P m (x .opening0)
-      && (openingRanged P m (x .opening1)
+      && (openingRanged q N (x .opening0)
+      && (openingRanged q N (x .opening1)
       && (inRange q N 1 (x .answer1)
       && (inRange q N 2 (x .answer2)
       && inRange q N 3 (x .answer3))))))))))
 
-  abbrev pub sideTests : (side : ℕ) (shares : Bytes) → Opening → List Test
-  sideTests side shares o =
-      test 7 0 (not (opensKey P m (x .head) side o))
-      ∷ test 8 0 (not (opensPairs P m (x .head) side o))
-      ∷ each m (λ j. maskTest P m (x .ballots) shares o j ∷ claimTest P m (x .ballots) (x .claims) (x .shares0) (x .shares1) j ∷ [])
+  -- after 5
+  abbrev pub extractLater : List Test
+  extractLater =
+      splitTest P (x .head)
+      ∷ (sideTests P m (x .head) (x .ballots) (x .claims) (x .shares0) (x .shares1) 0 (x .shares0) open0
+      ++ (sideTests P m (x .head) (x .ballots) (x .claims) (x .shares0) (x .shares1) 1 (x .shares1) open1
+      ++ threeTests P (x .head) (x .repetition) (x .answer1) (x .answer2) (x .answer3)))
 
-  -- the place of 9 to 11 is the lent repetition
   unfoldable pub extractTests : List Test
-  extractTests =
-      test 5 0 (not lentRanged)
-      ∷ test 6 0 (not (splits P m (x .head)))
-      ∷ (sideTests 0 (x .shares0) open0
-      ++ (sideTests 1 (x .shares1) open1
-      ++ (tests1 q N k pairs digests (x .repetition) (answer1Of N (x .answer1))
-      ++ (tests2 q N k pairs digests (x .repetition) (answer2Of N (x .answer2))
-      ++ tests3 q N k pairs digests (x .repetition) (answer3Of N (x .answer3))))))
+  extractTests = test 5 0 (not lentRanged) ∷ extractLater
 
   -- ---- what it finds
 

@@ -8,3 +8,4 @@ pub mod Writes
 pub mod Suitable
 pub mod Extractor
 pub mod Refuses
+pub mod RoundSlices

@@ -2,7 +2,7 @@
 -- is lent. Assumes nothing.
 use mathlib.Core.Path.{_≡_}
 use mathlib.Core.Bool.{Bool, cond, not, _&&_}
-use mathlib.Core.List.{List, [], _∷_}
+use mathlib.Core.List.{List, _∷_}
 use Prim.Native.Nat.{ℕ, zero, suc, _≤_, _<_}
 use lib.Dec.{ltb, eqb}
 use lib.ListN.{replicate}
@@ -12,9 +12,9 @@ use Rattle.codec.specs.declared.Reply.the-variants.{Refused}
 use Rattle.codec.specs.Lists.{allBelow}
 use Rattle.vector.specs.Vector.{vector}
 use Rattle.stern.specs.Shortness.{inRange, answerTests}
-use Rattle.transcript.specs.Layout.{each, joined, pairsOf, digestsAt, openingOf, answerAt}
-use Rattle.transcript.specs.Round.{Parameters, Round, challengeAt, isChallenge, sharesOf, ballotsRanged, openingRanged, headRanged, splits, opensKey, opensPairs, maskTest, claimTest}
-use Rattle.transcript.specs.Extractor.{Openings}
+use Rattle.transcript.specs.Layout.{joined, pairsOf, digestsAt, openingOf, answerAt}
+use Rattle.transcript.specs.Round.{Parameters, Round, challengeAt, isChallenge, sharesOf, ballotsRanged, openingRanged, headRanged, splitTest}
+use Rattle.transcript.specs.Extractor.{Openings, sideTests}
 
 -- ---- the tests of a check in two parts, in its order
 
@@ -27,20 +27,17 @@ module _ (P : Parameters) (m : ℕ) (r : Round) where
       ltb (r .side) 2
       && (ballotsRanged P m (r .ballots)
       && (allBelow p (r .claims)
-      && (headRanged P m (r .head)
+      && (headRanged q N (r .head)
       && (allBelow q (vector (r .shares0))
       && (allBelow q (vector (r .shares1))
-      && openingRanged P m (r .opening))))))
+      && openingRanged q N (r .opening))))))
 
   -- of the opening: 5, 6, 7, 8; by ballot 12, 13
   unfoldable pub openingTests : List Test
   openingTests =
-      let o = openingOf N (r .opening) in
       test 5 0 (not openedRanged)
-      ∷ test 6 0 (not (splits P m (r .head)))
-      ∷ test 7 0 (not (opensKey P m (r .head) (r .side) o))
-      ∷ test 8 0 (not (opensPairs P m (r .head) (r .side) o))
-      ∷ each m (λ j. maskTest P m (r .ballots) (sharesOf r (r .side)) o j ∷ claimTest P m (r .ballots) (r .claims) (r .shares0) (r .shares1) j ∷ [])
+      ∷ splitTest P (r .head)
+      ∷ sideTests P m (r .head) (r .ballots) (r .claims) (r .shares0) (r .shares1) (r .side) (sharesOf r (r .side)) (openingOf N (r .opening))
 
   -- of the answer in repetition i: 5, 9, 10, 11
   unfoldable pub repetitionTests : ℕ → List Test

@@ -1,27 +1,43 @@
 -- What the extractor's call answers and leaves, by the reply of its tests. Assumes nothing.
-use mathlib.Core.Path.{_≡_, refl, ap}
+use mathlib.Core.Path.{_≡_, sym, ap, subst, _∙_}
 use Prim.Native.Nat.{ℕ}
-use Rattle.codec.specs.Bytes.{Bytes}
+use lib.ListN.{length}
+use Rattle.codec.specs.Bytes.{Bytes, zeros}
+use Rattle.codec.specs.Reply.{first}
 use Rattle.codec.specs.declared.Reply.{Reply}
 use Rattle.codec.specs.declared.Reply.the-variants as reply
 use Rattle.call.specs.Call.{swept}
-use Rattle.verification.specs.Extraction.{extraction, replyOf}
+use Rattle.call.proofs.Sweeping.{swept-taken, leaves-taken, leaves-refused}
+use Rattle.transcript.specs.Round.{Parameters}
+use Rattle.transcript.specs.Extractor.{Openings, ExtractRoom, extractRoom, kind, extracted}
+use Rattle.transcript.proofs.Wiped.{again}
+use Rattle.lengths.specs.Calls.{countOf, openingsTests}
+use Rattle.verification.specs.Extraction.{extraction, ExtractWritten}
 use Rattle.verification.specs.declared.Extraction.the-variants.{Found, Refused}
 
-pub extraction-found : (r : Reply) {k k' : ℕ} → r ≡ reply.Taken → k ≡ k' → Found k ≡ extraction r k'
+extraction-found : (r : Reply) {k k' : ℕ} → r ≡ reply.Taken → k ≡ k' → Found k ≡ extraction r k'
 unfolding extraction
 extraction-found r e f = rw e (ap Found f)
 
-pub extraction-refused : (r : Reply) (n p k : ℕ) → r ≡ reply.Refused n p → Refused n p ≡ extraction r k
+extraction-refused : (r : Reply) (n p k : ℕ) → r ≡ reply.Refused n p → Refused n p ≡ extraction r k
 unfolding extraction
 extraction-refused r n p k e = rw e
 
--- the reply can be told from what is answered
-pub reply-of : (r : Reply) (k : ℕ) → replyOf (extraction r k) ≡ r
-unfolding extraction
-reply-of reply.Taken k = refl
-reply-of (reply.Refused n p) k = refl
+module _ (P : Parameters) (x : Openings) (before : ExtractRoom) {r : Reply} {w : Bytes} (is : r ≡ first (openingsTests P x before)) (left : w ≡ swept r (before .scratch)) where
+  abbrev m : ℕ
+  m = countOf (P .N) (x .ballots)
 
--- scratch left alike, for the same reply
-pub swept-same : {r r' : Reply} (w w' : Bytes) → r ≡ r' → swept r w' ≡ swept r w → swept r' w' ≡ swept r' w
-swept-same w w' e f = rw (← e) f
+  -- scratch where the tests take what is lent
+  cleared : r ≡ reply.Taken → w ≡ zeros (length (before .scratch))
+  cleared e = left ∙ swept-taken r (before .scratch) e
+
+  pub extract-taken : {found : ℕ} {out w' : Bytes} → r ≡ reply.Taken → found ≡ kind P m x → out ≡ extracted P m x → w' ≡ zeros (length w)
+      → ExtractWritten P x before (Found found) (extractRoom out w')
+  extract-taken e f o z =
+      let t = sym is ∙ e in
+      record { told = extraction-found _ t f; out = o ∙ leaves-taken _ _ t; scratch = again (length (before .scratch)) (cleared e) z ∙ sym (swept-taken _ (before .scratch) t) }
+
+  pub extract-refused : {n p : ℕ} → r ≡ reply.Refused n p → ExtractWritten P x before (Refused n p) (extractRoom (before .out) w)
+  extract-refused {n} {p} e =
+      let t = sym is ∙ e in
+      record { told = extraction-refused _ n p _ t; out = leaves-refused _ _ _ _ t; scratch = left ∙ ap (λ (z : Reply). swept z (before .scratch)) is }

@@ -16,7 +16,7 @@ use Rattle.vector.specs.Permutation.{entries, permutes}
 use Rattle.stern.specs.Shortness.{answer2Of, answer3Of}
 use Rattle.transcript.specs.Layout.{pairsOf}
 use Rattle.transcript.specs.Round.{Parameters}
-use Rattle.transcript.specs.Extractor.{Openings, Lent, open0, open1, lentRanged, sideTests, extractTests}
+use Rattle.transcript.specs.Extractor.{Openings, ExtractRoom, Lent, open0, open1, lentRanged, sideTests, extractTests}
 use Rattle.transcript.proofs.Many.{append-none}
 use Rattle.openings_checker.proofs.Passed.{openings-passed}
 use Rattle.collisions.specs.Collision.{Answers}
@@ -29,25 +29,25 @@ extract-passed : (P : Parameters) (m : ℕ) (x : Openings) → None (extractTest
     → (lentRanged P m x ≡ true) × (permutes (42 * P .N) (entries (answer2Of (P .N) (x .answer2) .p)) ≡ true) × (permutes (42 * P .N) (entries (answer3Of (P .N) (x .answer3) .p)) ≡ true)
 unfolding extractTests
 extract-passed P m x none =
-    let after0 = append-none (sideTests P m x 0 (x .shares0) (open0 P m x)) _ (none .1 .1) in
-    let after1 = append-none (sideTests P m x 1 (x .shares1) (open1 P m x)) _ (after0 .1) in
+    let after0 = append-none (sideTests P m (x .head) (x .ballots) (x .claims) (x .shares0) (x .shares1) 0 (x .shares0) (open0 P m x)) _ (none .1 .1) in
+    let after1 = append-none (sideTests P m (x .head) (x .ballots) (x .claims) (x .shares0) (x .shares1) 1 (x .shares1) (open1 P m x)) _ (after0 .1) in
     let later = after1 .1 .1 .1 in
     (not-false (lentRanged P m x) (none .0), not-false (permutes _ _) (later .0), not-false (permutes _ _) (later .1 .1 .0))
 
-module _ (P : Parameters) (x : Openings) (out scratch : Bytes) {a : Bytes} (public : Polynomial (P .N) (P .q) a) (octets : Octets (x .head))
-    (taken : first (openingsTests P x out scratch) ≡ Taken) where
+module _ (P : Parameters) (x : Openings) (room : ExtractRoom) {a : Bytes} (public : Polynomial (P .N) (P .q) a) (octets : Octets (x .head))
+    (taken : first (openingsTests P x room) ≡ Taken) where
   open Parameters P using (q, N)
 
   abbrev m : ℕ
   m = countOf N (x .ballots)
 
-  lengths : (Lent P m x × (length out ≡ 24 * N) × (length scratch ≡ scratchLength)) × None (extractTests P m x)
+  lengths : (Lent P m x × (length (room .out) ≡ 24 * N) × (length (room .scratch) ≡ scratchLength)) × None (extractTests P m x)
   unfolding openingsTests
   lengths =
-      let r = all-right m (lent-message P x out scratch m) (lent-openings P x out scratch m) (extractTests P m x) taken in
-      (extract-lengths P x out scratch m octets (r .1) (r .2), taken-exactly (extractTests P m x) .0 (r .3))
+      let r = all-right m (lent-message P x room m) (lent-openings P x room m) (extractTests P m x) taken in
+      (extract-lengths P x room m octets (r .1) (r .2), taken-exactly (extractTests P m x) .0 (r .3))
 
-  pub search-ready : ((length scratch ≡ scratchLength) × (length out ≡ 24 * N) × (80 * N ≤ length (x .head)) × (length (x .opening0) ≡ 22 * N) × (length (x .opening1) ≡ 22 * N))
+  pub search-ready : ((length (room .scratch) ≡ scratchLength) × (length (room .out) ≡ 24 * N) × (80 * N ≤ length (x .head)) × (length (x .opening0) ≡ 22 * N) × (length (x .opening1) ≡ 22 * N))
       × ((allBelow q (vector (pairsOf N (x .head))) ≡ true) × Answers q N (x .answer1) (x .answer2) (x .answer3))
   search-ready =
       let l = lengths .0 .0 in

@@ -1,7 +1,14 @@
--- What the extractor's call answers (document 01, the extractor's paragraph and "Refused because of the state"): what it found, or its refusal. Assumes nothing.
+-- What the extractor's call answers (document 01, the extractor's paragraph and "Refused because of the state"): what it found, or its refusal; and what it comes to
+-- once the sheet is taken: its answer, its output and scratch. Assumes nothing.
+use mathlib.Core.Path.{_≡_}
 use Prim.Native.Nat.{ℕ, _+_, _*_}
+use Rattle.codec.specs.Reply.{first, leaves}
 use Rattle.codec.specs.declared.Reply.{Reply}
 use Rattle.codec.specs.declared.Reply.the-variants as reply
+use Rattle.call.specs.Call.{swept}
+use Rattle.transcript.specs.Round.{Parameters}
+use Rattle.transcript.specs.Extractor.{Openings, ExtractRoom, kind, extracted}
+use Rattle.lengths.specs.Calls.{countOf, openingsTests}
 use Rattle.verification.specs.declared.Extraction.{Extraction}
 use Rattle.verification.specs.declared.Extraction.the-variants.{Found, Refused}
 
@@ -10,12 +17,16 @@ unfoldable pub extraction : Reply → (kind : ℕ) → Extraction
 extraction reply.Taken kind = Found kind
 extraction (reply.Refused number place) kind = Refused number place
 
--- the reply of its tests, which decides what is left in scratch
-abbrev pub replyOf : Extraction → Reply
-replyOf (Found kind) = reply.Taken
-replyOf (Refused number place) = reply.Refused number place
-
 -- the one number that the C host is answered: 256 times the kind, or a refusal's number and 256 times its place
 abbrev pub answered : Extraction → ℕ
 answered (Found kind) = 256 * kind
 answered (Refused number place) = number + 256 * place
+
+-- with the reply of the tests of what is lent
+pub record ExtractLeft (P : Parameters) (x : Openings) (before : ExtractRoom) (reply : Reply) (answer : Extraction) (after : ExtractRoom) : Type 0 where
+  pub told : answer ≡ extraction reply (kind P (countOf (P .N) (x .ballots)) x)
+  pub out : after .out ≡ leaves reply (extracted P (countOf (P .N) (x .ballots)) x) (before .out)
+  pub scratch : after .scratch ≡ swept reply (before .scratch)
+
+abbrev pub ExtractWritten : Parameters → Openings → (before : ExtractRoom) → Extraction → (after : ExtractRoom) → Type 0
+ExtractWritten P x before answer after = ExtractLeft P x before (first (openingsTests P x before)) answer after

@@ -1,42 +1,27 @@
 -- `check` meets its contract. Assumes nothing.
-use mathlib.Core.Path.{refl, sym}
-use Prim.Native.Nat.{_*_}
-use native.Mathlib.Omega.{arith}
+use mathlib.Core.Path.{sym}
 use borrow.Author.Needs.{needs}
 use Rattle.call.proofs.Lent.{lent}
-use Rattle.bgv.proofs.Sheets.{sheet-sound}
-use Rattle.scheme_calls.proofs.Keys.{lent-keys}
-use Rattle.round_parts.specs.Orders.{roundOf}
-use Rattle.lengths.proofs.OverSheet.{parameters-with}
-use Rattle.checker_calls.proofs.Given.{check-restated, check-over, check-refused}
+use Rattle.commitment.proofs.Sheets.{sheet-loaded}
+use Rattle.transcript.specs.Round.{Round, roundOf}
+use Rattle.checker_calls.proofs.Given.{check-over, check-unread}
 use Rattle.checker_calls.proofs.check.Statement.{statement}
 use Rattle.checker_calls.proofs.check.Tie as tie
 
-mask-bound-requires : tie.Need-mask-bound-requires
-mask-bound-requires c κs = let r = lent (c .before .before .before .before .before .before .before .before .before .before .before .before .before .before .before .args .sheet .now) (c .before .before .before .load .ensures) (c .before .reading .given .1) .ranged in (r .ring-high, r .drown-high, r .plain-low, r .plain-high)
+abbrev x : tie.Start → Round
+x s = let a = s .args in roundOf (a .side) (a .challenges .now) (a .ballots .now) (a .claims .now) (a .head .now) (a .shares0 .now) (a .shares1 .now) (a .opening .now) (a .answers .now)
 
 slice-aggregate-check : tie.Need-slice-aggregate-check
-slice-aggregate-check c = sym (lent (c .before .before .before .before .before .before .before .before .before .before .before .before .before .before .before .before .before .args .sheet .now) (c .before .before .before .before .before .load .ensures) (c .before .before .before .reading .given .1) .sized)
+slice-aggregate-check c = sym (lent (c .before .before .before .before .before .before .before .before .before .before .before .before .before .before .before .before .args .sheet .now) (c .before .before .before .before .load .ensures) (c .before .before .reading .given .1) .sized)
 
 check-requires : tie.Need-check-requires
-check-requires c κs =
-    let h = lent (c .before .before .before .before .before .before .before .before .before .before .before .before .before .before .before .before .before .before .args .sheet .now) (c .before .before .before .before .before .before .load .ensures) (c .before .before .before .before .reading .given .1) in
-    let k = c .before .before .before .before .reading .given .0 .0 in
-    let n = k .ring in
-    (h .polynomial 0 0 (8 * n) (omega arith) (omega arith) refl, h .polynomial 1 (8 * n) (8 * n) (omega arith) (omega arith) refl, lent-keys h (16 * n) (24 * n) refl refl, two-sound (c .before .before .before .before .before .before .before .before .before .before .before .before .before .before .before .before .before .before .args .sheet .now) k (h .said) .odd, h .ranged .repeats-high, omega (arith, h .sized, h .ranged .ring-high))
+check-requires c κs = sheet-loaded (lent (c .before .before .before .before .before .before .before .before .before .before .before .before .before .before .before .before .before .args .sheet .now) (c .before .before .before .before .before .load .ensures) (c .before .before .before .reading .given .1))
 
 returns : tie.Need-returns
-returns c =
-    let a = c .before .before .before .before .before .before .before .before .before .before .before .before .before .before .before .before .before .before .before .before .before .before .before .before .before .args in
-    let l = c .before .before .before .before .before .before .before .before .before .before .before .before .before .load .ensures in
-    let t = c .before .before .before .before .before .before .before .before .before .before .before .reading .given .1 in
-    check-over (roundOf (a .side) (a .challenges .now) (a .ballots .now) (a .claims .now) (a .head .now) (a .shares0 .now) (a .shares1 .now) (a .opening .now) (a .answers .now)) (c .before .before .before .before .before .before .check .result) (a .scratch .now) _ (a .sheet .now) (lent (a .sheet .now) l t .said)
-    (check-restated (roundOf (a .side) (a .challenges .now) (a .ballots .now) (a .claims .now) (a .head .now) (a .shares0 .now) (a .shares1 .now) (a .opening .now) (a .answers .now)) (c .before .before .before .before .before .before .check .result) (a .scratch .now) _ (parameters-with (a .sheet .now) l t (c .before .before .before .before .before .before .before .before .before .mask-bound .result) (c .before .before .before .before .before .before .before .before .before .mask-bound .ensures)) (c .before .before .before .before .before .before .check .ensures)) (c .before .before .sweep .ensures)
+returns c = let s = c .before .before .before .before .before .before .before .before .before .before .before .before .before .before .before .before .before .before .before .before in check-over (s .args .sheet .now) (c .before .before .before .before .before .before .before .before .load .ensures) (c .before .before .before .before .before .before .reading .given .1) (x s) (s .args .scratch .now) (c .before .before .check .ensures)
 
 returns-2 : tie.Need-returns-2
-returns-2 c =
-    let a = c .before .before .before .before .before .before .before .before .before .before .before .before .before .before .before .before .before .before .before .args in
-    check-refused (roundOf (a .side) (a .challenges .now) (a .ballots .now) (a .claims .now) (a .head .now) (a .shares0 .now) (a .shares1 .now) (a .opening .now) (a .answers .now)) (a .scratch .now) (a .sheet .now) (c .before .before .before .before .before .before .before .load .ensures .0) (c .before .before .before .before .before .reading2 .given .1) (c .before .before .sweep2 .ensures)
+returns-2 c = let s = c .before .before .before .before .before .before .before .before .before .before .before .before .before .before .before .before .before .before .before in check-unread (s .args .sheet .now) (c .before .before .before .before .before .before .before .load .ensures .0) (c .before .before .before .before .before .reading2 .given .1) (x s) (s .args .scratch .now) (c .before .before .sweep .ensures)
 
 pub check-spec : {M : Type 1} → statement M
-check-spec = tie.close (tie.spec (λ c κs. search needs) (λ c. search needs) mask-bound-requires slice-aggregate-check check-requires (λ c κs. search needs) (λ c. search needs) (λ c κs. search needs) (λ c. search needs) returns (λ c. search needs) returns-2)
+check-spec = tie.close (tie.spec (λ c κs. search needs) (λ c. search needs) slice-aggregate-check check-requires (λ c. search needs) (λ c κs. search needs) (λ c. search needs) returns (λ c. search needs) returns-2)

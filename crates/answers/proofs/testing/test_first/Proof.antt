@@ -1,7 +1,10 @@
 -- `testing::test_first` meets its contract. Assumes nothing.
+use mathlib.Core.Path.{ap, _∙_}
 use mathlib.Core.List.{[]}
 use Prim.Native.Nat.{_+_, _-_, _*_}
 use native.Mathlib.Omega.{arith}
+use borrow.Author.Needs.{needs}
+use Rattle.codec.specs.Bytes.{zeros}
 use Rattle.commitment.specs.Commitment.{keysOf}
 use Rattle.stern.proofs.Answered.{lent-range, lent-length}
 use Rattle.answers.proofs.LentParts.{lent1}
@@ -27,11 +30,11 @@ test-balanced-requires c κs =
 
 returns : tie.Need-returns
 returns c =
-    let a = c .before .before .before .before .before .before .before .before .before .before .before .before .before .args in
+    let a = c .before .before .before .before .before .before .before .before .before .before .before .before .before .before .before .before .before .args in
     let n = a .n in (
-      lent1 (a .q) n (a .place) (keysOf n []) [] (a .d .now) (a .answer .now) (42 * n - 0) (378 * n - 42 * n) (378 * n + 32 - 378 * n) (378 * n + 64 - (378 * n + 32)) (omega arith) (omega arith) (omega arith) (omega arith) (c .before .before .test-balanced .ensures .0),
-      c .before .before .test-balanced .ensures .1,
+      lent1 (a .q) n (a .place) (keysOf n []) [] (a .d .now) (a .answer .now) (42 * n - 0) (378 * n - 42 * n) (378 * n + 32 - 378 * n) (378 * n + 64 - (378 * n + 32)) (omega arith) (omega arith) (omega arith) (omega arith) (c .before .before .before .before .before .before .test-balanced .ensures .0),
+      c .before .before .wipe .ensures ∙ ap zeros (c .before .before .before .before .before .before .test-balanced .ensures .1),
     )
 
 pub test-first-spec : {M : Type 1} → statement M
-test-first-spec = tie.close (tie.spec (λ c. omega arith) (λ c. omega arith) (λ c. omega arith) (λ c. omega arith) (λ c. omega arith) (λ c. omega arith) (λ c. omega arith) (λ c. omega arith) (λ c. omega arith) (λ c. omega arith) (λ c. omega arith) (λ c. omega arith) (λ c. omega arith) (λ c. omega arith) (λ c. omega arith) (λ c. omega arith) (λ c. omega arith) (λ c. omega arith) (λ c. omega arith) (λ c. omega arith) (λ c. omega arith) (λ c. omega arith) (λ c. omega arith) (λ c. omega arith) (λ c. omega arith) (λ c. omega arith) (λ c. omega arith) (λ c. omega arith) test-balanced-requires (λ c. c .before .work .given) returns)
+test-first-spec = tie.close (tie.spec (λ c. omega arith) (λ c. omega arith) (λ c. omega arith) (λ c. omega arith) (λ c. omega arith) (λ c. omega arith) (λ c. omega arith) (λ c. omega arith) (λ c. omega arith) (λ c. omega arith) (λ c. omega arith) (λ c. omega arith) (λ c. omega arith) (λ c. omega arith) (λ c. omega arith) (λ c. omega arith) (λ c. omega arith) (λ c. omega arith) (λ c. omega arith) (λ c. omega arith) (λ c. omega arith) (λ c. omega arith) (λ c. omega arith) (λ c. omega arith) (λ c. omega arith) (λ c. omega arith) (λ c. omega arith) (λ c. omega arith) test-balanced-requires (λ c κs. search needs) (λ c. search needs) returns)

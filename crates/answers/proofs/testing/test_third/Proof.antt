@@ -1,6 +1,9 @@
 -- `testing::test_third` meets its contract. Assumes nothing.
+use mathlib.Core.Path.{ap, _∙_}
 use Prim.Native.Nat.{_+_, _-_, _*_}
 use native.Mathlib.Omega.{arith}
+use borrow.Author.Needs.{needs}
+use Rattle.codec.specs.Bytes.{zeros}
 use Rattle.commitment.specs.Commitment.{keysOf}
 use Rattle.stern.proofs.Answered.{lent-range, lent-length}
 use Rattle.answers.proofs.LentParts.{lent3}
@@ -26,11 +29,11 @@ test-permuted-requires c κs =
 
 returns : tie.Need-returns
 returns c =
-    let a = c .before .before .before .before .before .before .before .before .before .before .before .before .before .before .before .args in
+    let a = c .before .before .before .before .before .before .before .before .before .before .before .before .before .before .before .before .before .before .before .args in
     let n = a .n in (
-      lent3 (a .q) n (a .place) (keysOf n (a .k .now)) (a .c .now) (a .d .now) (a .answer .now) (168 * n - 0) (504 * n - 168 * n) (504 * n + 32 - 504 * n) (504 * n + 64 - (504 * n + 32)) (omega arith) (omega arith) (omega arith) (omega arith) (c .before .before .test-permuted .ensures .0),
-      c .before .before .test-permuted .ensures .1,
+      lent3 (a .q) n (a .place) (keysOf n (a .k .now)) (a .c .now) (a .d .now) (a .answer .now) (168 * n - 0) (504 * n - 168 * n) (504 * n + 32 - 504 * n) (504 * n + 64 - (504 * n + 32)) (omega arith) (omega arith) (omega arith) (omega arith) (c .before .before .before .before .before .before .test-permuted .ensures .0),
+      c .before .before .wipe .ensures ∙ ap zeros (c .before .before .before .before .before .before .test-permuted .ensures .1),
     )
 
 pub test-third-spec : {M : Type 1} → statement M
-test-third-spec = tie.close (tie.spec (λ c. omega arith) (λ c. omega arith) (λ c. omega arith) (λ c. omega arith) (λ c. omega arith) (λ c. omega arith) (λ c. omega arith) (λ c. omega arith) (λ c. omega arith) (λ c. omega arith) (λ c. omega arith) (λ c. omega arith) (λ c. omega arith) (λ c. omega arith) (λ c. omega arith) (λ c. omega arith) (λ c. omega arith) (λ c. omega arith) (λ c. omega arith) (λ c. omega arith) (λ c. omega arith) (λ c. omega arith) (λ c. omega arith) (λ c. omega arith) (λ c. omega arith) (λ c. omega arith) (λ c. omega arith) (λ c. omega arith) test-permuted-requires (λ c. c .before .work .given) returns)
+test-third-spec = tie.close (tie.spec (λ c. omega arith) (λ c. omega arith) (λ c. omega arith) (λ c. omega arith) (λ c. omega arith) (λ c. omega arith) (λ c. omega arith) (λ c. omega arith) (λ c. omega arith) (λ c. omega arith) (λ c. omega arith) (λ c. omega arith) (λ c. omega arith) (λ c. omega arith) (λ c. omega arith) (λ c. omega arith) (λ c. omega arith) (λ c. omega arith) (λ c. omega arith) (λ c. omega arith) (λ c. omega arith) (λ c. omega arith) (λ c. omega arith) (λ c. omega arith) (λ c. omega arith) (λ c. omega arith) (λ c. omega arith) (λ c. omega arith) test-permuted-requires (λ c κs. search needs) (λ c. search needs) returns)

@@ -2,6 +2,7 @@
 use Prim.Native.Nat.{_+_, _-_, _*_}
 use native.Mathlib.Omega.{arith}
 use Rattle.stern.proofs.Answered.{lent-length}
+use Rattle.sheet_numbers.specs.Plain.{plain, maskOf}
 use Rattle.transcript.proofs.Compared.{lent-public, first-below, second-below}
 use Rattle.ballot_tests.proofs.BallotLoop.{lent-tests}
 use Rattle.ballot_tests.proofs.ballots.test_at.Statement.{statement}
@@ -13,16 +14,16 @@ test-ballot-requires c κs =
     let p = c .before .before .before .before .before .before .before .before .before .before .before .before .before .before .pre .0 in
     let b = c .before .before .before .before .before .before .before .before .before .before .before .before .before .before .pre .1 in
     let s = p .0 in
-    let n = a .n in
+    let n = a .k .ring in
     let x = a .at in
     let i = a .share in (
-      s,
-      lent-public n (a .q) (a .ballots .now) (x + 4) (x + 4 + 8 * n - (x + 4)) (omega arith) (omega (arith, p .3)) (s .ring-low) (s .ring-high) (s .modulus-low) (s .modulus-high) (first-below n (a .q) _ (b .0)),
-      lent-public n (a .q) (a .ballots .now) (x + 4 + 8 * n) (x + 4 + 16 * n - (x + 4 + 8 * n)) (omega arith) (omega (arith, p .3)) (s .ring-low) (s .ring-high) (s .modulus-low) (s .modulus-high) (second-below n (a .q) (a .ballots .now) (x + 4) (b .0)),
-      lent-public n (a .q) (a .shares0 .now) i (i + 8 * n - i) (omega arith) (p .5) (s .ring-low) (s .ring-high) (s .modulus-low) (s .modulus-high) (b .1),
-      lent-public n (a .q) (a .shares1 .now) i (i + 8 * n - i) (omega arith) (p .6) (s .ring-low) (s .ring-high) (s .modulus-low) (s .modulus-high) (b .2),
-      lent-public n (a .q) (a .opened .now) i (i + 8 * n - i) (omega arith) (p .7) (s .ring-low) (s .ring-high) (s .modulus-low) (s .modulus-high) (b .3),
       p .1,
+      s,
+      lent-public n (a .k .modulus) (a .ballots .now) (x + 4) (x + 4 + 8 * n - (x + 4)) (omega arith) (omega (arith, p .3)) (s .ring-low) (s .ring-high) (s .modulus-low) (s .modulus-high) (first-below n (a .k .modulus) _ (b .0)),
+      lent-public n (a .k .modulus) (a .ballots .now) (x + 4 + 8 * n) (x + 4 + 16 * n - (x + 4 + 8 * n)) (omega arith) (omega (arith, p .3)) (s .ring-low) (s .ring-high) (s .modulus-low) (s .modulus-high) (second-below n (a .k .modulus) (a .ballots .now) (x + 4) (b .0)),
+      lent-public n (a .k .modulus) (a .shares0 .now) i (i + 8 * n - i) (omega arith) (p .5) (s .ring-low) (s .ring-high) (s .modulus-low) (s .modulus-high) (b .1),
+      lent-public n (a .k .modulus) (a .shares1 .now) i (i + 8 * n - i) (omega arith) (p .6) (s .ring-low) (s .ring-high) (s .modulus-low) (s .modulus-high) (b .2),
+      lent-public n (a .k .modulus) (a .opened .now) i (i + 8 * n - i) (omega arith) (p .7) (s .ring-low) (s .ring-high) (s .modulus-low) (s .modulus-high) (b .3),
       p .2,
       lent-length (a .claims .now) (a .claim) (a .claim + n - a .claim) n (omega arith) (p .4),
     )
@@ -32,7 +33,7 @@ returns c =
     let a = c .before .before .before .before .before .before .before .before .before .before .before .before .before .before .before .before .before .args in
     let p = c .before .before .before .before .before .before .before .before .before .before .before .before .before .before .before .before .before .pre .0 in
     let t = c .before .before .test-ballot .ensures in
-    (lent-tests (a .q) (a .n) (a .bound) (a .s .now) (a .ballots .now) (a .claims .now) (a .shares0 .now) (a .shares1 .now) (a .opened .now) (a .at) (a .claim) (a .share) (a .place) (p .3) (p .5) (p .6) (p .7) (t .0), t .1)
+    (lent-tests (a .k .modulus) (a .k .ring) (plain (a .k)) (maskOf (a .k)) (a .s .now) (a .ballots .now) (a .claims .now) (a .shares0 .now) (a .shares1 .now) (a .opened .now) (a .at) (a .claim) (a .share) (a .place) (p .3) (p .5) (p .6) (p .7) (t .0), t .1)
 
 pub test-at-spec : {M : Type 1} → statement M
 test-at-spec = tie.close (tie.spec (λ c. omega arith) (λ c. omega arith) (λ c. omega arith) (λ c. omega arith) (λ c. omega arith) (λ c. omega arith) (λ c. omega arith) (λ c. omega arith) (λ c. omega arith) (λ c. omega arith) (λ c. omega arith) (λ c. omega arith) (λ c. omega arith) (λ c. omega arith) (λ c. omega arith) (λ c. omega arith) (λ c. omega arith) (λ c. c .before .before .before .before .before .before .before .before .before .pre .0 .3) (λ c. omega arith) (λ c. omega arith) (λ c. omega arith) (λ c. c .before .before .before .before .before .before .before .before .before .before .pre .0 .4) (λ c. omega arith) (λ c. omega arith) (λ c. c .before .before .before .before .before .before .before .before .before .before .before .pre .0 .5) (λ c. omega arith) (λ c. omega arith) (λ c. c .before .before .before .before .before .before .before .before .before .before .before .before .pre .0 .6) (λ c. omega arith) (λ c. omega arith) (λ c. c .before .before .before .before .before .before .before .before .before .before .before .before .before .pre .0 .7) test-ballot-requires (λ c. c .before .work .given) returns)

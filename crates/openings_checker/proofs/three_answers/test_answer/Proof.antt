@@ -6,6 +6,7 @@ use Rattle.codec.specs.Bytes.{Bytes, part}
 use Rattle.codec.specs.Reply.{first}
 use Rattle.codec.proofs.Laws.{part-whole}
 use Rattle.commitment.specs.Commitment.{keysOf}
+use Rattle.commitment.specs.Loaded.{keyBytes}
 use Rattle.stern.specs.Shortness.{inRange, answerTests}
 use Rattle.transcript.specs.Layout.{pairsOf}
 use Rattle.openings_checker.proofs.three_answers.test_answer.Statement.{statement}
@@ -16,15 +17,16 @@ test-at-requires c κs =
     let a = c .before .before .before .before .before .args in
     let p = c .before .before .before .before .before .pre in (
       (p .0, p .1, omega (arith, p .2 .sized), p .3, p .4 .sized, omega arith),
-      (p .2 .pairs, ap (λ (s : Bytes). inRange (a .q) (a .n) (a .challenge) s) (part-whole (a .answer .now)) ∙ p .4 .ranged),
+      (p .2 .pairs, ap (λ (s : Bytes). inRange (a .k .modulus) (a .k .ring) (a .challenge) s) (part-whole (a .answer .now)) ∙ p .4 .ranged),
     )
 
 returns : tie.Need-returns
 returns c =
     let a = c .before .before .before .before .before .before .before .before .args in
+    let n = a .k .ring in
     let t = c .before .before .test-at in (
       t .ensures .0
-          ∙ ap (λ (s : Bytes). first (answerTests (a .q) (a .n) (keysOf (a .n) (a .k .now)) (pairsOf (a .n) (a .head .now)) (part (a .head .now) (a .digests) 96) (a .place) (a .challenge) s)) (part-whole (a .answer .now)),
+          ∙ ap (λ (s : Bytes). first (answerTests (a .k .modulus) n (keysOf n (keyBytes (a .k) (a .public .now))) (pairsOf n (a .head .now)) (part (a .head .now) (a .digests) 96) (a .place) (a .challenge) s)) (part-whole (a .answer .now)),
       t .ensures .1,
     )
 

@@ -4,6 +4,7 @@ use Prim.Native.Nat.{_-_, _*_}
 use native.Mathlib.Omega.{arith}
 use borrow.Author.Needs.{needs}
 use Rattle.codec.specs.Reply.{first}
+use Rattle.sheet_numbers.specs.Plain.{plain, maskOf}
 use Rattle.round_parts.proofs.Parts.{lent-on, alike-s, votes-alike}
 use Rattle.round_parts.proofs.openings.test_votes.Statement.{statement}
 use Rattle.round_parts.proofs.openings.test_votes.Tie as tie
@@ -12,15 +13,15 @@ test-ballots-requires : tie.Need-test-ballots-requires
 test-ballots-requires c κs =
     let a = c .before .before .before .before .before .before .before .before .before .args in
     let p = c .before .before .before .before .before .before .before .before .before .pre in
-    (lent-on (a .opening .now) 0 (8 * a .n - 0) (omega arith) (p .0 .s), p .1, p .2, p .3, p .4, p .5, p .6, p .7)
+    (lent-on (a .opening .now) 0 (8 * a .k .ring - 0) (omega arith) (p .1 .s), p .0, p .2, p .3, p .4, p .5, p .6, p .7)
 
 returns : tie.Need-returns
 returns c =
-    let a = c .before .before .before .before .before .before .before .before .before .before .before .before .args in (
-      c .before .before .test-ballots .ensures .0
-          ∙ ap first (votes-alike (a .q) (a .n) (a .bound) (a .count) (a .ballots .now) (a .claims .now) (a .shares0 .now) (a .shares1 .now) (a .opened .now) (alike-s (a .n) (a .q) (a .opening .now) (c .before .before .before .before .before .before .before .before .before .before .before .before .pre .0) (8 * a .n - 0) (omega arith))),
-      c .before .before .test-ballots .ensures .1,
-    )
+    let a = c .before .before .before .before .before .before .before .before .before .before .before .before .args in
+    let n = a .k .ring in
+    let q = a .k .modulus in
+    let t = c .before .before .test-ballots .ensures in
+    (t .0 ∙ ap first (votes-alike q n (plain (a .k)) (maskOf (a .k)) (a .count) (a .ballots .now) (a .claims .now) (a .shares0 .now) (a .shares1 .now) (a .opened .now) (alike-s n q (a .opening .now) (c .before .before .before .before .before .before .before .before .before .before .before .before .pre .1) (8 * n - 0) (omega arith))), t .1)
 
 pub test-votes-spec : {M : Type 1} → statement M
 test-votes-spec = tie.close (tie.spec (λ c. search needs) (λ c. search needs) (λ c. search needs) (λ c. search needs) test-ballots-requires (λ c. search needs) returns)
