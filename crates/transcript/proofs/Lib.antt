@@ -20,3 +20,4 @@ pub mod Tests
 pub mod Walk
 pub mod Written
 pub mod Cut
+pub mod Numbers

@@ -3,8 +3,10 @@ pub mod Round
 pub mod Accepted
 pub mod Method
 pub mod Sheets
+pub mod Usable
 pub mod Producer
 pub mod Writes
+pub mod Lent
 pub mod Suitable
 pub mod Extractor
 pub mod Refuses

@@ -15,7 +15,7 @@ use Rattle.bgv.specs.Scheme.{key, worked, within, reconstructed}
 use Rattle.commitment.specs.Commitment.{Keys, threeOf, opens}
 use Rattle.vector.specs.Vector.{vector}
 use Rattle.stern.specs.Shortness.{inRange, answerTests}
-use Rattle.transcript.specs.Layout.{Opening, each, ballotLength, uAt, vAt, shareAt, claimAt, headLength, keyAt, pairsOf, pairAt, digestsAt, openingOf, answersLength, answerAt}
+use Rattle.transcript.specs.Layout.{Opening, each, ballotLength, uAt, vAt, ballotsBelow, shareAt, claimAt, headLength, keyAt, pairsOf, pairAt, digestsAt, openingOf, answersLength, answerAt}
 
 -- what a sheet gives: modulus, ring size, plaintext modulus, mask bound, noise bound, repetitions, and its polynomials
 pub record Parameters : Type 0 where
@@ -71,7 +71,7 @@ module _ (P : Parameters) (m : ℕ) where
   -- ---- 5: every coefficient, claim, ternary byte, side and challenge is in its range
 
   unfoldable pub ballotsRanged : Bytes → Bool
-  ballotsRanged ballots = all m (λ j. allBelow q (list (2 * N) (uAt N ballots j)))
+  ballotsRanged = ballotsBelow q N m
 
   unfoldable pub openingRanged : Bytes → Bool
   openingRanged o = allBelow q (list (2 * N) (poly o)) && allBelow 3 (part o (16 * N) (6 * N))

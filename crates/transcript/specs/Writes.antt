@@ -1,4 +1,4 @@
--- What the producer's first call writes into the room that it is lent, once its material passed all tests. Assumes nothing.
+-- The room that the producer's calls are lent to write into, and what the first call writes once its material passed all tests. Assumes nothing.
 use mathlib.Core.Path.{_≡_}
 use Prim.Native.Nat.{ℕ}
 use lib.ListN.{length}
@@ -17,6 +17,15 @@ pub record FirstRoom : Type 0 where
 -- the same from the slices one by one
 abbrev pub firstRoom : (head shares0 shares1 claims scratch : Bytes) → FirstRoom
 firstRoom head shares0 shares1 claims scratch = record { head = head; shares0 = shares0; shares1 = shares1; claims = claims; scratch = scratch }
+
+-- the room for an opening and answers, and scratch
+pub record SecondRoom : Type 0 where
+  pub opening : Bytes
+  pub answers : Bytes
+  pub scratch : Bytes
+
+abbrev pub secondRoom : (opening answers scratch : Bytes) → SecondRoom
+secondRoom opening answers scratch = record { opening = opening; answers = answers; scratch = scratch }
 
 -- all of m ballots is written
 pub record FirstProduced (P : Parameters) (m : ℕ) (x : Material) (before after : FirstRoom) : Type 0 where

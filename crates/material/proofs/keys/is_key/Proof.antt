@@ -14,9 +14,9 @@ returns c =
     let a = c .before .before .before .before .before .before .before .before .before .before .before .before .args in
     let p = c .before .before .before .before .before .before .before .before .before .before .before .before .pre in
     let made = c .before .before .before .before .before .noisy in
-    let x : 8 * a .n - 0 ≡ 8 * a .n = omega arith in
+    let x : 8 * a .k .ring - 0 ≡ 8 * a .k .ring = omega arith in
     let octets : Octets (a .b .now) = λ i l. omega (arith, c .before .before .before .before .before .before .before .before .before .shared-slice-known2 .given i) in (
-      c .equal .ensures ∙ ap (λ (k : ℕ). same (take k (made .last .0)) (a .b .now)) x ∙ ap₂ same (made .ensures .bytes) (encode-bytes (a .q) (a .n) (a .b .now) octets (p .1 .sized) (p .1 .below)),
+      c .equal .ensures ∙ ap (λ (k : ℕ). same (take k (made .last .0)) (a .b .now)) x ∙ ap₂ same (made .ensures .bytes) (encode-bytes (a .k .modulus) (a .k .ring) (a .b .now) octets (p .1 .sized) (p .1 .below)),
       made .ensures .sized,
     )
 
