@@ -127,7 +127,7 @@ module _ (q N : ℕ) (secrets s0 e0 : Bytes) where
       coefficientBytes q N (halfOf q (sIn N secrets) s0 side) ++ (coefficientBytes q N (halfOf q (eIn N secrets) e0 side) ++ (hidesSIn N secrets side ++ hidesEIn N secrets side))
 
   -- the committed pairs of s0, s1, e0, e1
-  abbrev pub pairsBytes : (k : Keys) → Bytes
+  unfoldable pub pairsBytes : (k : Keys) → Bytes
   pairsBytes k =
       pairOf q N k (hidesSIn N secrets 0) (halfOf q (sIn N secrets) s0 0)
       ++ (pairOf q N k (hidesSIn N secrets 1) (halfOf q (sIn N secrets) s0 1)
@@ -145,6 +145,12 @@ module _ (q N repeats : ℕ) (secrets vectors permutations salts : Bytes) where
 
   abbrev pub answersBytes : (challenges : Bytes) → Bytes
   answersBytes challenges = joined repeats (λ i. honestAnswer q N secrets (drawnIn N vectors permutations salts i) (getD challenges i 0))
+
+-- the whole head
+abbrev pub headBytes : (P : Parameters) (secrets s0 e0 vectors permutations salts : Bytes) → Bytes
+headBytes P secrets s0 e0 vectors permutations salts =
+    let b : ℕ → Bytes = keyBytesOf (P .q) (P .N) secrets s0 e0 (P .p) (P .a) in
+    b 0 ++ (b 1 ++ (pairsBytes (P .q) (P .N) secrets s0 e0 (P .k) ++ digestsBytes (P .q) (P .N) (P .repeats) secrets vectors permutations salts (P .k)))
 
 -- by ballot: the shares of a side, and the decrypted votes
 module _ (q N p m : ℕ) (secrets : Bytes) where
@@ -223,15 +229,11 @@ module _ (P : Parameters) (m : ℕ) (x : Material) where
   abbrev pub pairBytesOf : (hides : Bytes) → Poly → Bytes
   pairBytesOf = pairOf q N k
 
-  unfoldable pub producedPairs : Bytes
+  abbrev pub producedPairs : Bytes
   producedPairs = pairsBytes q N (x .secrets) (x .s0) (x .e0) k
 
   unfoldable pub producedHead : Bytes
-  producedHead =
-      keyBytesOf q N (x .secrets) (x .s0) (x .e0) p a 0
-      ++ (keyBytesOf q N (x .secrets) (x .s0) (x .e0) p a 1
-      ++ (producedPairs
-      ++ digestsBytes q N repeats (x .secrets) (x .vectors) (x .permutations) (x .salts) k))
+  producedHead = headBytes P (x .secrets) (x .s0) (x .e0) (x .vectors) (x .permutations) (x .salts)
 
   unfoldable pub producedShares : ℕ → Bytes
   producedShares side = sharesBytes q N p m (x .secrets) (x .s0) (masksOf side) (x .ballots) side

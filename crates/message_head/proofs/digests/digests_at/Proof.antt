@@ -18,7 +18,7 @@ write-digests-requires c κs =
     let r = a .vector in
     let s = a .salt in
     let t = a .permutation in
-    (p .0 .0, p .0 .1, p .0 .2, material-lent (a .q) (a .n) (a .secrets .now) (a .vectors .now) (a .permutations .now) (a .salts .now) r t s (r + 336 * a .n - r) (t + 168 * a .n - t) (s + 96 - s) (omega arith) (omega arith) (omega arith) (p .1))
+    (p .0, p .1, p .2, material-lent (a .q) (a .n) (a .secrets .now) (a .vectors .now) (a .permutations .now) (a .salts .now) r t s (r + 336 * a .n - r) (t + 168 * a .n - t) (s + 96 - s) (omega arith) (omega arith) (omega arith) (p .6))
 
 returns : tie.Need-returns
 returns c =
