@@ -4,6 +4,7 @@ use crate::tally::{Comparison, Tally};
 
 extern "C" {
     fn modular_numbers(operation: u64, x: u64, y: u64, q: u64) -> u64;
+    fn modular_divide(x: u64, p: u64, q: u64) -> u64;
     fn modular_centred(x: u64, q: u64) -> i64;
     fn modular_reduce(e: i64, q: u64) -> u64;
     fn ring_count(t: *const u8, t_length: usize, v: u8) -> u64;
@@ -41,10 +42,20 @@ fn on_numbers(operation: u64, x: u64, y: u64, q: u64) -> u64 {
         2 => times(x, y, q),
         3 => (-i128::from(x)).rem_euclid(i128::from(q)) as u64,
         4 => centred.unsigned_abs() as u64,
-        5 => centred.rem_euclid(2) as u64,
-        // 1 / 2 is (q + 1) / 2
-        _ => times(x, q.div_ceil(2), q),
+        _ => centred.rem_euclid(2) as u64,
     }
+}
+
+/// 1 / p modulo q by Euclid's algorithm, or nothing where they have a common factor.
+fn inverse(p: u64, q: u64) -> Option<u64> {
+    let (mut a, mut b) = (i128::from(p), i128::from(q));
+    let (mut s, mut t) = (1, 0);
+    while b != 0 {
+        let k = a / b;
+        (a, b) = (b, a - k * b);
+        (s, t) = (t, s - k * t);
+    }
+    (a == 1).then(|| s.rem_euclid(i128::from(q)) as u64)
 }
 
 fn on_polynomials(operation: u64, a: &[u64], b: &[u64], q: u64) -> Vec<u64> {
@@ -100,7 +111,7 @@ fn numbers(tally: &mut Tally, random: &mut Random) {
         for x in &samples {
             for y in samples.iter().take(16) {
                 for operation in 0..8 {
-                    let expected = if operation < 7 && *x < q && *y < q { 256 * on_numbers(operation, *x, *y, q) } else { 5 };
+                    let expected = if operation < 6 && *x < q && *y < q { 256 * on_numbers(operation, *x, *y, q) } else { 5 };
                     let reply = unsafe { modular_numbers(operation, *x, *y, q) };
                     c.same(|| format!("operation {operation}, {x}, {y} modulo {q}"), reply, expected);
                 }
@@ -120,6 +131,22 @@ fn numbers(tally: &mut Tally, random: &mut Random) {
     c.same(|| "94 modulo 97 by 2".into(), unsafe { modular_numbers(5, 94, 0, 97) }, 256);
     c.claim(tally, "modular: every operation, at and past the ends of the range");
     centred.claim(tally, "modular: centred");
+}
+
+fn divided(tally: &mut Tally, random: &mut Random) {
+    let mut c = Comparison::default();
+    // 2 · 3 · 5 · .. · 43 below 2^56 has a factor in common with most p; 3 and 251 are small primes
+    for q in MODULI.into_iter().chain([1, 3, 251, 13_082_761_331_670_030, (1 << 56) - 1]) {
+        for p in (0..260).chain([1 << 32, u64::MAX]) {
+            let by = if (2..=251).contains(&p) { inverse(p, q) } else { None };
+            for x in [0, 1, p % q, (q - 1) / 2, q - 1, random.below(q), random.below(q), q] {
+                let expected = by.filter(|_| x < q).map_or(5, |y| 256 * times(x, y % q, q));
+                c.same(|| format!("{x} / {p} modulo {q}"), unsafe { modular_divide(x, p, q) }, expected);
+            }
+        }
+    }
+    c.same(|| "modulus 2^56".into(), unsafe { modular_divide(1, 3, 1 << 56) }, 5);
+    c.claim(tally, "modular: division by every p of 2 to 251");
 }
 
 fn reduced(tally: &mut Tally, random: &mut Random) {
@@ -241,6 +268,7 @@ fn refusals(tally: &mut Tally, random: &mut Random) {
 pub fn run(tally: &mut Tally) {
     let mut random = Random(97);
     numbers(tally, &mut random);
+    divided(tally, &mut random);
     reduced(tally, &mut random);
     ternary(tally, &mut random);
     polynomials(tally, &mut random);

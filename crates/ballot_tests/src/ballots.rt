@@ -35,7 +35,7 @@ fn test_ballot(
     ensures { λ reply. ⌜ reply ≡ first (test 12 place (not (within bound n (worked q n 2 (poly (now (s .entry))) (poly (now (u .entry))) (poly (now (t .entry)))))) ∷ test 13 place (not (same (now (claim .entry)) (list n (reconstructed q 2 (poly (now (v .entry))) (poly (now (t0 .entry))) (poly (now (t1 .entry))))))) ∷ []) ⌝ }
     ensures { λ _. ⌜ length (now (work .exit)) ≡ length (now (work .entry)) ⌝ }
 {
-    if !bgv::mask_within(work, s, u, t, bound, n, q) {
+    if !bgv::mask_within(work, s, u, t, bound, 2, n, q) {
         return Reply::Refused { number: 12, place };
     }
     if !is_claim(work, claim, v, t0, t1, n, q) {

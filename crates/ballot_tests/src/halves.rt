@@ -28,7 +28,7 @@ pub fn is_key(work: &mut [u8], a: &[u8], half: &[u8], s: &[u8], e: &[u8], n: usi
     ensures { λ r. ⌜ r ≡ same (now (half .entry)) (encode n (modulo q (key q n 2 (poly (now (a .entry))) (poly (now (s .entry))) (poly (now (e .entry)))))) ⌝ }
     ensures { λ _. ⌜ length (now (work .exit)) ≡ length (now (work .entry)) ⌝ }
 {
-    bgv::noisy_lent(work, a, s, e, n, q);
+    bgv::noisy_lent(work, a, s, e, 2, n, q);
     codec::equal(half, &work[0..8 * n])
 }
 

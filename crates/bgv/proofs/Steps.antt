@@ -18,36 +18,36 @@ module _ (q n : ℕ) (high : n ≤ 2048) (some : 3 ≤ q) (few : q < 2 ^ 56) whe
   positive : 0 < q
   positive = omega arith
 
-  -- ---- a x + 2 y
+  -- ---- a x + p y
 
-  module _ (w : Bytes) (a : Poly) (l : length w ≡ 1048576) (w1 : Bytes) (e1 : w1 ≡ put (store q n w 0 (mul q n (slot w 0) a)) 32768 (zeros (24 * n))) (y : Below q n (slot w 16384))
-      (w2 : Bytes) (e2 : w2 ≡ store q n w1 16384 (scale 2 (slot w1 16384))) where
+  module _ (p : ℕ) (w : Bytes) (a : Poly) (l : length w ≡ 1048576) (w1 : Bytes) (e1 : w1 ≡ put (store q n w 0 (mul q n (slot w 0) a)) 32768 (zeros (24 * n))) (y : Below q n (slot w 16384))
+      (w2 : Bytes) (e2 : w2 ≡ store q n w1 16384 (scale p (slot w1 16384))) where
     one-length : length w1 ≡ length w
     one-length = length1 q n high some few w a l w1 e1
 
     two-length : length w2 ≡ length w
-    two-length = stored-length q n positive few w1 w2 16384 (omega (arith, one-length)) (scale 2 (slot w1 16384)) e2 ∙ one-length
+    two-length = stored-length q n positive few w1 w2 16384 (omega (arith, one-length)) (scale p (slot w1 16384)) e2 ∙ one-length
 
     x2 : Holds q n 0 (mul q n (slot w 0) a) w2
-    x2 = stored-other q n positive few w1 w2 16384 (omega (arith, one-length)) (scale 2 (slot w1 16384)) e2 (inl (omega arith)) (x1 q n high some few w a l w1 e1)
+    x2 = stored-other q n positive few w1 w2 16384 (omega (arith, one-length)) (scale p (slot w1 16384)) e2 (inl (omega arith)) (x1 q n high some few w a l w1 e1)
 
-    y2 : Holds q n 16384 (scale 2 (slot w1 16384)) w2
-    y2 = stored q n positive few w1 w2 16384 (omega (arith, one-length)) (scale 2 (slot w1 16384)) e2
+    y2 : Holds q n 16384 (scale p (slot w1 16384)) w2
+    y2 = stored q n positive few w1 w2 16384 (omega (arith, one-length)) (scale p (slot w1 16384)) e2
 
     pub add-asks : Slots n 0 16384 w2 × Below q n (slot w2 0) × Below q n (slot w2 16384)
     add-asks = add-slots-asks q n high some few w2 (two-length ∙ l) x2 y2
 
-    pub combined : (w3 : Bytes) → w3 ≡ store q n w2 0 (plus (slot w2 0) (slot w2 16384)) → Stands q n (noisy q n 2 a (slot w 0) (slot w 16384)) w w3
+    pub combined : (w3 : Bytes) → w3 ≡ store q n w2 0 (plus (slot w2 0) (slot w2 16384)) → Stands q n (noisy q n p a (slot w 0) (slot w 16384)) w w3
     combined w3 e3 =
         stands-alike (stands-stored q n (plus (slot w2 0) (slot w2 16384)) w w2 w3 (omega (arith, two-length)) two-length e3)
-        (alike-plus (holds-alike x2) (holds-alike y2 so alike-scale 2 (holds-alike (y1 q n high some few w a l w1 e1 y))) so alike-eq (sym (noisy-turned q n 2 a (slot w 0) (slot w 16384))))
+        (alike-plus (holds-alike x2) (holds-alike y2 so alike-scale p (holds-alike (y1 q n high some few w a l w1 e1 y))) so alike-eq (sym (noisy-turned q n p a (slot w 0) (slot w 16384))))
 
   -- two polynomials are put at 0 and at 16,384, and then combined
-  pub stands-noisy : (f g : Poly) (w w1 w2 : Bytes) → length w ≡ 1048576 → Loaded q n 0 f w w1 → Loaded q n 16384 g w1 w2
-      → (a : Poly) (w3 : Bytes) → Stands q n (noisy q n 2 a (slot w2 0) (slot w2 16384)) w2 w3 → Stands q n (noisy q n 2 a f g) w w3
-  stands-noisy f g w w1 w2 l x y a w3 h =
+  pub stands-noisy : (p : ℕ) (f g : Poly) (w w1 w2 : Bytes) → length w ≡ 1048576 → Loaded q n 0 f w w1 → Loaded q n 16384 g w1 w2
+      → (a : Poly) (w3 : Bytes) → Stands q n (noisy q n p a (slot w2 0) (slot w2 16384)) w2 w3 → Stands q n (noisy q n p a f g) w w3
+  stands-noisy p f g w w1 w2 l x y a w3 h =
       stands-after (both-length q n high some few f g w w1 w2 l x y)
-      (stands-alike h (noisy-alike q n 2 alike-refl (holds-alike (first-kept q n high some few f g w w1 w2 l x y)) (holds-alike (y .holds))))
+      (stands-alike h (noisy-alike q n p alike-refl (holds-alike (first-kept q n high some few f g w w1 w2 l x y)) (holds-alike (y .holds))))
 
   -- ---- a message is added
 

@@ -46,17 +46,13 @@ pub plain-stands : (q p n : ℕ) (f : Poly) (w w' : Bytes) → 0 < q → q < 2 ^
 unfolding plain
 plain-stands q p n f w w' h b s = list-cong n (λ k l. ap (remainder p) (ap (centre q) (stands-poly q n f w w' s h b k l) ∙ centre-mod q (f k)))
 
-pub divide-lt : (q p x : ℕ) → 0 < q → divide q p x < q
-unfolding divide
-divide-lt q p x h = mod-lt (x * inverse q p) h
-
 divide-mod : (q p x : ℕ) → divide q p (x % q) ≡ divide q p x
 unfolding divide
 divide-mod q p x = mod-mul-left q x (inverse q p)
 
 -- and so does the bound of a mask that is worked out
-pub halves-stand : (q p n K : ℕ) (f : Poly) (w w' : Bytes) → 0 < q → q < 2 ^ 56 → Stands q n f w w'
+pub quotients-stand : (q p n K : ℕ) (f : Poly) (w w' : Bytes) → 0 < q → q < 2 ^ 56 → Stands q n f w w'
     → within K n (λ k. centre q (divide q p (poly w' k))) ≡ within K n (λ k. centre q (divide q p (f k)))
 unfolding within
-halves-stand q p n K f w w' h b s =
+quotients-stand q p n K f w w' h b s =
     ap (allBelow (suc K)) (list-cong n (λ k l. ap (λ (x : ℕ). natAbs (centre q x)) (ap (divide q p) (stands-poly q n f w w' s h b k l) ∙ divide-mod q p (f k))))

@@ -130,8 +130,8 @@ rows =
     ∷ row (pos (remainder 2 (centre 97 94)) ∷ pos (remainder 2 (- 3)) ∷ []) (numbers (1 ∷ 1 ∷ []))  -- 94 by 2, which is -3 by 2
     ∷ row (reply (masked E0)) (numbers (0 ∷ 0 ∷ []))  -- E0 is taken
     ∷ row (reply (masked (pos 5 ∷ - 4 ∷ pos 0 ∷ pos 1 ∷ []))) (numbers (12 ∷ 0 ∷ []))  -- H
-    ∷ row (reply (replyOf (reading 2 (textI 81)))) (numbers (0 ∷ 0 ∷ []))  -- I: the sheet's text, read
-    ∷ row (reply (replyOf (reading 2 (textI 73)))) (numbers (4 ∷ 0 ∷ []))
+    ∷ row (reply (replyOf (reading (textI 81)))) (numbers (0 ∷ 0 ∷ []))  -- I: the sheet's text, read
+    ∷ row (reply (replyOf (reading (textI 73)))) (numbers (4 ∷ 0 ∷ []))
     ∷ row (pos (noise 2 2048) ∷ pos (mask 2 2048 40) ∷ []) (numbers (8195 ∷ 2252624447406080 ∷ []))  -- J
     ∷ []
 

@@ -1,12 +1,12 @@
 // BGV encryption and decryption shares over slots of scratch (document 000, sections 5.3 and 6.1): what is worked on stands at 0, a second operand at ERROR,
-// and a product has its room from ROOM on. p is 2 in a x + p y and in a vote; a message has bytes below any p. What is made from secrets is left in scratch.
+// and a product has its room from ROOM on. p is lent. What is made from secrets is left in scratch.
 ghost use mathlib.Core.Path.{_≡_};
 ghost use Prim.Native.Nat.{_+_, _*_, _%_, _≤_, _<_, _^_};
 ghost use lib.ListN.{length};
 ghost use Rattle.codec.specs.Bytes.{put};
 ghost use Rattle.codec.specs.Lists.{list, allBelow};
 ghost use Rattle.modular.specs.Modulo.{centre};
-ghost use Rattle.modular.specs.Division.{divide};
+ghost use Rattle.modular.specs.Division.{Coprime, divide};
 ghost use Rattle.ring.specs.Poly.{plus, minus, mul, Below};
 ghost use Rattle.ring.specs.Slots.{coefficientBytes, poly, slot, encode};
 ghost use Rattle.ring.specs.Ternary.{ternary};
@@ -18,35 +18,35 @@ const ERROR: usize = 16384;
 
 const ROOM: usize = 32768;
 
-// a x + 2 y, for x at 0 and y at ERROR.
-pub fn combine(work: &mut [u8], a: &[u8], n: usize, q: u64)
-    requires { ⌜ Polynomial n q (now a) × (length (now work) ≡ scratchLength) ⌝ }
+// a x + p y, for x at 0 and y at ERROR.
+pub fn combine(work: &mut [u8], a: &[u8], p: u64, n: usize, q: u64)
+    requires { ⌜ Polynomial n q (now a) × (length (now work) ≡ scratchLength) × (p < q) ⌝ }
     requires { ⌜ Below q n (slot (now work) 0) × Below q n (slot (now work) 16384) ⌝ }
-    ensures { λ _. ⌜ Stands q n (scheme.noisy q n 2 (poly (now (a .entry))) (slot (now (work .entry)) 0) (slot (now (work .entry)) 16384)) (now (work .entry)) (now (work .exit)) ⌝ }
+    ensures { λ _. ⌜ Stands q n (scheme.noisy q n p (poly (now (a .entry))) (slot (now (work .entry)) 0) (slot (now (work .entry)) 16384)) (now (work .entry)) (now (work .exit)) ⌝ }
 {
     product::multiply(work, 0, ROOM, a, n, q);
-    ring::scale_slot(work, ERROR, 2, n, q);
+    ring::scale_slot(work, ERROR, p, n, q);
     ring::add_slot(work, 0, ERROR, n, q);
 }
 
-// a x + 2 y, for ternary bytes x and y.
-pub fn noisy(work: &mut [u8], a: &[u8], x: &[u8], y: &[u8], n: usize, q: u64)
-    requires { ⌜ Polynomial n q (now a) × (length (now work) ≡ scratchLength) × (length (now x) ≡ n) × (length (now y) ≡ n) ⌝ }
-    ensures { λ _. ⌜ Stands q n (scheme.noisy q n 2 (poly (now (a .entry))) (ternary q (now (x .entry))) (ternary q (now (y .entry)))) (now (work .entry)) (now (work .exit)) ⌝ }
+// a x + p y, for ternary bytes x and y.
+pub fn noisy(work: &mut [u8], a: &[u8], x: &[u8], y: &[u8], p: u64, n: usize, q: u64)
+    requires { ⌜ Polynomial n q (now a) × (length (now work) ≡ scratchLength) × (length (now x) ≡ n) × (length (now y) ≡ n) × (p < q) ⌝ }
+    ensures { λ _. ⌜ Stands q n (scheme.noisy q n p (poly (now (a .entry))) (ternary q (now (x .entry))) (ternary q (now (y .entry)))) (now (work .entry)) (now (work .exit)) ⌝ }
 {
     ring::load_ternary(work, 0, x, q);
     ring::load_ternary(work, ERROR, y, q);
-    combine(work, a, n, q);
+    combine(work, a, p, n, q);
 }
 
-// a x + 2 y, for lent polynomials x and y.
-pub fn noisy_lent(work: &mut [u8], a: &[u8], x: &[u8], y: &[u8], n: usize, q: u64)
-    requires { ⌜ Polynomial n q (now a) × Polynomial n q (now x) × Polynomial n q (now y) × (length (now work) ≡ scratchLength) ⌝ }
-    ensures { λ _. ⌜ Stands q n (scheme.noisy q n 2 (poly (now (a .entry))) (poly (now (x .entry))) (poly (now (y .entry)))) (now (work .entry)) (now (work .exit)) ⌝ }
+// a x + p y, for lent polynomials x and y.
+pub fn noisy_lent(work: &mut [u8], a: &[u8], x: &[u8], y: &[u8], p: u64, n: usize, q: u64)
+    requires { ⌜ Polynomial n q (now a) × Polynomial n q (now x) × Polynomial n q (now y) × (length (now work) ≡ scratchLength) × (p < q) ⌝ }
+    ensures { λ _. ⌜ Stands q n (scheme.noisy q n p (poly (now (a .entry))) (poly (now (x .entry))) (poly (now (y .entry)))) (now (work .entry)) (now (work .exit)) ⌝ }
 {
     codec::copy(work, 0, x);
     codec::copy(work, ERROR, y);
-    combine(work, a, n, q);
+    combine(work, a, p, n, q);
 }
 
 // A byte as a number of 64 bits.
@@ -101,7 +101,7 @@ pub fn difference(work: &mut [u8], at: usize, x: &[u8], x0: &[u8], n: usize, q: 
     ring::subtract(work, at, x0, n, q);
 }
 
-// a (x - x0) + 2 (y - y0).
+// a (x - x0) + p (y - y0).
 pub fn noisy_difference(
     work: &mut [u8],
     a: &[u8],
@@ -109,15 +109,16 @@ pub fn noisy_difference(
     x0: &[u8],
     y: &[u8],
     y0: &[u8],
+    p: u64,
     n: usize,
     q: u64,
 )
-    requires { ⌜ Polynomial n q (now a) × Polynomial n q (now x0) × Polynomial n q (now y0) × (length (now work) ≡ scratchLength) × (length (now x) ≡ n) × (length (now y) ≡ n) ⌝ }
-    ensures { λ _. ⌜ Stands q n (scheme.noisy q n 2 (poly (now (a .entry))) (scheme.other q (ternary q (now (x .entry))) (poly (now (x0 .entry)))) (scheme.other q (ternary q (now (y .entry))) (poly (now (y0 .entry))))) (now (work .entry)) (now (work .exit)) ⌝ }
+    requires { ⌜ Polynomial n q (now a) × Polynomial n q (now x0) × Polynomial n q (now y0) × (length (now work) ≡ scratchLength) × (length (now x) ≡ n) × (length (now y) ≡ n) × (p < q) ⌝ }
+    ensures { λ _. ⌜ Stands q n (scheme.noisy q n p (poly (now (a .entry))) (scheme.other q (ternary q (now (x .entry))) (poly (now (x0 .entry)))) (scheme.other q (ternary q (now (y .entry))) (poly (now (y0 .entry))))) (now (work .entry)) (now (work .exit)) ⌝ }
 {
     difference(work, 0, x, x0, n, q);
     difference(work, ERROR, y, y0, n, q);
-    combine(work, a, n, q);
+    combine(work, a, p, n, q);
 }
 
 // v - x u, for x at 0.
@@ -149,15 +150,15 @@ pub fn rebuilt(work: &mut [u8], v: &[u8], t0: &[u8], t1: &[u8], n: usize, q: u64
     ring::subtract(work, 0, t1, n, q);
 }
 
-// The remainders by 2 of the centred coefficients of a polynomial, one byte each.
-pub fn plain(work: &[u8], vote: &mut [u8], n: usize, q: u64)
-    requires { ⌜ (8 * n ≤ length (now work)) × (length (now vote) ≡ n) × (0 < q) × Below q n (poly (now work)) ⌝ }
-    ensures { λ _. ⌜ now (vote .exit) ≡ list n (scheme.plain q 2 (poly (now (work .entry)))) ⌝ }
+// The remainders by p of the centred coefficients of a polynomial, one byte each.
+pub fn plain(work: &[u8], vote: &mut [u8], p: u64, n: usize, q: u64)
+    requires { ⌜ (8 * n ≤ length (now work)) × (length (now vote) ≡ n) × (0 < q) × Below q n (poly (now work)) × (0 < p) × (p ≤ 256) ⌝ }
+    ensures { λ _. ⌜ now (vote .exit) ≡ list n (scheme.plain q p (poly (now (work .entry)))) ⌝ }
 {
     let mut i = 0;
     while i < n {
         let x = codec::read64(work, 8 * i);
-        let v = modular::residue(x, 2, q);
+        let v = modular::residue(x, p, q);
         codec::write8(vote, i, v as u8);
         i += 1;
     }
@@ -186,26 +187,27 @@ pub fn load_mask(work: &mut [u8], mask: &[u8], n: usize, q: u64)
     ring::load_signed(work, ERROR, mask, n, q);
 }
 
-// s u + 2 E, for a lent mask E.
-pub fn share(work: &mut [u8], s: &[u8], u: &[u8], mask: &[u8], n: usize, q: u64)
-    requires { ⌜ Polynomial n q (now s) × Polynomial n q (now u) × (length (now mask) ≡ 8 * n) × (length (now work) ≡ scratchLength) ⌝ }
-    ensures { λ _. ⌜ Stands q n (scheme.share q n 2 (poly (now (s .entry))) (poly (now (u .entry))) (lentMask (now (mask .entry)))) (now (work .entry)) (now (work .exit)) ⌝ }
+// s u + p E, for a lent mask E.
+pub fn share(work: &mut [u8], s: &[u8], u: &[u8], mask: &[u8], p: u64, n: usize, q: u64)
+    requires { ⌜ Polynomial n q (now s) × Polynomial n q (now u) × (length (now mask) ≡ 8 * n) × (length (now work) ≡ scratchLength) × (p < q) ⌝ }
+    ensures { λ _. ⌜ Stands q n (scheme.share q n p (poly (now (s .entry))) (poly (now (u .entry))) (lentMask (now (mask .entry)))) (now (work .entry)) (now (work .exit)) ⌝ }
 {
     codec::copy(work, 0, s);
     load_mask(work, mask, n, q);
-    combine(work, u, n, q);
+    combine(work, u, p, n, q);
 }
 
-// Whether the coefficients at the head of scratch, halved modulo q and then centred, are at most a bound in size.
-fn halves_within(work: &[u8], bound: u64, n: usize, q: u64) -> bool
-    requires { ⌜ (8 * n ≤ length (now work)) × Below q n (poly (now work)) × (q % 2 ≡ 1) × (q < 2 ^ 56) ⌝ }
-    ensures { λ r. ⌜ r ≡ within bound n (λ k. centre q (divide q 2 (poly (now (work .entry)) k))) ⌝ }
+// Whether the coefficients at the head of scratch, divided by p modulo q and then centred, are at most a bound in size.
+fn quotients_within(work: &[u8], bound: u64, p: u64, n: usize, q: u64) -> bool
+    requires { ⌜ (8 * n ≤ length (now work)) × Below q n (poly (now work)) × (0 < p) × (p ≤ 251) × Coprime p q × (q < 2 ^ 56) ⌝ }
+    ensures { λ r. ⌜ r ≡ within bound n (λ k. centre q (divide q p (poly (now (work .entry)) k))) ⌝ }
 {
+    let m = modular::multiplier(p, q);
     let mut i = 0;
     while i < n {
         let x = codec::read64(work, 8 * i);
-        let half = modular::halve(x, q);
-        let size = modular::size(half, q);
+        let quotient = modular::divide(x, p, m, q);
+        let size = modular::size(quotient, q);
         if bound < size {
             return false;
         }
@@ -214,21 +216,22 @@ fn halves_within(work: &[u8], bound: u64, n: usize, q: u64) -> bool
     true
 }
 
-// Whether the mask that is worked out from a share t of the half key s_i, (t - s_i u) / 2 modulo q and then centred, is at most a bound in size.
+// Whether the mask that is worked out from a share t of the half key s_i, (t - s_i u) / p modulo q and then centred, is at most a bound in size.
 pub fn mask_within(
     work: &mut [u8],
     half: &[u8],
     u: &[u8],
     t: &[u8],
     bound: u64,
+    p: u64,
     n: usize,
     q: u64,
 ) -> bool
-    requires { ⌜ Polynomial n q (now half) × Polynomial n q (now u) × Polynomial n q (now t) × (length (now work) ≡ scratchLength) × (q % 2 ≡ 1) ⌝ }
-    ensures { λ r. ⌜ r ≡ within bound n (scheme.worked q n 2 (poly (now (half .entry))) (poly (now (u .entry))) (poly (now (t .entry)))) ⌝ }
+    requires { ⌜ Polynomial n q (now half) × Polynomial n q (now u) × Polynomial n q (now t) × (length (now work) ≡ scratchLength) × (0 < p) × (p ≤ 251) × Coprime p q ⌝ }
+    ensures { λ r. ⌜ r ≡ within bound n (scheme.worked q n p (poly (now (half .entry))) (poly (now (u .entry))) (poly (now (t .entry)))) ⌝ }
     ensures { λ _. ⌜ length (now (work .exit)) ≡ length (now (work .entry)) ⌝ }
 {
     codec::copy(work, 0, half);
     less_product(work, u, t, n, q);
-    halves_within(work, bound, n, q)
+    quotients_within(work, bound, p, n, q)
 }

@@ -15,30 +15,31 @@ use Rattle.sheet.specs.Sheet.{order, reading, lists, filled, loaded, polynomial
 use Rattle.sheet_numbers.specs.declared.Numbers.{Numbers}
 use Rattle.sheet.specs.declared.Reading.{Reading}
 use Rattle.sheet.specs.declared.Reading.the-variants.{Taken, Refused}
-use Rattle.sheet_numbers.proofs.Ranges.{InRange}
+use Rattle.sheet_numbers.specs.Usable.{Usable}
+use Rattle.sheet_numbers.proofs.Ranges.{usable}
 use Rattle.sheet.proofs.Taken.{onwards, order-first, taken}
 use Rattle.call.specs.Call.{coefficients, swept, Polynomial, Used}
 use Rattle.call.proofs.Sheets.{put-room, lent-public, lent-alike}
 use Rattle.call.proofs.Sweeping.{swept-used}
 
 -- what holds where the sheet was taken with the numbers k, and its polynomials were put into lent bytes: polynomial i is the part of them from 8N i on
-pub record Lent (p : ℕ) (text public : Bytes) (k : Numbers) : Type 0 where
-  pub said : reading p text ≡ Taken k
+pub record Lent (text public : Bytes) (k : Numbers) : Type 0 where
+  pub said : reading text ≡ Taken k
   pub numbers : sheetOf text .numbers ≡ k
-  pub ranged : InRange k
+  pub ranged : Usable k
   pub sized : length public ≡ 81920
   pub polynomial : (i from long : ℕ) → i < 5 → from ≡ 8 * k .ring * i → long ≡ 8 * k .ring → Polynomial (k .ring) (k .modulus) (take long (drop from public))
   pub alike : (i from long : ℕ) → i < 5 → from ≡ 8 * k .ring * i → long ≡ 8 * k .ring → Alike (k .modulus) (k .ring) (poly (take long (drop from public))) (coefficients (getD (lists (sheetOf text)) i []))
 
 -- that is so after `sheet::load` into zeros
-module _ (p : ℕ) (text : Bytes) {public : Bytes} {r : Reading} {k : Numbers} (load : (r ≡ reading p text) × (public ≡ loaded p text (replicate 81920 0))) (e : r ≡ Taken k) where
+module _ (text : Bytes) {public : Bytes} {r : Reading} {k : Numbers} (load : (r ≡ reading text) × (public ≡ loaded text (replicate 81920 0))) (e : r ≡ Taken k) where
   abbrev d : Bytes
   d = replicate 81920 0
 
   room : length d ≡ 81920
   room = length-replicate {A = ℕ} 81920 0
 
-  said : reading p text ≡ Taken k
+  said : reading text ≡ Taken k
   said = sym (load .0) ∙ e
 
   -- what the bytes hold
@@ -50,31 +51,31 @@ module _ (p : ℕ) (text : Bytes) {public : Bytes} {r : Reading} {k : Numbers} (
   held-part : (i from long : ℕ) → from ≡ 8 * k .ring * i → long ≡ 8 * k .ring → take long (drop from public) ≡ part (put d 0 (polynomials text)) (8 * k .ring * i) (8 * k .ring)
   held-part i from long g h = ap₂ (λ (x y : ℕ). take x (drop y public)) h g ∙ ap (λ (s : Bytes). part s (8 * k .ring * i) (8 * k .ring)) held
 
-  pub lent : Lent p text public k
+  pub lent : Lent text public k
   lent = record {
     said = said;
-    numbers = taken p text said .numbers;
-    ranged = taken p text said .ranged;
-    sized = ap length held ∙ put-room p text k said d room 0 (omega arith);
-    polynomial = λ i from long l g h. lent-public p text k said d room i l _ (held-part i from long g h);
-    alike = λ i from long l g h. lent-alike p text k said d room i l _ (held-part i from long g h);
+    numbers = taken text said .numbers;
+    ranged = let t = taken text said in usable k (t .ranged) (t .sound);
+    sized = ap length held ∙ put-room text k said d room 0 (omega arith);
+    polynomial = λ i from long l g h. lent-public text k said d room i l _ (held-part i from long g h);
+    alike = λ i from long l g h. lent-alike text k said d room i l _ (held-part i from long g h);
   }
 
 -- ---- the promises of a call, from those of its part after the sheet
 
 -- the sheet was taken: the rest of the order decides, and scratch is swept
-pub call-taken : {p : ℕ} {text public : Bytes} {k : Numbers} → Lent p text public k → (tests : Numbers → List Test) (writes : Numbers → Bytes) (out : Bytes) {r : Reply} {x out' w w' w'' : Bytes}
+pub call-taken : {text public : Bytes} {k : Numbers} → Lent text public k → (tests : Numbers → List Test) (writes : Numbers → Bytes) (out : Bytes) {r : Reply} {x out' w w' w'' : Bytes}
     → (r ≡ first (tests k)) × ((out' ≡ leaves r x out) × Used r w w') → x ≡ writes k → w'' ≡ swept r w'
-    → (r ≡ first (order p text ++ tests (sheetOf text .numbers))) × ((out' ≡ leaves r (writes (sheetOf text .numbers)) out) × (w'' ≡ swept r w))
-call-taken {p} {text} {public} {k} h tests writes out {r} {x} {out'} {w} {w'} made same zeroed =
+    → (r ≡ first (order text ++ tests (sheetOf text .numbers))) × ((out' ≡ leaves r (writes (sheetOf text .numbers)) out) × (w'' ≡ swept r w))
+call-taken {text} {public} {k} h tests writes out {r} {x} {out'} {w} {w'} made same zeroed =
     let m = sym (h .numbers) in
     let ts = tests (sheetOf text .numbers) in (
-      made .0 ∙ ap (λ (n : Numbers). first (tests n)) m ∙ sym (order-first p text ts ∙ ap (λ (s : Reading). onwards s (first ts)) (h .said)),
+      made .0 ∙ ap (λ (n : Numbers). first (tests n)) m ∙ sym (order-first text ts ∙ ap (λ (s : Reading). onwards s (first ts)) (h .said)),
       (made .1 .0 ∙ ap (λ (s : Bytes). leaves r s out) (same ∙ ap writes m), zeroed ∙ swept-used r w w' (made .1 .1)),
     )
 
 -- the sheet was refused, and the call with it
-pub call-refused : (p : ℕ) (text : Bytes) (ts : List Test) (x w : Bytes) {out w' : Bytes} {s : Reading} {n : ℕ} → s ≡ reading p text → s ≡ Refused n → w' ≡ swept (reply.Refused n 0) w
-    → (reply.Refused n 0 ≡ first (order p text ++ ts)) × ((out ≡ leaves (reply.Refused n 0) x out) × (w' ≡ swept (reply.Refused n 0) w))
+pub call-refused : (text : Bytes) (ts : List Test) (x w : Bytes) {out w' : Bytes} {s : Reading} {n : ℕ} → s ≡ reading text → s ≡ Refused n → w' ≡ swept (reply.Refused n 0) w
+    → (reply.Refused n 0 ≡ first (order text ++ ts)) × ((out ≡ leaves (reply.Refused n 0) x out) × (w' ≡ swept (reply.Refused n 0) w))
 unfolding leaves
-call-refused p text ts x w f e zeroed = (sym (order-first p text ts ∙ ap (λ (z : Reading). onwards z (first ts)) (sym f ∙ e)), (refl, zeroed))
+call-refused text ts x w f e zeroed = (sym (order-first text ts ∙ ap (λ (z : Reading). onwards z (first ts)) (sym f ∙ e)), (refl, zeroed))

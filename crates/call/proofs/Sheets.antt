@@ -48,7 +48,7 @@ module _ (n q : ℕ) where
 
 -- ---- a sheet that is taken
 
-module _ (p : ℕ) (text : Bytes) (k : Numbers) (e : reading p text ≡ Taken k) (d : Bytes) (room : length d ≡ 81920) (i : ℕ) (h : i < 5) where
+module _ (text : Bytes) (k : Numbers) (e : reading text ≡ Taken k) (d : Bytes) (room : length d ≡ 81920) (i : ℕ) (h : i < 5) where
   abbrev n : ℕ
   n = k .ring
 
@@ -56,10 +56,10 @@ module _ (p : ℕ) (text : Bytes) (k : Numbers) (e : reading p text ≡ Taken k)
   ls = lists (sheetOf text)
 
   all : AllCoefficients n (k .modulus) ls
-  all = lists-taken p text e
+  all = lists-taken text e
 
   high : n ≤ 2048
-  high = taken p text e .ranged .ring-high
+  high = taken text e .ranged .ring-high
 
   all-length : length (flatMap words ls) ≡ 8 * n * 5
   all-length = length-lists n (k .modulus) ls all
@@ -82,14 +82,14 @@ module _ (p : ℕ) (text : Bytes) (k : Numbers) (e : reading p text ≡ Taken k)
     read : (j : ℕ) → j < n → poly a j ≡ coefficients (getD ls i []) j
     read j l =
         ap (λ (t : Bytes). poly t j) (is ∙ part-is)
-        ∙ poly-encode n (coefficients (getD ls i [])) j l (omega (arith, polynomial-at n (k .modulus) ls all i h .below j, taken p text e .ranged .modulus-high))
+        ∙ poly-encode n (coefficients (getD ls i [])) j l (omega (arith, polynomial-at n (k .modulus) ls all i h .below j, taken text e .ranged .modulus-high))
 
     pub lent-alike : Alike (k .modulus) n (poly a) (coefficients (getD ls i []))
     lent-alike = record { at = λ j l. same-eq (read j l) }
 
     pub lent-public : Polynomial n (k .modulus) a
     lent-public =
-        let r = taken p text e .ranged in
+        let r = taken text e .ranged in
         record {
           ring-low = r .ring-low;
           ring-high = r .ring-high;

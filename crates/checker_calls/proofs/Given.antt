@@ -22,11 +22,11 @@ module _ (r : Round) (said : Reply) (w w' : Bytes) where
   pub check-restated : {P Q : Parameters} → P ≡ Q → Check P → Check Q
   check-restated e f = subst Check e f
 
-  pub check-over : (text : Bytes) {k : Numbers} {w'' : Bytes} → reading 2 text ≡ Taken k → Check (parametersOf 2 text) → w'' ≡ swept said w' → (said ≡ checkReply 2 text r w) × (w'' ≡ swept said w)
+  pub check-over : (text : Bytes) {k : Numbers} {w'' : Bytes} → reading text ≡ Taken k → Check (parametersOf text) → w'' ≡ swept said w' → (said ≡ checkReply text r w) × (w'' ≡ swept said w)
   unfolding checkReply
-  check-over text taken f z = (over 2 text _ taken (f .0), z ∙ f .1)
+  check-over text taken f z = (over text _ taken (f .0), z ∙ f .1)
 
-pub check-refused : (r : Round) (w text : Bytes) {w'' : Bytes} {s : Reading} {i : ℕ} → s ≡ reading 2 text → s ≡ Refused i → w'' ≡ swept (reply.Refused i 0) w
-    → (reply.Refused i 0 ≡ checkReply 2 text r w) × (w'' ≡ swept (reply.Refused i 0) w)
+pub check-refused : (r : Round) (w text : Bytes) {w'' : Bytes} {s : Reading} {i : ℕ} → s ≡ reading text → s ≡ Refused i → w'' ≡ swept (reply.Refused i 0) w
+    → (reply.Refused i 0 ≡ checkReply text r w) × (w'' ≡ swept (reply.Refused i 0) w)
 unfolding checkReply
-check-refused r w text f e z = (refused-over 2 text _ f e, z)
+check-refused r w text f e z = (refused-over text _ f e, z)

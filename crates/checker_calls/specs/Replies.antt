@@ -19,5 +19,5 @@ checkTests P r scratch =
     (messageSized (P .N) (P .repeats) m (r .head) (r .shares0) (r .shares1) (r .ballots) (r .claims) && secondSized (P .N) (P .repeats) (r .challenges) (r .opening) (r .answers) scratch)
     ∷ roundTests P m r
 
-unfoldable pub checkReply : (p : ℕ) (text : Bytes) → Round → (scratch : Bytes) → Reply
-checkReply p text r scratch = first (order p text ++ checkTests (parametersOf p text) r scratch)
+unfoldable pub checkReply : (text : Bytes) → Round → (scratch : Bytes) → Reply
+checkReply text r scratch = first (order text ++ checkTests (parametersOf text) r scratch)

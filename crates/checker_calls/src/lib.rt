@@ -24,7 +24,7 @@ fn check(
     answers: &[u8],
     scratch: &mut [u8],
 ) -> Reply
-    ensures { λ reply. ⌜ reply ≡ checkReply 2 (now (sheet .entry)) (roundOf side (now (challenges .entry)) (now (ballots .entry)) (now (claims .entry)) (now (head .entry)) (now (shares0 .entry)) (now (shares1 .entry)) (now (opening .entry)) (now (answers .entry))) (now (scratch .entry)) ⌝ }
+    ensures { λ reply. ⌜ reply ≡ checkReply (now (sheet .entry)) (roundOf side (now (challenges .entry)) (now (ballots .entry)) (now (claims .entry)) (now (head .entry)) (now (shares0 .entry)) (now (shares1 .entry)) (now (opening .entry)) (now (answers .entry))) (now (scratch .entry)) ⌝ }
     ensures { λ reply. ⌜ now (scratch .exit) ≡ swept reply (now (scratch .entry)) ⌝ }
 {
     let mut public = [0u8; 81920];
@@ -33,7 +33,7 @@ fn check(
         sheet::Reading::Taken(k) => {
             let n = k.ring as usize;
             let repeats = k.repeats as usize;
-            let bound = sheet_numbers::mask_bound(k.ring, k.drown);
+            let bound = sheet_numbers::mask_bound(k);
             let reply = parted::check(
                 &public,
                 side,
@@ -77,8 +77,8 @@ pub extern "C" fn checker_calls_round(
     answers: &[u8],
     scratch: &mut [u8],
 ) -> u64
-    ensures reply { λ answer. ⌜ answer ≡ packed (checkReply 2 (now (sheet .entry)) (roundOf side (now (challenges .entry)) (now (ballots .entry)) (now (claims .entry)) (now (head .entry)) (now (shares0 .entry)) (now (shares1 .entry)) (now (opening .entry)) (now (answers .entry))) (now (scratch .entry))) ⌝ }
-    ensures swept { λ _. ⌜ now (scratch .exit) ≡ swept (checkReply 2 (now (sheet .entry)) (roundOf side (now (challenges .entry)) (now (ballots .entry)) (now (claims .entry)) (now (head .entry)) (now (shares0 .entry)) (now (shares1 .entry)) (now (opening .entry)) (now (answers .entry))) (now (scratch .entry))) (now (scratch .entry)) ⌝ }
+    ensures reply { λ answer. ⌜ answer ≡ packed (checkReply (now (sheet .entry)) (roundOf side (now (challenges .entry)) (now (ballots .entry)) (now (claims .entry)) (now (head .entry)) (now (shares0 .entry)) (now (shares1 .entry)) (now (opening .entry)) (now (answers .entry))) (now (scratch .entry))) ⌝ }
+    ensures swept { λ _. ⌜ now (scratch .exit) ≡ swept (checkReply (now (sheet .entry)) (roundOf side (now (challenges .entry)) (now (ballots .entry)) (now (claims .entry)) (now (head .entry)) (now (shares0 .entry)) (now (shares1 .entry)) (now (opening .entry)) (now (answers .entry))) (now (scratch .entry))) (now (scratch .entry)) ⌝ }
 {
     codec::pack(check(
         sheet,

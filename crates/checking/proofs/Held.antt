@@ -16,7 +16,7 @@ use Rattle.call.specs.Call.{scratchLength}
 use Rattle.transcript.specs.Round.{Lengths}
 use Rattle.round_parts.specs.Orders.{roundOf}
 use Rattle.lengths.specs.Calls.{messageSized, secondSized}
-use Rattle.lengths.specs.Sheets.{given}
+use Rattle.transcript.specs.Sheets as sheets
 use Rattle.lengths.proofs.Sizes.{check-lengths}
 use Rattle.stored.specs.declared.Stored.{Stored}
 use Rattle.stored.specs.Stored.{Inputs, challengesOf, inputsSized, storedTests, lentTests}
@@ -45,7 +45,7 @@ module _ (s : Stored) (x : Inputs) where
           (subst (λ (d : Bytes). (message-sized (s .numbers) && second-sized (s .numbers) d) ≡ true) (sym drawn) (not-false _ (none .0)))
 
       pub round-lengths : (public : Bytes) (side : ℕ)
-          → Lengths (given 2 k public) (s .closed) (roundOf side challenges (x .ballots) (x .claims) (x .head) (x .shares0) (x .shares1) (x .opening) (x .answers)) × (length (x .scratch) ≡ scratchLength)
+          → Lengths (sheets.parameters k public) (s .closed) (roundOf side challenges (x .ballots) (x .claims) (x .head) (x .shares0) (x .shares1) (x .opening) (x .answers)) × (length (x .scratch) ≡ scratchLength)
       round-lengths public side =
           let h = both (message-sized k) (second-sized k challenges) sized in
-          check-lengths (given 2 k public) (roundOf side challenges (x .ballots) (x .claims) (x .head) (x .shares0) (x .shares1) (x .opening) (x .answers)) (x .scratch) (s .closed) (h .0) (h .1)
+          check-lengths (sheets.parameters k public) (roundOf side challenges (x .ballots) (x .claims) (x .head) (x .shares0) (x .shares1) (x .opening) (x .answers)) (x .scratch) (s .closed) (h .0) (h .1)

@@ -111,13 +111,13 @@ module _ (s : Stored) (x : Inputs) where
 
   -- ---- all before the round
 
-  pub early-exactly : (p : ℕ) → None (earlyTests s p x) ↔ (None (order p (x .sheet)) × Sized s x × Held s x)
+  pub early-exactly : None (earlyTests s x) ↔ (None (order (x .sheet)) × Sized s x × Held s x)
   unfolding earlyTests
-  early-exactly p = (
+  early-exactly = (
     λ n.
-        let m = append-none (order p (x .sheet)) (test 1 0 (not (inputsSized s x)) ∷ storedTests s x) n in
+        let m = append-none (order (x .sheet)) (test 1 0 (not (inputsSized s x)) ∷ storedTests s x) n in
         (m .0, sized-exactly .0 (asks (inputsSized s x) .0 (m .1 .0)), held-exactly .0 (m .1 .1)),
-    λ h. none-append (order p (x .sheet)) (test 1 0 (not (inputsSized s x)) ∷ storedTests s x) (h .0) (asks (inputsSized s x) .1 (sized-exactly .1 (h .1)), held-exactly .1 (h .2)),
+    λ h. none-append (order (x .sheet)) (test 1 0 (not (inputsSized s x)) ∷ storedTests s x) (h .0) (asks (inputsSized s x) .1 (sized-exactly .1 (h .1)), held-exactly .1 (h .2)),
   )
 
 -- ---- the verdict

@@ -15,7 +15,8 @@ use Rattle.call.specs.Call.{swept}
 use Rattle.transcript.specs.Method.{parameters}
 use Rattle.transcript.specs.Round.{Parameters, Round, roundTests}
 use Rattle.round_parts.specs.Orders.{roundOf}
-use Rattle.lengths.specs.Sheets.{given, parametersOf}
+use Rattle.lengths.specs.Sheets.{parametersOf}
+use Rattle.transcript.specs.Sheets as sheets
 use Rattle.lengths.proofs.Swept.{later-round, swept-alike}
 use Rattle.lengths.proofs.OverSheet.{lent-keyed, over, refused-over}
 use Rattle.stored.specs.declared.Stored.{Stored}
@@ -54,21 +55,21 @@ drawn-round s x e f = ap₂ (λ (i : ℕ) (d : Bytes). roundOf i d (x .ballots) 
 -- the round's parameters, from parts that are lent with a length that is a difference of places
 pub parted : (k : Numbers) (s : Bytes) {B : ℕ} → B ≡ mask 2 (k .ring) (k .drown)
     → parameters 2 (k .ring) (k .modulus) B (k .repeats) (take (8 * k .ring - 0) (drop 0 s)) (take (16 * k .ring - 8 * k .ring) (drop (8 * k .ring) s)) (take (40 * k .ring - 16 * k .ring) (drop (16 * k .ring) s))
-    ≡ given 2 k s
+    ≡ sheets.parameters k s
 parted k s {B} b =
     lent-keyed (k .ring) (k .modulus) B (k .repeats) s
     ∙ ap (λ (x : ℕ). parameters 2 (k .ring) (k .modulus) x (k .repeats) (part s 0 (8 * k .ring)) (part s (8 * k .ring) (8 * k .ring)) (part s (16 * k .ring) (24 * k .ring))) b
 
 module _ (s : Stored) (x : Inputs) where
   abbrev pub Checked : Verdict → Bytes → Type 0
-  Checked v w = (v ≡ outcome 2 s x) × (w ≡ swept (replyOf v) (x .scratch))
+  Checked v w = (v ≡ outcome s x) × (w ≡ swept (replyOf v) (x .scratch))
 
-  pub checked-over : {k : Numbers} {P : Parameters} {v : Verdict} {r : Reply} (w' : Bytes) {w'' : Bytes} → reading 2 (x .sheet) ≡ Taken k → P ≡ parametersOf 2 (x .sheet)
+  pub checked-over : {k : Numbers} {P : Parameters} {v : Verdict} {r : Reply} (w' : Bytes) {w'' : Bytes} → reading (x .sheet) ≡ Taken k → P ≡ parametersOf (x .sheet)
       → (v ≡ takenOutcome P s x) × (swept (replyOf v) w' ≡ swept (replyOf v) (x .scratch)) → r ≡ replyOf v → w'' ≡ swept r w' → Checked v w''
   unfolding earlyTests lateTests
   checked-over w' said e f g z =
-      (f .0 ∙ ap₂ verdict (over 2 (x .sheet) (lentTests s x) said refl) (ap (λ (P : Parameters). first (roundTests P (s .closed) (drawnRound s x))) e), z ∙ ap (λ (r : Reply). swept r w') g ∙ f .1)
+      (f .0 ∙ ap₂ verdict (over (x .sheet) (lentTests s x) said refl) (ap (λ (P : Parameters). first (roundTests P (s .closed) (drawnRound s x))) e), z ∙ ap (λ (r : Reply). swept r w') g ∙ f .1)
 
-  pub checked-refused : {read : Reading} {i : ℕ} {w'' : Bytes} → read ≡ reading 2 (x .sheet) → read ≡ Refused i → w'' ≡ swept (reply.Refused i 0) (x .scratch) → Checked (Stopped i 0) w''
+  pub checked-refused : {read : Reading} {i : ℕ} {w'' : Bytes} → read ≡ reading (x .sheet) → read ≡ Refused i → w'' ≡ swept (reply.Refused i 0) (x .scratch) → Checked (Stopped i 0) w''
   unfolding earlyTests lateTests
-  checked-refused f e z = (stopped (first (lateTests s 2 x)) (refused-over 2 (x .sheet) (lentTests s x) f e) refl, z)
+  checked-refused f e z = (stopped (first (lateTests s x)) (refused-over (x .sheet) (lentTests s x) f e) refl, z)

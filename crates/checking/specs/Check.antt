@@ -29,13 +29,13 @@ replyOf Passed = reply.Taken
 
 module _ (s : Stored) where
   -- before the round itself is looked at, for the plaintext modulus p
-  unfoldable pub earlyTests : (p : ℕ) → Inputs → List Test
-  earlyTests p x = order p (x .sheet) ++ lentTests s x
+  unfoldable pub earlyTests : Inputs → List Test
+  earlyTests x = order (x .sheet) ++ lentTests s x
 
   -- the round itself: 5 to 13
-  unfoldable pub lateTests : (p : ℕ) → Inputs → List Test
-  lateTests p x = roundTests (parametersOf p (x .sheet)) (s .closed) (drawnRound s x)
+  unfoldable pub lateTests : Inputs → List Test
+  lateTests x = roundTests (parametersOf (x .sheet)) (s .closed) (drawnRound s x)
 
 -- what a check comes to
-abbrev pub outcome : (p : ℕ) → Stored → Inputs → Verdict
-outcome p s x = verdict (first (earlyTests s p x)) (first (lateTests s p x))
+abbrev pub outcome : Stored → Inputs → Verdict
+outcome s x = verdict (first (earlyTests s x)) (first (lateTests s x))

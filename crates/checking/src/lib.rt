@@ -40,7 +40,7 @@ pub fn check(
     scratch: &mut [u8],
 ) -> Verdict
     requires { ⌜ Within held ⌝ }
-    ensures { λ v. ⌜ v ≡ outcome 2 held (inputsOf (now (sheet .entry)) (now (ballots .entry)) (now (claims .entry)) (now (head .entry)) (now (shares0 .entry)) (now (shares1 .entry)) (now (opening .entry)) (now (answers .entry)) (now (scratch .entry))) ⌝ }
+    ensures { λ v. ⌜ v ≡ outcome held (inputsOf (now (sheet .entry)) (now (ballots .entry)) (now (claims .entry)) (now (head .entry)) (now (shares0 .entry)) (now (shares1 .entry)) (now (opening .entry)) (now (answers .entry)) (now (scratch .entry))) ⌝ }
     ensures { λ v. ⌜ now (scratch .exit) ≡ swept (replyOf v) (now (scratch .entry)) ⌝ }
 {
     let mut public = [0u8; 81920];

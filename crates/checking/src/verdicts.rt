@@ -12,7 +12,7 @@ ghost use Rattle.sheet.specs.Reader.{sheetOf};
 ghost use Rattle.call.specs.Call.{scratchLength, swept};
 ghost use Rattle.transcript.specs.Round.{Lengths, roundTests};
 ghost use Rattle.round_parts.specs.Orders.{roundOf};
-ghost use Rattle.lengths.specs.Sheets.{given};
+ghost use Rattle.transcript.specs.Sheets as sheets;
 ghost use Rattle.drawing.specs.Draw.{drawnChallenges};
 ghost use Rattle.stored.specs.Stored.{Within, sideOf, challengesOf, inputsOf};
 ghost use Rattle.checking.specs.Check.{verdict, replyOf};
@@ -55,13 +55,13 @@ fn test_round(
     answers: &[u8],
     scratch: &mut [u8],
 ) -> Reply
-    requires { ⌜ Loaded k (now public) × (closed ≤ 4096) × (length (now scratch) ≡ scratchLength) × Lengths (given 2 k (now public)) closed (roundOf side (now challenges) (now ballots) (now claims) (now head) (now shares0) (now shares1) (now opening) (now answers)) ⌝ }
-    ensures { λ reply. ⌜ reply ≡ first (roundTests (given 2 k (now (public .entry))) closed (roundOf side (now (challenges .entry)) (now (ballots .entry)) (now (claims .entry)) (now (head .entry)) (now (shares0 .entry)) (now (shares1 .entry)) (now (opening .entry)) (now (answers .entry)))) ⌝ }
+    requires { ⌜ Loaded k (now public) × (closed ≤ 4096) × (length (now scratch) ≡ scratchLength) × Lengths (sheets.parameters k (now public)) closed (roundOf side (now challenges) (now ballots) (now claims) (now head) (now shares0) (now shares1) (now opening) (now answers)) ⌝ }
+    ensures { λ reply. ⌜ reply ≡ first (roundTests (sheets.parameters k (now (public .entry))) closed (roundOf side (now (challenges .entry)) (now (ballots .entry)) (now (claims .entry)) (now (head .entry)) (now (shares0 .entry)) (now (shares1 .entry)) (now (opening .entry)) (now (answers .entry)))) ⌝ }
     ensures { λ _. ⌜ length (now (scratch .exit)) ≡ length (now (scratch .entry)) ⌝ }
 {
     let n = k.ring as usize;
     let repeats = k.repeats as usize;
-    let bound = sheet_numbers::mask_bound(k.ring, k.drown);
+    let bound = sheet_numbers::mask_bound(k);
     checker::check_round(
         scratch,
         &public[0..8 * n],
@@ -102,7 +102,7 @@ fn check_drawn(
     scratch: &mut [u8],
 ) -> Verdict
     requires { ⌜ Within held × (sheetOf (now sheet) .numbers ≡ k) × Loaded k (now public) × (side ≡ sideOf held) × (now challenges ≡ challengesOf held) ⌝ }
-    ensures { λ v. ⌜ v ≡ takenOutcome (given 2 k (now (public .entry))) held (inputsOf (now (sheet .entry)) (now (ballots .entry)) (now (claims .entry)) (now (head .entry)) (now (shares0 .entry)) (now (shares1 .entry)) (now (opening .entry)) (now (answers .entry)) (now (scratch .entry))) ⌝ }
+    ensures { λ v. ⌜ v ≡ takenOutcome (sheets.parameters k (now (public .entry))) held (inputsOf (now (sheet .entry)) (now (ballots .entry)) (now (claims .entry)) (now (head .entry)) (now (shares0 .entry)) (now (shares1 .entry)) (now (opening .entry)) (now (answers .entry)) (now (scratch .entry))) ⌝ }
     ensures { λ v. ⌜ swept (replyOf v) (now (scratch .exit)) ≡ swept (replyOf v) (now (scratch .entry)) ⌝ }
 {
     let early = stored::test_lent(
@@ -155,7 +155,7 @@ pub fn check_taken(
     scratch: &mut [u8],
 ) -> Verdict
     requires { ⌜ Within held × (sheetOf (now sheet) .numbers ≡ k) × Loaded k (now public) ⌝ }
-    ensures { λ v. ⌜ v ≡ takenOutcome (given 2 k (now (public .entry))) held (inputsOf (now (sheet .entry)) (now (ballots .entry)) (now (claims .entry)) (now (head .entry)) (now (shares0 .entry)) (now (shares1 .entry)) (now (opening .entry)) (now (answers .entry)) (now (scratch .entry))) ⌝ }
+    ensures { λ v. ⌜ v ≡ takenOutcome (sheets.parameters k (now (public .entry))) held (inputsOf (now (sheet .entry)) (now (ballots .entry)) (now (claims .entry)) (now (head .entry)) (now (shares0 .entry)) (now (shares1 .entry)) (now (opening .entry)) (now (answers .entry)) (now (scratch .entry))) ⌝ }
     ensures { λ v. ⌜ swept (replyOf v) (now (scratch .exit)) ≡ swept (replyOf v) (now (scratch .entry)) ⌝ }
 {
     let repeats = held.numbers.repeats as usize;

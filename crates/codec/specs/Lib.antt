@@ -1,3 +1,4 @@
 pub mod Bytes
 pub mod Lists
 pub mod Reply
+pub mod Slices

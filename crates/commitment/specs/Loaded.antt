@@ -1,9 +1,9 @@
 -- A sheet that was taken with the numbers k, and the bytes that its polynomials were put into: a, b, k1, k2, k3, end to end. Assumes nothing.
-use mathlib.Core.Path.{_≡_}
-use Prim.Native.Nat.{_*_, _%_, _≤_}
+use Prim.Native.Nat.{_*_, _≤_}
 use lib.ListN.{length}
 use Rattle.codec.specs.Bytes.{Bytes, part}
 use Rattle.sheet_numbers.specs.declared.Numbers.{Numbers}
+use Rattle.sheet_numbers.specs.Usable.{Usable}
 use Rattle.call.specs.Call.{Polynomial}
 use Rattle.commitment.specs.Commitment.{PublicKeys}
 
@@ -18,10 +18,8 @@ module _ (k : Numbers) (public : Bytes) where
   keyBytes = part public (16 * k .ring) (24 * k .ring)
 
   pub record Loaded : Type 0 where
+    pub numbers : Usable k
     pub a : Polynomial (k .ring) (k .modulus) aOf
     pub b : Polynomial (k .ring) (k .modulus) bOf
     pub keys : PublicKeys (k .ring) (k .modulus) keyBytes
-    pub odd : k .modulus % 2 ≡ 1
-    pub drown-high : k .drown ≤ 40
-    pub repeats-high : k .repeats ≤ 256
     pub sized : 40 * k .ring ≤ length public

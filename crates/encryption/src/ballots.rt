@@ -82,8 +82,8 @@ fn write_ciphertext(
     ensures { λ _. ⌜ now (ciphertext .exit) ≡ encryptWrites 2 q n (poly (now (a .entry))) (poly (now (b .entry))) (now (r .entry)) (now (e1 .entry)) (now (e2 .entry)) (now (m .entry)) ⌝ }
     ensures { λ _. ⌜ length (now (scratch .exit)) ≡ length (now (scratch .entry)) ⌝ }
 {
-    written::noisy(ciphertext, 0, scratch, a, r, e1, n, q);
-    written::cipher_v(ciphertext, 8 * n, scratch, b, r, e2, m, n, q);
+    written::noisy(ciphertext, 0, scratch, a, r, e1, 2, n, q);
+    written::cipher_v(ciphertext, 8 * n, scratch, b, r, e2, m, 2, n, q);
 }
 
 // The ciphertext u, v, from the bytes that hold the sheet's polynomials, a at their head, then b: of an array only one part can be lent at a time, of a slice several.
@@ -171,7 +171,7 @@ fn write_vote(s: &[u8], ciphertext: &[u8], vote: &mut [u8], scratch: &mut [u8], 
         n,
         q,
     );
-    bgv::plain(scratch, vote, n, q);
+    bgv::plain(scratch, vote, 2, n, q);
 }
 
 // The vote, from the secret key.

@@ -22,55 +22,54 @@ use Rattle.histories.proofs.Valid.{ready, is-ready, on-turn, is-turn, s
 module _ (s : Session) (round : ℕ) (x : Inputs) where
   -- ---- before the round is looked at
 
-  module _ (p : ℕ) where
-    pub early-none : Valid p s → s .progress .phase ≡ 3 → round ≡ s .progress .checked → round < s .numbers .rounds → SheetTaken p (x .sheet) → Sized (storedFor s round) x → Held (storedFor s round) x
-        → None (checkEarly p s round x)
+  pub early-none : Valid s → s .progress .phase ≡ 3 → round ≡ s .progress .checked → round < s .numbers .rounds → SheetTaken (x .sheet) → Sized (storedFor s round) x → Held (storedFor s round) x
+      → None (checkEarly s round x)
+  unfolding checkEarly
+  early-none sound phase due within sheet lengths matches = (
+    is-ready s sound (is-turn phase due within),
+    early-exactly (storedFor s round) x p .1 (sheet-exactly (x .sheet) .1 sheet, lengths, matches),
+  )
+
+  -- the parameters of a sheet in range are those that the round's theorem asks for
+  module _ (octets : Octets (x .head)) where
+    abbrev Round : Type 0
+    Round = Accepted (parametersOf (x .sheet)) (s .progress .closed) (drawnRound (storedFor s round) x)
+
+    late-exactly : SheetTaken (x .sheet) → Sized (storedFor s round) x → Held (storedFor s round) x → None (checkLate s round x) ↔ Round
+    unfolding checkLate lateTests
+    late-exactly sheet lengths matches =
+        let r = sheet .inside in
+        none-exactly (parametersOf (x .sheet)) (s .progress .closed) (omega (arith, r .modulus-low)) (omega (arith, r .modulus-high)) (drawnRound (storedFor s round) x)
+        (rw (matches .numbers) (lengths .head)) octets
+
+    checks-says : None (checkEarly s round x) → None (checkLate s round x) → Checks s round x
     unfolding checkEarly
-    early-none sound phase due within sheet lengths matches = (
-      is-ready p s sound (is-turn phase due within),
-      early-exactly (storedFor s round) x p .1 (sheet-exactly p (x .sheet) .1 sheet, lengths, matches),
+    checks-says n late =
+        let r = ready s _ (n .0) in
+        let t = on-turn (s .progress .phase) 3 round (s .progress .checked) (s .numbers .rounds) (r .1) in
+        let h = early-exactly (storedFor s round) x p .0 (n .1) in
+        let sheet = sheet-exactly (x .sheet) .0 (h .0) in
+        record {
+          sound = r .0;
+          phase = t .0;
+          due = t .1;
+          within = t .2;
+          sheet = sheet;
+          lengths = h .1;
+          matches = h .2;
+          accepted = late-exactly sheet (h .1) (h .2) .0 late;
+        }
+
+    checks-exactly : None (checkTests s round x) ↔ Checks s round x
+    unfolding checkTests
+    checks-exactly = (
+      λ n. let h = append-none (checkEarly s round x) (checkLate s round x) n in checks-says (h .0) (h .1),
+      λ c. none-append (checkEarly s round x) (checkLate s round x) (early-none (c .sound) (c .phase) (c .due) (c .within) (c .sheet) (c .lengths) (c .matches))
+          (late-exactly (c .sheet) (c .lengths) (c .matches) .1 (c .accepted)),
     )
 
-    -- the parameters of a sheet in range are those that the round's theorem asks for
-    module _ (octets : Octets (x .head)) where
-      abbrev Round : Type 0
-      Round = Accepted (parametersOf p (x .sheet)) (s .progress .closed) (drawnRound (storedFor s round) x)
-
-      late-exactly : SheetTaken p (x .sheet) → Sized (storedFor s round) x → Held (storedFor s round) x → None (checkLate p s round x) ↔ Round
-      unfolding checkLate lateTests
-      late-exactly sheet lengths matches =
-          let r = sheet .inside in
-          none-exactly (parametersOf p (x .sheet)) (s .progress .closed) (omega (arith, r .modulus-low)) (omega (arith, r .modulus-high)) (drawnRound (storedFor s round) x)
-          (rw (matches .numbers) (lengths .head)) octets
-
-      checks-says : None (checkEarly p s round x) → None (checkLate p s round x) → Checks p s round x
-      unfolding checkEarly
-      checks-says n late =
-          let r = ready p s _ (n .0) in
-          let t = on-turn (s .progress .phase) 3 round (s .progress .checked) (s .numbers .rounds) (r .1) in
-          let h = early-exactly (storedFor s round) x p .0 (n .1) in
-          let sheet = sheet-exactly p (x .sheet) .0 (h .0) in
-          record {
-            sound = r .0;
-            phase = t .0;
-            due = t .1;
-            within = t .2;
-            sheet = sheet;
-            lengths = h .1;
-            matches = h .2;
-            accepted = late-exactly sheet (h .1) (h .2) .0 late;
-          }
-
-      checks-exactly : None (checkTests p s round x) ↔ Checks p s round x
-      unfolding checkTests
-      checks-exactly = (
-        λ n. let h = append-none (checkEarly p s round x) (checkLate p s round x) n in checks-says (h .0) (h .1),
-        λ c. none-append (checkEarly p s round x) (checkLate p s round x) (early-none (c .sound) (c .phase) (c .due) (c .within) (c .sheet) (c .lengths) (c .matches))
-            (late-exactly (c .sheet) (c .lengths) (c .matches) .1 (c .accepted)),
-      )
-
-pub accepted-exactly : (p : ℕ) → AcceptedExactly p
-accepted-exactly p s round x octets =
-    let t = taken-exactly (checkTests p s round x) in
-    let c = checks-exactly s round x p octets in
+pub accepted-exactly : AcceptedExactly
+accepted-exactly s round x octets =
+    let t = taken-exactly (checkTests s round x) in
+    let c = checks-exactly s round x octets in
     (λ e. c .0 (t .0 e), λ h. t .1 (c .1 h))

@@ -43,180 +43,179 @@ absent reg mark n none = go (decLt (find reg mark n) n)
 pub here : (reg : Bytes) (mark at n : ℕ) → at < n → markAt reg at ≡ mark → ((i : ℕ) → i < at → markAt reg i ≢ mark) → find reg mark n ≡ at
 here reg mark at n within marked earlier = find-first reg mark at n (absent reg mark at earlier) marked within
 
-module _ (p : ℕ) where
-  pub cleared-exactly : ClearedExactly p
-  unfolding clearTests
-  cleared-exactly reg text =
-      by-order _ (λ n. record { register-size = numbers-match (n .0); sheet = sheet-exactly p text .0 (n .1) })
-      (λ c. (numbers-pass (c .register-size), sheet-exactly p text .1 (c .sheet)))
+pub cleared-exactly : ClearedExactly
+unfolding clearTests
+cleared-exactly reg text =
+    by-order _ (λ n. record { register-size = numbers-match (n .0); sheet = sheet-exactly text .0 (n .1) })
+    (λ c. (numbers-pass (c .register-size), sheet-exactly text .1 (c .sheet)))
 
-  -- ---- admit
+-- ---- admit
 
-  module _ (s : Session) (reg ballot : Bytes) where
-    abbrev place : ℕ
-    place = find reg (markOf ballot) (s .progress .used)
+module _ (s : Session) (reg ballot : Bytes) where
+  abbrev place : ℕ
+  place = find reg (markOf ballot) (s .progress .used)
 
-    abbrev sizes : List ℕ
-    sizes = length reg ∷ length ballot ∷ []
+  abbrev sizes : List ℕ
+  sizes = length reg ∷ length ballot ∷ []
 
-    abbrev wanted : List ℕ
-    wanted = registerLength ∷ ballotLength (s .numbers .ring) ∷ []
+  abbrev wanted : List ℕ
+  wanted = registerLength ∷ ballotLength (s .numbers .ring) ∷ []
 
-    admits-says : None (admitTests p s reg ballot) → Admits p s reg ballot
-    unfolding admitTests
-    admits-says n =
-        let r = ready p s _ (n .0) in
-        let sized = not-false (same sizes wanted) (n .1 .0) in
-        let past = ltb-false place (s .progress .used) (n .1 .1 .1 .1 .0) in
-        let few = r .0 .used in
-        let full = eqb-false (s .progress .used) 4096 (n .1 .1 .1 .1 .1 .0) in
-        let f = found reg (markOf ballot) (s .progress .used) in
-        let w = f .within in
-        record {
-          sound = r .0;
-          phase = eqb-true _ _ (r .1);
-          register-size = length-at sizes wanted 0 sized;
-          ballot-size = length-at sizes wanted 1 sized;
-          coefficients = each-exactly _ _ .0 (not-false _ (n .1 .1 .0));
-          unknown = f .absent (omega arith);
-          room = omega arith;
-        }
+  admits-says : None (admitTests s reg ballot) → Admits s reg ballot
+  unfolding admitTests
+  admits-says n =
+      let r = ready s _ (n .0) in
+      let sized = not-false (same sizes wanted) (n .1 .0) in
+      let past = ltb-false place (s .progress .used) (n .1 .1 .1 .1 .0) in
+      let few = r .0 .used in
+      let full = eqb-false (s .progress .used) 4096 (n .1 .1 .1 .1 .1 .0) in
+      let f = found reg (markOf ballot) (s .progress .used) in
+      let w = f .within in
+      record {
+        sound = r .0;
+        phase = eqb-true _ _ (r .1);
+        register-size = length-at sizes wanted 0 sized;
+        ballot-size = length-at sizes wanted 1 sized;
+        coefficients = each-exactly _ _ .0 (not-false _ (n .1 .1 .0));
+        unknown = f .absent (omega arith);
+        room = omega arith;
+      }
 
-    admits-holds : Admits p s reg ballot → None (admitTests p s reg ballot)
-    unfolding admitTests
-    admits-holds a =
-        let past : ltb place (s .progress .used) ≡ false = le-ltb place (s .progress .used) (omega (arith, absent reg (markOf ballot) (s .progress .used) (a .unknown))) in
-        let room = a .room in (
-          is-ready p s (a .sound) (eq-eqb (s .progress .phase) 0 (a .phase)),
+  admits-holds : Admits s reg ballot → None (admitTests s reg ballot)
+  unfolding admitTests
+  admits-holds a =
+      let past : ltb place (s .progress .used) ≡ false = le-ltb place (s .progress .used) (omega (arith, absent reg (markOf ballot) (s .progress .used) (a .unknown))) in
+      let room = a .room in (
+        is-ready s (a .sound) (eq-eqb (s .progress .phase) 0 (a .phase)),
+        (
+          bytes-pass (ap₂ (λ (x y : ℕ). x ∷ y ∷ []) (a .register-size) (a .ballot-size)),
           (
-            bytes-pass (ap₂ (λ (x y : ℕ). x ∷ y ∷ []) (a .register-size) (a .ballot-size)),
-            (
-              ap not (each-exactly _ _ .1 (a .coefficients)),
-              (ap (λ (b : Bool). b && eqb (stateAt reg place) 1) past, (past, (ne-eqb (s .progress .used) 4096 (λ e. omega arith), tt))),
-            ),
+            ap not (each-exactly _ _ .1 (a .coefficients)),
+            (ap (λ (b : Bool). b && eqb (stateAt reg place) 1) past, (past, (ne-eqb (s .progress .used) 4096 (λ e. omega arith), tt))),
           ),
-        )
+        ),
+      )
 
-  pub admitted-exactly : AdmittedExactly p
-  admitted-exactly s reg ballot = by-order _ (admits-says s reg ballot) (admits-holds s reg ballot)
+pub admitted-exactly : AdmittedExactly
+admitted-exactly s reg ballot = by-order _ (admits-says s reg ballot) (admits-holds s reg ballot)
 
-  -- ---- withdraw
+-- ---- withdraw
 
-  module _ (s : Session) (reg : Bytes) (mark : ℕ) where
-    withdraws-says : None (withdrawTests p s reg mark) → Withdraws p s reg mark
-    unfolding withdrawTests
-    withdraws-says n =
-        let r = ready p s _ (n .0) in
-        let f = found reg mark (s .progress .used) in
-        let w = f .within in
-        let known = eqb-false (find reg mark (s .progress .used)) (s .progress .used) (n .1 .1 .0) in
-        let l : find reg mark (s .progress .used) < s .progress .used = omega arith in
-        record {
-          sound = r .0;
-          phase = eqb-true _ _ (r .1);
-          register-size = numbers-match (n .1 .0);
-          at = find reg mark (s .progress .used);
-          within = l;
-          marked = f .marked l;
-          earlier = f .before;
-          stands = numbers-match (n .1 .1 .1 .0);
-        }
+module _ (s : Session) (reg : Bytes) (mark : ℕ) where
+  withdraws-says : None (withdrawTests s reg mark) → Withdraws s reg mark
+  unfolding withdrawTests
+  withdraws-says n =
+      let r = ready s _ (n .0) in
+      let f = found reg mark (s .progress .used) in
+      let w = f .within in
+      let known = eqb-false (find reg mark (s .progress .used)) (s .progress .used) (n .1 .1 .0) in
+      let l : find reg mark (s .progress .used) < s .progress .used = omega arith in
+      record {
+        sound = r .0;
+        phase = eqb-true _ _ (r .1);
+        register-size = numbers-match (n .1 .0);
+        at = find reg mark (s .progress .used);
+        within = l;
+        marked = f .marked l;
+        earlier = f .before;
+        stands = numbers-match (n .1 .1 .1 .0);
+      }
 
-    withdraws-holds : Withdraws p s reg mark → None (withdrawTests p s reg mark)
-    unfolding withdrawTests
-    withdraws-holds a =
-        let there = here reg mark (a .at) (s .progress .used) (a .within) (a .marked) (a .earlier) in
-        let l = a .within in (
-          is-ready p s (a .sound) (eq-eqb (s .progress .phase) 0 (a .phase)),
-          (numbers-pass (a .register-size), (ne-eqb (find reg mark (s .progress .used)) (s .progress .used) (λ e. omega arith), (numbers-pass (ap (stateAt reg) there ∙ a .stands), tt))),
-        )
+  withdraws-holds : Withdraws s reg mark → None (withdrawTests s reg mark)
+  unfolding withdrawTests
+  withdraws-holds a =
+      let there = here reg mark (a .at) (s .progress .used) (a .within) (a .marked) (a .earlier) in
+      let l = a .within in (
+        is-ready s (a .sound) (eq-eqb (s .progress .phase) 0 (a .phase)),
+        (numbers-pass (a .register-size), (ne-eqb (find reg mark (s .progress .used)) (s .progress .used) (λ e. omega arith), (numbers-pass (ap (stateAt reg) there ∙ a .stands), tt))),
+      )
 
-  pub withdrawn-exactly : WithdrawnExactly p
-  withdrawn-exactly s reg mark = by-order _ (withdraws-says s reg mark) (withdraws-holds s reg mark)
+pub withdrawn-exactly : WithdrawnExactly
+withdrawn-exactly s reg mark = by-order _ (withdraws-says s reg mark) (withdraws-holds s reg mark)
 
-  -- ---- close
+-- ---- close
 
-  some : (is : List ℕ) → length is ≢ 0 → (i : ℕ) × List·Memᴰ i is
-  some [] h = absurd (h refl)
-  some (i ∷ is) h = (i, List·Memᴰ·head refl)
+some : (is : List ℕ) → length is ≢ 0 → (i : ℕ) × List·Memᴰ i is
+some [] h = absurd (h refl)
+some (i ∷ is) h = (i, List·Memᴰ·head refl)
 
-  not-empty : (i : ℕ) (is : List ℕ) → List·Memᴰ i is → length is ≢ 0
-  not-empty i [] m e = List·Memᴰ·not-nil m
-  not-empty i (j ∷ is) m e = omega arith
+not-empty : (i : ℕ) (is : List ℕ) → List·Memᴰ i is → length is ≢ 0
+not-empty i [] m e = List·Memᴰ·not-nil m
+not-empty i (j ∷ is) m e = omega arith
 
-  closes-says : (s : Session) (reg : Bytes) → None (closeTests p s reg) → Closes p s reg
-  unfolding closeTests
-  closes-says s reg n =
-      let r = ready p s _ (n .0) in
-      let i = some (standing reg (s .progress .used)) (eqb-false _ _ (n .1 .1 .0)) in
-      let t = stands reg (s .progress .used) (i .0) (i .1) in
-      record { sound = r .0; phase = eqb-true _ _ (r .1); register-size = numbers-match (n .1 .0); at = i .0; within = t .0; stands = t .1 }
+closes-says : (s : Session) (reg : Bytes) → None (closeTests s reg) → Closes s reg
+unfolding closeTests
+closes-says s reg n =
+    let r = ready s _ (n .0) in
+    let i = some (standing reg (s .progress .used)) (eqb-false _ _ (n .1 .1 .0)) in
+    let t = stands reg (s .progress .used) (i .0) (i .1) in
+    record { sound = r .0; phase = eqb-true _ _ (r .1); register-size = numbers-match (n .1 .0); at = i .0; within = t .0; stands = t .1 }
 
-  closes-holds : (s : Session) (reg : Bytes) → Closes p s reg → None (closeTests p s reg)
-  unfolding closeTests
-  closes-holds s reg c = (
-    is-ready p s (c .sound) (eq-eqb (s .progress .phase) 0 (c .phase)),
-    (numbers-pass (c .register-size), (ne-eqb _ _ (not-empty (c .at) (standing reg (s .progress .used)) (stands-all reg (s .progress .used) (c .at) (c .within) (c .stands))), tt)),
-  )
+closes-holds : (s : Session) (reg : Bytes) → Closes s reg → None (closeTests s reg)
+unfolding closeTests
+closes-holds s reg c = (
+  is-ready s (c .sound) (eq-eqb (s .progress .phase) 0 (c .phase)),
+  (numbers-pass (c .register-size), (ne-eqb _ _ (not-empty (c .at) (standing reg (s .progress .used)) (stands-all reg (s .progress .used) (c .at) (c .within) (c .stands))), tt)),
+)
 
-  pub closed-exactly : ClosedExactly p
-  closed-exactly s reg = by-order _ (closes-says s reg) (closes-holds s reg)
+pub closed-exactly : ClosedExactly
+closed-exactly s reg = by-order _ (closes-says s reg) (closes-holds s reg)
 
-  -- ---- claim, commit, draw
+-- ---- claim, commit, draw
 
-  claims-says : (s : Session) (claims : Bytes) → None (claimTests p s claims) → Claims p s claims
-  unfolding claimTests
-  claims-says s claims n =
-      let r = ready p s _ (n .0) in
-      record { sound = r .0; phase = eqb-true _ _ (r .1); size = numbers-match (n .1 .0); votes = each-exactly p claims .0 (not-false _ (n .1 .1 .0)) }
+claims-says : (s : Session) (claims : Bytes) → None (claimTests s claims) → Claims s claims
+unfolding claimTests
+claims-says s claims n =
+    let r = ready s _ (n .0) in
+    record { sound = r .0; phase = eqb-true _ _ (r .1); size = numbers-match (n .1 .0); votes = each-exactly (plain (s .numbers)) claims .0 (not-false _ (n .1 .1 .0)) }
 
-  claims-holds : (s : Session) (claims : Bytes) → Claims p s claims → None (claimTests p s claims)
-  unfolding claimTests
-  claims-holds s claims c = (is-ready p s (c .sound) (eq-eqb (s .progress .phase) 1 (c .phase)), (numbers-pass (c .size), (ap not (each-exactly p claims .1 (c .votes)), tt)))
+claims-holds : (s : Session) (claims : Bytes) → Claims s claims → None (claimTests s claims)
+unfolding claimTests
+claims-holds s claims c = (is-ready s (c .sound) (eq-eqb (s .progress .phase) 1 (c .phase)), (numbers-pass (c .size), (ap not (each-exactly (plain (s .numbers)) claims .1 (c .votes)), tt)))
 
-  pub claimed-exactly : ClaimedExactly p
-  claimed-exactly s claims = by-order _ (claims-says s claims) (claims-holds s claims)
+pub claimed-exactly : ClaimedExactly
+claimed-exactly s claims = by-order _ (claims-says s claims) (claims-holds s claims)
 
-  module _ (s : Session) (round : ℕ) (head shares0 shares1 : Bytes) where
-    abbrev lengths : List ℕ
-    lengths = length head ∷ length shares0 ∷ length shares1 ∷ []
+module _ (s : Session) (round : ℕ) (head shares0 shares1 : Bytes) where
+  abbrev lengths : List ℕ
+  lengths = length head ∷ length shares0 ∷ length shares1 ∷ []
 
-    abbrev right : List ℕ
-    right = headLength (s .numbers .ring) (s .numbers .repeats) ∷ 8 * s .numbers .ring * s .progress .closed ∷ 8 * s .numbers .ring * s .progress .closed ∷ []
+  abbrev right : List ℕ
+  right = headLength (s .numbers .ring) (s .numbers .repeats) ∷ 8 * s .numbers .ring * s .progress .closed ∷ 8 * s .numbers .ring * s .progress .closed ∷ []
 
-    commits-says : None (commitTests p s round head shares0 shares1) → Commits p s round head shares0 shares1
-    unfolding commitTests
-    commits-says n =
-        let r = ready p s _ (n .0) in
-        let t = on-turn (s .progress .phase) 2 round (s .progress .committed) (s .numbers .rounds) (r .1) in
-        let sized = not-false (same lengths right) (n .1 .0) in
-        record {
-          sound = r .0;
-          phase = t .0;
-          due = t .1;
-          within = t .2;
-          head-size = length-at lengths right 0 sized;
-          shares0-size = length-at lengths right 1 sized;
-          shares1-size = length-at lengths right 2 sized;
-        }
+  commits-says : None (commitTests s round head shares0 shares1) → Commits s round head shares0 shares1
+  unfolding commitTests
+  commits-says n =
+      let r = ready s _ (n .0) in
+      let t = on-turn (s .progress .phase) 2 round (s .progress .committed) (s .numbers .rounds) (r .1) in
+      let sized = not-false (same lengths right) (n .1 .0) in
+      record {
+        sound = r .0;
+        phase = t .0;
+        due = t .1;
+        within = t .2;
+        head-size = length-at lengths right 0 sized;
+        shares0-size = length-at lengths right 1 sized;
+        shares1-size = length-at lengths right 2 sized;
+      }
 
-    commits-holds : Commits p s round head shares0 shares1 → None (commitTests p s round head shares0 shares1)
-    unfolding commitTests
-    commits-holds c = (is-ready p s (c .sound) (is-turn (c .phase) (c .due) (c .within)), (bytes-pass (cc (c .head-size, c .shares0-size, c .shares1-size)), tt))
+  commits-holds : Commits s round head shares0 shares1 → None (commitTests s round head shares0 shares1)
+  unfolding commitTests
+  commits-holds c = (is-ready s (c .sound) (is-turn (c .phase) (c .due) (c .within)), (bytes-pass (cc (c .head-size, c .shares0-size, c .shares1-size)), tt))
 
-  pub committed-exactly : CommittedExactly p
-  committed-exactly s round head shares0 shares1 = by-order _ (commits-says s round head shares0 shares1) (commits-holds s round head shares0 shares1)
+pub committed-exactly : CommittedExactly
+committed-exactly s round head shares0 shares1 = by-order _ (commits-says s round head shares0 shares1) (commits-holds s round head shares0 shares1)
 
-  draws-says : (s : Session) (seed : Bytes) → None (drawTests p s seed) → Draws p s seed
-  unfolding drawTests
-  draws-says s seed n =
-      let r = ready p s _ (n .0) in
-      let t = both _ _ (r .1) in
-      record { sound = r .0; phase = eqb-true _ _ (t .0); all = eqb-true _ _ (t .1); size = numbers-match (n .1 .0) }
+draws-says : (s : Session) (seed : Bytes) → None (drawTests s seed) → Draws s seed
+unfolding drawTests
+draws-says s seed n =
+    let r = ready s _ (n .0) in
+    let t = both _ _ (r .1) in
+    record { sound = r .0; phase = eqb-true _ _ (t .0); all = eqb-true _ _ (t .1); size = numbers-match (n .1 .0) }
 
-  draws-holds : (s : Session) (seed : Bytes) → Draws p s seed → None (drawTests p s seed)
-  unfolding drawTests
-  draws-holds s seed d = (is-ready p s (d .sound) (ap₂ _&&_ (eq-eqb (s .progress .phase) 2 (d .phase)) (eq-eqb (s .progress .committed) (s .numbers .rounds) (d .all))), (numbers-pass (d .size), tt))
+draws-holds : (s : Session) (seed : Bytes) → Draws s seed → None (drawTests s seed)
+unfolding drawTests
+draws-holds s seed d = (is-ready s (d .sound) (ap₂ _&&_ (eq-eqb (s .progress .phase) 2 (d .phase)) (eq-eqb (s .progress .committed) (s .numbers .rounds) (d .all))), (numbers-pass (d .size), tt))
 
-  pub drawn-exactly : DrawnExactly p
-  drawn-exactly s seed = by-order _ (draws-says s seed) (draws-holds s seed)
+pub drawn-exactly : DrawnExactly
+drawn-exactly s seed = by-order _ (draws-says s seed) (draws-holds s seed)

@@ -16,7 +16,7 @@ use Rattle.sheet.specs.Sheet.{order, readingBy, reading}
 use Rattle.sheet_numbers.specs.declared.Numbers.{Numbers}
 use Rattle.sheet.specs.declared.Reading.the-variants as reading
 use Rattle.bgv.specs.Scheme.{Sound}
-use Rattle.bgv.proofs.Sheets.{sheet-sound, two-sound}
+use Rattle.bgv.proofs.Sheets.{sheet-sound}
 use Rattle.transcript.specs.Layout.{ballotLength}
 use Rattle.transcript.specs.Round.{Parameters}
 use Rattle.transcript.specs.Producer.{Material, producedRound}
@@ -40,20 +40,16 @@ use Rattle.histories.proofs.Valid.{sheet-exactly}
 use Rattle.histories.proofs.Kept.{Kept, messageDigest, kept}
 use Rattle.histories.proofs.Checked.{early-none}
 
--- the sheets that are taken have the room that one round's theorem asks for
-abbrev pub Roomy : ℕ → Type 0
-Roomy p = (text : Bytes) (k : Numbers) → reading p text ≡ reading.Taken k → Sound (k .modulus) p (noise p (k .ring)) (mask p (k .ring) (k .drown))
-
-reads : (p : ℕ) (text : Bytes) → SheetTaken p text → reading p text ≡ reading.Taken (sheetOf text .numbers)
+reads : (text : Bytes) → SheetTaken text → reading text ≡ reading.Taken (sheetOf text .numbers)
 unfolding reading
-reads p text t = ap (λ (r : Reply). readingBy r (sheetOf text .numbers)) (taken-exactly (order p text) .1 (sheet-exactly p text .1 t))
+reads text t = ap (λ (r : Reply). readingBy r (sheetOf text .numbers)) (taken-exactly (order text) .1 (sheet-exactly text .1 t))
 
-module _ (p : ℕ) (roomy : Roomy p) (l : Trace) (k : Kept p (l .session) (l .history)) (material : Material) (round : ℕ) (x : Inputs) (turn : Turn p l material round x) where
+module _ (l : Trace) (k : Kept (l .session) (l .history)) (material : Material) (round : ℕ) (x : Inputs) (turn : Turn l material round x) where
   abbrev s : Session
   s = l .session
 
   abbrev P : Parameters
-  P = parametersOf p (x .sheet)
+  P = parametersOf (x .sheet)
 
   abbrev m : ℕ
   m = length (l .history .batch)
@@ -67,7 +63,7 @@ module _ (p : ℕ) (roomy : Roomy p) (l : Trace) (k : Kept p (l .session) (l .hi
   abbrev made : Produced P m material (s .seed) round x
   made = turn .made
 
-  sheet-taken : SheetTaken p (x .sheet)
+  sheet-taken : SheetTaken (x .sheet)
   sheet-taken = rw (turn .sheet) (k .taken)
 
   numbers : sheetOf (x .sheet) .numbers ≡ s .numbers
@@ -123,30 +119,23 @@ module _ (p : ℕ) (roomy : Roomy p) (l : Trace) (k : Kept p (l .session) (l .hi
     answers = made .answers d;
   }
 
-  late-none : None (checkLate p s round x)
+  late-none : None (checkLate s round x)
   unfolding checkLate lateTests
   late-none =
       let r = sheet-taken .inside in
       rw (closed, round-is)
-      (honest-round P m material (roomy (x .sheet) (sheetOf (x .sheet) .numbers) (reads p (x .sheet) sheet-taken)) (omega (arith, r .modulus-low)) (omega (arith, r .modulus-high)) (made .sized)
+      (honest-round P m material (sheet-sound (x .sheet) (sheetOf (x .sheet) .numbers) (reads (x .sheet) sheet-taken)) (omega (arith, r .modulus-low)) (omega (arith, r .modulus-high)) (made .sized)
       (producer-exactly P m material (omega (arith, r .modulus-low)) (omega (arith, r .modulus-high)) .1 (made .suitable))
       side (side-range (s .seed) round) challenges (length-challenges (s .seed) round (P .repeats)) (challenge-range (s .seed) round (P .repeats)))
 
-  accepted : first (checkTests p s round x) ≡ Taken
+  accepted : first (checkTests s round x) ≡ Taken
   unfolding checkTests
   accepted =
       let next = k .next (turn .phase) in
       let due = turn .due in
-      taken-exactly (checkTests p s round x) .1
-      (none-append (checkEarly p s round x) (checkLate p s round x) (early-none s round x p (k .sound) (turn .phase) due (omega arith) sheet-taken lengths matches) late-none)
+      taken-exactly (checkTests s round x) .1
+      (none-append (checkEarly s round x) (checkLate s round x) (early-none s round x (k .sound) (turn .phase) due (omega arith) sheet-taken lengths matches) late-none)
 
-pub honest-accepted-by : (p : ℕ) → Roomy p → HonestAccepted p
+pub honest-accepted : HonestAccepted
 unfolding reply
-honest-accepted-by p roomy sheet cs e register material round x turn = accepted p roomy (trace p cs (initial sheet)) (kept p sheet cs e) material round x turn
-
--- for every p that has no factor in common with the modulus of a sheet that is taken, and so for 2
-pub honest-accepted : (p : ℕ) → 0 < p → ((text : Bytes) (k : Numbers) → reading p text ≡ reading.Taken k → Coprime p (k .modulus)) → HonestAccepted p
-honest-accepted p positive apart = honest-accepted-by p (λ text k e. sheet-sound p text k e positive (apart text k e))
-
-pub two-accepted : HonestAccepted 2
-two-accepted = honest-accepted-by 2 two-sound
+honest-accepted sheet cs e register material round x turn = accepted (trace cs (initial sheet)) (kept sheet cs e) material round x turn

@@ -35,9 +35,9 @@ use Rattle.histories.proofs.Exact.{cleared-exactly, admitted-exactly, c
 abbrev pub messageDigest : Bytes → (k : ℕ) → Message → Bytes
 messageDigest d k m = roundDigest d k (m .head) (m .shares0) (m .shares1)
 
-pub record Kept (p : ℕ) (s : Session) (h : History) : Type 0 where
-  pub sound : Valid p s
-  pub taken : SheetTaken p (h .sheet)
+pub record Kept (s : Session) (h : History) : Type 0 where
+  pub sound : Valid s
+  pub taken : SheetTaken (h .sheet)
   pub numbers : s .numbers ≡ sheetOf (h .sheet) .numbers
   pub sheet : s .sheet ≡ sha3 (h .sheet)
   pub long : length (s .trail) ≡ 4096
@@ -51,239 +51,238 @@ pub record Kept (p : ℕ) (s : Session) (h : History) : Type 0 where
   pub next : s .progress .phase ≡ 3 → s .progress .checked < s .numbers .rounds
 
 -- a check that is not stopped early finds its round due
-pub drawn-now : (p : ℕ) (s : Session) (round : ℕ) (x : Inputs) → first (checkEarly p s round x) ≡ Taken → (s .progress .phase ≡ 3) × (s .progress .checked < s .numbers .rounds)
+pub drawn-now : (s : Session) (round : ℕ) (x : Inputs) → first (checkEarly s round x) ≡ Taken → (s .progress .phase ≡ 3) × (s .progress .checked < s .numbers .rounds)
 unfolding checkEarly
-drawn-now p s round x e =
+drawn-now s round x e =
     let n = taken-exactly _ .0 e in
-    let d = on-turn (s .progress .phase) 3 round (s .progress .checked) (s .numbers .rounds) (ready p s _ (n .0) .1) in
+    let d = on-turn (s .progress .phase) 3 round (s .progress .checked) (s .numbers .rounds) (ready s _ (n .0) .1) in
     (d .0, omega arith)
 
-module _ (p : ℕ) where
-  kept-clear : (text : Bytes) → SheetTaken p text → Kept p (cleared text) (emptyHistory text)
-  unfolding cleared
-  kept-clear text t = record {
-    sound = record { phase = omega arith; inside = t .inside; sound = t .sound; used = omega arith; closed = omega arith; committed = omega arith; checked = omega arith };
-    taken = t;
-    numbers = refl;
-    sheet = refl;
-    long = length-replicate {A = ℕ} 4096 0;
-    uncommitted = λ l. refl;
-    unchecked = λ l. refl;
-    closing = λ l. absurd (omega arith);
-    closed = λ l. absurd (omega arith);
-    claim = λ l. absurd (omega arith);
-    trail = λ l. absurd (omega arith);
-    whole = λ l. absurd (omega arith);
-    next = λ l. absurd (omega arith);
-  }
+kept-clear : (text : Bytes) → SheetTaken text → Kept (cleared text) (emptyHistory text)
+unfolding cleared
+kept-clear text t = record {
+  sound = record { phase = omega arith; inside = t .inside; sound = t .sound; used = omega arith; closed = omega arith; committed = omega arith; checked = omega arith };
+  taken = t;
+  numbers = refl;
+  sheet = refl;
+  long = length-replicate {A = ℕ} 4096 0;
+  uncommitted = λ l. refl;
+  unchecked = λ l. refl;
+  closing = λ l. absurd (omega arith);
+  closed = λ l. absurd (omega arith);
+  claim = λ l. absurd (omega arith);
+  trail = λ l. absurd (omega arith);
+  whole = λ l. absurd (omega arith);
+  next = λ l. absurd (omega arith);
+}
 
-  module _ (s : Session) (h : History) (k : Kept p s h) where
-    abbrev v : Valid p s
-    v = k .sound
+module _ (s : Session) (h : History) (k : Kept s h) where
+  abbrev v : Valid s
+  v = k .sound
 
-    kept-admit : (reg ballot : Bytes) → Admits p s reg ballot → Kept p (admittedBy s) h
-    unfolding admittedBy
-    kept-admit reg ballot a =
-        let room = a .room in
+  kept-admit : (reg ballot : Bytes) → Admits s reg ballot → Kept (admittedBy s) h
+  unfolding admittedBy
+  kept-admit reg ballot a =
+      let room = a .room in
+      record {
+        sound = record { phase = v .phase; inside = v .inside; sound = v .sound; used = omega arith; closed = v .closed; committed = v .committed; checked = v .checked };
+        taken = k .taken;
+        numbers = k .numbers;
+        sheet = k .sheet;
+        long = k .long;
+        uncommitted = k .uncommitted;
+        unchecked = k .unchecked;
+        closing = k .closing;
+        closed = k .closed;
+        claim = k .claim;
+        trail = k .trail;
+        whole = k .whole;
+        next = k .next;
+      }
+
+  kept-close : (reg : Bytes) → Closes s reg → Kept (closedBy s reg) (historyAfter close (state s reg) h)
+  unfolding closedBy historyAfter standingDigests
+  kept-close reg c =
+      let was = c .phase in
+      let few = standing-few reg (s .progress .used) in
+      let used = v .used in
+      record {
+        sound = record {
+          phase = omega arith;
+          inside = v .inside;
+          sound = v .sound;
+          used = v .used;
+          closed = rw (length-map (standing reg (s .progress .used)) (digestAt reg)) (omega arith);
+          committed = v .committed;
+          checked = v .checked;
+        };
+        taken = k .taken;
+        numbers = k .numbers;
+        sheet = k .sheet;
+        long = k .long;
+        uncommitted = λ l. k .uncommitted (omega arith);
+        unchecked = λ l. k .unchecked (omega arith);
+        closing = λ l. refl;
+        closed = λ l. refl;
+        claim = λ l. absurd (omega arith);
+        trail = λ l. absurd (omega arith);
+        whole = λ l. absurd (omega arith);
+        next = λ l. absurd (omega arith);
+      }
+
+  kept-claim : (st : State) (claims : Bytes) → Claims s claims → Kept (claimedBy s claims) (historyAfter (claim claims) st h)
+  unfolding claimedBy historyAfter
+  kept-claim st claims c =
+      let was = c .phase in
+      record {
+        sound = record { phase = omega arith; inside = v .inside; sound = v .sound; used = v .used; closed = v .closed; committed = v .committed; checked = v .checked };
+        taken = k .taken;
+        numbers = k .numbers;
+        sheet = k .sheet;
+        long = k .long;
+        uncommitted = λ l. absurd (omega arith);
+        unchecked = λ l. k .unchecked (omega arith);
+        closing = λ l. k .closing (omega arith);
+        closed = λ l. k .closed (omega arith);
+        claim = λ l. refl;
+        trail = λ l j g. let z = k .uncommitted (omega arith) in absurd (omega arith);
+        whole = λ l. absurd (omega arith);
+        next = λ l. absurd (omega arith);
+      }
+
+  kept-draw : (seed : Bytes) → Draws s seed → Kept (drawnBy s seed) h
+  unfolding drawnBy
+  kept-draw seed d =
+      let was = d .phase in
+      let some = v .inside .rounds-low in
+      record {
+        sound = record { phase = omega arith; inside = v .inside; sound = v .sound; used = v .used; closed = v .closed; committed = v .committed; checked = v .checked };
+        taken = k .taken;
+        numbers = k .numbers;
+        sheet = k .sheet;
+        long = k .long;
+        uncommitted = λ l. absurd (omega arith);
+        unchecked = λ l. absurd (omega arith);
+        closing = λ l. k .closing (omega arith);
+        closed = λ l. k .closed (omega arith);
+        claim = λ l. k .claim (omega arith);
+        trail = λ l. k .trail (omega arith);
+        whole = λ l. d .all;
+        next = λ l. let z = k .unchecked (omega arith) in omega arith;
+      }
+
+  -- ---- commit
+
+  module _ (r : ℕ) (head shares0 shares1 : Bytes) (c : Commits s r head shares0 shares1) where
+    abbrev new : Bytes
+    new = roundDigest (s .claim) r head shares0 shares1
+
+    size : length new ≡ 32
+    size = length-roundDigest (s .claim) r head shares0 shares1
+
+    fits : 32 * r + length new ≤ length (s .trail)
+    fits =
+        let long = k .long in
+        let low = c .within in
+        let few = v .inside .rounds-high in
+        omega (arith, size)
+
+    -- the new digest stands at its place, and the earlier ones stay
+    digests : (j : ℕ) → Dec (j ≡ r) → j < s .progress .committed + 1 → 1 < s .progress .phase
+        → part (put (s .trail) (32 * r) new) (32 * j) 32 ≡ messageDigest (s .claim) j (cond (eqb j r) (message head shares0 shares1) (h .firsts j))
+    digests j (yes e) l g = rw (e, eq-eqb r r refl) (ap (λ (n : ℕ). part (put (s .trail) (32 * r) new) (32 * r) n) (sym size) ∙ part-put (s .trail) (32 * r) new fits)
+    digests j (no e) l g =
+        let due = c .due in
+        rw (ne-eqb j r e) (part-put-before (s .trail) (32 * r) new (32 * j) 32 fits (omega arith) ∙ k .trail g j (omega arith))
+
+    kept-commit : (st : State) → Kept (committedBy s r head shares0 shares1) (historyAfter (commit r head shares0 shares1) st h)
+    unfolding committedBy historyAfter
+    kept-commit st =
+        let was = c .phase in
+        let due = c .due in
+        let low = c .within in
         record {
-          sound = record { phase = v .phase; inside = v .inside; sound = v .sound; used = omega arith; closed = v .closed; committed = v .committed; checked = v .checked };
+          sound = record { phase = v .phase; inside = v .inside; sound = v .sound; used = v .used; closed = v .closed; committed = omega arith; checked = v .checked };
           taken = k .taken;
           numbers = k .numbers;
           sheet = k .sheet;
-          long = k .long;
-          uncommitted = k .uncommitted;
+          long = length-put (s .trail) (32 * r) new fits ∙ k .long;
+          uncommitted = λ l. absurd (omega arith);
           unchecked = k .unchecked;
           closing = k .closing;
           closed = k .closed;
           claim = k .claim;
-          trail = k .trail;
-          whole = k .whole;
+          trail = λ l j g. digests j (ℕ-discrete j r) g l;
+          whole = λ l. absurd (omega arith);
           next = k .next;
         }
 
-    kept-close : (reg : Bytes) → Closes p s reg → Kept p (closedBy s reg) (historyAfter close (state s reg) h)
-    unfolding closedBy historyAfter standingDigests
-    kept-close reg c =
-        let was = c .phase in
-        let few = standing-few reg (s .progress .used) in
-        let used = v .used in
-        record {
-          sound = record {
-            phase = omega arith;
-            inside = v .inside;
-            sound = v .sound;
-            used = v .used;
-            closed = rw (length-map (standing reg (s .progress .used)) (digestAt reg)) (omega arith);
-            committed = v .committed;
-            checked = v .checked;
-          };
-          taken = k .taken;
-          numbers = k .numbers;
-          sheet = k .sheet;
-          long = k .long;
-          uncommitted = λ l. k .uncommitted (omega arith);
-          unchecked = λ l. k .unchecked (omega arith);
-          closing = λ l. refl;
-          closed = λ l. refl;
-          claim = λ l. absurd (omega arith);
-          trail = λ l. absurd (omega arith);
-          whole = λ l. absurd (omega arith);
-          next = λ l. absurd (omega arith);
-        }
+  -- ---- check
 
-    kept-claim : (st : State) (claims : Bytes) → Claims p s claims → Kept p (claimedBy s claims) (historyAfter (claim claims) st h)
-    unfolding claimedBy historyAfter
-    kept-claim st claims c =
-        let was = c .phase in
-        record {
-          sound = record { phase = omega arith; inside = v .inside; sound = v .sound; used = v .used; closed = v .closed; committed = v .committed; checked = v .checked };
-          taken = k .taken;
-          numbers = k .numbers;
-          sheet = k .sheet;
-          long = k .long;
-          uncommitted = λ l. absurd (omega arith);
-          unchecked = λ l. k .unchecked (omega arith);
-          closing = λ l. k .closing (omega arith);
-          closed = λ l. k .closed (omega arith);
-          claim = λ l. refl;
-          trail = λ l j g. let z = k .uncommitted (omega arith) in absurd (omega arith);
-          whole = λ l. absurd (omega arith);
-          next = λ l. absurd (omega arith);
-        }
+  abbrev moved : (phase checked : ℕ) → Progress
+  moved phase checked = record { phase = phase; used = s .progress .used; closed = s .progress .closed; committed = s .progress .committed; checked = checked }
 
-    kept-draw : (seed : Bytes) → Draws p s seed → Kept p (drawnBy s seed) h
-    unfolding drawnBy
-    kept-draw seed d =
-        let was = d .phase in
-        let some = v .inside .rounds-low in
-        record {
-          sound = record { phase = omega arith; inside = v .inside; sound = v .sound; used = v .used; closed = v .closed; committed = v .committed; checked = v .checked };
-          taken = k .taken;
-          numbers = k .numbers;
-          sheet = k .sheet;
-          long = k .long;
-          uncommitted = λ l. absurd (omega arith);
-          unchecked = λ l. absurd (omega arith);
-          closing = λ l. k .closing (omega arith);
-          closed = λ l. k .closed (omega arith);
-          claim = λ l. k .claim (omega arith);
-          trail = λ l. k .trail (omega arith);
-          whole = λ l. d .all;
-          next = λ l. let z = k .unchecked (omega arith) in omega arith;
-        }
+  -- one that is not stopped early leaves another phase, from drawn on, and a count
+  kept-checked : (phase checked : ℕ) → s .progress .phase ≡ 3 → 3 ≤ phase → phase ≤ 5 → checked ≤ s .numbers .rounds → (phase ≡ 3 → checked < s .numbers .rounds)
+      → Kept (changed s (moved phase checked) (s .closing) (s .claim) (s .seed) (s .trail)) h
+  kept-checked phase checked was low high few next = record {
+    sound = record { phase = high; inside = v .inside; sound = v .sound; used = v .used; closed = v .closed; committed = v .committed; checked = few };
+    taken = k .taken;
+    numbers = k .numbers;
+    sheet = k .sheet;
+    long = k .long;
+    uncommitted = λ l. absurd (omega arith);
+    unchecked = λ l. absurd (omega arith);
+    closing = λ l. k .closing (omega arith);
+    closed = λ l. k .closed (omega arith);
+    claim = λ l. k .claim (omega arith);
+    trail = λ l. k .trail (omega arith);
+    whole = λ l. k .whole (omega arith);
+    next = next;
+  }
 
-    -- ---- commit
+  kept-accepted : s .progress .phase ≡ 3 → s .progress .checked < s .numbers .rounds → Kept (acceptedBy s) h
+  unfolding acceptedBy
+  kept-accepted was low = go (eqb (s .progress .checked + 1) (s .numbers .rounds)) refl
+    where
+      go : (b : Bool) → eqb (s .progress .checked + 1) (s .numbers .rounds) ≡ b
+          → Kept (changed s (moved (cond b 5 3) (s .progress .checked + 1)) (s .closing) (s .claim) (s .seed) (s .trail)) h
+      go true e = kept-checked 5 (s .progress .checked + 1) was (omega arith) (omega arith) (omega arith) (λ l. absurd (omega arith))
+      go false e =
+          let other = eqb-false (s .progress .checked + 1) (s .numbers .rounds) e in
+          kept-checked 3 (s .progress .checked + 1) was (omega arith) (omega arith) (omega arith) (λ l. omega arith)
 
-    module _ (r : ℕ) (head shares0 shares1 : Bytes) (c : Commits p s r head shares0 shares1) where
-      abbrev new : Bytes
-      new = roundDigest (s .claim) r head shares0 shares1
+  kept-refused : s .progress .phase ≡ 3 → s .progress .checked < s .numbers .rounds → Kept (refusedBy s) h
+  unfolding refusedBy
+  kept-refused was low = kept-checked 4 (s .progress .checked) was (omega arith) (omega arith) (omega arith) (λ l. absurd (omega arith))
 
-      size : length new ≡ 32
-      size = length-roundDigest (s .claim) r head shares0 shares1
+  kept-check : (round : ℕ) (x : Inputs) → Kept (checkedBy s round x) h
+  unfolding checkedBy
+  kept-check round x =
+      left (λ t. Kept t h) (first (checkEarly s round x))
+      (λ e. let d = drawn-now s round x e in left (λ t. Kept t h) (first (checkLate s round x)) (λ f. kept-accepted (d .0) (d .1)) (kept-refused (d .0) (d .1)))
+      k
 
-      fits : 32 * r + length new ≤ length (s .trail)
-      fits =
-          let long = k .long in
-          let low = c .within in
-          let few = v .inside .rounds-high in
-          omega (arith, size)
+-- ---- every step, and every list of them
 
-      -- the new digest stands at its place, and the earlier ones stay
-      digests : (j : ℕ) → Dec (j ≡ r) → j < s .progress .committed + 1 → 1 < s .progress .phase
-          → part (put (s .trail) (32 * r) new) (32 * j) 32 ≡ messageDigest (s .claim) j (cond (eqb j r) (message head shares0 shares1) (h .firsts j))
-      digests j (yes e) l g = rw (e, eq-eqb r r refl) (ap (λ (n : ℕ). part (put (s .trail) (32 * r) new) (32 * r) n) (sym size) ∙ part-put (s .trail) (32 * r) new fits)
-      digests j (no e) l g =
-          let due = c .due in
-          rw (ne-eqb j r e) (part-put-before (s .trail) (32 * r) new (32 * j) 32 fits (omega arith) ∙ k .trail g j (omega arith))
+kept-step : (x : Step) (reg : Bytes) (s : Session) (h : History) → Kept s h
+    → let st = state s reg in Kept (after x st .session) (leaves (reply x st) (historyAfter x st h) h)
+unfolding reply after historyAfter
+kept-step (clear text) reg s h k = left-both (Kept) _ (λ e. kept-clear text (cleared-exactly reg text .0 e .sheet)) k
+kept-step (admit ballot) reg s h k = left-both (Kept) _ (λ e. kept-admit s h k reg ballot (admitted-exactly s reg ballot .0 e)) k
+kept-step (withdraw mark) reg s h k = left (Kept s) _ (λ e. k) k
+kept-step close reg s h k = left-both (Kept) _ (λ e. kept-close s h k reg (closed-exactly s reg .0 e)) k
+kept-step (claim claims) reg s h k = left-both (Kept) _ (λ e. kept-claim s h k (state s reg) claims (claimed-exactly s claims .0 e)) k
+kept-step (commit r head shares0 shares1) reg s h k =
+    left-both (Kept) _ (λ e. kept-commit s h k r head shares0 shares1 (committed-exactly s r head shares0 shares1 .0 e) (state s reg)) k
+kept-step (draw seed) reg s h k = left-both (Kept) _ (λ e. kept-draw s h k seed (drawn-exactly s seed .0 e)) k
+kept-step (check r x) reg s h k = rw (left-alone (first (checkTests s r x)) h) (kept-check s h k r x)
 
-      kept-commit : (st : State) → Kept p (committedBy s r head shares0 shares1) (historyAfter (commit r head shares0 shares1) st h)
-      unfolding committedBy historyAfter
-      kept-commit st =
-          let was = c .phase in
-          let due = c .due in
-          let low = c .within in
-          record {
-            sound = record { phase = v .phase; inside = v .inside; sound = v .sound; used = v .used; closed = v .closed; committed = omega arith; checked = v .checked };
-            taken = k .taken;
-            numbers = k .numbers;
-            sheet = k .sheet;
-            long = length-put (s .trail) (32 * r) new fits ∙ k .long;
-            uncommitted = λ l. absurd (omega arith);
-            unchecked = k .unchecked;
-            closing = k .closing;
-            closed = k .closed;
-            claim = k .claim;
-            trail = λ l j g. digests j (ℕ-discrete j r) g l;
-            whole = λ l. absurd (omega arith);
-            next = k .next;
-          }
+kept-trace : (cs : List Call) (l : Trace) → Kept (l .session) (l .history) → Kept (trace cs l .session) (trace cs l .history)
+unfolding trace extend
+kept-trace [] l k = k
+kept-trace (c ∷ cs) l k = kept-trace cs (extend c l) (kept-step (c .step) (c .register) (l .session) (l .history) k)
 
-    -- ---- check
-
-    abbrev moved : (phase checked : ℕ) → Progress
-    moved phase checked = record { phase = phase; used = s .progress .used; closed = s .progress .closed; committed = s .progress .committed; checked = checked }
-
-    -- one that is not stopped early leaves another phase, from drawn on, and a count
-    kept-checked : (phase checked : ℕ) → s .progress .phase ≡ 3 → 3 ≤ phase → phase ≤ 5 → checked ≤ s .numbers .rounds → (phase ≡ 3 → checked < s .numbers .rounds)
-        → Kept p (changed s (moved phase checked) (s .closing) (s .claim) (s .seed) (s .trail)) h
-    kept-checked phase checked was low high few next = record {
-      sound = record { phase = high; inside = v .inside; sound = v .sound; used = v .used; closed = v .closed; committed = v .committed; checked = few };
-      taken = k .taken;
-      numbers = k .numbers;
-      sheet = k .sheet;
-      long = k .long;
-      uncommitted = λ l. absurd (omega arith);
-      unchecked = λ l. absurd (omega arith);
-      closing = λ l. k .closing (omega arith);
-      closed = λ l. k .closed (omega arith);
-      claim = λ l. k .claim (omega arith);
-      trail = λ l. k .trail (omega arith);
-      whole = λ l. k .whole (omega arith);
-      next = next;
-    }
-
-    kept-accepted : s .progress .phase ≡ 3 → s .progress .checked < s .numbers .rounds → Kept p (acceptedBy s) h
-    unfolding acceptedBy
-    kept-accepted was low = go (eqb (s .progress .checked + 1) (s .numbers .rounds)) refl
-      where
-        go : (b : Bool) → eqb (s .progress .checked + 1) (s .numbers .rounds) ≡ b
-            → Kept p (changed s (moved (cond b 5 3) (s .progress .checked + 1)) (s .closing) (s .claim) (s .seed) (s .trail)) h
-        go true e = kept-checked 5 (s .progress .checked + 1) was (omega arith) (omega arith) (omega arith) (λ l. absurd (omega arith))
-        go false e =
-            let other = eqb-false (s .progress .checked + 1) (s .numbers .rounds) e in
-            kept-checked 3 (s .progress .checked + 1) was (omega arith) (omega arith) (omega arith) (λ l. omega arith)
-
-    kept-refused : s .progress .phase ≡ 3 → s .progress .checked < s .numbers .rounds → Kept p (refusedBy s) h
-    unfolding refusedBy
-    kept-refused was low = kept-checked 4 (s .progress .checked) was (omega arith) (omega arith) (omega arith) (λ l. absurd (omega arith))
-
-    kept-check : (round : ℕ) (x : Inputs) → Kept p (checkedBy p s round x) h
-    unfolding checkedBy
-    kept-check round x =
-        left (λ t. Kept p t h) (first (checkEarly p s round x))
-        (λ e. let d = drawn-now p s round x e in left (λ t. Kept p t h) (first (checkLate p s round x)) (λ f. kept-accepted (d .0) (d .1)) (kept-refused (d .0) (d .1)))
-        k
-
-  -- ---- every step, and every list of them
-
-  kept-step : (x : Step) (reg : Bytes) (s : Session) (h : History) → Kept p s h
-      → let st = state s reg in Kept p (after p x st .session) (leaves (reply p x st) (historyAfter x st h) h)
-  unfolding reply after historyAfter
-  kept-step (clear text) reg s h k = left-both (Kept p) _ (λ e. kept-clear text (cleared-exactly p reg text .0 e .sheet)) k
-  kept-step (admit ballot) reg s h k = left-both (Kept p) _ (λ e. kept-admit s h k reg ballot (admitted-exactly p s reg ballot .0 e)) k
-  kept-step (withdraw mark) reg s h k = left (Kept p s) _ (λ e. k) k
-  kept-step close reg s h k = left-both (Kept p) _ (λ e. kept-close s h k reg (closed-exactly p s reg .0 e)) k
-  kept-step (claim claims) reg s h k = left-both (Kept p) _ (λ e. kept-claim s h k (state s reg) claims (claimed-exactly p s claims .0 e)) k
-  kept-step (commit r head shares0 shares1) reg s h k =
-      left-both (Kept p) _ (λ e. kept-commit s h k r head shares0 shares1 (committed-exactly p s r head shares0 shares1 .0 e) (state s reg)) k
-  kept-step (draw seed) reg s h k = left-both (Kept p) _ (λ e. kept-draw s h k seed (drawn-exactly p s seed .0 e)) k
-  kept-step (check r x) reg s h k = rw (left-alone (first (checkTests p s r x)) h) (kept-check s h k r x)
-
-  kept-trace : (cs : List Call) (l : Trace) → Kept p (l .session) (l .history) → Kept p (trace p cs l .session) (trace p cs l .history)
-  unfolding trace extend
-  kept-trace [] l k = k
-  kept-trace (c ∷ cs) l k = kept-trace cs (extend p c l) (kept-step (c .step) (c .register) (l .session) (l .history) k)
-
-  pub kept : (sheet : Bytes) (cs : List Call) → first (order p sheet) ≡ Taken → Kept p (trace p cs (initial sheet) .session) (trace p cs (initial sheet) .history)
-  unfolding initial
-  kept sheet cs e = kept-trace cs (initial sheet) (kept-clear sheet (sheet-exactly p sheet .0 (taken-exactly (order p sheet) .0 e)))
+pub kept : (sheet : Bytes) (cs : List Call) → first (order sheet) ≡ Taken → Kept (trace cs (initial sheet) .session) (trace cs (initial sheet) .history)
+unfolding initial
+kept sheet cs e = kept-trace cs (initial sheet) (kept-clear sheet (sheet-exactly sheet .0 (taken-exactly (order sheet) .0 e)))

@@ -24,14 +24,14 @@ use Rattle.histories.proofs.Valid.{off-both, off-turn, valid-holds, she
 use Rattle.histories.proofs.Exact.{cleared-exactly}
 use Rattle.histories.proofs.Kept.{kept}
 
-pub reachable-valid : (p : ℕ) → StaysValid p
-reachable-valid p sheet cs e = let k = kept p sheet cs e in (k .sound, k .numbers)
+pub reachable-valid : StaysValid
+reachable-valid sheet cs e = let k = kept sheet cs e in (k .sound, k .numbers)
 
-pub clear-taken : (p : ℕ) → ClearTaken p
+pub clear-taken : ClearTaken
 unfolding reply after ownInitial
-clear-taken p st sheet e =
-    let r = first (clearTests p (st .register) sheet) in (
-      taken-exactly (order p sheet) .1 (sheet-exactly p sheet .1 (cleared-exactly p (st .register) sheet .0 e .sheet)),
+clear-taken st sheet e =
+    let r = first (clearTests (st .register) sheet) in (
+      taken-exactly (order sheet) .1 (sheet-exactly sheet .1 (cleared-exactly (st .register) sheet .0 e .sheet)),
       sym (ap₂ state (leaves-taken r (st .session) e) (leaves-taken r (st .register) e)),
     )
 
@@ -40,31 +40,31 @@ undue : (v d : Bool) → v ≡ true → not (v && d) ≡ true → d ≡ false
 undue true d e h = not-true d h
 undue false d e h = absurd (let z : _≡_ {A = ℕ} 0 1 = cc in omega arith)
 
-module _ (p : ℕ) (s : Session) (reg : Bytes) (place : ℕ) (v : valid p s ≡ true) where
+module _ (s : Session) (reg : Bytes) (place : ℕ) (v : valid s ≡ true) where
   -- the order of a check after 31
-  check-others : (round : ℕ) (x : Inputs) → Others 31 (earlyTests (storedFor s round) p x ++ checkLate p s round x)
+  check-others : (round : ℕ) (x : Inputs) → Others 31 (earlyTests (storedFor s round) x ++ checkLate s round x)
   unfolding earlyTests storedTests checkLate lateTests
   check-others round x =
-      others-append 31 (order p (x .sheet) ++ (test 1 0 (not (inputsSized (storedFor s round) x)) ∷ storedTests (storedFor s round) x)) (checkLate p s round x)
+      others-append 31 (order (x .sheet) ++ (test 1 0 (not (inputsSized (storedFor s round) x)) ∷ storedTests (storedFor s round) x)) (checkLate s round x)
       (omega arith)
-      (later-others (checkLate p s round x) (later-round (parametersOf p (x .sheet)) (s .progress .closed) (drawnRound (storedFor s round) x)))
+      (later-others (checkLate s round x) (later-round (parametersOf (x .sheet)) (s .progress .closed) (drawnRound (storedFor s round) x)))
 
   -- the first test of an order holds, with 31: the step is not due
-  not-due : (due : Bool) (ts : List Test) → Others 31 ts → first (dueTest p s due ∷ ts) ≡ Refused 31 place → due ≡ false
-  not-due due ts o e = undue (valid p s) due v (head-holds 31 place _ ts o e)
+  not-due : (due : Bool) (ts : List Test) → Others 31 ts → first (dueTest s due ∷ ts) ≡ Refused 31 place → due ≡ false
+  not-due due ts o e = undue (valid s) due v (head-holds 31 place _ ts o e)
 
-  only-31 : (x : Step) → reply p x (state s reg) ≡ Refused 31 place → Undue x s
+  only-31 : (x : Step) → reply x (state s reg) ≡ Refused 31 place → Undue x s
   unfolding reply Undue clearTests admitTests withdrawTests closeTests claimTests commitTests drawTests checkEarly checkTests
-  only-31 (clear text) e = absurd (others 31 place (clearTests p reg text) (omega arith) e)
+  only-31 (clear text) e = absurd (others 31 place (clearTests reg text) (omega arith) e)
   only-31 (admit ballot) e = eqb-false _ _ (not-due _ _ (omega arith) e)
   only-31 (withdraw mark) e = eqb-false _ _ (not-due _ _ (omega arith) e)
   only-31 close e = eqb-false _ _ (not-due _ _ (omega arith) e)
   only-31 (claim claims) e = eqb-false _ _ (not-due _ _ (omega arith) e)
   only-31 (commit k head shares0 shares1) e = off-turn _ _ _ _ _ (not-due _ _ (omega arith) e)
   only-31 (draw seed) e = off-both _ _ _ _ (not-due _ _ (omega arith) e)
-  only-31 (check k x) e = off-turn _ _ _ _ _ (not-due _ (earlyTests (storedFor s k) p x ++ checkLate p s k x) (check-others k x) e)
+  only-31 (check k x) e = off-turn _ _ _ _ _ (not-due _ (earlyTests (storedFor s k) x ++ checkLate s k x) (check-others k x) e)
 
-pub only-phase-or-round : (p : ℕ) → OnlyPhaseOrRound p
-only-phase-or-round p sheet cs e x reg place r =
-    let s = trace p cs (initial sheet) .session in
-    only-31 p s reg place (valid-holds p s (reachable-valid p sheet cs e .0)) x r
+pub only-phase-or-round : OnlyPhaseOrRound
+only-phase-or-round sheet cs e x reg place r =
+    let s = trace cs (initial sheet) .session in
+    only-31 s reg place (valid-holds s (reachable-valid sheet cs e .0)) x r

@@ -121,14 +121,14 @@ record Own (st : State) (h : History) (bs : List Bytes) : Type 0 where
   long : Long (ballotLength (st .session .numbers .ring)) bs
   noted : 0 < st .session .progress .phase → h .batch ≡ map sha3 bs
 
-module _ (p : ℕ) (st : State) (h : History) (bs : List Bytes) (o : Own st h bs) where
+module _ (st : State) (h : History) (bs : List Bytes) (o : Own st h bs) where
   abbrev s : Session
   s = st .session
 
   abbrev reg : Bytes
   reg = st .register
 
-  own-admit : (ballot : Bytes) → Admits p s reg ballot → Own (state (admittedBy s) (admitted reg (s .progress .used) ballot)) h (bs ++ (ballot ∷ []))
+  own-admit : (ballot : Bytes) → Admits s reg ballot → Own (state (admittedBy s) (admitted reg (s .progress .used) ballot)) h (bs ++ (ballot ∷ []))
   unfolding admittedBy
   own-admit ballot a =
       let was = a .phase in
@@ -147,7 +147,7 @@ module _ (p : ℕ) (st : State) (h : History) (bs : List Bytes) (o : Own st h bs
         noted = λ l. absurd (omega arith);
       }
 
-  own-withdraw : Single reg (s .progress .used) → (mark : ℕ) → Withdraws p s reg mark → Own (state s (withdrawn reg (find reg mark (s .progress .used)))) h (without mark bs)
+  own-withdraw : Single reg (s .progress .used) → (mark : ℕ) → Withdraws s reg mark → Own (state s (withdrawn reg (find reg mark (s .progress .used)))) h (without mark bs)
   own-withdraw single mark w =
       let was = w .phase in
       let l = w .within in
@@ -163,25 +163,25 @@ module _ (p : ℕ) (st : State) (h : History) (bs : List Bytes) (o : Own st h bs
   unfolding closedBy historyAfter standingDigests
   own-close = record { rows = o .rows; long = o .long; noted = λ l. sym (rows-digests (o .rows)) }
 
-  own-claim : (claims : Bytes) → Claims p s claims → Own (state (claimedBy s claims) reg) (historyAfter (claim claims) st h) bs
+  own-claim : (claims : Bytes) → Claims s claims → Own (state (claimedBy s claims) reg) (historyAfter (claim claims) st h) bs
   unfolding claimedBy historyAfter
   own-claim claims c = let was = c .phase in record { rows = o .rows; long = o .long; noted = λ l. o .noted (omega arith) }
 
-  own-draw : (seed : Bytes) → Draws p s seed → Own (state (drawnBy s seed) reg) h bs
+  own-draw : (seed : Bytes) → Draws s seed → Own (state (drawnBy s seed) reg) h bs
   unfolding drawnBy
   own-draw seed d = let was = d .phase in record { rows = o .rows; long = o .long; noted = λ l. o .noted (omega arith) }
 
   abbrev Here : Session → Type 0
   Here t = Own (state t reg) h bs
 
-  own-check : (round : ℕ) (x : Inputs) → Here (checkedBy p s round x)
+  own-check : (round : ℕ) (x : Inputs) → Here (checkedBy s round x)
   unfolding checkedBy acceptedBy refusedBy
-  own-check round x = left Here (first (checkEarly p s round x)) judged o
+  own-check round x = left Here (first (checkEarly s round x)) judged o
     where
-      judged : first (checkEarly p s round x) ≡ Taken → Here (leaves (first (checkLate p s round x)) (acceptedBy s) (refusedBy s))
+      judged : first (checkEarly s round x) ≡ Taken → Here (leaves (first (checkLate s round x)) (acceptedBy s) (refusedBy s))
       judged e =
-          let was = drawn-now p s round x e .0 in
-          left Here (first (checkLate p s round x)) (λ f. record { rows = o .rows; long = o .long; noted = λ l. o .noted (omega arith) })
+          let was = drawn-now s round x e .0 in
+          left Here (first (checkLate s round x)) (λ f. record { rows = o .rows; long = o .long; noted = λ l. o .noted (omega arith) })
           (record { rows = o .rows; long = o .long; noted = λ l. o .noted (omega arith) })
 
   -- with session and register apart, and with this register
@@ -192,22 +192,22 @@ module _ (p : ℕ) (st : State) (h : History) (bs : List Bytes) (o : Own st h bs
   With t = Own (state t reg)
 
   own-step : Single reg (s .progress .used) → (x : Step)
-      → Own (after p x st) (leaves (reply p x st) (historyAfter x st h) h) (leaves (reply p x st) (rollAfter x bs) bs)
+      → Own (after x st) (leaves (reply x st) (historyAfter x st h) h) (leaves (reply x st) (rollAfter x bs) bs)
   unfolding reply after cleared committedBy historyAfter rollAfter
   own-step single (clear text) = left-four Whole _ (λ e. record { rows = start; long = tt; noted = λ l. absurd (omega arith) }) o
-  own-step single (admit ballot) = left-four Whole _ (λ e. own-admit ballot (admitted-exactly p s reg ballot .0 e)) o
-  own-step single (withdraw mark) = left-all (Whole s) _ (λ e. own-withdraw single mark (withdrawn-exactly p s reg mark .0 e)) o
+  own-step single (admit ballot) = left-four Whole _ (λ e. own-admit ballot (admitted-exactly s reg ballot .0 e)) o
+  own-step single (withdraw mark) = left-all (Whole s) _ (λ e. own-withdraw single mark (withdrawn-exactly s reg mark .0 e)) o
   own-step single close = left-all With _ (λ e. own-close) o
-  own-step single (claim claims) = left-all With _ (λ e. own-claim claims (claimed-exactly p s claims .0 e)) o
+  own-step single (claim claims) = left-all With _ (λ e. own-claim claims (claimed-exactly s claims .0 e)) o
   own-step single (commit k head shares0 shares1) = left-all With _ (λ e. record { rows = o .rows; long = o .long; noted = o .noted }) o
-  own-step single (draw seed) = left-all With _ (λ e. own-draw seed (drawn-exactly p s seed .0 e)) o
-  own-step single (check k x) = rw (left-alone (first (checkTests p s k x)) h, left-alone (first (checkTests p s k x)) bs) (own-check k x)
+  own-step single (draw seed) = left-all With _ (λ e. own-draw seed (drawn-exactly s seed .0 e)) o
+  own-step single (check k x) = rw (left-alone (first (checkTests s k x)) h, left-alone (first (checkTests s k x)) bs) (own-check k x)
 
-own-ownTrace : (p : ℕ) (xs : List Step) (t : OwnTrace) → Single (t .now .register) (t .now .session .progress .used) → Own (t .now) (t .history) (t .roll)
-    → Own (ownTrace p xs t .now) (ownTrace p xs t .history) (ownTrace p xs t .roll)
+own-ownTrace : (xs : List Step) (t : OwnTrace) → Single (t .now .register) (t .now .session .progress .used) → Own (t .now) (t .history) (t .roll)
+    → Own (ownTrace xs t .now) (ownTrace xs t .history) (ownTrace xs t .roll)
 unfolding ownTrace ownExtend
-own-ownTrace p [] t single o = o
-own-ownTrace p (x ∷ xs) t single o = own-ownTrace p xs (ownExtend p x t) (single-step p (t .now) x single) (own-step p (t .now) (t .history) (t .roll) o single x)
+own-ownTrace [] t single o = o
+own-ownTrace (x ∷ xs) t single o = own-ownTrace xs (ownExtend x t) (single-step (t .now) x single) (own-step (t .now) (t .history) (t .roll) o single x)
 
 -- each of them has that length
 each-long : (size : ℕ) (bs : List Bytes) → Long size bs → (b : Bytes) → List·Memᴰ b bs → length b ≡ size
@@ -218,21 +218,21 @@ each-long size (c ∷ cs) h b m = go (List·Memᴰ·append-cases (c ∷ []) m) (
     go (inl n) rest = let e = List·Memᴰ·eq-of-singleton n in rw e (h .0)
     go (inr n) rest = rest n
 
-pub roll-is-batch : (p : ℕ) → RollIsBatch p
+pub roll-is-batch : RollIsBatch
 unfolding ownInitial cleared
-roll-is-batch p sheet steps l =
-    let t = ownTrace p steps (ownInitial sheet) in
-    let o = own-ownTrace p steps (ownInitial sheet) (single-none _) (record { rows = start; long = tt; noted = λ q. absurd (omega arith) }) in
+roll-is-batch sheet steps l =
+    let t = ownTrace steps (ownInitial sheet) in
+    let o = own-ownTrace steps (ownInitial sheet) (single-none _) (record { rows = start; long = tt; noted = λ q. absurd (omega arith) }) in
     (o .noted l, each-long _ (t .roll) (o .long), rw (o .noted l, length-map (t .roll) sha3) (ballotDigests-concatenated _ (t .roll) (o .long)))
 
 -- ---- such a list is one of those in which each step is lent any register
 
-same-trace : (p : ℕ) (xs : List Step) (t : OwnTrace) (l : Trace) → l .session ≡ t .now .session → l .history ≡ t .history
-    → (trace p (calls p xs (t .now)) l .session ≡ ownTrace p xs t .now .session) × (trace p (calls p xs (t .now)) l .history ≡ ownTrace p xs t .history)
+same-trace : (xs : List Step) (t : OwnTrace) (l : Trace) → l .session ≡ t .now .session → l .history ≡ t .history
+    → (trace (calls xs (t .now)) l .session ≡ ownTrace xs t .now .session) × (trace (calls xs (t .now)) l .history ≡ ownTrace xs t .history)
 unfolding trace extend ownTrace ownExtend calls
-same-trace p [] t l es eh = (es, eh)
-same-trace p (x ∷ xs) t l es eh = same-trace p xs (ownExtend p x t) (extend p (record { step = x; register = t .now .register }) l) (rw es) (rw (es, eh))
+same-trace [] t l es eh = (es, eh)
+same-trace (x ∷ xs) t l es eh = same-trace xs (ownExtend x t) (extend (record { step = x; register = t .now .register }) l) (rw es) (rw (es, eh))
 
-pub own-register : (p : ℕ) → OwnRegister p
+pub own-register : OwnRegister
 unfolding ownInitial initial
-own-register p sheet steps = same-trace p steps (ownInitial sheet) (initial sheet) refl refl
+own-register sheet steps = same-trace steps (ownInitial sheet) (initial sheet) refl refl

@@ -133,13 +133,13 @@ range-exactly k = (says, holds)
 
 -- ---- 4
 
-pub sound-exactly : (p : ℕ) (k : Numbers) → (unsound p k ≡ false) ↔ Sound p k
-sound-exactly p k = (
-  λ e. let r = numbers.is-sound p k e in record { divided = r .divided; noise-fits = r .noise-fits },
+pub sound-exactly : (k : Numbers) → (unsound k ≡ false) ↔ Sound k
+sound-exactly k = (
+  λ e. let r = numbers.is-sound k e in record { divided = r .divided; noise-fits = r .noise-fits },
   λ r. unfold unsound in
-      none-of (conditions p k) (
+      none-of (conditions k) (
         ap not (eq-eqb ((k .modulus - 1) % (2 * k .ring)) 0 (r .divided)),
-        (ap not (lt-ltb ((1 + 2 ^ k .drown) * noise p (k .ring)) ((k .modulus - 1) / 2) (r .noise-fits)), tt),
+        (ap not (lt-ltb ((1 + 2 ^ k .drown) * noiseOf k) ((k .modulus - 1) / 2) (r .noise-fits)), tt),
       ),
 )
 

@@ -38,9 +38,9 @@ neither false b e = (refl, e)
 
 -- ---- a session
 
-pub valid-says : (p : ℕ) (s : Session) → valid p s ≡ true → Valid p s
+pub valid-says : (s : Session) → valid s ≡ true → Valid s
 unfolding inLimits
-valid-says p s e =
+valid-says s e =
     let a = both _ _ e in
     let b = both _ _ (a .1) in
     let c = both _ _ (b .1) in
@@ -50,20 +50,20 @@ valid-says p s e =
     record {
       phase = leb-true _ _ (a .0);
       inside = range-exactly (s .numbers) .0 (not-true _ (b .0));
-      sound = sound-exactly p (s .numbers) .0 (not-true _ (c .0));
+      sound = sound-exactly (s .numbers) .0 (not-true _ (c .0));
       used = leb-true _ _ (d .0);
       closed = leb-true _ _ (f .0);
       committed = leb-true _ _ (g .0);
       checked = leb-true _ _ (g .1);
     }
 
-pub valid-holds : (p : ℕ) (s : Session) → Valid p s → valid p s ≡ true
+pub valid-holds : (s : Session) → Valid s → valid s ≡ true
 unfolding inLimits
-valid-holds p s v =
+valid-holds s v =
     rw (
       le-leb (s .progress .phase) 5 (v .phase),
       range-exactly (s .numbers) .1 (v .inside),
-      sound-exactly p (s .numbers) .1 (v .sound),
+      sound-exactly (s .numbers) .1 (v .sound),
       le-leb (s .progress .used) 4096 (v .used),
       le-leb (s .progress .closed) 4096 (v .closed),
       le-leb (s .progress .committed) (s .numbers .rounds) (v .committed),
@@ -72,11 +72,11 @@ valid-holds p s v =
 
 -- ---- 31
 
-pub ready : (p : ℕ) (s : Session) (due : Bool) → not (valid p s && due) ≡ false → Valid p s × (due ≡ true)
-ready p s due e = let h = both (valid p s) due (not-false _ e) in (valid-says p s (h .0), h .1)
+pub ready : (s : Session) (due : Bool) → not (valid s && due) ≡ false → Valid s × (due ≡ true)
+ready s due e = let h = both (valid s) due (not-false _ e) in (valid-says s (h .0), h .1)
 
-pub is-ready : (p : ℕ) (s : Session) {due : Bool} → Valid p s → due ≡ true → not (valid p s && due) ≡ false
-is-ready p s v e = ap not (ap₂ _&&_ (valid-holds p s v) e)
+pub is-ready : (s : Session) {due : Bool} → Valid s → due ≡ true → not (valid s && due) ≡ false
+is-ready s v e = ap not (ap₂ _&&_ (valid-holds s v) e)
 
 -- in a phase, a round is due
 pub on-turn : (phase at r k n : ℕ) → (eqb phase at && (eqb r k && ltb r n)) ≡ true → (phase ≡ at) × (r ≡ k) × (r < n)
@@ -113,10 +113,10 @@ off-turn phase at r k n e = go (either (eqb phase at) (eqb r k && ltb r n) e)
 
 -- ---- the sheet's order
 
-pub sheet-exactly : (p : ℕ) (text : Bytes) → None (order p text) ↔ SheetTaken p text
-sheet-exactly p text = (says, holds)
+pub sheet-exactly : (text : Bytes) → None (order text) ↔ SheetTaken text
+sheet-exactly text = (says, holds)
   where
-    says : None (order p text) → SheetTaken p text
+    says : None (order text) → SheetTaken text
     says n =
         let l = neither (eqb (length text) 0) (ltb 262144 (length text)) (n .0) in
         let some = eqb-false (length text) 0 (l .0) in
@@ -127,16 +127,16 @@ sheet-exactly p text = (says, holds)
           form = form .0;
           decimals = form .1;
           inside = range-exactly (sheetOf text .numbers) .0 (n .1 .1 .0);
-          sound = sound-exactly p (sheetOf text .numbers) .0 (n .1 .1 .1 .0);
+          sound = sound-exactly (sheetOf text .numbers) .0 (n .1 .1 .1 .0);
           fit = lists-exactly (sheetOf text) .0 (n .1 .1 .1 .1 .0);
         }
 
-    holds : SheetTaken p text → None (order p text)
+    holds : SheetTaken text → None (order text)
     holds t =
         let some = t .some in (
           ap₂ _||_ (ne-eqb (length text) 0 (λ e. omega arith)) (le-ltb 262144 (length text) (t .few)),
           (
             ap not (form-exactly text (sheetOf text) .1 (t .form, t .decimals) .0),
-            (range-exactly (sheetOf text .numbers) .1 (t .inside), (sound-exactly p (sheetOf text .numbers) .1 (t .sound), (lists-exactly (sheetOf text) .1 (t .fit), tt))),
+            (range-exactly (sheetOf text .numbers) .1 (t .inside), (sound-exactly (sheetOf text .numbers) .1 (t .sound), (lists-exactly (sheetOf text) .1 (t .fit), tt))),
           ),
         )

@@ -46,153 +46,152 @@ out mark i used reg s g m k =
     let same : i ≡ g .at = s .one i (g .at) (t .0) (g .within) (k ∙ sym (g .marked)) in
     g .down (rw same at (t .1))
 
-module _ (p : ℕ) where
-  -- ---- what holds of the register and the entries used, after any step
+-- ---- what holds of the register and the entries used, after any step
 
-  module _ (P : Bytes → ℕ → Type 0) (st : State)
-      (admits : (ballot : Bytes) → Admits p (st .session) (st .register) ballot → P (admitted (st .register) (st .session .progress .used) ballot) (st .session .progress .used + 1))
-      (withdraws : (mark : ℕ) → Withdraws p (st .session) (st .register) mark → P (withdrawn (st .register) (find (st .register) mark (st .session .progress .used))) (st .session .progress .used)) where
-    abbrev Both : Session → Bytes → Type 0
-    Both s reg = P reg (s .progress .used)
+module _ (P : Bytes → ℕ → Type 0) (st : State)
+    (admits : (ballot : Bytes) → Admits (st .session) (st .register) ballot → P (admitted (st .register) (st .session .progress .used) ballot) (st .session .progress .used + 1))
+    (withdraws : (mark : ℕ) → Withdraws (st .session) (st .register) mark → P (withdrawn (st .register) (find (st .register) mark (st .session .progress .used))) (st .session .progress .used)) where
+  abbrev Both : Session → Bytes → Type 0
+  Both s reg = P reg (s .progress .used)
 
-    abbrev Used : Session → Type 0
-    Used s = P (st .register) (s .progress .used)
+  abbrev Used : Session → Type 0
+  Used s = P (st .register) (s .progress .used)
 
-    rule : (x : Step) → (clears x (reply p x st) ≡ true → P (zeros registerLength) 0) → P (st .register) (st .session .progress .used) → P (after p x st .register) (after p x st .session .progress .used)
-    unfolding reply after cleared admittedBy closedBy claimedBy committedBy drawnBy acceptedBy refusedBy checkedBy
-    rule (clear text) c h = left-both Both (first (clearTests p (st .register) text)) (λ e. c (clears-taken text _ e)) h
-    rule (admit ballot) c h = left-both Both _ (λ e. admits ballot (admitted-exactly p (st .session) (st .register) ballot .0 e)) h
-    rule (withdraw mark) c h = left (λ reg. P reg (st .session .progress .used)) _ (λ e. withdraws mark (withdrawn-exactly p (st .session) (st .register) mark .0 e)) h
-    rule close c h = left Used _ (λ e. h) h
-    rule (claim claims) c h = left Used _ (λ e. h) h
-    rule (commit k head shares0 shares1) c h = left Used _ (λ e. h) h
-    rule (draw seed) c h = left Used _ (λ e. h) h
-    rule (check k x) c h = left Used _ (λ e. left Used _ (λ f. h) h) h
+  rule : (x : Step) → (clears x (reply x st) ≡ true → P (zeros registerLength) 0) → P (st .register) (st .session .progress .used) → P (after x st .register) (after x st .session .progress .used)
+  unfolding reply after cleared admittedBy closedBy claimedBy committedBy drawnBy acceptedBy refusedBy checkedBy
+  rule (clear text) c h = left-both Both (first (clearTests (st .register) text)) (λ e. c (clears-taken text _ e)) h
+  rule (admit ballot) c h = left-both Both _ (λ e. admits ballot (admitted-exactly (st .session) (st .register) ballot .0 e)) h
+  rule (withdraw mark) c h = left (λ reg. P reg (st .session .progress .used)) _ (λ e. withdraws mark (withdrawn-exactly (st .session) (st .register) mark .0 e)) h
+  rule close c h = left Used _ (λ e. h) h
+  rule (claim claims) c h = left Used _ (λ e. h) h
+  rule (commit k head shares0 shares1) c h = left Used _ (λ e. h) h
+  rule (draw seed) c h = left Used _ (λ e. h) h
+  rule (check k x) c h = left Used _ (λ e. left Used _ (λ f. h) h) h
 
-  module _ (st : State) where
-    abbrev reg : Bytes
-    reg = st .register
+module _ (st : State) where
+  abbrev reg : Bytes
+  reg = st .register
 
-    abbrev used : ℕ
-    used = st .session .progress .used
+  abbrev used : ℕ
+  used = st .session .progress .used
 
-    -- ---- an admission
+  -- ---- an admission
 
-    module _ (ballot : Bytes) (a : Admits p (st .session) reg ballot) where
-      abbrev new : Bytes
-      new = admitted reg used ballot
+  module _ (ballot : Bytes) (a : Admits (st .session) reg ballot) where
+    abbrev new : Bytes
+    new = admitted reg used ballot
 
-      four : 4 ≤ length ballot
-      four = omega (arith, a .ballot-size)
+    four : 4 ≤ length ballot
+    four = omega (arith, a .ballot-size)
 
-      old : (i : ℕ) → i < used → markAt new i ≡ markAt reg i
-      old = admitted-marks reg used ballot (a .register-size) (a .room) four
+    old : (i : ℕ) → i < used → markAt new i ≡ markAt reg i
+    old = admitted-marks reg used ballot (a .register-size) (a .room) four
 
-      last : markAt new used ≡ markOf ballot
-      last = admitted-mark reg used ballot (a .register-size) (a .room) four
+    last : markAt new used ≡ markOf ballot
+    last = admitted-mark reg used ballot (a .register-size) (a .room) four
 
-      single-admit : Single reg used → Single new (used + 1)
-      single-admit h = record { one = λ i j hi hj m. go i j (ℕ-discrete i used) (ℕ-discrete j used) hi hj m }
-        where
-          go : (i j : ℕ) → Dec (i ≡ used) → Dec (j ≡ used) → i < used + 1 → j < used + 1 → markAt new i ≡ markAt new j → i ≡ j
-          go i j (yes e) (yes f) hi hj m = e ∙ sym f
-          go i j (yes e) (no f) hi hj m = absurd (a .unknown j (omega arith) (sym (old j (omega arith)) ∙ sym m ∙ (rw e last)))
-          go i j (no e) (yes f) hi hj m = absurd (a .unknown i (omega arith) (sym (old i (omega arith)) ∙ m ∙ (rw f last)))
-          go i j (no e) (no f) hi hj m = h .one i j (omega arith) (omega arith) (sym (old i (omega arith)) ∙ m ∙ old j (omega arith))
+    single-admit : Single reg used → Single new (used + 1)
+    single-admit h = record { one = λ i j hi hj m. go i j (ℕ-discrete i used) (ℕ-discrete j used) hi hj m }
+      where
+        go : (i j : ℕ) → Dec (i ≡ used) → Dec (j ≡ used) → i < used + 1 → j < used + 1 → markAt new i ≡ markAt new j → i ≡ j
+        go i j (yes e) (yes f) hi hj m = e ∙ sym f
+        go i j (yes e) (no f) hi hj m = absurd (a .unknown j (omega arith) (sym (old j (omega arith)) ∙ sym m ∙ (rw e last)))
+        go i j (no e) (yes f) hi hj m = absurd (a .unknown i (omega arith) (sym (old i (omega arith)) ∙ m ∙ (rw f last)))
+        go i j (no e) (no f) hi hj m = h .one i j (omega arith) (omega arith) (sym (old i (omega arith)) ∙ m ∙ old j (omega arith))
 
-      gone-admit : (mark : ℕ) → Gone mark reg used → Gone mark new (used + 1)
-      gone-admit mark h =
-          let l = h .within in
-          record {
-            at = h .at;
-            within = omega arith;
-            marked = old (h .at) l ∙ h .marked;
-            down = λ e. h .down (sym (admitted-states reg used ballot (a .register-size) (a .room) four (h .at) l) ∙ e);
-          }
+    gone-admit : (mark : ℕ) → Gone mark reg used → Gone mark new (used + 1)
+    gone-admit mark h =
+        let l = h .within in
+        record {
+          at = h .at;
+          within = omega arith;
+          marked = old (h .at) l ∙ h .marked;
+          down = λ e. h .down (sym (admitted-states reg used ballot (a .register-size) (a .room) four (h .at) l) ∙ e);
+        }
 
-    -- ---- a withdrawal
+  -- ---- a withdrawal
 
-    module _ (mark : ℕ) (w : Withdraws p (st .session) reg mark) where
-      abbrev left-by : Bytes
-      left-by = withdrawn reg (find reg mark used)
+  module _ (mark : ℕ) (w : Withdraws (st .session) reg mark) where
+    abbrev left-by : Bytes
+    left-by = withdrawn reg (find reg mark used)
 
-      is : find reg mark used ≡ w .at
-      is = here reg mark (w .at) used (w .within) (w .marked) (w .earlier)
+    is : find reg mark used ≡ w .at
+    is = here reg mark (w .at) used (w .within) (w .marked) (w .earlier)
 
-      place : find reg mark used < 4096
-      place = let l = w .within in let few = w .sound .used in omega (arith, is)
+    place : find reg mark used < 4096
+    place = let l = w .within in let few = w .sound .used in omega (arith, is)
 
-      marks : (i : ℕ) → markAt left-by i ≡ markAt reg i
-      marks = withdrawn-marks reg (find reg mark used) (w .register-size) place
+    marks : (i : ℕ) → markAt left-by i ≡ markAt reg i
+    marks = withdrawn-marks reg (find reg mark used) (w .register-size) place
 
-      single-withdraw : Single reg used → Single left-by used
-      single-withdraw h = record { one = λ i j hi hj m. h .one i j hi hj (sym (marks i) ∙ m ∙ marks j) }
+    single-withdraw : Single reg used → Single left-by used
+    single-withdraw h = record { one = λ i j hi hj m. h .one i j hi hj (sym (marks i) ∙ m ∙ marks j) }
 
-      gone-withdraw : (other : ℕ) → Gone other reg used → Gone other left-by used
-      gone-withdraw other h = record { at = h .at; within = h .within; marked = marks (h .at) ∙ h .marked; down = go (ℕ-discrete (h .at) (find reg mark used)) }
-        where
-          go : Dec (h .at ≡ find reg mark used) → stateAt left-by (h .at) ≢ 1
-          go (yes e) t =
-              let two = withdrawn-state reg (find reg mark used) (w .register-size) place in
-              let one : stateAt left-by (find reg mark used) ≡ 1 = rw e at t in
-              omega arith
-          go (no e) t = h .down (sym (withdrawn-states reg (find reg mark used) (w .register-size) place (h .at) e) ∙ t)
+    gone-withdraw : (other : ℕ) → Gone other reg used → Gone other left-by used
+    gone-withdraw other h = record { at = h .at; within = h .within; marked = marks (h .at) ∙ h .marked; down = go (ℕ-discrete (h .at) (find reg mark used)) }
+      where
+        go : Dec (h .at ≡ find reg mark used) → stateAt left-by (h .at) ≢ 1
+        go (yes e) t =
+            let two = withdrawn-state reg (find reg mark used) (w .register-size) place in
+            let one : stateAt left-by (find reg mark used) ≡ 1 = rw e at t in
+            omega arith
+        go (no e) t = h .down (sym (withdrawn-states reg (find reg mark used) (w .register-size) place (h .at) e) ∙ t)
 
-      gone-first : Gone mark left-by used
-      gone-first = record {
-        at = find reg mark used;
-        within = omega (arith, is, w .within);
-        marked = marks (find reg mark used) ∙ (rw is (w .marked));
-        down = λ e. let two = withdrawn-state reg (find reg mark used) (w .register-size) place in omega arith;
-      }
+    gone-first : Gone mark left-by used
+    gone-first = record {
+      at = find reg mark used;
+      within = omega (arith, is, w .within);
+      marked = marks (find reg mark used) ∙ (rw is (w .marked));
+      down = λ e. let two = withdrawn-state reg (find reg mark used) (w .register-size) place in omega arith;
+    }
 
-    -- ---- any step
+  -- ---- any step
 
-    pub single-step : (x : Step) → Single reg used → Single (after p x st .register) (after p x st .session .progress .used)
-    single-step x h = rule Single st (λ ballot a. single-admit ballot a h) (λ mark w. single-withdraw mark w h) x (λ c. single-none (zeros registerLength)) h
+  pub single-step : (x : Step) → Single reg used → Single (after x st .register) (after x st .session .progress .used)
+  single-step x h = rule Single st (λ ballot a. single-admit ballot a h) (λ mark w. single-withdraw mark w h) x (λ c. single-none (zeros registerLength)) h
 
-    gone-step : (mark : ℕ) (x : Step) → clears x (reply p x st) ≡ false → Gone mark reg used → Gone mark (after p x st .register) (after p x st .session .progress .used)
-    gone-step mark x c h =
-        rule (Gone mark) st (λ ballot a. gone-admit ballot a mark h) (λ other w. gone-withdraw other w mark h) x
-        (λ t. absurd (let z : _≡_ {A = ℕ} 0 1 = cc in omega arith)) h
+  gone-step : (mark : ℕ) (x : Step) → clears x (reply x st) ≡ false → Gone mark reg used → Gone mark (after x st .register) (after x st .session .progress .used)
+  gone-step mark x c h =
+      rule (Gone mark) st (λ ballot a. gone-admit ballot a mark h) (λ other w. gone-withdraw other w mark h) x
+      (λ t. absurd (let z : _≡_ {A = ℕ} 0 1 = cc in omega arith)) h
 
-    gone-after : (mark : ℕ) → reply p (withdraw mark) st ≡ Taken → Gone mark (after p (withdraw mark) st .register) (after p (withdraw mark) st .session .progress .used)
-    unfolding reply after
-    gone-after mark e = rw (← leaves-taken (first (withdrawTests p (st .session) reg mark)) {x = withdrawn reg (find reg mark used)} reg e) (gone-first mark (withdrawn-exactly p (st .session) reg mark .0 e))
+  gone-after : (mark : ℕ) → reply (withdraw mark) st ≡ Taken → Gone mark (after (withdraw mark) st .register) (after (withdraw mark) st .session .progress .used)
+  unfolding reply after
+  gone-after mark e = rw (← leaves-taken (first (withdrawTests (st .session) reg mark)) {x = withdrawn reg (find reg mark used)} reg e) (gone-first mark (withdrawn-exactly (st .session) reg mark .0 e))
 
-    -- after a clear that is taken no entry is used
-    single-clear : (sheet : Bytes) → reply p (clear sheet) st ≡ Taken → Single (after p (clear sheet) st .register) (after p (clear sheet) st .session .progress .used)
-    unfolding reply after cleared
-    single-clear sheet e =
-        let r = first (clearTests p reg sheet) in
-        rw (← leaves-taken r {x = zeros registerLength} reg e, ← leaves-taken r {x = cleared sheet} (st .session) e) (single-none (zeros registerLength))
+  -- after a clear that is taken no entry is used
+  single-clear : (sheet : Bytes) → reply (clear sheet) st ≡ Taken → Single (after (clear sheet) st .register) (after (clear sheet) st .session .progress .used)
+  unfolding reply after cleared
+  single-clear sheet e =
+      let r = first (clearTests reg sheet) in
+      rw (← leaves-taken r {x = zeros registerLength} reg e, ← leaves-taken r {x = cleared sheet} (st .session) e) (single-none (zeros registerLength))
 
-  -- ---- over a run
+-- ---- over a run
 
-  single-run : (xs : List Step) (st : State) → Single (st .register) (st .session .progress .used) → Single (run p xs st .register) (run p xs st .session .progress .used)
-  unfolding run
-  single-run [] st h = h
-  single-run (x ∷ xs) st h = single-run xs (after p x st) (single-step st x h)
+single-run : (xs : List Step) (st : State) → Single (st .register) (st .session .progress .used) → Single (run xs st .register) (run xs st .session .progress .used)
+unfolding run
+single-run [] st h = h
+single-run (x ∷ xs) st h = single-run xs (after x st) (single-step st x h)
 
-  gone-run : (mark : ℕ) {xs : List Step} {st : State} → Uncleared p xs st → Gone mark (st .register) (st .session .progress .used) → Gone mark (run p xs st .register) (run p xs st .session .progress .used)
-  unfolding run
-  gone-run mark none h = h
-  gone-run mark (more {x = x} {st = st} c u) h = gone-run mark u (gone-step st mark x c h)
+gone-run : (mark : ℕ) {xs : List Step} {st : State} → Uncleared xs st → Gone mark (st .register) (st .session .progress .used) → Gone mark (run xs st .register) (run xs st .session .progress .used)
+unfolding run
+gone-run mark none h = h
+gone-run mark (more {x = x} {st = st} c u) h = gone-run mark u (gone-step st mark x c h)
 
-  -- what close leaves, where no entry that stands has the mark
-  closed-without : (mark : ℕ) (st : State) → reply p close st ≡ Taken
-      → ((i : ℕ) → List·Memᴰ i (standing (st .register) (st .session .progress .used)) → markAt (st .register) i ≢ mark)
-      → ClosedWithout mark (st .register) (after p close st .session)
-  unfolding reply after closedBy standingDigests
-  closed-without mark st e others =
-      let s = st .session in
-      let reg = st .register in
-      subst (ClosedWithout mark reg) (leaves-taken (first (closeTests p s reg)) {x = closedBy s reg} s e)
-      (record { out = others; count = length-map (standing reg (s .progress .used)) (digestAt reg); digest = refl })
+-- what close leaves, where no entry that stands has the mark
+closed-without : (mark : ℕ) (st : State) → reply close st ≡ Taken
+    → ((i : ℕ) → List·Memᴰ i (standing (st .register) (st .session .progress .used)) → markAt (st .register) i ≢ mark)
+    → ClosedWithout mark (st .register) (after close st .session)
+unfolding reply after closedBy standingDigests
+closed-without mark st e others =
+    let s = st .session in
+    let reg = st .register in
+    subst (ClosedWithout mark reg) (leaves-taken (first (closeTests s reg)) {x = closedBy s reg} s e)
+    (record { out = others; count = length-map (standing reg (s .progress .used)) (digestAt reg); digest = refl })
 
-  pub withdrawn-stays-out : StaysOut p
-  withdrawn-stays-out start sheet before between mark c e u d =
-      let found = run p before (after p (clear sheet) start) in
-      let single = single-run before (after p (clear sheet) start) (single-clear start sheet c) in
-      let later = single-run between (after p (withdraw mark) found) (single-step found (withdraw mark) single) in
-      closed-without mark _ d (λ i. out mark i _ _ later (gone-run mark u (gone-after found mark e)))
+pub withdrawn-stays-out : StaysOut
+withdrawn-stays-out start sheet before between mark c e u d =
+    let found = run before (after (clear sheet) start) in
+    let single = single-run before (after (clear sheet) start) (single-clear start sheet c) in
+    let later = single-run between (after (withdraw mark) found) (single-step found (withdraw mark) single) in
+    closed-without mark _ d (λ i. out mark i _ _ later (gone-run mark u (gone-after found mark e)))

@@ -57,121 +57,120 @@ module _ (P : Parameters) (m : ℕ) (material : Material) (seed : Bytes) (k : �
     pub opening : x .opening ≡ producedOpening P m material (drawnSide seed k)
     pub answers : x .answers ≡ producedAnswers P m material (drawnChallenges seed k (P .repeats))
 
-module _ (p : ℕ) where
-  -- ---- the second demand: each step is taken exactly if its conditions hold, the check in every round; what is lent is bytes
+-- ---- the second demand: each step is taken exactly if its conditions hold, the check in every round; what is lent is bytes
 
-  abbrev pub ClearedExactly : Type 0
-  ClearedExactly = (reg text : Bytes) → (first (clearTests p reg text) ≡ Taken) ↔ Clears p reg text
+abbrev pub ClearedExactly : Type 0
+ClearedExactly = (reg text : Bytes) → (first (clearTests reg text) ≡ Taken) ↔ Clears reg text
 
-  abbrev pub AdmittedExactly : Type 0
-  AdmittedExactly = (s : Session) (reg ballot : Bytes) → (first (admitTests p s reg ballot) ≡ Taken) ↔ Admits p s reg ballot
+abbrev pub AdmittedExactly : Type 0
+AdmittedExactly = (s : Session) (reg ballot : Bytes) → (first (admitTests s reg ballot) ≡ Taken) ↔ Admits s reg ballot
 
-  abbrev pub WithdrawnExactly : Type 0
-  WithdrawnExactly = (s : Session) (reg : Bytes) (mark : ℕ) → (first (withdrawTests p s reg mark) ≡ Taken) ↔ Withdraws p s reg mark
+abbrev pub WithdrawnExactly : Type 0
+WithdrawnExactly = (s : Session) (reg : Bytes) (mark : ℕ) → (first (withdrawTests s reg mark) ≡ Taken) ↔ Withdraws s reg mark
 
-  abbrev pub ClosedExactly : Type 0
-  ClosedExactly = (s : Session) (reg : Bytes) → (first (closeTests p s reg) ≡ Taken) ↔ Closes p s reg
+abbrev pub ClosedExactly : Type 0
+ClosedExactly = (s : Session) (reg : Bytes) → (first (closeTests s reg) ≡ Taken) ↔ Closes s reg
 
-  abbrev pub ClaimedExactly : Type 0
-  ClaimedExactly = (s : Session) (claims : Bytes) → (first (claimTests p s claims) ≡ Taken) ↔ Claims p s claims
+abbrev pub ClaimedExactly : Type 0
+ClaimedExactly = (s : Session) (claims : Bytes) → (first (claimTests s claims) ≡ Taken) ↔ Claims s claims
 
-  abbrev pub CommittedExactly : Type 0
-  CommittedExactly = (s : Session) (round : ℕ) (head shares0 shares1 : Bytes)
-      → (first (commitTests p s round head shares0 shares1) ≡ Taken) ↔ Commits p s round head shares0 shares1
+abbrev pub CommittedExactly : Type 0
+CommittedExactly = (s : Session) (round : ℕ) (head shares0 shares1 : Bytes)
+    → (first (commitTests s round head shares0 shares1) ≡ Taken) ↔ Commits s round head shares0 shares1
 
-  abbrev pub DrawnExactly : Type 0
-  DrawnExactly = (s : Session) (seed : Bytes) → (first (drawTests p s seed) ≡ Taken) ↔ Draws p s seed
+abbrev pub DrawnExactly : Type 0
+DrawnExactly = (s : Session) (seed : Bytes) → (first (drawTests s seed) ≡ Taken) ↔ Draws s seed
 
-  abbrev pub AcceptedExactly : Type 0
-  AcceptedExactly = (s : Session) (round : ℕ) (x : Inputs) → Octets (x .head) → (first (checkTests p s round x) ≡ Taken) ↔ Checks p s round x
+abbrev pub AcceptedExactly : Type 0
+AcceptedExactly = (s : Session) (round : ℕ) (x : Inputs) → Octets (x .head) → (first (checkTests s round x) ≡ Taken) ↔ Checks s round x
 
-  -- ---- the second demand: withdrawn stays out
+-- ---- the second demand: withdrawn stays out
 
-  -- run any steps after a clear taken, then a withdrawal that is taken, then any steps among which no clear is taken: what a close taken then leaves is a batch without that mark
-  abbrev pub StaysOut : Type 0
-  StaysOut = (start : State) (sheet : Bytes) (before between : List Step) (mark : ℕ)
-      → reply p (clear sheet) start ≡ Taken
-      → let found = run p before (after p (clear sheet) start) in
-      let last = run p between (after p (withdraw mark) found) in
-      reply p (withdraw mark) found ≡ Taken
-      → Uncleared p between (after p (withdraw mark) found)
-      → reply p close last ≡ Taken
-      → ClosedWithout mark (last .register) (after p close last .session)
+-- run any steps after a clear taken, then a withdrawal that is taken, then any steps among which no clear is taken: what a close taken then leaves is a batch without that mark
+abbrev pub StaysOut : Type 0
+StaysOut = (start : State) (sheet : Bytes) (before between : List Step) (mark : ℕ)
+    → reply (clear sheet) start ≡ Taken
+    → let found = run before (after (clear sheet) start) in
+    let last = run between (after (withdraw mark) found) in
+    reply (withdraw mark) found ≡ Taken
+    → Uncleared between (after (withdraw mark) found)
+    → reply close last ≡ Taken
+    → ClosedWithout mark (last .register) (after close last .session)
 
-  -- ---- the second demand: no round is waved by. Lists of steps from a newly cleared session, each lent any register
+-- ---- the second demand: no round is waved by. Lists of steps from a newly cleared session, each lent any register
 
-  -- a check of a round that was taken, since the last clear taken: `before` are the calls before it, `later` those behind it
-  pub record Checked (sheet : Bytes) (cs : List Call) (round : ℕ) : Type 0 where
-    pub before : List Call
-    pub register : Bytes
-    pub inputs : Inputs
-    pub later : List Call
-    pub listed : cs ≡ before ++ (call (check round inputs) register ∷ later)
-    pub uncleared : NoClear p later (extend p (call (check round inputs) register) (trace p before (initial sheet)))
-    -- it was taken, so all that a check of this round asks for was found
-    pub taken : reply p (check round inputs) (state (trace p before (initial sheet) .session) register) ≡ Taken
-    pub checks : Octets (inputs .head) → Checks p (trace p before (initial sheet) .session) round inputs
-    -- what it was held against is what the session holds at the end: numbers, closed count, the digests of sheet, closing, claims and the round's first message, and the seed
-    pub stored : storedFor (trace p before (initial sheet) .session) round ≡ storedFor (trace p cs (initial sheet) .session) round
+-- a check of a round that was taken, since the last clear taken: `before` are the calls before it, `later` those behind it
+pub record Checked (sheet : Bytes) (cs : List Call) (round : ℕ) : Type 0 where
+  pub before : List Call
+  pub register : Bytes
+  pub inputs : Inputs
+  pub later : List Call
+  pub listed : cs ≡ before ++ (call (check round inputs) register ∷ later)
+  pub uncleared : NoClear later (extend (call (check round inputs) register) (trace before (initial sheet)))
+  -- it was taken, so all that a check of this round asks for was found
+  pub taken : reply (check round inputs) (state (trace before (initial sheet) .session) register) ≡ Taken
+  pub checks : Octets (inputs .head) → Checks (trace before (initial sheet) .session) round inputs
+  -- what it was held against is what the session holds at the end: numbers, closed count, the digests of sheet, closing, claims and the round's first message, and the seed
+  pub stored : storedFor (trace before (initial sheet) .session) round ≡ storedFor (trace cs (initial sheet) .session) round
 
-  -- every round that a session counts as checked was checked
-  abbrev pub RoundsChecked : Type 0
-  RoundsChecked = (sheet : Bytes) (cs : List Call) → first (order p sheet) ≡ Taken → (k : ℕ) → k < trace p cs (initial sheet) .session .progress .checked → Checked sheet cs k
+-- every round that a session counts as checked was checked
+abbrev pub RoundsChecked : Type 0
+RoundsChecked = (sheet : Bytes) (cs : List Call) → first (order sheet) ≡ Taken → (k : ℕ) → k < trace cs (initial sheet) .session .progress .checked → Checked sheet cs k
 
-  -- and of a session that ended accepted every round was
-  abbrev pub EndedAccepted : Type 0
-  EndedAccepted = (sheet : Bytes) (cs : List Call) → first (order p sheet) ≡ Taken
-      → let s = trace p cs (initial sheet) .session in
-      s .progress .phase ≡ ended-accepted → (k : ℕ) → k < s .numbers .rounds → Checked sheet cs k
+-- and of a session that ended accepted every round was
+abbrev pub EndedAccepted : Type 0
+EndedAccepted = (sheet : Bytes) (cs : List Call) → first (order sheet) ≡ Taken
+    → let s = trace cs (initial sheet) .session in
+    s .progress .phase ≡ ended-accepted → (k : ℕ) → k < s .numbers .rounds → Checked sheet cs k
 
-  -- ---- the third demand: lists of steps from a newly cleared session, each lent any register
+-- ---- the third demand: lists of steps from a newly cleared session, each lent any register
 
-  -- a clear that is taken leaves what such a list starts from
-  abbrev pub ClearTaken : Type 0
-  ClearTaken = (start : State) (sheet : Bytes) → reply p (clear sheet) start ≡ Taken
-      → (first (order p sheet) ≡ Taken) × (after p (clear sheet) start ≡ ownInitial sheet .now)
+-- a clear that is taken leaves what such a list starts from
+abbrev pub ClearTaken : Type 0
+ClearTaken = (start : State) (sheet : Bytes) → reply (clear sheet) start ≡ Taken
+    → (first (order sheet) ≡ Taken) × (after (clear sheet) start ≡ ownInitial sheet .now)
 
-  abbrev pub StaysValid : Type 0
-  StaysValid = (sheet : Bytes) (cs : List Call) → first (order p sheet) ≡ Taken
-      → let l = trace p cs (initial sheet) in
-      Valid p (l .session) × (l .session .numbers ≡ sheetOf (l .history .sheet) .numbers)
+abbrev pub StaysValid : Type 0
+StaysValid = (sheet : Bytes) (cs : List Call) → first (order sheet) ≡ Taken
+    → let l = trace cs (initial sheet) in
+    Valid (l .session) × (l .session .numbers ≡ sheetOf (l .history .sheet) .numbers)
 
-  -- so 31 is only ever met for wrong phase or round
-  abbrev pub OnlyPhaseOrRound : Type 0
-  OnlyPhaseOrRound = (sheet : Bytes) (cs : List Call) → first (order p sheet) ≡ Taken
-      → (x : Step) (register : Bytes) (place : ℕ)
-      → let s = trace p cs (initial sheet) .session in
-      reply p x (state s register) ≡ Refused 31 place → Undue x s
+-- so 31 is only ever met for wrong phase or round
+abbrev pub OnlyPhaseOrRound : Type 0
+OnlyPhaseOrRound = (sheet : Bytes) (cs : List Call) → first (order sheet) ≡ Taken
+    → (x : Step) (register : Bytes) (place : ℕ)
+    → let s = trace cs (initial sheet) .session in
+    reply x (state s register) ≡ Refused 31 place → Undue x s
 
-  -- a round's turn: the check of the round next due after draw, lent the session's sheet and batch, the claims and the first message that were lodged (taken since the last clear), all of it
-  -- the producer's, and scratch
-  pub record Turn (l : Trace) (material : Material) (round : ℕ) (x : Inputs) : Type 0 where
-    pub phase : l .session .progress .phase ≡ drawn
-    pub due : round ≡ l .session .progress .checked
-    pub sheet : x .sheet ≡ l .history .sheet
-    pub batch : ballotDigests (ballotLength (sheetOf (x .sheet) .numbers .ring)) (length (l .history .batch)) (x .ballots) ≡ l .history .batch
-    pub claims : x .claims ≡ l .history .claims
-    pub first-message : message (x .head) (x .shares0) (x .shares1) ≡ l .history .firsts round
-    pub made : Produced (parametersOf p (x .sheet)) (length (l .history .batch)) material (l .session .seed) round x
-    pub scratch : length (x .scratch) ≡ scratchLength
+-- a round's turn: the check of the round next due after draw, lent the session's sheet and batch, the claims and the first message that were lodged (taken since the last clear), all of it
+-- the producer's, and scratch
+pub record Turn (l : Trace) (material : Material) (round : ℕ) (x : Inputs) : Type 0 where
+  pub phase : l .session .progress .phase ≡ drawn
+  pub due : round ≡ l .session .progress .checked
+  pub sheet : x .sheet ≡ l .history .sheet
+  pub batch : ballotDigests (ballotLength (sheetOf (x .sheet) .numbers .ring)) (length (l .history .batch)) (x .ballots) ≡ l .history .batch
+  pub claims : x .claims ≡ l .history .claims
+  pub first-message : message (x .head) (x .shares0) (x .shares1) ≡ l .history .firsts round
+  pub made : Produced (parametersOf (x .sheet)) (length (l .history .batch)) material (l .session .seed) round x
+  pub scratch : length (x .scratch) ≡ scratchLength
 
-  -- the last sentence: a round that the producer wrote for the session's sheet and batch, lodged, is accepted at its turn, whatever was drawn
-  abbrev pub HonestAccepted : Type 0
-  HonestAccepted = (sheet : Bytes) (cs : List Call) → first (order p sheet) ≡ Taken
-      → let l = trace p cs (initial sheet) in
-      (register : Bytes) (material : Material) (round : ℕ) (x : Inputs) → Turn l material round x → reply p (check round x) (state (l .session) register) ≡ Taken
+-- the last sentence: a round that the producer wrote for the session's sheet and batch, lodged, is accepted at its turn, whatever was drawn
+abbrev pub HonestAccepted : Type 0
+HonestAccepted = (sheet : Bytes) (cs : List Call) → first (order sheet) ≡ Taken
+    → let l = trace cs (initial sheet) in
+    (register : Bytes) (material : Material) (round : ℕ) (x : Inputs) → Turn l material round x → reply (check round x) (state (l .session) register) ≡ Taken
 
-  -- without host writing, the ballots admitted and not withdrawn are the batch: its digests are theirs, in order, and each has a ballot's length
-  abbrev pub RollIsBatch : Type 0
-  RollIsBatch = (sheet : Bytes) (steps : List Step)
-      → let t = ownTrace p steps (ownInitial sheet) in
-      0 < t .now .session .progress .phase
-      → (t .history .batch ≡ map sha3 (t .roll)) × ((b : Bytes) → List·Memᴰ b (t .roll) → length b ≡ ballotLength (t .now .session .numbers .ring))
-      × (ballotDigests (ballotLength (t .now .session .numbers .ring)) (length (t .history .batch)) (concatenated (t .roll)) ≡ t .history .batch)
+-- without host writing, the ballots admitted and not withdrawn are the batch: its digests are theirs, in order, and each has a ballot's length
+abbrev pub RollIsBatch : Type 0
+RollIsBatch = (sheet : Bytes) (steps : List Step)
+    → let t = ownTrace steps (ownInitial sheet) in
+    0 < t .now .session .progress .phase
+    → (t .history .batch ≡ map sha3 (t .roll)) × ((b : Bytes) → List·Memᴰ b (t .roll) → length b ≡ ballotLength (t .now .session .numbers .ring))
+    × (ballotDigests (ballotLength (t .now .session .numbers .ring)) (length (t .history .batch)) (concatenated (t .roll)) ≡ t .history .batch)
 
-  -- and a list in which each step is lent the register that the last one left is one of those above, so that a turn's batch can be that roll
-  abbrev pub OwnRegister : Type 0
-  OwnRegister = (sheet : Bytes) (steps : List Step)
-      → let t = ownTrace p steps (ownInitial sheet) in
-      let l = trace p (calls p steps (ownInitial sheet .now)) (initial sheet) in
-      (l .session ≡ t .now .session) × (l .history ≡ t .history)
+-- and a list in which each step is lent the register that the last one left is one of those above, so that a turn's batch can be that roll
+abbrev pub OwnRegister : Type 0
+OwnRegister = (sheet : Bytes) (steps : List Step)
+    → let t = ownTrace steps (ownInitial sheet) in
+    let l = trace (calls steps (ownInitial sheet .now)) (initial sheet) in
+    (l .session ≡ t .now .session) × (l .history ≡ t .history)

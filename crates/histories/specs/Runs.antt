@@ -127,79 +127,78 @@ initial text = record { session = cleared text; history = emptyHistory text }
 unfoldable pub ownInitial : Bytes → OwnTrace
 ownInitial text = record { now = state (cleared text) (zeros registerLength); history = emptyHistory text; roll = [] }
 
-module _ (p : ℕ) where
-  -- ---- one step
+-- ---- one step
 
-  unfoldable pub reply : Step → State → Reply
-  reply (clear text) st = first (clearTests p (st .register) text)
-  reply (admit ballot) st = first (admitTests p (st .session) (st .register) ballot)
-  reply (withdraw mark) st = first (withdrawTests p (st .session) (st .register) mark)
-  reply close st = first (closeTests p (st .session) (st .register))
-  reply (claim claims) st = first (claimTests p (st .session) claims)
-  reply (commit k head shares0 shares1) st = first (commitTests p (st .session) k head shares0 shares1)
-  reply (draw seed) st = first (drawTests p (st .session) seed)
-  reply (check k x) st = first (checkTests p (st .session) k x)
+unfoldable pub reply : Step → State → Reply
+reply (clear text) st = first (clearTests (st .register) text)
+reply (admit ballot) st = first (admitTests (st .session) (st .register) ballot)
+reply (withdraw mark) st = first (withdrawTests (st .session) (st .register) mark)
+reply close st = first (closeTests (st .session) (st .register))
+reply (claim claims) st = first (claimTests (st .session) claims)
+reply (commit k head shares0 shares1) st = first (commitTests (st .session) k head shares0 shares1)
+reply (draw seed) st = first (drawTests (st .session) seed)
+reply (check k x) st = first (checkTests (st .session) k x)
 
-  -- session and register, as the contracts of the steps have them
-  unfoldable pub after : Step → State → State
-  after (clear text) st =
-      let r = reply (clear text) st in
-      state (leaves r (cleared text) (st .session)) (leaves r (zeros registerLength) (st .register))
-  after (admit ballot) st =
-      let r = reply (admit ballot) st in
-      state (leaves r (admittedBy (st .session)) (st .session)) (leaves r (admitted (st .register) (st .session .progress .used) ballot) (st .register))
-  after (withdraw mark) st =
-      let r = reply (withdraw mark) st in
-      state (st .session) (leaves r (withdrawn (st .register) (find (st .register) mark (st .session .progress .used))) (st .register))
-  after close st = state (leaves (reply close st) (closedBy (st .session) (st .register)) (st .session)) (st .register)
-  after (claim claims) st = state (leaves (reply (claim claims) st) (claimedBy (st .session) claims) (st .session)) (st .register)
-  after (commit k head shares0 shares1) st =
-      let r = reply (commit k head shares0 shares1) st in
-      state (leaves r (committedBy (st .session) k head shares0 shares1) (st .session)) (st .register)
-  after (draw seed) st = state (leaves (reply (draw seed) st) (drawnBy (st .session) seed) (st .session)) (st .register)
-  after (check k x) st = state (checkedBy p (st .session) k x) (st .register)
+-- session and register, as the contracts of the steps have them
+unfoldable pub after : Step → State → State
+after (clear text) st =
+    let r = reply (clear text) st in
+    state (leaves r (cleared text) (st .session)) (leaves r (zeros registerLength) (st .register))
+after (admit ballot) st =
+    let r = reply (admit ballot) st in
+    state (leaves r (admittedBy (st .session)) (st .session)) (leaves r (admitted (st .register) (st .session .progress .used) ballot) (st .register))
+after (withdraw mark) st =
+    let r = reply (withdraw mark) st in
+    state (st .session) (leaves r (withdrawn (st .register) (find (st .register) mark (st .session .progress .used))) (st .register))
+after close st = state (leaves (reply close st) (closedBy (st .session) (st .register)) (st .session)) (st .register)
+after (claim claims) st = state (leaves (reply (claim claims) st) (claimedBy (st .session) claims) (st .session)) (st .register)
+after (commit k head shares0 shares1) st =
+    let r = reply (commit k head shares0 shares1) st in
+    state (leaves r (committedBy (st .session) k head shares0 shares1) (st .session)) (st .register)
+after (draw seed) st = state (leaves (reply (draw seed) st) (drawnBy (st .session) seed) (st .session)) (st .register)
+after (check k x) st = state (checkedBy (st .session) k x) (st .register)
 
-  -- ---- each step is given the session and the register that the last one left
+-- ---- each step is given the session and the register that the last one left
 
-  unfoldable pub run : List Step → State → State
-  run [] st = st
-  run (x ∷ xs) st = run xs (after x st)
+unfoldable pub run : List Step → State → State
+run [] st = st
+run (x ∷ xs) st = run xs (after x st)
 
-  -- no clear is taken
-  pub data Uncleared : List Step → State → Type 0 where
-    none : {st : State} → Uncleared [] st
-    more : {x : Step} {xs : List Step} {st : State} → clears x (reply x st) ≡ false → Uncleared xs (after x st) → Uncleared (x ∷ xs) st
+-- no clear is taken
+pub data Uncleared : List Step → State → Type 0 where
+  none : {st : State} → Uncleared [] st
+  more : {x : Step} {xs : List Step} {st : State} → clears x (reply x st) ≡ false → Uncleared xs (after x st) → Uncleared (x ∷ xs) st
 
-  -- the same with the history and the roll
-  unfoldable pub ownExtend : Step → OwnTrace → OwnTrace
-  ownExtend x t = record {
-    now = after x (t .now);
-    history = leaves (reply x (t .now)) (historyAfter x (t .now) (t .history)) (t .history);
-    roll = leaves (reply x (t .now)) (rollAfter x (t .roll)) (t .roll);
-  }
+-- the same with the history and the roll
+unfoldable pub ownExtend : Step → OwnTrace → OwnTrace
+ownExtend x t = record {
+  now = after x (t .now);
+  history = leaves (reply x (t .now)) (historyAfter x (t .now) (t .history)) (t .history);
+  roll = leaves (reply x (t .now)) (rollAfter x (t .roll)) (t .roll);
+}
 
-  unfoldable pub ownTrace : List Step → OwnTrace → OwnTrace
-  ownTrace [] t = t
-  ownTrace (x ∷ xs) t = ownTrace xs (ownExtend x t)
+unfoldable pub ownTrace : List Step → OwnTrace → OwnTrace
+ownTrace [] t = t
+ownTrace (x ∷ xs) t = ownTrace xs (ownExtend x t)
 
-  -- ---- each step is given the session that the last one left, and any register
+-- ---- each step is given the session that the last one left, and any register
 
-  unfoldable pub extend : Call → Trace → Trace
-  extend c l = record {
-    session = after (c .step) (lent l c) .session;
-    history = leaves (reply (c .step) (lent l c)) (historyAfter (c .step) (lent l c) (l .history)) (l .history);
-  }
+unfoldable pub extend : Call → Trace → Trace
+extend c l = record {
+  session = after (c .step) (lent l c) .session;
+  history = leaves (reply (c .step) (lent l c)) (historyAfter (c .step) (lent l c) (l .history)) (l .history);
+}
 
-  unfoldable pub trace : List Call → Trace → Trace
-  trace [] l = l
-  trace (c ∷ cs) l = trace cs (extend c l)
+unfoldable pub trace : List Call → Trace → Trace
+trace [] l = l
+trace (c ∷ cs) l = trace cs (extend c l)
 
-  -- no clear is taken
-  unfoldable pub NoClear : List Call → Trace → Type 0
-  NoClear [] l = Unit
-  NoClear (c ∷ cs) l = (clears (c .step) (reply (c .step) (lent l c)) ≡ false) × NoClear cs (extend c l)
+-- no clear is taken
+unfoldable pub NoClear : List Call → Trace → Type 0
+NoClear [] l = Unit
+NoClear (c ∷ cs) l = (clears (c .step) (reply (c .step) (lent l c)) ≡ false) × NoClear cs (extend c l)
 
-  -- steps as calls that are lent the register that the last step left
-  unfoldable pub calls : List Step → State → List Call
-  calls [] st = []
-  calls (x ∷ xs) st = record { step = x; register = st .register } ∷ calls xs (after x st)
+-- steps as calls that are lent the register that the last step left
+unfoldable pub calls : List Step → State → List Call
+calls [] st = []
+calls (x ∷ xs) st = record { step = x; register = st .register } ∷ calls xs (after x st)

@@ -1,11 +1,11 @@
--- What a sheet's numbers and lists must be (document 01, "Ring and scheme", "Sheet" and the refusals 3 to 5), for the plaintext modulus p, in plain propositions: no test
+-- What a sheet's numbers and lists must be (document 01, "Ring and scheme", "Sheet" and the refusals 3 to 5) in plain propositions: no test
 -- stands in them. Assumes nothing.
 use mathlib.Core.Path.{_≡_}
 use mathlib.Core.List.{List}
 use Prim.Native.Nat.{ℕ, _+_, _*_, _-_, _/_, _%_, _^_, _≤_, _<_}
 use lib.ListN.{length}
 use Rattle.sheet.specs.Form.{Sheet}
-use Rattle.sheet_numbers.specs.Bounds.{noise}
+use Rattle.sheet_numbers.specs.Plain.{noiseOf}
 use Rattle.sheet_numbers.specs.declared.Numbers.{Numbers}
 use Rattle.transcript.specs.Accepted.{EachBelow}
 
@@ -24,9 +24,9 @@ pub record InRange (k : Numbers) : Type 0 where
   pub repeats-high : k .repeats ≤ 256
 
 -- 4: 2N divides q - 1, and (1 + 2^d) D is below (q - 1)/2
-pub record Sound (p : ℕ) (k : Numbers) : Type 0 where
+pub record Sound (k : Numbers) : Type 0 where
   pub divided : (k .modulus - 1) % (2 * k .ring) ≡ 0
-  pub noise-fits : (1 + 2 ^ k .drown) * noise p (k .ring) < (k .modulus - 1) / 2
+  pub noise-fits : (1 + 2 ^ k .drown) * noiseOf k < (k .modulus - 1) / 2
 
 -- 5: N coefficients below q
 pub record Coefficients (n q : ℕ) (xs : List ℕ) : Type 0 where

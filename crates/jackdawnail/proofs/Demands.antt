@@ -16,7 +16,7 @@ use Rattle.sheet.specs.Reader.{sheetOf}
 use Rattle.sheet.specs.Sheet.{order, readingBy, reading}
 use Rattle.sheet.specs.declared.Reading.the-variants as reading
 use Rattle.call.specs.Call.{scratchLength}
-use Rattle.bgv.proofs.Sheets.{two-sound}
+use Rattle.bgv.proofs.Sheets.{sheet-sound}
 use Rattle.bgv.proofs.Ballot.{honest-noise, honest-decrypts}
 use Rattle.transcript.proofs.Many.{append-none}
 use Rattle.transcript.proofs.Passed.{producer-exactly}
@@ -39,7 +39,7 @@ use Rattle.histories.proofs.Checked.{accepted-exactly}
 use Rattle.histories.proofs.Withdrawn.{withdrawn-stays-out}
 use Rattle.histories.proofs.Rounds.{rounds-checked, ended-accepted}
 use Rattle.histories.proofs.Reach.{clear-taken, reachable-valid, only-phase-or-round}
-use Rattle.histories.proofs.Honest.{two-accepted}
+use Rattle.histories.proofs.Honest.{honest-accepted}
 use Rattle.histories.proofs.Roll.{roll-is-batch, own-register}
 use Rattle.jackdawnail.proofs.HostSteps.{over-images}
 use Rattle.jackdawnail.proofs.HostClaims.{host-stays-out, host-ended-accepted, host-honest-accepted}
@@ -52,38 +52,38 @@ use Rattle.jackdawnail.specs.Demands.{SheetExactly, AcceptedExactly, Adm
 
 accepted : AcceptedExactly
 unfolding checkReply
-accepted image round x octets = over-image image (λ s. first (checkTests 2 s round x)) (accepted-exactly 2 (decode image) round x octets)
+accepted image round x octets = over-image image (λ s. first (checkTests s round x)) (accepted-exactly (decode image) round x octets)
 
 admitted : AdmittedExactly
 unfolding admitReply
-admitted image reg ballot = over-image image (λ s. first (admitTests 2 s reg ballot)) (admitted-exactly 2 (decode image) reg ballot)
+admitted image reg ballot = over-image image (λ s. first (admitTests s reg ballot)) (admitted-exactly (decode image) reg ballot)
 
 -- ---- over a sheet that is taken
 
 sheets : SheetExactly
 sheets text =
-    let t = taken-exactly (order 2 text) in
-    let s = sheet-exactly 2 text in
+    let t = taken-exactly (order text) in
+    let s = sheet-exactly text in
     (λ e. s .0 (t .0 e), λ h. t .1 (s .1 h))
 
-module _ (text : Bytes) (sheet : first (order 2 text) ≡ Taken) where
-  read : reading 2 text ≡ reading.Taken (sheetOf text .numbers)
+module _ (text : Bytes) (sheet : first (order text) ≡ Taken) where
+  read : reading text ≡ reading.Taken (sheetOf text .numbers)
   unfolding reading
   read = ap (λ (r : Reply). readingBy r (sheetOf text .numbers)) sheet
 
 honest-ballots : HonestBallots
 honest-ballots text sheet s e r e1 e2 m ss se sr s1 s2 message matches =
-    let P = parametersOf 2 text in
-    let ok = two-sound text (sheetOf text .numbers) (read text sheet) in (
+    let P = parametersOf text in
+    let ok = sheet-sound text (sheetOf text .numbers) (read text sheet) in (
       honest-noise ok (omega arith) (P .a) (P .b) s e r e1 e2 m ss se sr s1 s2 message matches,
       honest-decrypts ok (omega arith) (P .a) (P .b) s e r e1 e2 m ss se sr s1 s2 message matches,
     )
 
 honest-rounds : HonestRounds
 honest-rounds text sheet m x sized suitable side low challenges size valid =
-    let r = sheet-exactly 2 text .0 (taken-exactly (order 2 text) .0 sheet) .inside in
-    let none = producer-exactly (parametersOf 2 text) m x (omega (arith, r .modulus-low)) (omega (arith, r .modulus-high)) .1 suitable in
-    honest-round (parametersOf 2 text) m x (two-sound text (sheetOf text .numbers) (read text sheet)) (omega (arith, r .modulus-low)) (omega (arith, r .modulus-high)) sized none side low
+    let r = sheet-exactly text .0 (taken-exactly (order text) .0 sheet) .inside in
+    let none = producer-exactly (parametersOf text) m x (omega (arith, r .modulus-low)) (omega (arith, r .modulus-high)) .1 suitable in
+    honest-round (parametersOf text) m x (sheet-sound text (sheetOf text .numbers) (read text sheet)) (omega (arith, r .modulus-low)) (omega (arith, r .modulus-high)) sized none side low
     challenges size valid
 
 producer-writes : ProducerWrites
@@ -92,25 +92,25 @@ producer-writes text x = (first-exactly text x, second-call-exactly text x)
 extracts : Extracts
 unfolding extractReply openingsTests
 extracts text x out scratch octets o1 o2 o3 e =
-    let P = parametersOf 2 text in
+    let P = parametersOf text in
     let m = ballotsIn text (x .ballots) in
-    let parts = append-none (order 2 text) (openingsTests P x out scratch) (taken-exactly _ .0 e) in
-    let sheet = taken-exactly (order 2 text) .1 (parts .0) in
-    let r = sheet-exactly 2 text .0 (parts .0) .inside in
+    let parts = append-none (order text) (openingsTests P x out scratch) (taken-exactly _ .0 e) in
+    let sheet = taken-exactly (order text) .1 (parts .0) in
+    let r = sheet-exactly text .0 (parts .0) .inside in
     let message = lent-message P x out scratch m in
     let openings = lent-openings P x out scratch m in
     let sized = both message openings (both (leb m 4096) (message && openings) (not-false (leb m 4096 && (message && openings)) (parts .1 .0)) .1) in
     let three : 2 < P .q = omega (arith, r .modulus-low) in
     let fits : P .q ≤ 2 ^ 64 = omega (arith, r .modulus-high) in
     let lent = extract-lengths P x out scratch m octets (sized .0) (sized .1) .0 in
-    let ok = two-sound text (sheetOf text .numbers) (read text sheet) in
+    let ok = sheet-sound text (sheetOf text .numbers) (read text sheet) in
     (extraction P m x three fits lent (parts .1 .1) ok, hashed P m x o1 o2 o3, lowest P m x (omega arith) fits, output P m x three fits lent (parts .1 .1) ok)
 
 -- its findings do not depend on output or scratch: any of the right lengths serve
 accepted-yields : AcceptedYields
 accepted-yields text x octets b1 b2 b3 o0 o1 a1 a2 a3 =
     let taken = extractor-takes text x o0 o1 a1 a2 a3 in
-    let n = 24 * parametersOf 2 text .N in
+    let n = 24 * parametersOf text .N in
     (extracts text x (zeros n) (zeros scratchLength) octets b1 b2 b3 (taken (zeros n) (zeros scratchLength) (length-replicate {A = ℕ} n 0) (length-replicate {A = ℕ} scratchLength 0)), taken)
 
 refuses-as-checks : RefusesAsChecks
@@ -122,21 +122,21 @@ pub demand2 : Demand2
 demand2 = record {
   sheet-exactly = sheets;
   accepted-exactly = accepted;
-  rounds-checked = rounds-checked 2;
-  ended-accepted = ended-accepted 2;
+  rounds-checked = rounds-checked;
+  ended-accepted = ended-accepted;
   admitted-exactly = admitted;
-  cleared-exactly = cleared-exactly 2;
-  withdrawn-exactly = withdrawn-exactly 2;
-  closed-exactly = closed-exactly 2;
-  claimed-exactly = claimed-exactly 2;
-  committed-exactly = committed-exactly 2;
-  drawn-exactly = drawn-exactly 2;
-  withdrawn-stays-out = withdrawn-stays-out 2;
+  cleared-exactly = cleared-exactly;
+  withdrawn-exactly = withdrawn-exactly;
+  closed-exactly = closed-exactly;
+  claimed-exactly = claimed-exactly;
+  committed-exactly = committed-exactly;
+  drawn-exactly = drawn-exactly;
+  withdrawn-stays-out = withdrawn-stays-out;
   honest-ballots = honest-ballots;
   examples = all-examples;
-  over-images = over-images 2;
-  host-stays-out = host-stays-out 2;
-  host-ended-accepted = host-ended-accepted 2;
+  over-images = over-images;
+  host-stays-out = host-stays-out;
+  host-ended-accepted = host-ended-accepted;
 }
 
 pub demand3 : Demand3
@@ -147,13 +147,13 @@ demand3 = record {
   check-parts = parts-exactly;
   lent-rounds = lending;
   takes-accepted = takes-accepted;
-  honest-accepted = two-accepted;
-  host-honest-accepted = host-honest-accepted 2 two-accepted;
+  honest-accepted = honest-accepted;
+  host-honest-accepted = host-honest-accepted honest-accepted;
   honest-rounds = honest-rounds;
   producer-writes = producer-writes;
-  clear-taken = clear-taken 2;
-  stays-valid = reachable-valid 2;
-  only-phase-or-round = only-phase-or-round 2;
-  roll-is-batch = roll-is-batch 2;
-  own-register = own-register 2;
+  clear-taken = clear-taken;
+  stays-valid = reachable-valid;
+  only-phase-or-round = only-phase-or-round;
+  roll-is-batch = roll-is-batch;
+  own-register = own-register;
 }

@@ -18,77 +18,76 @@ use Rattle.jackdawnail.specs.HostSteps.{Host, Holds, hostReply, hostAfte
 use Rattle.jackdawnail.specs.HostClaims.{HostUncleared, Starts, HostStaysOut, HostEndedAccepted, HostHonestAccepted}
 use Rattle.jackdawnail.proofs.HostSteps.{over-images}
 
-module _ (p : ℕ) where
-  -- ---- with the register that was left
+-- ---- with the register that was left
 
-  record Keeps (h : Host) (st : State) : Type 0 where
-    image : Holds (h .image) (st .session)
-    register : h .register ≡ st .register
+record Keeps (h : Host) (st : State) : Type 0 where
+  image : Holds (h .image) (st .session)
+  register : h .register ≡ st .register
 
-  over-step : (x : Step) (h : Host) (st : State) → Keeps h st → (hostReply p x h ≡ reply p x st) × Keeps (hostAfter p x h) (after p x st)
-  over-step x h st k =
-      let e = over-images p .one-step x (h .image) (h .register) (st .session) (k .image) in
-      subst (λ (reg : Bytes). (hostReply p x h ≡ reply p x (state (st .session) reg)) × Keeps (hostAfter p x h) (after p x (state (st .session) reg)))
-      (k .register) (e .0, record { image = e .1; register = e .2 })
+over-step : (x : Step) (h : Host) (st : State) → Keeps h st → (hostReply x h ≡ reply x st) × Keeps (hostAfter x h) (after x st)
+over-step x h st k =
+    let e = over-images .one-step x (h .image) (h .register) (st .session) (k .image) in
+    subst (λ (reg : Bytes). (hostReply x h ≡ reply x (state (st .session) reg)) × Keeps (hostAfter x h) (after x (state (st .session) reg)))
+    (k .register) (e .0, record { image = e .1; register = e .2 })
 
-  over-run : (xs : List Step) (h : Host) (st : State) → Keeps h st → Keeps (hostRun p xs h) (run p xs st)
-  over-run xs h st k =
-      let e = over-images p .own-register xs (h .image) (h .register) (st .session) (k .image) in
-      subst (λ (reg : Bytes). Keeps (hostRun p xs h) (run p xs (state (st .session) reg))) (k .register) (record { image = e .0; register = e .1 })
+over-run : (xs : List Step) (h : Host) (st : State) → Keeps h st → Keeps (hostRun xs h) (run xs st)
+over-run xs h st k =
+    let e = over-images .own-register xs (h .image) (h .register) (st .session) (k .image) in
+    subst (λ (reg : Bytes). Keeps (hostRun xs h) (run xs (state (st .session) reg))) (k .register) (record { image = e .0; register = e .1 })
 
-  uncleared : (xs : List Step) (h : Host) (st : State) → Keeps h st → HostUncleared p xs h → Uncleared p xs st
-  unfolding HostUncleared
-  uncleared [] h st k u = none
-  uncleared (x ∷ xs) h st k u =
-      let e = over-step x h st k in
-      more (ap (λ (r : Reply). clears x r) (sym (e .0)) ∙ u .0) (uncleared xs (hostAfter p x h) (after p x st) (e .1) (u .1))
+uncleared : (xs : List Step) (h : Host) (st : State) → Keeps h st → HostUncleared xs h → Uncleared xs st
+unfolding HostUncleared
+uncleared [] h st k u = none
+uncleared (x ∷ xs) h st k u =
+    let e = over-step x h st k in
+    more (ap (λ (r : Reply). clears x r) (sym (e .0)) ∙ u .0) (uncleared xs (hostAfter x h) (after x st) (e .1) (u .1))
 
-  -- ---- from a clear that is taken
+-- ---- from a clear that is taken
 
-  module _ (start : Host) (sheet : Bytes) (s : Starts p start sheet) where
-    abbrev st : State
-    st = state (decode (start .image)) (start .register)
+module _ (start : Host) (sheet : Bytes) (s : Starts start sheet) where
+  abbrev st : State
+  st = state (decode (start .image)) (start .register)
 
-    keeps : Keeps start st
-    keeps = record { image = over-images p .bytes-hold (start .image) (s .sized) (s .octets); register = λ i. start .register }
+  keeps : Keeps start st
+  keeps = record { image = over-images .bytes-hold (start .image) (s .sized) (s .octets); register = λ i. start .register }
 
-    taken : reply p (clear sheet) st ≡ Taken
-    taken = sym (over-step (clear sheet) start st keeps .0) ∙ s .taken
+  taken : reply (clear sheet) st ≡ Taken
+  taken = sym (over-step (clear sheet) start st keeps .0) ∙ s .taken
 
-    readable : first (order p sheet) ≡ Taken
-    readable = clear-taken p st sheet taken .0
+  readable : first (order sheet) ≡ Taken
+  readable = clear-taken st sheet taken .0
 
-    newly : Keeps (hostAfter p (clear sheet) start) (after p (clear sheet) st)
-    newly = over-step (clear sheet) start st keeps .1
+  newly : Keeps (hostAfter (clear sheet) start) (after (clear sheet) st)
+  newly = over-step (clear sheet) start st keeps .1
 
-    begins : Holds (hostAfter p (clear sheet) start .image) (initial sheet .session)
-    begins = subst (Holds (hostAfter p (clear sheet) start .image)) same (newly .image)
-      where
-        same : after p (clear sheet) st .session ≡ initial sheet .session
-        same = unfold ownInitial initial in ap (λ (z : State). z .session) (clear-taken p st sheet taken .1)
+  begins : Holds (hostAfter (clear sheet) start .image) (initial sheet .session)
+  begins = subst (Holds (hostAfter (clear sheet) start .image)) same (newly .image)
+    where
+      same : after (clear sheet) st .session ≡ initial sheet .session
+      same = unfold ownInitial initial in ap (λ (z : State). z .session) (clear-taken st sheet taken .1)
 
-    traced : (cs : List Call) → Holds (hostTrace p cs (hostAfter p (clear sheet) start .image)) (trace p cs (initial sheet) .session)
-    traced cs = over-images p .any-register cs (hostAfter p (clear sheet) start .image) (initial sheet) begins
+  traced : (cs : List Call) → Holds (hostTrace cs (hostAfter (clear sheet) start .image)) (trace cs (initial sheet) .session)
+  traced cs = over-images .any-register cs (hostAfter (clear sheet) start .image) (initial sheet) begins
 
-  -- ---- the claims
+-- ---- the claims
 
-  pub host-stays-out : HostStaysOut p
-  host-stays-out start sheet before between mark s e u d =
-      let found = hostRun p before (hostAfter p (clear sheet) start) in
-      let last = hostRun p between (hostAfter p (withdraw mark) found) in
-      let there = run p before (after p (clear sheet) (st start sheet s)) in
-      let k : Keeps found there = over-run before (hostAfter p (clear sheet) start) (after p (clear sheet) (st start sheet s)) (newly start sheet s) in
-      let w = over-step (withdraw mark) found there k in
-      let l : Keeps last (run p between (after p (withdraw mark) there)) = over-run between (hostAfter p (withdraw mark) found) (after p (withdraw mark) there) (w .1) in
-      let c = over-step close last (run p between (after p (withdraw mark) there)) l in
-      let out = withdrawn-stays-out p (st start sheet s) sheet before between mark (taken start sheet s) (sym (w .0) ∙ e) (uncleared between (hostAfter p (withdraw mark) found) (after p (withdraw mark) there) (w .1) u) (sym (c .0) ∙ d) in
-      rw (c .1 .image .session, l .register) out
+pub host-stays-out : HostStaysOut
+host-stays-out start sheet before between mark s e u d =
+    let found = hostRun before (hostAfter (clear sheet) start) in
+    let last = hostRun between (hostAfter (withdraw mark) found) in
+    let there = run before (after (clear sheet) (st start sheet s)) in
+    let k : Keeps found there = over-run before (hostAfter (clear sheet) start) (after (clear sheet) (st start sheet s)) (newly start sheet s) in
+    let w = over-step (withdraw mark) found there k in
+    let l : Keeps last (run between (after (withdraw mark) there)) = over-run between (hostAfter (withdraw mark) found) (after (withdraw mark) there) (w .1) in
+    let c = over-step close last (run between (after (withdraw mark) there)) l in
+    let out = withdrawn-stays-out (st start sheet s) sheet before between mark (taken start sheet s) (sym (w .0) ∙ e) (uncleared between (hostAfter (withdraw mark) found) (after (withdraw mark) there) (w .1) u) (sym (c .0) ∙ d) in
+    rw (c .1 .image .session, l .register) out
 
-  pub host-ended-accepted : HostEndedAccepted p
-  host-ended-accepted start sheet cs s =
-      subst (λ (z : Session). z .progress .phase ≡ 5 → (k : ℕ) → k < z .numbers .rounds → Checked p sheet cs k) (sym (traced start sheet s cs .session)) (ended-accepted p sheet cs (readable start sheet s))
+pub host-ended-accepted : HostEndedAccepted
+host-ended-accepted start sheet cs s =
+    subst (λ (z : Session). z .progress .phase ≡ 5 → (k : ℕ) → k < z .numbers .rounds → Checked sheet cs k) (sym (traced start sheet s cs .session)) (ended-accepted sheet cs (readable start sheet s))
 
-  pub host-honest-accepted : HonestAccepted p → HostHonestAccepted p
-  host-honest-accepted honest start sheet cs s register material round x turn =
-      over-images p .one-step (check round x) (hostTrace p cs (hostAfter p (clear sheet) start .image)) register (trace p cs (initial sheet) .session) (traced start sheet s cs) .0
-      ∙ honest sheet cs (readable start sheet s) register material round x turn
+pub host-honest-accepted : HonestAccepted → HostHonestAccepted
+host-honest-accepted honest start sheet cs s register material round x turn =
+    over-images .one-step (check round x) (hostTrace cs (hostAfter (clear sheet) start .image)) register (trace cs (initial sheet) .session) (traced start sheet s cs) .0
+    ∙ honest sheet cs (readable start sheet s) register material round x turn

@@ -27,29 +27,29 @@ use Rattle.histories.proofs.Valid.{sheet-exactly}
 use Rattle.jackdawnail.specs.Produces.{WritesFirst, WritesSecond}
 
 -- no test of a call refuses: the sheet is taken, the lengths are right, and the rest refuses nothing
-call-none : (text : Bytes) (m : ℕ) (a b : Bool) (ts : List Test) → None (order 2 text ++ (lengthsTest m (a && b) ∷ ts)) → SheetTaken 2 text × (m ≤ 4096) × (a ≡ true) × (b ≡ true) × None ts
+call-none : (text : Bytes) (m : ℕ) (a b : Bool) (ts : List Test) → None (order text ++ (lengthsTest m (a && b) ∷ ts)) → SheetTaken text × (m ≤ 4096) × (a ≡ true) × (b ≡ true) × None ts
 call-none text m a b ts none =
-    let parts = append-none (order 2 text) (lengthsTest m (a && b) ∷ ts) none in
+    let parts = append-none (order text) (lengthsTest m (a && b) ∷ ts) none in
     let h = both (leb m 4096) (a && b) (not-false _ (parts .1 .0)) in
     let g = both a b (h .1) in
-    (sheet-exactly 2 text .0 (parts .0), leb-true m 4096 (h .0), g .0, g .1, parts .1 .1)
+    (sheet-exactly text .0 (parts .0), leb-true m 4096 (h .0), g .0, g .1, parts .1 .1)
 
-pub none-call : (text : Bytes) (m : ℕ) (a b : Bool) (ts : List Test) → SheetTaken 2 text → m ≤ 4096 → a ≡ true → b ≡ true → None ts → None (order 2 text ++ (lengthsTest m (a && b) ∷ ts))
+pub none-call : (text : Bytes) (m : ℕ) (a b : Bool) (ts : List Test) → SheetTaken text → m ≤ 4096 → a ≡ true → b ≡ true → None ts → None (order text ++ (lengthsTest m (a && b) ∷ ts))
 none-call text m a b ts sheet few e f none =
-    none-append (order 2 text) (lengthsTest m (a && b) ∷ ts) (sheet-exactly 2 text .1 sheet) (ap not (ap₂ _&&_ (le-leb m 4096 few) (ap₂ _&&_ e f)), none)
+    none-append (order text) (lengthsTest m (a && b) ∷ ts) (sheet-exactly text .1 sheet) (ap not (ap₂ _&&_ (le-leb m 4096 few) (ap₂ _&&_ e f)), none)
 
 module _ (text : Bytes) (x : Material) where
   abbrev P : Parameters
-  P = parametersOf 2 text
+  P = parametersOf text
 
   abbrev m : ℕ
   m = ballotsIn text (x .ballots)
 
   -- the modulus of a sheet that is taken
-  positive : SheetTaken 2 text → 0 < P .q
+  positive : SheetTaken text → 0 < P .q
   positive t = omega (arith, t .inside .modulus-low)
 
-  fits : SheetTaken 2 text → P .q ≤ 2 ^ 64
+  fits : SheetTaken text → P .q ≤ 2 ^ 64
   fits t = omega (arith, t .inside .modulus-high)
 
   abbrev material : Bool

@@ -41,21 +41,21 @@ use Rattle.jackdawnail.specs.Demands.{AcceptedCheck, roundOf, AcceptedOp
 -- ---- what an accepted check found, for m ballots
 
 record Passed (text : Bytes) (m : ℕ) (r : Round) : Type 0 where
-  sheet : None (order 2 text)
+  sheet : None (order text)
   few : m ≤ 4096
-  lengths : Lengths (parametersOf 2 text) m r
-  tests : None (roundTests (parametersOf 2 text) m r)
+  lengths : Lengths (parametersOf text) m r
+  tests : None (roundTests (parametersOf text) m r)
 
-passed-by : (s : Session) (round : ℕ) (x : Inputs) → first (checkTests 2 s round x) ≡ Taken → Passed (x .sheet) (s .progress .closed) (drawnRound (storedFor s round) x)
+passed-by : (s : Session) (round : ℕ) (x : Inputs) → first (checkTests s round x) ≡ Taken → Passed (x .sheet) (s .progress .closed) (drawnRound (storedFor s round) x)
 unfolding checkTests checkEarly checkLate lateTests
 passed-by s round x e =
-    let n = append-none (checkEarly 2 s round x) (checkLate 2 s round x) (taken-exactly _ .0 e) in
+    let n = append-none (checkEarly s round x) (checkLate s round x) (taken-exactly _ .0 e) in
     let h = early-exactly (storedFor s round) x 2 .0 (n .0 .1) in
     let numbers = h .2 .numbers in
     record {
       sheet = h .0;
-      few = ready 2 s _ (n .0 .0) .0 .closed;
-      lengths = round-sized (storedFor s round) x (parametersOf 2 (x .sheet)) (rw numbers) (rw numbers) (h .1);
+      few = ready s _ (n .0 .0) .0 .closed;
+      lengths = round-sized (storedFor s round) x (parametersOf (x .sheet)) (rw numbers) (rw numbers) (h .1);
       tests = n .1;
     }
 
@@ -64,7 +64,7 @@ passed : {text : Bytes} (x : Openings) (c : AcceptedCheck text) → OfLent x (ro
 unfolding checkReply
 passed {text} x c o =
     let s = decode (c .image) in
-    let taken = lent-exactly (c .image) (λ t. first (checkTests 2 t (c .round) (c .inputs))) .0 (c .taken) .1 in
+    let taken = lent-exactly (c .image) (λ t. first (checkTests t (c .round) (c .inputs))) .0 (c .taken) .1 in
     let held = subst (λ (t : Bytes). Passed t (s .progress .closed) (roundOf c)) (c .sheet) (passed-by s (c .round) (c .inputs) taken) in
     let count : ballotsIn text (x .ballots) ≡ s .progress .closed = div-eq-of-eq-mul-right (omega arith) (sym (ap length (o .ballots)) ∙ held .lengths .ballots) in
     subst (λ (m : ℕ). Passed text m (roundOf c)) (sym count) held
@@ -74,7 +74,7 @@ passed {text} x c o =
 module _ (text : Bytes) (x : Openings) (o0 : AcceptedOpening text x 0) (o1 : AcceptedOpening text x 1)
     (a1 : AcceptedAnswer text x 1) (a2 : AcceptedAnswer text x 2) (a3 : AcceptedAnswer text x 3) where
   abbrev P : Parameters
-  P = parametersOf 2 text
+  P = parametersOf text
 
   abbrev m : ℕ
   m = ballotsIn text (x .ballots)
@@ -152,8 +152,8 @@ module _ (text : Bytes) (x : Openings) (o0 : AcceptedOpening text x 0) (o1 : Acc
       ap₂ _&&_ (equal-same (cc (opening-size 0 (omega arith), opening-size 1 (omega arith), e, f)))
       (equal-same (cc (answer-size 1 (omega arith) (omega arith), answer-size 2 (omega arith) (omega arith), answer-size 3 (omega arith) (omega arith))))
 
-  pub extractor-takes : (out scratch : Bytes) → length out ≡ 24 * P .N → length scratch ≡ scratchLength → extractReply 2 text x out scratch ≡ Taken
+  pub extractor-takes : (out scratch : Bytes) → length out ≡ 24 * P .N → length scratch ≡ scratchLength → extractReply text x out scratch ≡ Taken
   unfolding extractReply openingsTests
   extractor-takes out scratch e f =
       let first-opened = opens-passed 0 (omega arith) in
-      taken-exactly _ .1 (none-call text m _ _ (extractTests P m x) (sheet-exactly 2 text .0 (first-opened .sheet)) (first-opened .few) message-right (openings-right out scratch e f) none)
+      taken-exactly _ .1 (none-call text m _ _ (extractTests P m x) (sheet-exactly text .0 (first-opened .sheet)) (first-opened .few) message-right (openings-right out scratch e f) none)

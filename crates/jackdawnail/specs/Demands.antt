@@ -40,21 +40,21 @@ use Rattle.jackdawnail.specs.HostClaims.{HostStaysOut, HostEndedAccepted
 
 -- a sheet is taken exactly if all of `SheetTaken` holds
 abbrev pub SheetExactly : Type 0
-SheetExactly = (text : Bytes) → (first (order 2 text) ≡ Taken) ↔ SheetTaken 2 text
+SheetExactly = (text : Bytes) → (first (order text) ≡ Taken) ↔ SheetTaken text
 
 -- a check is taken exactly if the image has its length and all of `Checks` holds of the session in it, in every round
 abbrev pub AcceptedExactly : Type 0
 AcceptedExactly = (image : Bytes) (round : ℕ) (x : Inputs) → Octets (x .head)
-    → (checkReply 2 image round x ≡ Taken) ↔ ((length image ≡ imageLength) × Checks 2 (decode image) round x)
+    → (checkReply image round x ≡ Taken) ↔ ((length image ≡ imageLength) × Checks (decode image) round x)
 
 -- a ballot is admitted exactly if all of `Admits` holds: "full" means 4,096 entries
 abbrev pub AdmittedExactly : Type 0
-AdmittedExactly = (image reg ballot : Bytes) → (admitReply 2 image reg ballot ≡ Taken) ↔ ((length image ≡ imageLength) × Admits 2 (decode image) reg ballot)
+AdmittedExactly = (image reg ballot : Bytes) → (admitReply image reg ballot ≡ Taken) ↔ ((length image ≡ imageLength) × Admits (decode image) reg ballot)
 
 -- a ballot made with short r, e' and e'' under a key that matches the sheet's b has noise within D, and decrypts to its message
 abbrev pub HonestBallots : Type 0
-HonestBallots = (text : Bytes) → first (order 2 text) ≡ Taken
-    → let P = parametersOf 2 text in
+HonestBallots = (text : Bytes) → first (order text) ≡ Taken
+    → let P = parametersOf text in
     (s e r e1 e2 m : Poly) → Small (P .q) (P .N) 1 s → Small (P .q) (P .N) 1 e → Small (P .q) (P .N) 1 r → Small (P .q) (P .N) 1 e1 → Small (P .q) (P .N) 1 e2
     → ((i : ℕ) → i < P .N → m i < 2) → Alike (P .q) (P .N) (key (P .q) (P .N) 2 (P .a) s e) (P .b)
     → let u = cipher-u (P .q) (P .N) 2 (P .a) r e1 in
@@ -69,37 +69,37 @@ pub record Demand2 : Type 0 where
   pub sheet-exactly : SheetExactly
   pub accepted-exactly : AcceptedExactly
   -- over every list of steps from a newly cleared session: a round that a session counts as checked has had its check, and of a session that ended accepted every round has
-  pub rounds-checked : RoundsChecked 2
-  pub ended-accepted : EndedAccepted 2
+  pub rounds-checked : RoundsChecked
+  pub ended-accepted : EndedAccepted
   pub admitted-exactly : AdmittedExactly
   -- the other steps, each taken exactly under its conditions
-  pub cleared-exactly : ClearedExactly 2
-  pub withdrawn-exactly : WithdrawnExactly 2
-  pub closed-exactly : ClosedExactly 2
-  pub claimed-exactly : ClaimedExactly 2
-  pub committed-exactly : CommittedExactly 2
-  pub drawn-exactly : DrawnExactly 2
-  pub withdrawn-stays-out : StaysOut 2
+  pub cleared-exactly : ClearedExactly
+  pub withdrawn-exactly : WithdrawnExactly
+  pub closed-exactly : ClosedExactly
+  pub claimed-exactly : ClaimedExactly
+  pub committed-exactly : CommittedExactly
+  pub drawn-exactly : DrawnExactly
+  pub withdrawn-stays-out : StaysOut
   pub honest-ballots : HonestBallots
   pub examples : Examples
   -- what is shown of steps and of lists of steps over sessions holds of the exported calls over images
-  pub over-images : OverImages 2
-  pub host-stays-out : HostStaysOut 2
-  pub host-ended-accepted : HostEndedAccepted 2
+  pub over-images : OverImages
+  pub host-stays-out : HostStaysOut
+  pub host-ended-accepted : HostEndedAccepted
 
 -- ---- 3. Two accepted openings and three accepted answers yield a hash collision, a short commitment vector or the key, and every honest round is accepted whatever is drawn.
 
 -- one of the three, as the extractor's kind says; the strings of a collision are bytes; nothing that comes before that kind was there; and its output is what it found
 abbrev pub Yields : (text : Bytes) → Openings → Type 0
 Yields text x =
-    let P = parametersOf 2 text in
+    let P = parametersOf text in
     let m = ballotsIn text (x .ballots) in
     Found P m x (kind P m x) × Hashed P m x × Lowest P m x (kind P m x) × Output P m x (kind P m x) (extracted P m x)
 
 -- where the extractor does not refuse, it finds one of the three
 abbrev pub Extracts : Type 0
 Extracts = (text : Bytes) (x : Openings) (out scratch : Bytes) → Octets (x .head) → Octets (x .answer1) → Octets (x .answer2) → Octets (x .answer3)
-    → extractReply 2 text x out scratch ≡ Taken → Yields text x
+    → extractReply text x out scratch ≡ Taken → Yields text x
 
 -- a check that was accepted, of any round of the session in any image, lent this sheet
 pub record AcceptedCheck (text : Bytes) : Type 0 where
@@ -107,7 +107,7 @@ pub record AcceptedCheck (text : Bytes) : Type 0 where
   pub round : ℕ
   pub inputs : Inputs
   pub sheet : inputs .sheet ≡ text
-  pub taken : checkReply 2 image round inputs ≡ Taken
+  pub taken : checkReply image round inputs ≡ Taken
 
 -- what it was lent, with the side and the challenges that the seed in its image draws for its round
 abbrev pub roundOf : {text : Bytes} → AcceptedCheck text → Round
@@ -120,14 +120,14 @@ pub record AcceptedOpening (text : Bytes) (x : Openings) (side : ℕ) : Type 0 w
 
 pub record AcceptedAnswer (text : Bytes) (x : Openings) (challenge : ℕ) : Type 0 where
   pub check : AcceptedCheck text
-  pub answers : AnswersLent (parametersOf 2 text .N) x challenge (roundOf check)
+  pub answers : AnswersLent (parametersOf text .N) x challenge (roundOf check)
 
 -- if both openings and all three answers to one repetition are accepted against one first message, ballots and claims, they yield one of the three, which the extractor takes and finds. What is lent is bytes
 abbrev pub AcceptedYields : Type 0
 AcceptedYields = (text : Bytes) (x : Openings) → Octets (x .head) → Octets (x .answer1) → Octets (x .answer2) → Octets (x .answer3)
     → AcceptedOpening text x 0 → AcceptedOpening text x 1 → AcceptedAnswer text x 1 → AcceptedAnswer text x 2 → AcceptedAnswer text x 3
     → Yields text x
-    × ((out scratch : Bytes) → length out ≡ 24 * parametersOf 2 text .N → length scratch ≡ scratchLength → extractReply 2 text x out scratch ≡ Taken)
+    × ((out scratch : Bytes) → length out ≡ 24 * parametersOf text .N → length scratch ≡ scratchLength → extractReply text x out scratch ≡ Taken)
 
 -- the extractor refuses exactly where the checks of those openings and answers would, and then as one of them does
 abbrev pub RefusesAsChecks : Type 0
@@ -157,8 +157,8 @@ ProducerWrites = (text : Bytes) (x : Material)
 
 -- its round meets none of 5 to 13, with any side and challenges in range
 abbrev pub HonestRounds : Type 0
-HonestRounds = (text : Bytes) → first (order 2 text) ≡ Taken
-    → let P = parametersOf 2 text in
+HonestRounds = (text : Bytes) → first (order text) ≡ Taken
+    → let P = parametersOf text in
     (m : ℕ) (x : Material) → Sized P m x → Suitable P m x → (side : ℕ) → side < 2 → (challenges : Bytes) → length challenges ≡ P .repeats
     → ((i : ℕ) → i < P .repeats → (1 ≤ getD challenges i 0) × (getD challenges i 0 ≤ 3)) → None (roundTests P m (producedRound P m x side challenges))
 
@@ -170,15 +170,15 @@ pub record Demand3 : Type 0 where
   pub lent-rounds : LentRounds
   pub takes-accepted : TakesAccepted
   -- over every list of steps from a newly cleared session, each lent any register: a round of the producer's that is lodged is accepted at its turn
-  pub honest-accepted : HonestAccepted 2
-  pub host-honest-accepted : HostHonestAccepted 2
+  pub honest-accepted : HonestAccepted
+  pub host-honest-accepted : HostHonestAccepted
   pub honest-rounds : HonestRounds
   pub producer-writes : ProducerWrites
   -- a clear that is taken leaves what such a list starts from
-  pub clear-taken : ClearTaken 2
+  pub clear-taken : ClearTaken
   -- no step of such a list meets 31 but for wrong phase or round
-  pub stays-valid : StaysValid 2
-  pub only-phase-or-round : OnlyPhaseOrRound 2
+  pub stays-valid : StaysValid
+  pub only-phase-or-round : OnlyPhaseOrRound
   -- without host writing, the ballots admitted and not withdrawn are the batch
-  pub roll-is-batch : RollIsBatch 2
-  pub own-register : OwnRegister 2
+  pub roll-is-batch : RollIsBatch
+  pub own-register : OwnRegister

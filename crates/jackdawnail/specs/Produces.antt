@@ -15,14 +15,14 @@ use Rattle.histories.specs.Conditions.{SheetTaken}
 module _ (text : Bytes) (x : Material) where
   -- what the sheet gives, and how many ballots are lent
   abbrev P : Parameters
-  P = parametersOf 2 text
+  P = parametersOf text
 
   abbrev m : ℕ
   m = ballotsIn text (x .ballots)
 
   -- the first call, lent room for the first message and the claims
   pub record WritesFirst (head shares0 shares1 claims scratch : Bytes) : Type 0 where
-    pub sheet : SheetTaken 2 text  -- the sheet's own 1 to 5
+    pub sheet : SheetTaken text  -- the sheet's own 1 to 5
     pub few : m ≤ 4096  -- 1
     pub sized : Sized P m x  -- 1
     pub head-size : length head ≡ headLength (P .N) (P .repeats)  -- 1
@@ -34,7 +34,7 @@ module _ (text : Bytes) (x : Material) where
 
   -- the second call, given a side and challenges, and lent room for the opening and the answers
   pub record WritesSecond (side : ℕ) (challenges opening answers scratch : Bytes) : Type 0 where
-    pub sheet : SheetTaken 2 text  -- the sheet's own 1 to 5
+    pub sheet : SheetTaken text  -- the sheet's own 1 to 5
     pub few : m ≤ 4096  -- 1
     pub sized : Sized P m x  -- 1
     pub challenges-size : length challenges ≡ P .repeats  -- 1

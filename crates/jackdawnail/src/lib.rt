@@ -22,8 +22,8 @@ pub extern "C" fn jdn_digest(message: &[u8], out: &mut [u8]) -> u64
 // Reads a sheet, and writes N, D, B and L into 32 lent bytes.
 #[no_mangle]
 pub extern "C" fn jdn_sheet(sheet: &[u8], out: &mut [u8]) -> u64
-    ensures reply { λ answer. ⌜ answer ≡ packed (describeReply 2 (now (sheet .entry)) (now (out .entry))) ⌝ }
-    ensures output { λ _. ⌜ now (out .exit) ≡ describeOut 2 (now (sheet .entry)) (now (out .entry)) ⌝ }
+    ensures reply { λ answer. ⌜ answer ≡ packed (describeReply (now (sheet .entry)) (now (out .entry))) ⌝ }
+    ensures output { λ _. ⌜ now (out .exit) ≡ describeOut (now (sheet .entry)) (now (out .entry)) ⌝ }
 {
     codec::pack(sheet_calls::describe(sheet, out))
 }
@@ -37,9 +37,9 @@ pub extern "C" fn jdn_keygen(
     b: &mut [u8],
     scratch: &mut [u8],
 ) -> u64
-    ensures reply { λ answer. ⌜ answer ≡ packed (keygenReply 2 (now (sheet .entry)) (now (s .entry)) (now (e .entry)) (now (b .entry)) (now (scratch .entry))) ⌝ }
-    ensures output { λ _. ⌜ now (b .exit) ≡ leaves (keygenReply 2 (now (sheet .entry)) (now (s .entry)) (now (e .entry)) (now (b .entry)) (now (scratch .entry))) (keygenWrites 2 (modulusOf (now (sheet .entry))) (ringOf (now (sheet .entry))) (aOf (now (sheet .entry))) (now (s .entry)) (now (e .entry))) (now (b .entry)) ⌝ }
-    ensures swept { λ _. ⌜ now (scratch .exit) ≡ swept (keygenReply 2 (now (sheet .entry)) (now (s .entry)) (now (e .entry)) (now (b .entry)) (now (scratch .entry))) (now (scratch .entry)) ⌝ }
+    ensures reply { λ answer. ⌜ answer ≡ packed (keygenReply (now (sheet .entry)) (now (s .entry)) (now (e .entry)) (now (b .entry)) (now (scratch .entry))) ⌝ }
+    ensures output { λ _. ⌜ now (b .exit) ≡ leaves (keygenReply (now (sheet .entry)) (now (s .entry)) (now (e .entry)) (now (b .entry)) (now (scratch .entry))) (keygenWrites 2 (modulusOf (now (sheet .entry))) (ringOf (now (sheet .entry))) (aOf (now (sheet .entry))) (now (s .entry)) (now (e .entry))) (now (b .entry)) ⌝ }
+    ensures swept { λ _. ⌜ now (scratch .exit) ≡ swept (keygenReply (now (sheet .entry)) (now (s .entry)) (now (e .entry)) (now (b .entry)) (now (scratch .entry))) (now (scratch .entry)) ⌝ }
 {
     codec::pack(scheme_calls::keygen(sheet, s, e, b, scratch))
 }
@@ -55,9 +55,9 @@ pub extern "C" fn jdn_encrypt(
     ciphertext: &mut [u8],
     scratch: &mut [u8],
 ) -> u64
-    ensures reply { λ answer. ⌜ answer ≡ packed (encryptReply 2 (now (sheet .entry)) (now (r .entry)) (now (e1 .entry)) (now (e2 .entry)) (now (m .entry)) (now (ciphertext .entry)) (now (scratch .entry))) ⌝ }
-    ensures output { λ _. ⌜ now (ciphertext .exit) ≡ leaves (encryptReply 2 (now (sheet .entry)) (now (r .entry)) (now (e1 .entry)) (now (e2 .entry)) (now (m .entry)) (now (ciphertext .entry)) (now (scratch .entry))) (encryptWrites 2 (modulusOf (now (sheet .entry))) (ringOf (now (sheet .entry))) (aOf (now (sheet .entry))) (bOf (now (sheet .entry))) (now (r .entry)) (now (e1 .entry)) (now (e2 .entry)) (now (m .entry))) (now (ciphertext .entry)) ⌝ }
-    ensures swept { λ _. ⌜ now (scratch .exit) ≡ swept (encryptReply 2 (now (sheet .entry)) (now (r .entry)) (now (e1 .entry)) (now (e2 .entry)) (now (m .entry)) (now (ciphertext .entry)) (now (scratch .entry))) (now (scratch .entry)) ⌝ }
+    ensures reply { λ answer. ⌜ answer ≡ packed (encryptReply (now (sheet .entry)) (now (r .entry)) (now (e1 .entry)) (now (e2 .entry)) (now (m .entry)) (now (ciphertext .entry)) (now (scratch .entry))) ⌝ }
+    ensures output { λ _. ⌜ now (ciphertext .exit) ≡ leaves (encryptReply (now (sheet .entry)) (now (r .entry)) (now (e1 .entry)) (now (e2 .entry)) (now (m .entry)) (now (ciphertext .entry)) (now (scratch .entry))) (encryptWrites 2 (modulusOf (now (sheet .entry))) (ringOf (now (sheet .entry))) (aOf (now (sheet .entry))) (bOf (now (sheet .entry))) (now (r .entry)) (now (e1 .entry)) (now (e2 .entry)) (now (m .entry))) (now (ciphertext .entry)) ⌝ }
+    ensures swept { λ _. ⌜ now (scratch .exit) ≡ swept (encryptReply (now (sheet .entry)) (now (r .entry)) (now (e1 .entry)) (now (e2 .entry)) (now (m .entry)) (now (ciphertext .entry)) (now (scratch .entry))) (now (scratch .entry)) ⌝ }
 {
     codec::pack(scheme_calls::encrypt(sheet, r, e1, e2, m, ciphertext, scratch))
 }
@@ -71,9 +71,9 @@ pub extern "C" fn jdn_decrypt(
     vote: &mut [u8],
     scratch: &mut [u8],
 ) -> u64
-    ensures reply { λ answer. ⌜ answer ≡ packed (decryptReply 2 (now (sheet .entry)) (now (s .entry)) (now (ciphertext .entry)) (now (vote .entry)) (now (scratch .entry))) ⌝ }
-    ensures output { λ _. ⌜ now (vote .exit) ≡ leaves (decryptReply 2 (now (sheet .entry)) (now (s .entry)) (now (ciphertext .entry)) (now (vote .entry)) (now (scratch .entry))) (decryptWrites 2 (modulusOf (now (sheet .entry))) (ringOf (now (sheet .entry))) (now (s .entry)) (now (ciphertext .entry))) (now (vote .entry)) ⌝ }
-    ensures swept { λ _. ⌜ now (scratch .exit) ≡ swept (decryptReply 2 (now (sheet .entry)) (now (s .entry)) (now (ciphertext .entry)) (now (vote .entry)) (now (scratch .entry))) (now (scratch .entry)) ⌝ }
+    ensures reply { λ answer. ⌜ answer ≡ packed (decryptReply (now (sheet .entry)) (now (s .entry)) (now (ciphertext .entry)) (now (vote .entry)) (now (scratch .entry))) ⌝ }
+    ensures output { λ _. ⌜ now (vote .exit) ≡ leaves (decryptReply (now (sheet .entry)) (now (s .entry)) (now (ciphertext .entry)) (now (vote .entry)) (now (scratch .entry))) (decryptWrites 2 (modulusOf (now (sheet .entry))) (ringOf (now (sheet .entry))) (now (s .entry)) (now (ciphertext .entry))) (now (vote .entry)) ⌝ }
+    ensures swept { λ _. ⌜ now (scratch .exit) ≡ swept (decryptReply (now (sheet .entry)) (now (s .entry)) (now (ciphertext .entry)) (now (vote .entry)) (now (scratch .entry))) (now (scratch .entry)) ⌝ }
 {
     codec::pack(scheme_calls::decrypt(sheet, s, ciphertext, vote, scratch))
 }
@@ -89,9 +89,9 @@ pub extern "C" fn jdn_split(
     out: &mut [u8],
     scratch: &mut [u8],
 ) -> u64
-    ensures reply { λ answer. ⌜ answer ≡ packed (splitReply 2 (now (sheet .entry)) (now (s .entry)) (now (e .entry)) (now (s0 .entry)) (now (e0 .entry)) (now (out .entry)) (now (scratch .entry))) ⌝ }
-    ensures output { λ _. ⌜ now (out .exit) ≡ leaves (splitReply 2 (now (sheet .entry)) (now (s .entry)) (now (e .entry)) (now (s0 .entry)) (now (e0 .entry)) (now (out .entry)) (now (scratch .entry))) (splitWrites 2 (modulusOf (now (sheet .entry))) (ringOf (now (sheet .entry))) (aOf (now (sheet .entry))) (now (s .entry)) (now (e .entry)) (now (s0 .entry)) (now (e0 .entry))) (now (out .entry)) ⌝ }
-    ensures swept { λ _. ⌜ now (scratch .exit) ≡ swept (splitReply 2 (now (sheet .entry)) (now (s .entry)) (now (e .entry)) (now (s0 .entry)) (now (e0 .entry)) (now (out .entry)) (now (scratch .entry))) (now (scratch .entry)) ⌝ }
+    ensures reply { λ answer. ⌜ answer ≡ packed (splitReply (now (sheet .entry)) (now (s .entry)) (now (e .entry)) (now (s0 .entry)) (now (e0 .entry)) (now (out .entry)) (now (scratch .entry))) ⌝ }
+    ensures output { λ _. ⌜ now (out .exit) ≡ leaves (splitReply (now (sheet .entry)) (now (s .entry)) (now (e .entry)) (now (s0 .entry)) (now (e0 .entry)) (now (out .entry)) (now (scratch .entry))) (splitWrites 2 (modulusOf (now (sheet .entry))) (ringOf (now (sheet .entry))) (aOf (now (sheet .entry))) (now (s .entry)) (now (e .entry)) (now (s0 .entry)) (now (e0 .entry))) (now (out .entry)) ⌝ }
+    ensures swept { λ _. ⌜ now (scratch .exit) ≡ swept (splitReply (now (sheet .entry)) (now (s .entry)) (now (e .entry)) (now (s0 .entry)) (now (e0 .entry)) (now (out .entry)) (now (scratch .entry))) (now (scratch .entry)) ⌝ }
 {
     codec::pack(scheme_calls::split(sheet, s, e, s0, e0, out, scratch))
 }
@@ -106,9 +106,9 @@ pub extern "C" fn jdn_share(
     t: &mut [u8],
     scratch: &mut [u8],
 ) -> u64
-    ensures reply { λ answer. ⌜ answer ≡ packed (shareReply 2 (now (sheet .entry)) (now («key_share» .entry)) (now (u .entry)) (now (mask .entry)) (now (t .entry)) (now (scratch .entry))) ⌝ }
-    ensures output { λ _. ⌜ now (t .exit) ≡ leaves (shareReply 2 (now (sheet .entry)) (now («key_share» .entry)) (now (u .entry)) (now (mask .entry)) (now (t .entry)) (now (scratch .entry))) (shareWrites 2 (modulusOf (now (sheet .entry))) (ringOf (now (sheet .entry))) (now («key_share» .entry)) (now (u .entry)) (now (mask .entry))) (now (t .entry)) ⌝ }
-    ensures swept { λ _. ⌜ now (scratch .exit) ≡ swept (shareReply 2 (now (sheet .entry)) (now («key_share» .entry)) (now (u .entry)) (now (mask .entry)) (now (t .entry)) (now (scratch .entry))) (now (scratch .entry)) ⌝ }
+    ensures reply { λ answer. ⌜ answer ≡ packed (shareReply (now (sheet .entry)) (now («key_share» .entry)) (now (u .entry)) (now (mask .entry)) (now (t .entry)) (now (scratch .entry))) ⌝ }
+    ensures output { λ _. ⌜ now (t .exit) ≡ leaves (shareReply (now (sheet .entry)) (now («key_share» .entry)) (now (u .entry)) (now (mask .entry)) (now (t .entry)) (now (scratch .entry))) (shareWrites 2 (modulusOf (now (sheet .entry))) (ringOf (now (sheet .entry))) (now («key_share» .entry)) (now (u .entry)) (now (mask .entry))) (now (t .entry)) ⌝ }
+    ensures swept { λ _. ⌜ now (scratch .exit) ≡ swept (shareReply (now (sheet .entry)) (now («key_share» .entry)) (now (u .entry)) (now (mask .entry)) (now (t .entry)) (now (scratch .entry))) (now (scratch .entry)) ⌝ }
 {
     codec::pack(scheme_calls::share(sheet, key_share, u, mask, t, scratch))
 }
@@ -123,9 +123,9 @@ pub extern "C" fn jdn_reconstruct(
     vote: &mut [u8],
     scratch: &mut [u8],
 ) -> u64
-    ensures reply { λ answer. ⌜ answer ≡ packed (reconstructReply 2 (now (sheet .entry)) (now (v .entry)) (now (t0 .entry)) (now (t1 .entry)) (now (vote .entry)) (now (scratch .entry))) ⌝ }
-    ensures output { λ _. ⌜ now (vote .exit) ≡ leaves (reconstructReply 2 (now (sheet .entry)) (now (v .entry)) (now (t0 .entry)) (now (t1 .entry)) (now (vote .entry)) (now (scratch .entry))) (reconstructWrites 2 (modulusOf (now (sheet .entry))) (ringOf (now (sheet .entry))) (now (v .entry)) (now (t0 .entry)) (now (t1 .entry))) (now (vote .entry)) ⌝ }
-    ensures swept { λ _. ⌜ now (scratch .exit) ≡ swept (reconstructReply 2 (now (sheet .entry)) (now (v .entry)) (now (t0 .entry)) (now (t1 .entry)) (now (vote .entry)) (now (scratch .entry))) (now (scratch .entry)) ⌝ }
+    ensures reply { λ answer. ⌜ answer ≡ packed (reconstructReply (now (sheet .entry)) (now (v .entry)) (now (t0 .entry)) (now (t1 .entry)) (now (vote .entry)) (now (scratch .entry))) ⌝ }
+    ensures output { λ _. ⌜ now (vote .exit) ≡ leaves (reconstructReply (now (sheet .entry)) (now (v .entry)) (now (t0 .entry)) (now (t1 .entry)) (now (vote .entry)) (now (scratch .entry))) (reconstructWrites 2 (modulusOf (now (sheet .entry))) (ringOf (now (sheet .entry))) (now (v .entry)) (now (t0 .entry)) (now (t1 .entry))) (now (vote .entry)) ⌝ }
+    ensures swept { λ _. ⌜ now (scratch .exit) ≡ swept (reconstructReply (now (sheet .entry)) (now (v .entry)) (now (t0 .entry)) (now (t1 .entry)) (now (vote .entry)) (now (scratch .entry))) (now (scratch .entry)) ⌝ }
 {
     codec::pack(scheme_calls::reconstruct(sheet, v, t0, t1, vote, scratch))
 }
@@ -139,9 +139,9 @@ pub extern "C" fn jdn_commitment(
     pair: &mut [u8],
     scratch: &mut [u8],
 ) -> u64
-    ensures reply { λ answer. ⌜ answer ≡ packed (commitmentReply 2 (now (sheet .entry)) (now (m .entry)) (now (r .entry)) (now (pair .entry)) (now (scratch .entry))) ⌝ }
-    ensures output { λ _. ⌜ now (pair .exit) ≡ leaves (commitmentReply 2 (now (sheet .entry)) (now (m .entry)) (now (r .entry)) (now (pair .entry)) (now (scratch .entry))) (commitmentWrites (modulusOf (now (sheet .entry))) (ringOf (now (sheet .entry))) (keysOfSheet (now (sheet .entry))) (now (m .entry)) (now (r .entry))) (now (pair .entry)) ⌝ }
-    ensures swept { λ _. ⌜ now (scratch .exit) ≡ swept (commitmentReply 2 (now (sheet .entry)) (now (m .entry)) (now (r .entry)) (now (pair .entry)) (now (scratch .entry))) (now (scratch .entry)) ⌝ }
+    ensures reply { λ answer. ⌜ answer ≡ packed (commitmentReply (now (sheet .entry)) (now (m .entry)) (now (r .entry)) (now (pair .entry)) (now (scratch .entry))) ⌝ }
+    ensures output { λ _. ⌜ now (pair .exit) ≡ leaves (commitmentReply (now (sheet .entry)) (now (m .entry)) (now (r .entry)) (now (pair .entry)) (now (scratch .entry))) (commitmentWrites (modulusOf (now (sheet .entry))) (ringOf (now (sheet .entry))) (keysOfSheet (now (sheet .entry))) (now (m .entry)) (now (r .entry))) (now (pair .entry)) ⌝ }
+    ensures swept { λ _. ⌜ now (scratch .exit) ≡ swept (commitmentReply (now (sheet .entry)) (now (m .entry)) (now (r .entry)) (now (pair .entry)) (now (scratch .entry))) (now (scratch .entry)) ⌝ }
 {
     codec::pack(scheme_calls::commitment(sheet, m, r, pair, scratch))
 }

@@ -36,9 +36,9 @@ pub extern "C" fn jdn_register_length() -> u64
 // Starts anew, on a sheet and with an empty register, whatever the image holds.
 #[no_mangle]
 pub extern "C" fn jdn_clear(image: &mut [u8], reg: &mut [u8], sheet: &[u8]) -> u64
-    ensures reply { λ answer. ⌜ answer ≡ packed (clearReply 2 (now (image .entry)) (now (reg .entry)) (now (sheet .entry))) ⌝ }
-    ensures image { λ _. ⌜ now (image .exit) ≡ imageLeft (clearReply 2 (now (image .entry)) (now (reg .entry)) (now (sheet .entry))) (now (image .entry)) (cleared (now (sheet .entry))) ⌝ }
-    ensures register { λ _. ⌜ now (reg .exit) ≡ leaves (clearReply 2 (now (image .entry)) (now (reg .entry)) (now (sheet .entry))) (zeros entries.registerLength) (now (reg .entry)) ⌝ }
+    ensures reply { λ answer. ⌜ answer ≡ packed (clearReply (now (image .entry)) (now (reg .entry)) (now (sheet .entry))) ⌝ }
+    ensures image { λ _. ⌜ now (image .exit) ≡ imageLeft (clearReply (now (image .entry)) (now (reg .entry)) (now (sheet .entry))) (now (image .entry)) (cleared (now (sheet .entry))) ⌝ }
+    ensures register { λ _. ⌜ now (reg .exit) ≡ leaves (clearReply (now (image .entry)) (now (reg .entry)) (now (sheet .entry))) (zeros entries.registerLength) (now (reg .entry)) ⌝ }
 {
     codec::pack(session_calls::clear(image, reg, sheet))
 }
@@ -46,9 +46,9 @@ pub extern "C" fn jdn_clear(image: &mut [u8], reg: &mut [u8], sheet: &[u8]) -> u
 // Admits a ballot: mark, u, v.
 #[no_mangle]
 pub extern "C" fn jdn_admit(image: &mut [u8], reg: &mut [u8], ballot: &[u8]) -> u64
-    ensures reply { λ answer. ⌜ answer ≡ packed (admitReply 2 (now (image .entry)) (now (reg .entry)) (now (ballot .entry))) ⌝ }
-    ensures image { λ _. ⌜ now (image .exit) ≡ imageLeft (admitReply 2 (now (image .entry)) (now (reg .entry)) (now (ballot .entry))) (now (image .entry)) (admittedBy (decode (now (image .entry)))) ⌝ }
-    ensures register { λ _. ⌜ now (reg .exit) ≡ leaves (admitReply 2 (now (image .entry)) (now (reg .entry)) (now (ballot .entry))) (entries.admitted (now (reg .entry)) (decode (now (image .entry)) .progress .used) (now (ballot .entry))) (now (reg .entry)) ⌝ }
+    ensures reply { λ answer. ⌜ answer ≡ packed (admitReply (now (image .entry)) (now (reg .entry)) (now (ballot .entry))) ⌝ }
+    ensures image { λ _. ⌜ now (image .exit) ≡ imageLeft (admitReply (now (image .entry)) (now (reg .entry)) (now (ballot .entry))) (now (image .entry)) (admittedBy (decode (now (image .entry)))) ⌝ }
+    ensures register { λ _. ⌜ now (reg .exit) ≡ leaves (admitReply (now (image .entry)) (now (reg .entry)) (now (ballot .entry))) (entries.admitted (now (reg .entry)) (decode (now (image .entry)) .progress .used) (now (ballot .entry))) (now (reg .entry)) ⌝ }
 {
     codec::pack(session_calls::admit(image, reg, ballot))
 }
@@ -56,9 +56,9 @@ pub extern "C" fn jdn_admit(image: &mut [u8], reg: &mut [u8], ballot: &[u8]) -> 
 // Withdraws the ballot with a mark. The session stays as it is: a withdrawal is in the register.
 #[no_mangle]
 pub extern "C" fn jdn_withdraw(image: &mut [u8], reg: &mut [u8], mark: u32) -> u64
-    ensures reply { λ answer. ⌜ answer ≡ packed (withdrawReply 2 (now (image .entry)) (now (reg .entry)) mark) ⌝ }
+    ensures reply { λ answer. ⌜ answer ≡ packed (withdrawReply (now (image .entry)) (now (reg .entry)) mark) ⌝ }
     ensures image { λ _. ⌜ now (image .exit) ≡ now (image .entry) ⌝ }
-    ensures register { λ _. ⌜ now (reg .exit) ≡ leaves (withdrawReply 2 (now (image .entry)) (now (reg .entry)) mark) (entries.withdrawn (now (reg .entry)) (entries.find (now (reg .entry)) mark (decode (now (image .entry)) .progress .used))) (now (reg .entry)) ⌝ }
+    ensures register { λ _. ⌜ now (reg .exit) ≡ leaves (withdrawReply (now (image .entry)) (now (reg .entry)) mark) (entries.withdrawn (now (reg .entry)) (entries.find (now (reg .entry)) mark (decode (now (image .entry)) .progress .used))) (now (reg .entry)) ⌝ }
 {
     codec::pack(session_calls::withdraw(image, reg, mark))
 }
@@ -66,8 +66,8 @@ pub extern "C" fn jdn_withdraw(image: &mut [u8], reg: &mut [u8], mark: u32) -> u
 // Closes the batch of the standing entries.
 #[no_mangle]
 pub extern "C" fn jdn_close(image: &mut [u8], reg: &[u8]) -> u64
-    ensures reply { λ answer. ⌜ answer ≡ packed (closeReply 2 (now (image .entry)) (now (reg .entry))) ⌝ }
-    ensures image { λ _. ⌜ now (image .exit) ≡ imageLeft (closeReply 2 (now (image .entry)) (now (reg .entry))) (now (image .entry)) (closedBy (decode (now (image .entry))) (now (reg .entry))) ⌝ }
+    ensures reply { λ answer. ⌜ answer ≡ packed (closeReply (now (image .entry)) (now (reg .entry))) ⌝ }
+    ensures image { λ _. ⌜ now (image .exit) ≡ imageLeft (closeReply (now (image .entry)) (now (reg .entry))) (now (image .entry)) (closedBy (decode (now (image .entry))) (now (reg .entry))) ⌝ }
 {
     codec::pack(session_calls::close(image, reg))
 }
@@ -75,8 +75,8 @@ pub extern "C" fn jdn_close(image: &mut [u8], reg: &[u8]) -> u64
 // Takes the claims.
 #[no_mangle]
 pub extern "C" fn jdn_claim(image: &mut [u8], claims: &[u8]) -> u64
-    ensures reply { λ answer. ⌜ answer ≡ packed (claimReply 2 (now (image .entry)) (now (claims .entry))) ⌝ }
-    ensures image { λ _. ⌜ now (image .exit) ≡ imageLeft (claimReply 2 (now (image .entry)) (now (claims .entry))) (now (image .entry)) (claimedBy (decode (now (image .entry))) (now (claims .entry))) ⌝ }
+    ensures reply { λ answer. ⌜ answer ≡ packed (claimReply (now (image .entry)) (now (claims .entry))) ⌝ }
+    ensures image { λ _. ⌜ now (image .exit) ≡ imageLeft (claimReply (now (image .entry)) (now (claims .entry))) (now (image .entry)) (claimedBy (decode (now (image .entry))) (now (claims .entry))) ⌝ }
 {
     codec::pack(session_calls::claim(image, claims))
 }
@@ -90,8 +90,8 @@ pub extern "C" fn jdn_commit(
     shares0: &[u8],
     shares1: &[u8],
 ) -> u64
-    ensures reply { λ answer. ⌜ answer ≡ packed (commitReply 2 (now (image .entry)) round (now (head .entry)) (now (shares0 .entry)) (now (shares1 .entry))) ⌝ }
-    ensures image { λ _. ⌜ now (image .exit) ≡ imageLeft (commitReply 2 (now (image .entry)) round (now (head .entry)) (now (shares0 .entry)) (now (shares1 .entry))) (now (image .entry)) (committedBy (decode (now (image .entry))) round (now (head .entry)) (now (shares0 .entry)) (now (shares1 .entry))) ⌝ }
+    ensures reply { λ answer. ⌜ answer ≡ packed (commitReply (now (image .entry)) round (now (head .entry)) (now (shares0 .entry)) (now (shares1 .entry))) ⌝ }
+    ensures image { λ _. ⌜ now (image .exit) ≡ imageLeft (commitReply (now (image .entry)) round (now (head .entry)) (now (shares0 .entry)) (now (shares1 .entry))) (now (image .entry)) (committedBy (decode (now (image .entry))) round (now (head .entry)) (now (shares0 .entry)) (now (shares1 .entry))) ⌝ }
 {
     codec::pack(session_calls::commit(image, round, head, shares0, shares1))
 }
@@ -99,8 +99,8 @@ pub extern "C" fn jdn_commit(
 // Takes the seed of 32 bytes.
 #[no_mangle]
 pub extern "C" fn jdn_draw(image: &mut [u8], seed: &[u8]) -> u64
-    ensures reply { λ answer. ⌜ answer ≡ packed (drawReply 2 (now (image .entry)) (now (seed .entry))) ⌝ }
-    ensures image { λ _. ⌜ now (image .exit) ≡ imageLeft (drawReply 2 (now (image .entry)) (now (seed .entry))) (now (image .entry)) (drawnBy (decode (now (image .entry))) (now (seed .entry))) ⌝ }
+    ensures reply { λ answer. ⌜ answer ≡ packed (drawReply (now (image .entry)) (now (seed .entry))) ⌝ }
+    ensures image { λ _. ⌜ now (image .exit) ≡ imageLeft (drawReply (now (image .entry)) (now (seed .entry))) (now (image .entry)) (drawnBy (decode (now (image .entry))) (now (seed .entry))) ⌝ }
 {
     codec::pack(session_calls::draw(image, seed))
 }
@@ -120,9 +120,9 @@ pub extern "C" fn jdn_check(
     answers: &[u8],
     scratch: &mut [u8],
 ) -> u64
-    ensures reply { λ answer. ⌜ answer ≡ packed (checkReply 2 (now (image .entry)) round (inputsOf (now (sheet .entry)) (now (ballots .entry)) (now (claims .entry)) (now (head .entry)) (now (shares0 .entry)) (now (shares1 .entry)) (now (opening .entry)) (now (answers .entry)) (now (scratch .entry)))) ⌝ }
-    ensures image { λ _. ⌜ now (image .exit) ≡ checkImage 2 (now (image .entry)) round (inputsOf (now (sheet .entry)) (now (ballots .entry)) (now (claims .entry)) (now (head .entry)) (now (shares0 .entry)) (now (shares1 .entry)) (now (opening .entry)) (now (answers .entry)) (now (scratch .entry))) ⌝ }
-    ensures swept { λ _. ⌜ now (scratch .exit) ≡ swept (checkReply 2 (now (image .entry)) round (inputsOf (now (sheet .entry)) (now (ballots .entry)) (now (claims .entry)) (now (head .entry)) (now (shares0 .entry)) (now (shares1 .entry)) (now (opening .entry)) (now (answers .entry)) (now (scratch .entry)))) (now (scratch .entry)) ⌝ }
+    ensures reply { λ answer. ⌜ answer ≡ packed (checkReply (now (image .entry)) round (inputsOf (now (sheet .entry)) (now (ballots .entry)) (now (claims .entry)) (now (head .entry)) (now (shares0 .entry)) (now (shares1 .entry)) (now (opening .entry)) (now (answers .entry)) (now (scratch .entry)))) ⌝ }
+    ensures image { λ _. ⌜ now (image .exit) ≡ checkImage (now (image .entry)) round (inputsOf (now (sheet .entry)) (now (ballots .entry)) (now (claims .entry)) (now (head .entry)) (now (shares0 .entry)) (now (shares1 .entry)) (now (opening .entry)) (now (answers .entry)) (now (scratch .entry))) ⌝ }
+    ensures swept { λ _. ⌜ now (scratch .exit) ≡ swept (checkReply (now (image .entry)) round (inputsOf (now (sheet .entry)) (now (ballots .entry)) (now (claims .entry)) (now (head .entry)) (now (shares0 .entry)) (now (shares1 .entry)) (now (opening .entry)) (now (answers .entry)) (now (scratch .entry)))) (now (scratch .entry)) ⌝ }
 {
     codec::pack(session_calls::checks::check(
         image,
@@ -142,8 +142,8 @@ pub extern "C" fn jdn_check(
 // Writes the side and the challenges that were drawn for a round.
 #[no_mangle]
 pub extern "C" fn jdn_challenges(image: &[u8], round: u64, out: &mut [u8]) -> u64
-    ensures reply { λ answer. ⌜ answer ≡ packed (challengesReply 2 (now (image .entry)) round (now (out .entry))) ⌝ }
-    ensures output { λ _. ⌜ now (out .exit) ≡ leaves (challengesReply 2 (now (image .entry)) round (now (out .entry))) (challengesOut (decode (now (image .entry))) round) (now (out .entry)) ⌝ }
+    ensures reply { λ answer. ⌜ answer ≡ packed (challengesReply (now (image .entry)) round (now (out .entry))) ⌝ }
+    ensures output { λ _. ⌜ now (out .exit) ≡ leaves (challengesReply (now (image .entry)) round (now (out .entry))) (challengesOut (decode (now (image .entry))) round) (now (out .entry)) ⌝ }
 {
     codec::pack(session_calls::checks::challenges(image, round, out))
 }
@@ -151,7 +151,7 @@ pub extern "C" fn jdn_challenges(image: &[u8], round: u64, out: &mut [u8]) -> u6
 // The standing entries in thousandths of the enrolled, as the reply's value.
 #[no_mangle]
 pub extern "C" fn jdn_turnout(image: &[u8], reg: &[u8], enrolled: u64) -> u64
-    ensures { λ answer. ⌜ answer ≡ turnoutAnswer 2 (now (image .entry)) (now (reg .entry)) enrolled ⌝ }
+    ensures { λ answer. ⌜ answer ≡ turnoutAnswer (now (image .entry)) (now (reg .entry)) enrolled ⌝ }
 {
     session_calls::checks::pack(session_calls::checks::turnout(image, reg, enrolled))
 }

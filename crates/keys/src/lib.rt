@@ -53,7 +53,7 @@ pub fn keygen(
     let reply = keygen_tests(s, e, b, scratch, n);
     match reply {
         Reply::Taken => {
-            written::noisy(b, 0, scratch, a, s, e, n, q);
+            written::noisy(b, 0, scratch, a, s, e, 2, n, q);
         }
         Reply::Refused {
             number: _,
@@ -132,8 +132,8 @@ fn write_split(
 {
     written::difference(out, 0, scratch, s, s0, n, q);
     written::difference(out, 8 * n, scratch, e, e0, n, q);
-    written::lent_key(out, 16 * n, scratch, a, s0, e0, n, q);
-    written::other_key(out, 24 * n, scratch, a, s, s0, e, e0, n, q);
+    written::lent_key(out, 16 * n, scratch, a, s0, e0, 2, n, q);
+    written::other_key(out, 24 * n, scratch, a, s, s0, e, e0, 2, n, q);
 }
 
 // The key split: s1, e1, b0, b1.

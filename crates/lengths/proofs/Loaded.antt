@@ -12,11 +12,11 @@ use Rattle.sheet.specs.declared.Reading.{Reading}
 use Rattle.sheet.specs.declared.Reading.the-variants.{Taken}
 use Rattle.sheet.proofs.Taken.{taken, length-polynomials}
 
-module _ (p : ℕ) (text : Bytes) {public : Bytes} {r : Reading} {k : Numbers} (load : (r ≡ reading p text) × (public ≡ loaded p text (replicate 81920 0))) (e : r ≡ Taken k) where
+module _ (text : Bytes) {public : Bytes} {r : Reading} {k : Numbers} (load : (r ≡ reading text) × (public ≡ loaded text (replicate 81920 0))) (e : r ≡ Taken k) where
   abbrev n : ℕ
   n = k .ring
 
-  said : reading p text ≡ Taken k
+  said : reading text ≡ Taken k
   said = sym (load .0) ∙ e
 
   held : public ≡ put (replicate 81920 0) 0 (polynomials text)
@@ -24,10 +24,10 @@ module _ (p : ℕ) (text : Bytes) {public : Bytes} {r : Reading} {k : Numbers} (
   held = load .1 ∙ ap (λ (x : Reading). filled x text (replicate 81920 0)) said
 
   long : length (polynomials text) ≡ 40 * n
-  long = length-polynomials p text said
+  long = length-polynomials text said
 
   high : n ≤ 2048
-  high = taken p text said .ranged .ring-high
+  high = taken text said .ranged .ring-high
 
   -- a part of the bytes is that part of the polynomials
   pub lent-part : (from size from' size' : ℕ) → from ≡ from' → size ≡ size' → from' + size' ≤ 40 * n → take size (drop from public) ≡ part (polynomials text) from' size'

@@ -6,8 +6,9 @@ ghost use Prim.Native.Nat.{_+_, _*_, _/_, _≤_};
 ghost use lib.ListN.{length};
 ghost use Rattle.codec.specs.declared.Reply.the-variants.{Refused};
 ghost use Rattle.transcript.specs.Layout.{answersLength};
-ghost use Rattle.transcript.specs.Lent.{given, materialIn, firstIn};
-ghost use Rattle.transcript.specs.Usable.{Usable};
+ghost use Rattle.codec.specs.Slices.{given};
+ghost use Rattle.transcript.specs.Lent.{materialIn, firstIn};
+ghost use Rattle.sheet_numbers.specs.Usable.{Usable};
 ghost use Rattle.lengths.specs.Calls.{countOf, materialSized, firstSized, secondSized, messageSized, openingsSized};
 
 // 1: a slice of wrong length.

@@ -7,22 +7,23 @@ ghost use Rattle.codec.specs.Bytes.{same};
 ghost use Rattle.ring.specs.Slots.{coefficientBytes, poly};
 ghost use Rattle.ring.specs.Ternary.{ternary};
 ghost use Rattle.sheet_numbers.specs.Plain.{plain};
+ghost use Rattle.sheet_numbers.specs.Usable.{Usable};
 ghost use Rattle.call.specs.Call.{scratchLength, Polynomial};
 ghost use Rattle.bgv.specs.Scheme.{key};
 ghost use Rattle.commitment.specs.Loaded.{Loaded};
-ghost use Rattle.transcript.specs.Lent.{given, left};
+ghost use Rattle.codec.specs.Slices.{given, left};
 ghost use Rattle.transcript.specs.Producer.{keyMatches};
 ghost use Rattle.transcript.specs.Sheets.{parameters};
 
 // Whether b is a s + p e, for ternary bytes s and e.
 fn is_key(work: &mut [u8], k: Numbers, a: &[u8], b: &[u8], s: &[u8], e: &[u8]) -> bool
-    requires { ⌜ Polynomial (k .ring) (k .modulus) (now a) × Polynomial (k .ring) (k .modulus) (now b) × (length (now work) ≡ scratchLength)
-              × (length (now s) ≡ k .ring) × (length (now e) ≡ k .ring) ⌝ }
+    requires { ⌜ Usable k × Polynomial (k .ring) (k .modulus) (now a) × Polynomial (k .ring) (k .modulus) (now b)
+              × (length (now work) ≡ scratchLength) × (length (now s) ≡ k .ring) × (length (now e) ≡ k .ring) ⌝ }
     ensures { λ r. let q = k .modulus in let made = key q (k .ring) (plain k) (poly (given a)) (ternary q (given s)) (ternary q (given e)) in
               ⌜ (r ≡ same (coefficientBytes q (k .ring) made) (coefficientBytes q (k .ring) (poly (given b)))) × (length (left work) ≡ length (given work)) ⌝ }
 {
     let n = k.ring as usize;
-    bgv::noisy(work, a, s, e, n, k.modulus);
+    bgv::noisy(work, a, s, e, sheet_numbers::plain(k), n, k.modulus);
     codec::equal(&work[0..8 * n], b)
 }
 

@@ -19,10 +19,11 @@ ghost use Rattle.sheet_numbers.specs.Plain.{noiseOf, maskOf};
 ghost use Rattle.call.specs.Call.{scratchLength};
 ghost use Rattle.commitment.specs.Loaded.{Loaded};
 ghost use Rattle.transcript.specs.Layout.{ballotLength, ballotsBelow};
-ghost use Rattle.transcript.specs.Lent.{given, left, materialNow, materialIn};
+ghost use Rattle.codec.specs.Slices.{given, left};
+ghost use Rattle.transcript.specs.Lent.{materialNow, materialIn};
 ghost use Rattle.transcript.specs.Producer.{Sized, secretTests, maskTests, permutationTests, noiseTests};
 ghost use Rattle.transcript.specs.Sheets.{parameters};
-ghost use Rattle.transcript.specs.Usable.{Usable};
+ghost use Rattle.sheet_numbers.specs.Usable.{Usable};
 ghost use Rattle.material.specs.Tested.{MaterialTested};
 
 // 5, then 14.

@@ -8,9 +8,9 @@ ghost use lib.ListN.{length};
 ghost use Rattle.codec.specs.Reply.{first};
 ghost use Rattle.sheet_numbers.specs.Plain.{maskOf};
 ghost use Rattle.bgv.specs.Scheme.{lentMask, within};
-ghost use Rattle.transcript.specs.Lent.{given};
+ghost use Rattle.codec.specs.Slices.{given};
 ghost use Rattle.transcript.specs.Producer.{maskTests};
-ghost use Rattle.transcript.specs.Usable.{Usable};
+ghost use Rattle.sheet_numbers.specs.Usable.{Usable};
 
 // Whether every number of two lent masks is at most a bound in size.
 fn both_bounded(mask0: &[u8], mask1: &[u8], bound: u64, n: usize) -> bool
@@ -30,7 +30,7 @@ pub fn test_masks(k: Numbers, masks0: &[u8], masks1: &[u8], count: usize) -> Rep
     ensures { λ reply. ⌜ reply ≡ first (maskTests (k .ring) (maskOf k) count (given masks0) (given masks1)) ⌝ }
 {
     let n = k.ring as usize;
-    let bound = sheet_numbers::mask_bound(k.ring, k.drown);
+    let bound = sheet_numbers::mask_bound(k);
     let mut j = 0;
     let mut at = 0;
     while j < count {

@@ -13,9 +13,9 @@ ghost use Rattle.sheet_numbers.specs.Plain.{noiseOf};
 ghost use Rattle.call.specs.Call.{scratchLength, Polynomial};
 ghost use Rattle.bgv.specs.Scheme.{centred, opened, within};
 ghost use Rattle.transcript.specs.Layout.{ballotLength, ballotsBelow};
-ghost use Rattle.transcript.specs.Lent.{given, left};
+ghost use Rattle.codec.specs.Slices.{given, left};
 ghost use Rattle.transcript.specs.Producer.{sIn, noiseTests};
-ghost use Rattle.transcript.specs.Usable.{Usable};
+ghost use Rattle.sheet_numbers.specs.Usable.{Usable};
 
 // Whether the centred coefficients at the head of scratch are at most a bound in size.
 fn head_within(work: &[u8], bound: u64, n: usize, q: u64) -> bool
@@ -81,7 +81,7 @@ pub fn test_noise(work: &mut [u8], k: Numbers, secrets: &[u8], ballots: &[u8], c
 {
     let n = k.ring as usize;
     let q = k.modulus;
-    let bound = sheet_numbers::noise_bound(k.ring);
+    let bound = sheet_numbers::noise_bound(k);
     let mut j = 0;
     let mut at = 0;
     while j < count {

@@ -6,9 +6,9 @@ ghost use Prim.Native.Nat.{_*_};
 ghost use lib.ListN.{length};
 ghost use Rattle.codec.specs.Reply.{first};
 ghost use Rattle.call.specs.Call.{scratchLength};
-ghost use Rattle.transcript.specs.Lent.{given, left};
+ghost use Rattle.codec.specs.Slices.{given, left};
 ghost use Rattle.transcript.specs.Producer.{permutationTests};
-ghost use Rattle.transcript.specs.Usable.{Usable};
+ghost use Rattle.sheet_numbers.specs.Usable.{Usable};
 
 // The permutation of every repetition, in order.
 pub fn test_permutations(work: &mut [u8], k: Numbers, permutations: &[u8]) -> Reply

@@ -4,7 +4,7 @@ ghost use mathlib.Core.Path.{_≡_};
 ghost use Prim.Native.Nat.{_*_, _≤_};
 ghost use lib.ListN.{length};
 ghost use Rattle.transcript.specs.Layout.{ballotLength};
-ghost use Rattle.transcript.specs.Lent.{given};
+ghost use Rattle.codec.specs.Slices.{given};
 ghost use Rattle.transcript.specs.Producer.{materialRanged};
 
 // Whether all that the producer is lent is in range; masks and permutations have tests of their own.

@@ -9,7 +9,7 @@ ghost use Rattle.commitment.specs.Commitment.{keysOf, PublicKeys};
 ghost use Rattle.stern.specs.Shortness.{Material, drawnOf, honestDigests};
 ghost use Rattle.commitment.specs.Loaded.{keyBytes, Loaded};
 ghost use Rattle.transcript.specs.Layout.{headLength};
-ghost use Rattle.transcript.specs.Lent.{given, left};
+ghost use Rattle.codec.specs.Slices.{given, left};
 ghost use Rattle.transcript.specs.Producer.{digestsBytes};
 ghost use Rattle.message_head.specs.Method.{Drawings};
 

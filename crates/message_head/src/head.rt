@@ -12,7 +12,7 @@ ghost use Rattle.sheet_numbers.specs.Plain.{plain};
 ghost use Rattle.call.specs.Call.{scratchLength, Polynomial};
 ghost use Rattle.commitment.specs.Loaded.{aOf, Loaded};
 ghost use Rattle.transcript.specs.Layout.{headLength};
-ghost use Rattle.transcript.specs.Lent.{given, left};
+ghost use Rattle.codec.specs.Slices.{given, left};
 ghost use Rattle.transcript.specs.Producer.{keyBytesOf, headBytes};
 ghost use Rattle.transcript.specs.Sheets.{parameters};
 ghost use Rattle.message_head.specs.Method.{Drawings};
@@ -34,8 +34,9 @@ fn write_keys(
               ⌜ (left head ≡ put (given head) 0 (b 0 ++ b 1)) × (length (left work) ≡ length (given work)) ⌝ }
 {
     let n = k.ring as usize;
+    let p = sheet_numbers::plain(k);
     let q = k.modulus;
-    scheme::written::lent_key(head, 0, work, &public[0..8 * n], s0, e0, n, q);
+    scheme::written::lent_key(head, 0, work, &public[0..8 * n], s0, e0, p, n, q);
     scheme::written::other_key(
         head,
         8 * n,
@@ -45,6 +46,7 @@ fn write_keys(
         s0,
         &secrets[n..2 * n],
         e0,
+        p,
         n,
         q,
     );

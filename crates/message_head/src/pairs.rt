@@ -11,7 +11,7 @@ ghost use Rattle.call.specs.Call.{scratchLength, Polynomial};
 ghost use Rattle.bgv.specs.Scheme.{other};
 ghost use Rattle.commitment.specs.Commitment.{keysOf, threeOf, committed, pairBytes, PublicKeys, PairStands};
 ghost use Rattle.commitment.specs.Loaded.{keyBytes, Loaded};
-ghost use Rattle.transcript.specs.Lent.{given, left};
+ghost use Rattle.codec.specs.Slices.{given, left};
 ghost use Rattle.transcript.specs.Producer.{pairOf, pairsBytes};
 
 // Writes the pair that stands in scratch out: its first half at the head, its second where the message stood.

@@ -12,7 +12,7 @@ use Rattle.sheet_numbers.specs.declared.Numbers.{Numbers}
 use Rattle.call.specs.Call.{scratchLength}
 use Rattle.bgv.specs.Scheme.{decrypted, other, lentMask, share}
 use Rattle.transcript.specs.Layout.{ballotLength, uAt}
-use Rattle.transcript.specs.Lent.{Slice, given, left}
+use Rattle.codec.specs.Slices.{Slice, given, left}
 use Rattle.transcript.specs.Producer.{sharesBytes, claimsBytes}
 
 -- the ballots, and E of both sides

@@ -9,9 +9,9 @@ ghost use Rattle.ring.specs.Poly.{Below};
 ghost use Rattle.ring.specs.Slots.{poly, slot};
 ghost use Rattle.ring.specs.Ternary.{ternary};
 ghost use Rattle.call.specs.Call.{scratchLength, Polynomial};
-ghost use Rattle.transcript.specs.Lent.{given};
+ghost use Rattle.codec.specs.Slices.{given};
 ghost use Rattle.transcript.specs.Producer.{sIn};
-ghost use Rattle.transcript.specs.Usable.{Usable};
+ghost use Rattle.sheet_numbers.specs.Usable.{Usable};
 ghost use Rattle.message_shares.specs.Method.{Masked, roomNow, roomIn, roomOut, Fits, BallotWritten, BallotsWritten};
 
 // One ballot where it stands, with its masks at the place of its shares.

@@ -10,8 +10,8 @@ ghost use Rattle.ring.specs.Slots.{coefficientBytes, poly, slot};
 ghost use Rattle.ring.specs.Ternary.{ternary};
 ghost use Rattle.call.specs.Call.{scratchLength, Polynomial};
 ghost use Rattle.bgv.specs.Scheme.{residues, plain, lentMask};
-ghost use Rattle.transcript.specs.Lent.{given, left};
-ghost use Rattle.transcript.specs.Usable.{Usable};
+ghost use Rattle.codec.specs.Slices.{given, left};
+ghost use Rattle.sheet_numbers.specs.Usable.{Usable};
 ghost use Rattle.message_shares.specs.Method.{roomNow, roomIn, roomOut, Fits, BallotWritten, TwoStand};
 
 // Where s0 u stands, and then t0.
@@ -95,7 +95,7 @@ fn write_claim(claims: &mut [u8], at: usize, work: &mut [u8], v: &[u8], n: usize
 {
     ring::scale_slot(work, 0, q - 1, n, q);
     ring::add(work, 0, v, n, q);
-    bgv::plain(work, &mut claims[at..at + n], n, q);
+    bgv::plain(work, &mut claims[at..at + n], 2, n, q);
 }
 
 // The shares of both sides and the claim of one ballot, at places of their slices.

@@ -1,11 +1,13 @@
 -- Division by p modulo q, where p and q have no common factor: it undoes multiplication by p. Assumes nothing.
-use mathlib.Core.Path.{_≡_, refl, sym, ap, _∙_}
+use mathlib.Core.Path.{_≡_, refl, sym, ap, subst, _∙_}
 use mathlib.Core.Bool.{Bool, true, false, cond}
-use Prim.Native.Nat.{ℕ, zero, suc, _+_, _-_, _*_, _/_, _%_, _<_}
-use native.Mathlib.Nat.{mul-assoc, mul-comm, mul-left-comm, mul-add, add-mul, mul-zero, mul-one, one-mul, mod-lt, mod-mod, mod-eq-of-lt, mod-self, div-add-mod', mod-one, zero-mod, mod-zero, zero-mul}
+use Prim.Native.Nat.{ℕ, zero, suc, _+_, _-_, _*_, _/_, _%_, _≤_, _<_}
+use native.Mathlib.Nat.{mul-assoc, mul-comm, mul-left-comm, mul-add, add-mul, mul-zero, mul-one, mod-lt, mod-mod, mod-eq-of-lt, mod-self, div-add-mod', mod-one, zero-mod, mod-zero, mul-suc, mul-le-mul-left, div-lt-iff-lt-mul}
+use native.Mathlib.Numerals.{sub-one}
 use native.Mathlib.Decide.{ℕ-discrete}
 use native.Mathlib.Omega.{arith}
-use borrow.Author.Tests.{eqb-true, eqb-false}
+use mathlib.Core.Logic.{_≢_}
+use borrow.Author.Tests.{eqb-true, eqb-false, eq-eqb, ne-eqb}
 use lib.Dec.{eqb}
 use Rattle.modular.specs.Modulo.{Same}
 use Rattle.modular.specs.Division.{Coprime, multiplier, inverse, divide}
@@ -65,16 +67,13 @@ multiplier-works q p (suc n) k l e = go (λ (m : k < n). multiplier-works q p n 
         less (yes s) = absurd (eqb-false _ _ t (rw s at e))
         less (no s) = omega arith
 
+multiplier-exact : (q p : ℕ) → 0 < p → Coprime p q → (1 + q * multiplier q p p) % p ≡ 0
+multiplier-exact q p h c = let t = euclid (suc p) p q (omega arith) h c in multiplier-works q p p (t .k) (t .below) (t .divides)
+
 module _ {q p : ℕ} (h : 0 < p) (c : Coprime p q) where
   pub inverse-works : Same q (p * inverse q p) 1
   unfolding inverse
-  inverse-works = same-eq (omega (arith, exact, div-add-mod' (1 + q * multiplier q p p) p, mul-comm ((1 + q * multiplier q p p) / p) p, mul-comm q (multiplier q p p))) then same-more 1 (multiplier q p p)
-    where
-      t : Reaches q p
-      t = euclid (suc p) p q (omega arith) h c
-
-      exact : (1 + q * multiplier q p p) % p ≡ 0
-      exact = multiplier-works q p p (t .k) (t .below) (t .divides)
+  inverse-works = same-eq (omega (arith, multiplier-exact q p h c, div-add-mod' (1 + q * multiplier q p p) p, mul-comm ((1 + q * multiplier q p p) / p) p, mul-comm q (multiplier q p p))) then same-more 1 (multiplier q p p)
 
   -- p (x / p) = x
   pub times-divide : (x : ℕ) → Same q (p * divide q p x) x
@@ -101,7 +100,7 @@ one-factor zero e = absurd (omega (arith, mod-zero 1))
 one-factor (suc zero) e = refl
 one-factor (suc (suc f)) e = absurd (omega (arith, mod-eq-of-lt {n = 1} {m = suc (suc f)} (omega arith)))
 
-reaches-coprime : (q p k : ℕ) → (1 + q * k) % p ≡ 0 → Coprime p q
+pub reaches-coprime : (q p k : ℕ) → (1 + q * k) % p ≡ 0 → Coprime p q
 reaches-coprime q p k e f x y = one-factor f (one .is ∙ zero-mod f)
   where
     multiple : Same f (1 + q * k) 0
@@ -112,20 +111,54 @@ reaches-coprime q p k e f x y = one-factor f (one .is ∙ zero-mod f)
     one : Same f 1 0
     one = same-eq {y = 1 + 0 * k} (omega arith) then same-add (same-refl {x = 1}) (same-mul (same-sym (zero-same y)) (same-refl {x = k})) then multiple
 
--- ---- by two, modulo an odd q: how code divides
+-- ---- how code divides
 
 pub odd-coprime : (q : ℕ) → q % 2 ≡ 1 → Coprime 2 q
 odd-coprime q odd = reaches-coprime q 2 1 (omega (arith, mul-one q))
 
-pub half : (q x : ℕ) → q % 2 ≡ 1 → x < q → (x + x % 2 * q) / 2 ≡ divide q 2 x
-half q x odd l = go (x % 2) refl (omega arith)
+pub multiplier-less : (q p n : ℕ) → 0 < n → multiplier q p n < n
+unfolding multiplier
+multiplier-less q p zero h = absurd (omega arith)
+multiplier-less q p (suc n) h = go (λ (l : 0 < n). multiplier-less q p n l) (eqb ((1 + q * n) % p) 0) (ℕ-discrete n 0)
   where
-    unique : (r : ℕ) → r < q → Same q x (2 * r) → r ≡ divide q 2 x
-    unique r h e = sym (divide-unique (omega arith) (odd-coprime q odd) x r h e)
+    go : (0 < n → multiplier q p n < n) → (t : Bool) → Dec (n ≡ 0) → cond t n (multiplier q p n) < suc n
+    go rec true d = omega arith
+    go rec false (yes e) = subst (λ (i : ℕ). multiplier q p i < suc i) (sym e) (omega arith)
+    go rec false (no e) = omega (arith, rec (omega arith))
 
-    go : (t : ℕ) → x % 2 ≡ t → t < 2 → (x + t * q) / 2 ≡ divide q 2 x
-    go zero e h = let z = zero-mul q in unique ((x + zero * q) / 2) (omega arith) (same-eq (omega arith))
-    go (suc zero) e h =
-        let z = one-mul q in
-        unique ((x + suc zero * q) / 2) (omega arith) (same-sym (same-more x 1) then same-eq (omega arith))
-    go (suc (suc t)) e h = absurd (omega arith)
+-- one step of the search
+multiplier-step : (q p k : ℕ) → 0 < k → multiplier q p k ≡ cond (eqb ((1 + q * (k - 1)) % p) 0) (k - 1) (multiplier q p (k - 1))
+unfolding multiplier
+multiplier-step q p zero h = absurd (omega arith)
+multiplier-step q p (suc k) h = rw (sub-one (suc k))
+
+pub multiplier-found : (q p k : ℕ) → 0 < k → (1 + q * (k - 1)) % p ≡ 0 → multiplier q p k ≡ k - 1
+multiplier-found q p k h e = multiplier-step q p k h ∙ rw (eq-eqb _ _ e)
+
+pub multiplier-below : (q p k : ℕ) → 0 < k → (1 + q * (k - 1)) % p ≢ 0 → multiplier q p k ≡ multiplier q p (k - 1)
+multiplier-below q p k h e = multiplier-step q p k h ∙ rw (ne-eqb _ _ e)
+
+pub multiplier-none : (q p k : ℕ) → k ≤ 0 → multiplier q p k ≡ 0
+unfolding multiplier
+multiplier-none q p zero h = refl
+multiplier-none q p (suc k) h = absurd (omega arith)
+
+-- x + q (x m modulo p) is p times x / p
+module _ (q p : ℕ) (h : 0 < p) (c : Coprime p q) (x : ℕ) (l : x < q) where
+  abbrev t : ℕ
+  t = (x % p) * multiplier q p p % p
+
+  multiple : (x + q * t) % p ≡ 0
+  multiple =
+      (same-add (same-refl {x = x}) (same-mul (same-refl {x = q}) (same-mod then same-mul (same-mod {x = x}) (same-refl {x = multiplier q p p})))
+      then same-eq {y = x * (1 + q * multiplier q p p)} (simp (mul-add, mul-one, mul-left-comm))
+      then same-mul (same-refl {x = x}) (zero-same (multiplier-exact q p h c))
+      then same-eq {y = 0} (mul-zero x)) .is ∙ zero-mod p
+
+  pub quotient-less : (x + q * t) / p < q
+  quotient-less =
+      let few : suc t ≤ p = mod-lt ((x % p) * multiplier q p p) h in
+      div-lt-iff-lt-mul h .1 (omega (arith, mul-le-mul-left q few, mul-suc q t))
+
+  pub divided : (x + q * t) / p ≡ divide q p x
+  divided = sym (divide-unique h c x ((x + q * t) / p) quotient-less (same-sym (same-more x t) then same-eq (omega (arith, multiple, div-add-mod' (x + q * t) p, mul-comm ((x + q * t) / p) p, mul-comm t q))))

@@ -1,9 +1,9 @@
 // Numbers modulo q, for q below 2^56 (document 01, "Ring and scheme"). -x modulo q is (q - 1) * x in contracts.
 ghost use mathlib.Core.Path.{_≡_};
-ghost use Prim.Native.Nat.{_+_, _-_, _*_, _%_, _^_, _<_};
+ghost use Prim.Native.Nat.{_+_, _-_, _*_, _%_, _^_, _<_, _≤_};
 ghost use lib.IntN.{natAbs};
 ghost use Rattle.modular.specs.Modulo.{centre, remainder};
-ghost use Rattle.modular.specs.Division.{divide};
+ghost use Rattle.modular.specs.Division.{Coprime, multiplier, divide};
 
 // a + b. Whether q is subtracted is computed, as a jump on it is foretold wrongly half the time: s + 2^62 - q is at least 2^62 where s
 // is at least q, and only there, so that `over` is 1 there and else 0. What is divided by 2^62 is shifted.
@@ -97,12 +97,28 @@ pub fn residue(x: u64, p: u64, q: u64) -> u64
     }
 }
 
-// x / 2 modulo an odd q.
-pub fn halve(x: u64, q: u64) -> u64
-    requires { ⌜ (x < q) × (q % 2 ≡ 1) × (q < 2 ^ 56) ⌝ }
-    ensures { λ r. ⌜ r ≡ divide q 2 x ⌝ }
+// The largest k below p for which 1 + q k is a multiple of p, or 0: by it `divide` finds the multiple of q to add.
+pub fn multiplier(p: u64, q: u64) -> u64
+    requires { ⌜ (0 < p) × (p ≤ 251) × (q < 2 ^ 56) ⌝ }
+    ensures { λ r. ⌜ (r ≡ multiplier q p p) × (r < p) ⌝ }
 {
-    (x + (x % 2) * q) / 2
+    let mut k = p;
+    while 0 < k {
+        k -= 1;
+        if (1 + q * k) % p == 0 {
+            return k;
+        }
+    }
+    0
+}
+
+// x / p modulo q, for the multiplier m of p: x + q (x m modulo p) is a multiple of p.
+pub fn divide(x: u64, p: u64, m: u64, q: u64) -> u64
+    requires { ⌜ (x < q) × (0 < p) × (p ≤ 251) × (q < 2 ^ 56) × Coprime p q × (m ≡ multiplier q p p) × (m < p) ⌝ }
+    ensures { λ r. ⌜ (r ≡ divide q p x) × (r < q) ⌝ }
+{
+    let t = (x % p) * m % p;
+    (x + q * t) / p
 }
 
 // The size of a signed number.

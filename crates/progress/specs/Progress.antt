@@ -29,11 +29,11 @@ abbrev pub ended-accepted : ℕ
 ended-accepted = 5
 
 -- a known phase, counts within their limits, and numbers that 3 and 4 take, for the plaintext modulus p
-unfoldable pub inLimits : (p : ℕ) → Numbers → Progress → Bool
-inLimits p k g =
+unfoldable pub inLimits : Numbers → Progress → Bool
+inLimits k g =
     leb (g .phase) 5
     && (not (outside k)
-    && (not (unsound p k)
+    && (not (unsound k)
     && (leb (g .used) capacity
     && (leb (g .closed) capacity
     && (leb (g .committed) (k .rounds)

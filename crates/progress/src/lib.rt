@@ -19,7 +19,7 @@ pub struct Progress {
 impl Progress {
     // Whether the phase is known, the counts are within their limits, and 3 and 4 take the numbers.
     pub fn is_valid(self, numbers: Numbers) -> bool
-        ensures { λ r. ⌜ r ≡ inLimits 2 numbers self ⌝ }
+        ensures { λ r. ⌜ r ≡ inLimits numbers self ⌝ }
     {
         if self.phase > 5 {
             return false;
@@ -44,7 +44,7 @@ impl Progress {
 
     // Whether all that is valid, in a phase.
     pub fn is_in(self, numbers: Numbers, phase: u8) -> bool
-        ensures { λ r. ⌜ r ≡ (inLimits 2 numbers self && eqb (self .phase) phase) ⌝ }
+        ensures { λ r. ⌜ r ≡ (inLimits numbers self && eqb (self .phase) phase) ⌝ }
     {
         if !self.is_valid(numbers) {
             return false;
@@ -54,7 +54,7 @@ impl Progress {
 
     // Whether the first message of a round is due.
     pub fn may_commit(self, numbers: Numbers, round: u64) -> bool
-        ensures { λ r. ⌜ r ≡ (inLimits 2 numbers self && commitDue numbers self round) ⌝ }
+        ensures { λ r. ⌜ r ≡ (inLimits numbers self && commitDue numbers self round) ⌝ }
     {
         if !self.is_in(numbers, 2) {
             return false;
@@ -67,7 +67,7 @@ impl Progress {
 
     // Whether the seed is due: all rounds are committed.
     pub fn may_draw(self, numbers: Numbers) -> bool
-        ensures { λ r. ⌜ r ≡ (inLimits 2 numbers self && drawDue numbers self) ⌝ }
+        ensures { λ r. ⌜ r ≡ (inLimits numbers self && drawDue numbers self) ⌝ }
     {
         if !self.is_in(numbers, 2) {
             return false;
@@ -77,7 +77,7 @@ impl Progress {
 
     // Whether the check of a round is due.
     pub fn may_check(self, numbers: Numbers, round: u64) -> bool
-        ensures { λ r. ⌜ r ≡ (inLimits 2 numbers self && checkDue numbers self round) ⌝ }
+        ensures { λ r. ⌜ r ≡ (inLimits numbers self && checkDue numbers self round) ⌝ }
     {
         if !self.is_in(numbers, 3) {
             return false;
@@ -90,7 +90,7 @@ impl Progress {
 
     // Whether challenges are drawn, and the session has the round.
     pub fn has_challenges(self, numbers: Numbers, round: u64) -> bool
-        ensures { λ r. ⌜ r ≡ (inLimits 2 numbers self && challengesDue numbers self round) ⌝ }
+        ensures { λ r. ⌜ r ≡ (inLimits numbers self && challengesDue numbers self round) ⌝ }
     {
         if !self.is_valid(numbers) {
             return false;

@@ -11,7 +11,7 @@ use Rattle.codec.specs.Reply.{test, first, leaves, packed}
 use Rattle.codec.specs.declared.Reply.{Reply}
 use Rattle.codec.specs.Lists.{list, allBelow}
 use Rattle.modular.specs.Modulo.{centre, remainder}
-use Rattle.modular.specs.Division.{divide}
+use Rattle.modular.specs.Division.{multiplier}
 use Rattle.ring.specs.Poly.{Poly, mul, plus, minus}
 use Rattle.ring.specs.Slots.{coefficientBytes, poly}
 
@@ -19,23 +19,34 @@ use Rattle.ring.specs.Slots.{coefficientBytes, poly}
 unfoldable pub answer : Reply → ℕ → ℕ
 answer r v = leaves r (256 * v) (packed r)
 
--- 0 x + y, 1 x - y, 2 x * y, 3 -x, 4 the size of the centred x, 5 its remainder by 2, 6 x / 2
+-- 0 x + y, 1 x - y, 2 x * y, 3 -x, 4 the size of the centred x, 5 its remainder by 2
 unfoldable pub onNumbers : (operation x y q : ℕ) → ℕ
 onNumbers operation x y q =
     cond (eqb operation 0) ((x + y) % q)
     (cond (eqb operation 1) ((x + (q - 1) * y) % q)
     (cond (eqb operation 2) (x * y % q)
     (cond (eqb operation 3) ((q - 1) * x % q)
-    (cond (eqb operation 4) (natAbs (centre q x)) (cond (eqb operation 5) (remainder 2 (centre q x)) (divide q 2 x))))))
+    (cond (eqb operation 4) (natAbs (centre q x)) (remainder 2 (centre q x))))))
 
 unfoldable pub numbersReply : (operation x y q : ℕ) → Reply
 numbersReply operation x y q =
     first
-    (test 5 0 (ltb 6 operation)
+    (test 5 0 (ltb 5 operation)
     ∷ test 5 0 (leb (2 ^ 56) q)
     ∷ test 5 0 (not (eqb (q % 2) 1))
     ∷ test 5 0 (leb q x)
     ∷ test 5 0 (leb q y)
+    ∷ [])
+
+-- p is out of range, or has a factor in common with q: then no multiple of q is -1 modulo p
+unfoldable pub divideReply : (x p q : ℕ) → Reply
+divideReply x p q =
+    first
+    (test 5 0 (ltb p 2)
+    ∷ test 5 0 (ltb 251 p)
+    ∷ test 5 0 (leb (2 ^ 56) q)
+    ∷ test 5 0 (leb q x)
+    ∷ test 5 0 (not (eqb ((1 + q * multiplier q p p) % p) 0))
     ∷ [])
 
 -- 0 a + b, 1 a - b, and else a * b

@@ -11,10 +11,11 @@ ghost use Rattle.codec.specs.Bytes.{zeros};
 ghost use lib.ListN.{length};
 ghost use Rattle.codec.specs.Reply.{packed, leaves, first, test};
 ghost use Rattle.modular.specs.Modulo.{centre, remainder};
+ghost use Rattle.modular.specs.Division.{divide};
 ghost use Rattle.ring.specs.Poly.{Below};
 ghost use Rattle.ring.specs.Slots.{coefficientBytes, poly, encode};
 ghost use Rattle.ring.specs.Ternary.{ternary, count};
-ghost use Rattle.ring_calls.specs.Calls.{answer, onNumbers, numbersReply, onPolynomials, polynomialsReply, polynomialsOut, ternaryReply};
+ghost use Rattle.ring_calls.specs.Calls.{answer, onNumbers, numbersReply, divideReply, onPolynomials, polynomialsReply, polynomialsOut, ternaryReply};
 
 // ---- numbers
 
@@ -37,19 +38,16 @@ fn on_numbers(operation: u64, x: u64, y: u64, q: u64) -> u64
     if operation == 4 {
         return modular::size(x, q);
     }
-    if operation == 5 {
-        return modular::residue(x, 2, q);
-    }
-    modular::halve(x, q)
+    modular::residue(x, 2, q)
 }
 
 // uint64_t modular_numbers(uint64_t operation, uint64_t x, uint64_t y, uint64_t q);
-// 0 x + y, 1 x - y, 2 x * y, 3 -x, 4 the size of the centred x, 5 its remainder by 2, 6 x / 2; q is odd.
+// 0 x + y, 1 x - y, 2 x * y, 3 -x, 4 the size of the centred x, 5 its remainder by 2; q is odd.
 #[no_mangle]
 pub extern "C" fn modular_numbers(operation: u64, x: u64, y: u64, q: u64) -> u64
     ensures { λ r. ⌜ r ≡ answer (numbersReply operation x y q) (onNumbers operation x y q) ⌝ }
 {
-    if 6 < operation {
+    if 5 < operation {
         return 5;
     }
     if 72057594037927936 <= q {
@@ -65,6 +63,30 @@ pub extern "C" fn modular_numbers(operation: u64, x: u64, y: u64, q: u64) -> u64
         return 5;
     }
     256 * on_numbers(operation, x, y, q)
+}
+
+// uint64_t modular_divide(uint64_t x, uint64_t p, uint64_t q): x / p modulo q, for p of 2 to 251 that has no factor in common with q.
+#[no_mangle]
+pub extern "C" fn modular_divide(x: u64, p: u64, q: u64) -> u64
+    ensures { λ r. ⌜ r ≡ answer (divideReply x p q) (divide q p x) ⌝ }
+{
+    if p < 2 {
+        return 5;
+    }
+    if 251 < p {
+        return 5;
+    }
+    if 72057594037927936 <= q {
+        return 5;
+    }
+    if q <= x {
+        return 5;
+    }
+    let m = modular::multiplier(p, q);
+    if (1 + q * m) % p != 0 {
+        return 5;
+    }
+    256 * modular::divide(x, p, m, q)
 }
 
 // int64_t modular_centred(uint64_t x, uint64_t q): the centred form, or 2^62 where a number is out of range.

@@ -17,40 +17,40 @@ use Rattle.transcript.specs.Sheets.{parameters}
 use Rattle.transcript.specs.Producer.{Material}
 use Rattle.transcript.specs.Writes.{FirstRoom, firstRoom}
 use Rattle.lengths.specs.Calls.{SecondRoom, secondRoom}
-use Rattle.lengths.proofs.OverSheet.{sheet-parameters, over, refused-over}
+use Rattle.lengths.proofs.OverSheet.{parameters-are, over, refused-over}
 use Rattle.rounds.specs.First.{FirstWritten}
 use Rattle.rounds.specs.Second.{SecondWritten}
 use Rattle.round_calls.specs.Replies.{firstReply, FirstCalled, secondReply, SecondCalled}
 
 -- ---- the sheet is taken
 
-module _ (text : Bytes) {public : Bytes} {s : Reading} {k : Numbers} (load : (s ≡ reading 2 text) × (public ≡ loaded 2 text (replicate 81920 0))) (e : s ≡ Taken k) (x : Material) where
+module _ (text : Bytes) {public : Bytes} {s : Reading} {k : Numbers} (load : (s ≡ reading text) × (public ≡ loaded text (replicate 81920 0))) (e : s ≡ Taken k) (x : Material) where
   pub first-over : (before : FirstRoom) {after : FirstRoom} {r : Reply} {w : Bytes} → FirstWritten (parameters k public) x before r after → w ≡ swept r (after .scratch)
       → FirstCalled text x before r (firstRoom (after .head) (after .shares0) (after .shares1) (after .claims) w)
   unfolding firstReply
   first-over before {after} {r} f z =
-      let g = subst (λ (P : Parameters). FirstWritten P x before r after) (sheet-parameters text load e) f in
+      let g = subst (λ (P : Parameters). FirstWritten P x before r after) (parameters-are text load e) f in
       let l = g .left in
-      record { replied = over 2 text _ (lent 2 text load e .said) (g .replied); left = record { head = l .head; shares0 = l .shares0; shares1 = l .shares1; claims = l .claims }; cleared = z ∙ g .cleared }
+      record { replied = over text _ (lent text load e .said) (g .replied); left = record { head = l .head; shares0 = l .shares0; shares1 = l .shares1; claims = l .claims }; cleared = z ∙ g .cleared }
 
   pub second-over : (side : ℕ) (challenges : Bytes) (before : SecondRoom) {after : SecondRoom} {r : Reply} {w : Bytes} → SecondWritten (parameters k public) x side challenges before r after → w ≡ swept r (after .scratch)
       → SecondCalled text x side challenges before r (secondRoom (after .opening) (after .answers) w)
   unfolding secondReply
   second-over side challenges before {after} {r} f z =
-      let g = subst (λ (P : Parameters). SecondWritten P x side challenges before r after) (sheet-parameters text load e) f in
+      let g = subst (λ (P : Parameters). SecondWritten P x side challenges before r after) (parameters-are text load e) f in
       let l = g .left in
-      record { replied = over 2 text _ (lent 2 text load e .said) (g .replied); left = record { opening = l .opening; answers = l .answers }; cleared = z ∙ g .cleared }
+      record { replied = over text _ (lent text load e .said) (g .replied); left = record { opening = l .opening; answers = l .answers }; cleared = z ∙ g .cleared }
 
 -- ---- it is refused
 
-module _ (text : Bytes) {s : Reading} {i : ℕ} (f : s ≡ reading 2 text) (e : s ≡ Refused i) (x : Material) where
+module _ (text : Bytes) {s : Reading} {i : ℕ} (f : s ≡ reading text) (e : s ≡ Refused i) (x : Material) where
   pub first-unread : (room : FirstRoom) {w : Bytes} → w ≡ swept (reply.Refused i 0) (room .scratch) → FirstCalled text x room (reply.Refused i 0) (firstRoom (room .head) (room .shares0) (room .shares1) (room .claims) w)
   unfolding firstReply leaves
-  first-unread room z = record { replied = refused-over 2 text _ f e; left = record { head = refl; shares0 = refl; shares1 = refl; claims = refl }; cleared = z }
+  first-unread room z = record { replied = refused-over text _ f e; left = record { head = refl; shares0 = refl; shares1 = refl; claims = refl }; cleared = z }
 
   pub second-unread : (side : ℕ) (challenges : Bytes) (room : SecondRoom) {w : Bytes} → w ≡ swept (reply.Refused i 0) (room .scratch) → SecondCalled text x side challenges room (reply.Refused i 0) (secondRoom (room .opening) (room .answers) w)
   unfolding secondReply leaves
-  second-unread side challenges room z = record { replied = refused-over 2 text _ f e; left = record { opening = refl; answers = refl }; cleared = z }
+  second-unread side challenges room z = record { replied = refused-over text _ f e; left = record { opening = refl; answers = refl }; cleared = z }
 
 -- ---- with the reply packed into an answer
 

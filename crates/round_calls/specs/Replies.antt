@@ -11,22 +11,22 @@ use Rattle.call.specs.Call.{swept}
 use Rattle.transcript.specs.Producer.{Material}
 use Rattle.transcript.specs.Writes.{FirstRoom}
 use Rattle.lengths.specs.Calls.{SecondRoom, firstTests, secondTests}
-use Rattle.lengths.specs.Sheets.{plainOf, sheetParameters}
+use Rattle.lengths.specs.Sheets.{parametersOf}
 use Rattle.rounds.specs.First.{FirstLeft}
 use Rattle.rounds.specs.Second.{SecondLeft}
 
 unfoldable pub firstReply : (text : Bytes) → Material → FirstRoom → Reply
-firstReply text x room = first (order (plainOf text) text ++ firstTests (sheetParameters text) x room)
+firstReply text x room = first (order text ++ firstTests (parametersOf text) x room)
 
 pub record FirstCalled (text : Bytes) (x : Material) (before : FirstRoom) (reply : Reply) (after : FirstRoom) : Type 0 where
   pub replied : reply ≡ firstReply text x before
-  pub left : FirstLeft (sheetParameters text) x before reply after
+  pub left : FirstLeft (parametersOf text) x before reply after
   pub cleared : after .scratch ≡ swept reply (before .scratch)
 
 unfoldable pub secondReply : (text : Bytes) → Material → (side : ℕ) (challenges : Bytes) → SecondRoom → Reply
-secondReply text x side challenges room = first (order (plainOf text) text ++ secondTests (sheetParameters text) x side challenges room)
+secondReply text x side challenges room = first (order text ++ secondTests (parametersOf text) x side challenges room)
 
 pub record SecondCalled (text : Bytes) (x : Material) (side : ℕ) (challenges : Bytes) (before : SecondRoom) (reply : Reply) (after : SecondRoom) : Type 0 where
   pub replied : reply ≡ secondReply text x side challenges before
-  pub left : SecondLeft (sheetParameters text) x side challenges before reply after
+  pub left : SecondLeft (parametersOf text) x side challenges before reply after
   pub cleared : after .scratch ≡ swept reply (before .scratch)

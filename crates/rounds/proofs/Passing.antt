@@ -103,11 +103,11 @@ module _ (k : Numbers) (s : Bytes) (x : Material) (public : Loaded k s) where
 
     small : side < 2
     unfolding askedRanged
-    small = ltb-true side 2 (both (ltb side 2) _ (none-refused 2 n q (maskOf k) (k .repeats) (aOf k s) (bOf k s) (keyBytes k s) count x asked (accepted .3) .0) .0)
+    small = ltb-true side 2 (both (ltb side 2) _ (none-refused n q (maskOf k) (k .repeats) (aOf k s) (bOf k s) (keyBytes k s) count x asked (accepted .3) .0) .0)
 
     pub second-asks : (Polynomial n q (x .s0)) × (Polynomial n q (x .e0)) × (length w ≡ scratchLength) × (side < 2) × (k .repeats ≤ 256) × Drawings q n (k .repeats) (x .secrets) (x .vectors) (x .permutations) (x .salts)
         × (length challenges ≡ k .repeats) × (length (room .opening) ≡ 22 * n) × (length (room .answers) ≡ answersLength n challenges)
     second-asks =
         let f = second-sizes n (k .repeats) challenges (room .opening) (room .answers) (room .scratch) (accepted .2) in
         let u = fit (accepted .1) asked (accepted .3) in
-        (u .s0, u .e0, t .kept ∙ f .3, small, public .repeats-high, drawings (accepted .1) asked (accepted .3), f .0, f .1, f .2)
+        (u .s0, u .e0, t .kept ∙ f .3, small, public .numbers .repeats-high, drawings (accepted .1) asked (accepted .3), f .0, f .1, f .2)

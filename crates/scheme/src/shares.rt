@@ -66,7 +66,7 @@ pub fn share(
     let reply = share_tests(half, u, mask, t, scratch, n, q, bound);
     match reply {
         Reply::Taken => {
-            written::share(t, 0, scratch, half, u, mask, n, q);
+            written::share(t, 0, scratch, half, u, mask, 2, n, q);
         }
         Reply::Refused {
             number: _,
@@ -134,7 +134,7 @@ fn write_rebuilt(
     ensures { λ _. ⌜ length (now (scratch .exit)) ≡ length (now (scratch .entry)) ⌝ }
 {
     bgv::rebuilt(scratch, v, t0, t1, n, q);
-    bgv::plain(scratch, vote, n, q);
+    bgv::plain(scratch, vote, 2, n, q);
 }
 
 // The vote, from two shares.

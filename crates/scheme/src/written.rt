@@ -1,6 +1,6 @@
 // A polynomial that is worked out in scratch and written out at a place of an output. What is made from secrets is left in scratch.
 ghost use mathlib.Core.Path.{_≡_};
-ghost use Prim.Native.Nat.{_+_, _*_, _≤_};
+ghost use Prim.Native.Nat.{_+_, _*_, _≤_, _<_};
 ghost use lib.ListN.{length};
 ghost use Rattle.codec.specs.Bytes.{put};
 ghost use Rattle.ring.specs.Poly.{Below};
@@ -10,7 +10,7 @@ ghost use Rattle.call.specs.Call.{scratchLength, coefficients, Polynomial};
 ghost use Rattle.bgv.specs.Scheme as scheme;
 ghost use Rattle.bgv.specs.Scheme.{lentMask};
 
-// a x + 2 y, for ternary bytes x and y: a key b, or u of a ciphertext.
+// a x + p y, for ternary bytes x and y: a key b, or u of a ciphertext.
 pub fn noisy(
     out: &mut [u8],
     at: usize,
@@ -18,18 +18,19 @@ pub fn noisy(
     a: &[u8],
     x: &[u8],
     y: &[u8],
+    p: u64,
     n: usize,
     q: u64,
 )
-    requires { ⌜ Polynomial n q (now a) × (length (now scratch) ≡ scratchLength) × (length (now x) ≡ n) × (length (now y) ≡ n) × (at + 8 * n ≤ length (now out)) ⌝ }
-    ensures { λ _. ⌜ now (out .exit) ≡ put (now (out .entry)) at (coefficientBytes q n (scheme.noisy q n 2 (poly (now (a .entry))) (ternary q (now (x .entry))) (ternary q (now (y .entry))))) ⌝ }
+    requires { ⌜ Polynomial n q (now a) × (length (now scratch) ≡ scratchLength) × (length (now x) ≡ n) × (length (now y) ≡ n) × (at + 8 * n ≤ length (now out)) × (p < q) ⌝ }
+    ensures { λ _. ⌜ now (out .exit) ≡ put (now (out .entry)) at (coefficientBytes q n (scheme.noisy q n p (poly (now (a .entry))) (ternary q (now (x .entry))) (ternary q (now (y .entry))))) ⌝ }
     ensures { λ _. ⌜ length (now (scratch .exit)) ≡ length (now (scratch .entry)) ⌝ }
 {
-    bgv::noisy(scratch, a, x, y, n, q);
+    bgv::noisy(scratch, a, x, y, p, n, q);
     call::write_out(out, at, scratch, 0, n);
 }
 
-// v of a ciphertext: b r + 2 e'' + m.
+// v of a ciphertext: b r + p e'' + m.
 pub fn cipher_v(
     out: &mut [u8],
     at: usize,
@@ -38,14 +39,15 @@ pub fn cipher_v(
     r: &[u8],
     e2: &[u8],
     m: &[u8],
+    p: u64,
     n: usize,
     q: u64,
 )
-    requires { ⌜ Polynomial n q (now b) × (length (now scratch) ≡ scratchLength) × (length (now r) ≡ n) × (length (now e2) ≡ n) × (length (now m) ≡ n) × Below q n (coefficients (now m)) × (at + 8 * n ≤ length (now out)) ⌝ }
-    ensures { λ _. ⌜ now (out .exit) ≡ put (now (out .entry)) at (coefficientBytes q n (scheme.cipher-v q n 2 (poly (now (b .entry))) (ternary q (now (r .entry))) (ternary q (now (e2 .entry))) (coefficients (now (m .entry))))) ⌝ }
+    requires { ⌜ Polynomial n q (now b) × (length (now scratch) ≡ scratchLength) × (length (now r) ≡ n) × (length (now e2) ≡ n) × (length (now m) ≡ n) × Below q n (coefficients (now m)) × (at + 8 * n ≤ length (now out)) × (p < q) ⌝ }
+    ensures { λ _. ⌜ now (out .exit) ≡ put (now (out .entry)) at (coefficientBytes q n (scheme.cipher-v q n p (poly (now (b .entry))) (ternary q (now (r .entry))) (ternary q (now (e2 .entry))) (coefficients (now (m .entry))))) ⌝ }
     ensures { λ _. ⌜ length (now (scratch .exit)) ≡ length (now (scratch .entry)) ⌝ }
 {
-    bgv::noisy(scratch, b, r, e2, n, q);
+    bgv::noisy(scratch, b, r, e2, p, n, q);
     bgv::add_message(scratch, m, n, q);
     call::write_out(out, at, scratch, 0, n);
 }
@@ -68,7 +70,7 @@ pub fn difference(
     call::write_out(out, at, scratch, 0, n);
 }
 
-// a x0 + 2 y0, for lent polynomials: the key of the half that was lent.
+// a x0 + p y0, for lent polynomials: the key of the half that was lent.
 pub fn lent_key(
     out: &mut [u8],
     at: usize,
@@ -76,18 +78,19 @@ pub fn lent_key(
     a: &[u8],
     x0: &[u8],
     y0: &[u8],
+    p: u64,
     n: usize,
     q: u64,
 )
-    requires { ⌜ Polynomial n q (now a) × Polynomial n q (now x0) × Polynomial n q (now y0) × (length (now scratch) ≡ scratchLength) × (at + 8 * n ≤ length (now out)) ⌝ }
-    ensures { λ _. ⌜ now (out .exit) ≡ put (now (out .entry)) at (coefficientBytes q n (scheme.key q n 2 (poly (now (a .entry))) (poly (now (x0 .entry))) (poly (now (y0 .entry))))) ⌝ }
+    requires { ⌜ Polynomial n q (now a) × Polynomial n q (now x0) × Polynomial n q (now y0) × (length (now scratch) ≡ scratchLength) × (at + 8 * n ≤ length (now out)) × (p < q) ⌝ }
+    ensures { λ _. ⌜ now (out .exit) ≡ put (now (out .entry)) at (coefficientBytes q n (scheme.key q n p (poly (now (a .entry))) (poly (now (x0 .entry))) (poly (now (y0 .entry))))) ⌝ }
     ensures { λ _. ⌜ length (now (scratch .exit)) ≡ length (now (scratch .entry)) ⌝ }
 {
-    bgv::noisy_lent(scratch, a, x0, y0, n, q);
+    bgv::noisy_lent(scratch, a, x0, y0, p, n, q);
     call::write_out(out, at, scratch, 0, n);
 }
 
-// a (x - x0) + 2 (y - y0): the key of the other half.
+// a (x - x0) + p (y - y0): the key of the other half.
 pub fn other_key(
     out: &mut [u8],
     at: usize,
@@ -97,18 +100,19 @@ pub fn other_key(
     x0: &[u8],
     y: &[u8],
     y0: &[u8],
+    p: u64,
     n: usize,
     q: u64,
 )
-    requires { ⌜ Polynomial n q (now a) × Polynomial n q (now x0) × Polynomial n q (now y0) × (length (now scratch) ≡ scratchLength) × (length (now x) ≡ n) × (length (now y) ≡ n) × (at + 8 * n ≤ length (now out)) ⌝ }
-    ensures { λ _. ⌜ now (out .exit) ≡ put (now (out .entry)) at (coefficientBytes q n (scheme.key q n 2 (poly (now (a .entry))) (scheme.other q (ternary q (now (x .entry))) (poly (now (x0 .entry)))) (scheme.other q (ternary q (now (y .entry))) (poly (now (y0 .entry)))))) ⌝ }
+    requires { ⌜ Polynomial n q (now a) × Polynomial n q (now x0) × Polynomial n q (now y0) × (length (now scratch) ≡ scratchLength) × (length (now x) ≡ n) × (length (now y) ≡ n) × (at + 8 * n ≤ length (now out)) × (p < q) ⌝ }
+    ensures { λ _. ⌜ now (out .exit) ≡ put (now (out .entry)) at (coefficientBytes q n (scheme.key q n p (poly (now (a .entry))) (scheme.other q (ternary q (now (x .entry))) (poly (now (x0 .entry)))) (scheme.other q (ternary q (now (y .entry))) (poly (now (y0 .entry)))))) ⌝ }
     ensures { λ _. ⌜ length (now (scratch .exit)) ≡ length (now (scratch .entry)) ⌝ }
 {
-    bgv::noisy_difference(scratch, a, x, x0, y, y0, n, q);
+    bgv::noisy_difference(scratch, a, x, x0, y, y0, p, n, q);
     call::write_out(out, at, scratch, 0, n);
 }
 
-// A decryption share: s_i u + 2 E, for a lent mask E.
+// A decryption share: s_i u + p E, for a lent mask E.
 pub fn share(
     out: &mut [u8],
     at: usize,
@@ -116,13 +120,14 @@ pub fn share(
     half: &[u8],
     u: &[u8],
     mask: &[u8],
+    p: u64,
     n: usize,
     q: u64,
 )
-    requires { ⌜ Polynomial n q (now half) × Polynomial n q (now u) × (length (now mask) ≡ 8 * n) × (length (now scratch) ≡ scratchLength) × (at + 8 * n ≤ length (now out)) ⌝ }
-    ensures { λ _. ⌜ now (out .exit) ≡ put (now (out .entry)) at (coefficientBytes q n (scheme.share q n 2 (poly (now (half .entry))) (poly (now (u .entry))) (lentMask (now (mask .entry))))) ⌝ }
+    requires { ⌜ Polynomial n q (now half) × Polynomial n q (now u) × (length (now mask) ≡ 8 * n) × (length (now scratch) ≡ scratchLength) × (at + 8 * n ≤ length (now out)) × (p < q) ⌝ }
+    ensures { λ _. ⌜ now (out .exit) ≡ put (now (out .entry)) at (coefficientBytes q n (scheme.share q n p (poly (now (half .entry))) (poly (now (u .entry))) (lentMask (now (mask .entry))))) ⌝ }
     ensures { λ _. ⌜ length (now (scratch .exit)) ≡ length (now (scratch .entry)) ⌝ }
 {
-    bgv::share(scratch, half, u, mask, n, q);
+    bgv::share(scratch, half, u, mask, p, n, q);
     call::write_out(out, at, scratch, 0, n);
 }

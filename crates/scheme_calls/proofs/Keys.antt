@@ -13,14 +13,13 @@ use Rattle.ring.proofs.Bridge.{poly-part}
 use Rattle.sheet_numbers.specs.declared.Numbers.{Numbers}
 use Rattle.call.specs.Call.{Polynomial}
 use Rattle.call.proofs.Lent.{Lent}
-use Rattle.bgv.proofs.Sheets.{two-sound}
 use Rattle.commitment.specs.Commitment.{keysOf, PublicKeys}
 use Rattle.commitment.specs.Loaded.{Loaded}
 use Rattle.scheme.specs.Calls.{commitmentWrites}
 use Rattle.scheme.proofs.Outer.{commitment-writes}
 use Rattle.scheme_calls.specs.Replies.{keysOfSheet}
 
-module _ {p : ℕ} {text public : Bytes} {k : Numbers} (h : Lent p text public k) (from long : ℕ) (starts : from ≡ 16 * k .ring) (ends : long ≡ 24 * k .ring) where
+module _ {text public : Bytes} {k : Numbers} (h : Lent text public k) (from long : ℕ) (starts : from ≡ 16 * k .ring) (ends : long ≡ 24 * k .ring) where
   abbrev n : ℕ
   n = k .ring
 
@@ -49,15 +48,13 @@ module _ {p : ℕ} {text public : Bytes} {k : Numbers} (h : Lent p text public k
       (reads (16 * n) _ (omega arith) (h .alike 4 (from + 16 * n) (8 * n) (omega arith) (omega arith) refl))
 
 -- all that is known of the bytes that the polynomials of a taken sheet were put into
-pub sheet-loaded : {text public : Bytes} {k : Numbers} → Lent 2 text public k → Loaded k public
+pub sheet-loaded : {text public : Bytes} {k : Numbers} → Lent text public k → Loaded k public
 sheet-loaded {text} {public} {k} h =
     let n = k .ring in
     record {
+      numbers = h .ranged;
       a = h .polynomial 0 0 (8 * n) (omega arith) (omega arith) refl;
       b = h .polynomial 1 (8 * n) (8 * n) (omega arith) (omega arith) refl;
       keys = lent-keys h (16 * n) (24 * n) refl refl;
-      odd = two-sound text k (h .said) .odd;
-      drown-high = h .ranged .drown-high;
-      repeats-high = h .ranged .repeats-high;
       sized = omega (arith, h .sized, h .ranged .ring-high);
     }

@@ -8,7 +8,7 @@ use Rattle.codec.specs.declared.Reply.{Reply}
 use Rattle.ring.specs.Poly.{Poly}
 use Rattle.sheet.specs.Reader.{sheetOf}
 use Rattle.sheet.specs.Sheet.{order}
-use Rattle.sheet_numbers.specs.Bounds as bounds
+use Rattle.sheet_numbers.specs.Plain.{plain, maskOf}
 use Rattle.call.specs.Call.{coefficients}
 use Rattle.commitment.specs.Commitment.{Keys}
 use Rattle.scheme.specs.Calls.{keygenTests, encryptTests, decryptTests, splitTests, shareTests, reconstructTests, commitmentTests}
@@ -32,24 +32,24 @@ keysOfSheet text = record { k1 = coefficients (sheetOf text .k1); k2 = coefficie
 
 -- ---- the replies
 
-unfoldable pub keygenReply : (p : ℕ) (text s e b scratch : Bytes) → Reply
-keygenReply p text s e b scratch = first (order p text ++ keygenTests (ringOf text) s e b scratch)
+unfoldable pub keygenReply : (text s e b scratch : Bytes) → Reply
+keygenReply text s e b scratch = first (order text ++ keygenTests (ringOf text) s e b scratch)
 
-unfoldable pub encryptReply : (p : ℕ) (text r e1 e2 m ciphertext scratch : Bytes) → Reply
-encryptReply p text r e1 e2 m ciphertext scratch = first (order p text ++ encryptTests p (ringOf text) r e1 e2 m ciphertext scratch)
+unfoldable pub encryptReply : (text r e1 e2 m ciphertext scratch : Bytes) → Reply
+encryptReply text r e1 e2 m ciphertext scratch = first (order text ++ encryptTests (plain (sheetOf text .numbers)) (ringOf text) r e1 e2 m ciphertext scratch)
 
-unfoldable pub decryptReply : (p : ℕ) (text s ciphertext vote scratch : Bytes) → Reply
-decryptReply p text s ciphertext vote scratch = first (order p text ++ decryptTests (modulusOf text) (ringOf text) s ciphertext vote scratch)
+unfoldable pub decryptReply : (text s ciphertext vote scratch : Bytes) → Reply
+decryptReply text s ciphertext vote scratch = first (order text ++ decryptTests (modulusOf text) (ringOf text) s ciphertext vote scratch)
 
-unfoldable pub splitReply : (p : ℕ) (text s e s0 e0 out scratch : Bytes) → Reply
-splitReply p text s e s0 e0 out scratch = first (order p text ++ splitTests (modulusOf text) (ringOf text) s e s0 e0 out scratch)
+unfoldable pub splitReply : (text s e s0 e0 out scratch : Bytes) → Reply
+splitReply text s e s0 e0 out scratch = first (order text ++ splitTests (modulusOf text) (ringOf text) s e s0 e0 out scratch)
 
-unfoldable pub shareReply : (p : ℕ) (text key-share u mask t scratch : Bytes) → Reply
-shareReply p text key-share u mask t scratch =
-    first (order p text ++ shareTests (modulusOf text) (ringOf text) (bounds.mask p (ringOf text) (sheetOf text .numbers .drown)) key-share u mask t scratch)
+unfoldable pub shareReply : (text key-share u mask t scratch : Bytes) → Reply
+shareReply text key-share u mask t scratch =
+    first (order text ++ shareTests (modulusOf text) (ringOf text) (maskOf (sheetOf text .numbers)) key-share u mask t scratch)
 
-unfoldable pub reconstructReply : (p : ℕ) (text v t0 t1 vote scratch : Bytes) → Reply
-reconstructReply p text v t0 t1 vote scratch = first (order p text ++ reconstructTests (modulusOf text) (ringOf text) v t0 t1 vote scratch)
+unfoldable pub reconstructReply : (text v t0 t1 vote scratch : Bytes) → Reply
+reconstructReply text v t0 t1 vote scratch = first (order text ++ reconstructTests (modulusOf text) (ringOf text) v t0 t1 vote scratch)
 
-unfoldable pub commitmentReply : (p : ℕ) (text m r pair scratch : Bytes) → Reply
-commitmentReply p text m r pair scratch = first (order p text ++ commitmentTests (modulusOf text) (ringOf text) m r pair scratch)
+unfoldable pub commitmentReply : (text m r pair scratch : Bytes) → Reply
+commitmentReply text m r pair scratch = first (order text ++ commitmentTests (modulusOf text) (ringOf text) m r pair scratch)

@@ -7,7 +7,7 @@ ghost use Rattle.scheme_calls.specs.Replies.{ringOf, modulusOf, aOf, bOf
 
 // Writes the key b = a s + p e.
 pub fn keygen(sheet: &[u8], s: &[u8], e: &[u8], b: &mut [u8], scratch: &mut [u8]) -> codec::Reply
-    ensures { λ reply. ⌜ reply ≡ keygenReply 2 (now (sheet .entry)) (now (s .entry)) (now (e .entry)) (now (b .entry)) (now (scratch .entry)) ⌝ }
+    ensures { λ reply. ⌜ reply ≡ keygenReply (now (sheet .entry)) (now (s .entry)) (now (e .entry)) (now (b .entry)) (now (scratch .entry)) ⌝ }
     ensures { λ reply. ⌜ now (b .exit) ≡ leaves reply (keygenWrites 2 (modulusOf (now (sheet .entry))) (ringOf (now (sheet .entry))) (aOf (now (sheet .entry))) (now (s .entry)) (now (e .entry))) (now (b .entry)) ⌝ }
     ensures { λ reply. ⌜ now (scratch .exit) ≡ swept reply (now (scratch .entry)) ⌝ }
 {
@@ -39,7 +39,7 @@ pub fn encrypt(
     ciphertext: &mut [u8],
     scratch: &mut [u8],
 ) -> codec::Reply
-    ensures { λ reply. ⌜ reply ≡ encryptReply 2 (now (sheet .entry)) (now (r .entry)) (now (e1 .entry)) (now (e2 .entry)) (now (m .entry)) (now (ciphertext .entry)) (now (scratch .entry)) ⌝ }
+    ensures { λ reply. ⌜ reply ≡ encryptReply (now (sheet .entry)) (now (r .entry)) (now (e1 .entry)) (now (e2 .entry)) (now (m .entry)) (now (ciphertext .entry)) (now (scratch .entry)) ⌝ }
     ensures { λ reply. ⌜ now (ciphertext .exit) ≡ leaves reply (encryptWrites 2 (modulusOf (now (sheet .entry))) (ringOf (now (sheet .entry))) (aOf (now (sheet .entry))) (bOf (now (sheet .entry))) (now (r .entry)) (now (e1 .entry)) (now (e2 .entry)) (now (m .entry))) (now (ciphertext .entry)) ⌝ }
     ensures { λ reply. ⌜ now (scratch .exit) ≡ swept reply (now (scratch .entry)) ⌝ }
 {
@@ -69,7 +69,7 @@ pub fn decrypt(
     vote: &mut [u8],
     scratch: &mut [u8],
 ) -> codec::Reply
-    ensures { λ reply. ⌜ reply ≡ decryptReply 2 (now (sheet .entry)) (now (s .entry)) (now (ciphertext .entry)) (now (vote .entry)) (now (scratch .entry)) ⌝ }
+    ensures { λ reply. ⌜ reply ≡ decryptReply (now (sheet .entry)) (now (s .entry)) (now (ciphertext .entry)) (now (vote .entry)) (now (scratch .entry)) ⌝ }
     ensures { λ reply. ⌜ now (vote .exit) ≡ leaves reply (decryptWrites 2 (modulusOf (now (sheet .entry))) (ringOf (now (sheet .entry))) (now (s .entry)) (now (ciphertext .entry))) (now (vote .entry)) ⌝ }
     ensures { λ reply. ⌜ now (scratch .exit) ≡ swept reply (now (scratch .entry)) ⌝ }
 {
@@ -101,7 +101,7 @@ pub fn split(
     out: &mut [u8],
     scratch: &mut [u8],
 ) -> codec::Reply
-    ensures { λ reply. ⌜ reply ≡ splitReply 2 (now (sheet .entry)) (now (s .entry)) (now (e .entry)) (now (s0 .entry)) (now (e0 .entry)) (now (out .entry)) (now (scratch .entry)) ⌝ }
+    ensures { λ reply. ⌜ reply ≡ splitReply (now (sheet .entry)) (now (s .entry)) (now (e .entry)) (now (s0 .entry)) (now (e0 .entry)) (now (out .entry)) (now (scratch .entry)) ⌝ }
     ensures { λ reply. ⌜ now (out .exit) ≡ leaves reply (splitWrites 2 (modulusOf (now (sheet .entry))) (ringOf (now (sheet .entry))) (aOf (now (sheet .entry))) (now (s .entry)) (now (e .entry)) (now (s0 .entry)) (now (e0 .entry))) (now (out .entry)) ⌝ }
     ensures { λ reply. ⌜ now (scratch .exit) ≡ swept reply (now (scratch .entry)) ⌝ }
 {
@@ -132,7 +132,7 @@ pub fn share(
     t: &mut [u8],
     scratch: &mut [u8],
 ) -> codec::Reply
-    ensures { λ reply. ⌜ reply ≡ shareReply 2 (now (sheet .entry)) (now (half .entry)) (now (u .entry)) (now (mask .entry)) (now (t .entry)) (now (scratch .entry)) ⌝ }
+    ensures { λ reply. ⌜ reply ≡ shareReply (now (sheet .entry)) (now (half .entry)) (now (u .entry)) (now (mask .entry)) (now (t .entry)) (now (scratch .entry)) ⌝ }
     ensures { λ reply. ⌜ now (t .exit) ≡ leaves reply (shareWrites 2 (modulusOf (now (sheet .entry))) (ringOf (now (sheet .entry))) (now (half .entry)) (now (u .entry)) (now (mask .entry))) (now (t .entry)) ⌝ }
     ensures { λ reply. ⌜ now (scratch .exit) ≡ swept reply (now (scratch .entry)) ⌝ }
 {
@@ -142,7 +142,7 @@ pub fn share(
         sheet::Reading::Taken(k) => {
             let n = k.ring as usize;
             let q = k.modulus;
-            let bound = sheet_numbers::mask_bound(k.ring, k.drown);
+            let bound = sheet_numbers::mask_bound(k);
             let reply = scheme::share(half, u, mask, t, scratch, n, q, bound);
             call::sweep(reply, scratch);
             reply
@@ -164,7 +164,7 @@ pub fn reconstruct(
     vote: &mut [u8],
     scratch: &mut [u8],
 ) -> codec::Reply
-    ensures { λ reply. ⌜ reply ≡ reconstructReply 2 (now (sheet .entry)) (now (v .entry)) (now (t0 .entry)) (now (t1 .entry)) (now (vote .entry)) (now (scratch .entry)) ⌝ }
+    ensures { λ reply. ⌜ reply ≡ reconstructReply (now (sheet .entry)) (now (v .entry)) (now (t0 .entry)) (now (t1 .entry)) (now (vote .entry)) (now (scratch .entry)) ⌝ }
     ensures { λ reply. ⌜ now (vote .exit) ≡ leaves reply (reconstructWrites 2 (modulusOf (now (sheet .entry))) (ringOf (now (sheet .entry))) (now (v .entry)) (now (t0 .entry)) (now (t1 .entry))) (now (vote .entry)) ⌝ }
     ensures { λ reply. ⌜ now (scratch .exit) ≡ swept reply (now (scratch .entry)) ⌝ }
 {
@@ -194,7 +194,7 @@ pub fn commitment(
     pair: &mut [u8],
     scratch: &mut [u8],
 ) -> codec::Reply
-    ensures { λ reply. ⌜ reply ≡ commitmentReply 2 (now (sheet .entry)) (now (m .entry)) (now (r .entry)) (now (pair .entry)) (now (scratch .entry)) ⌝ }
+    ensures { λ reply. ⌜ reply ≡ commitmentReply (now (sheet .entry)) (now (m .entry)) (now (r .entry)) (now (pair .entry)) (now (scratch .entry)) ⌝ }
     ensures { λ reply. ⌜ now (pair .exit) ≡ leaves reply (commitmentWrites (modulusOf (now (sheet .entry))) (ringOf (now (sheet .entry))) (keysOfSheet (now (sheet .entry))) (now (m .entry)) (now (r .entry))) (now (pair .entry)) ⌝ }
     ensures { λ reply. ⌜ now (scratch .exit) ≡ swept reply (now (scratch .entry)) ⌝ }
 {

@@ -61,47 +61,47 @@ holding s round message = record {
   round = round;
 }
 
-module _ (p : ℕ) (s : Session) (round : ℕ) (x : Inputs) where
+module _ (s : Session) (round : ℕ) (x : Inputs) where
   -- what a check promises, of what it hands back and of scratch
   abbrev pub Promised : Stepped → Bytes → Type 0
-  Promised r scratch = (r .reply ≡ first (checkTests p s round x)) × ((r .session ≡ checkedBy p s round x) × (scratch ≡ swept (first (checkTests p s round x)) (x .scratch)))
+  Promised r scratch = (r .reply ≡ first (checkTests s round x)) × ((r .session ≡ checkedBy s round x) × (scratch ≡ swept (first (checkTests s round x)) (x .scratch)))
 
   -- 31: nothing is touched
-  pub check-undue : {r : Stepped} → (valid p s && checkDue (s .numbers) (s .progress) round) ≡ false → (r .session ≡ s) × (r .reply ≡ Refused 31 0) → Promised r (x .scratch)
+  pub check-undue : {r : Stepped} → (valid s && checkDue (s .numbers) (s .progress) round) ≡ false → (r .session ≡ s) × (r .reply ≡ Refused 31 0) → Promised r (x .scratch)
   unfolding checkTests checkEarly checkedBy first leaves swept
   check-undue e h = (rw e (h .1), (rw e (h .0), rw e))
 
   -- the round is due, and the verdict decides
-  module _ (e : (valid p s && checkDue (s .numbers) (s .progress) round) ≡ true) where
-    on : first (checkEarly p s round x) ≡ first (earlyTests (storedFor s round) p x)
+  module _ (e : (valid s && checkDue (s .numbers) (s .progress) round) ≡ true) where
+    on : first (checkEarly s round x) ≡ first (earlyTests (storedFor s round) x)
     unfolding checkEarly first
     on = rw e
 
-    pub check-judged : {r : Stepped} {v : Verdict} {message scratch : Bytes} → message ≡ trailAt s round → v ≡ outcome p (holding s round message) x
+    pub check-judged : {r : Stepped} {v : Verdict} {message scratch : Bytes} → message ≡ trailAt s round → v ≡ outcome (holding s round message) x
         → (r .reply ≡ replyOf v) × (r .session ≡ judgedBy v s) → scratch ≡ swept (replyOf v) (x .scratch) → Promised r scratch
     unfolding checkTests checkLate checkedBy
     check-judged {r} {v} m f g w =
-        let d : v ≡ verdict (first (checkEarly p s round x)) (first (checkLate p s round x)) = f ∙ ap (λ (y : Bytes). outcome p (holding s round y) x) m ∙ ap (λ (y : Reply). verdict y (first (checkLate p s round x))) (sym on) in
-        let said : replyOf v ≡ first (checkTests p s round x) = ap replyOf d ∙ verdict-first (checkEarly p s round x) (checkLate p s round x) in
-        (g .0 ∙ said, (g .1 ∙ ap (λ (y : Verdict). judgedBy y s) d ∙ verdict-leaves (first (checkEarly p s round x)) (first (checkLate p s round x)) s, w ∙ ap (λ (y : Reply). swept y (x .scratch)) said))
+        let d : v ≡ verdict (first (checkEarly s round x)) (first (checkLate s round x)) = f ∙ ap (λ (y : Bytes). outcome (holding s round y) x) m ∙ ap (λ (y : Reply). verdict y (first (checkLate s round x))) (sym on) in
+        let said : replyOf v ≡ first (checkTests s round x) = ap replyOf d ∙ verdict-first (checkEarly s round x) (checkLate s round x) in
+        (g .0 ∙ said, (g .1 ∙ ap (λ (y : Verdict). judgedBy y s) d ∙ verdict-leaves (first (checkEarly s round x)) (first (checkLate s round x)) s, w ∙ ap (λ (y : Reply). swept y (x .scratch)) said))
 
 -- ---- challenges
 
-module _ (p : ℕ) (s : Session) (round : ℕ) (out : Bytes) where
-  pub challenges-undue : (valid p s && challengesDue (s .numbers) (s .progress) round) ≡ false → first (challengesTests p s round out) ≡ Refused 31 0
+module _ (s : Session) (round : ℕ) (out : Bytes) where
+  pub challenges-undue : (valid s && challengesDue (s .numbers) (s .progress) round) ≡ false → first (challengesTests s round out) ≡ Refused 31 0
   unfolding challengesTests first
   challenges-undue e = rw e
 
-  module _ (e : (valid p s && challengesDue (s .numbers) (s .progress) round) ≡ true) where
+  module _ (e : (valid s && challengesDue (s .numbers) (s .progress) round) ≡ true) where
     -- the round is one of the session's
     pub challenges-below : round < s .numbers .rounds
-    challenges-below = ltb-true round (s .numbers .rounds) (both (leb drawn (s .progress .phase)) _ (both (valid p s) _ e .1) .1)
+    challenges-below = ltb-true round (s .numbers .rounds) (both (leb drawn (s .progress .phase)) _ (both (valid s) _ e .1) .1)
 
-    pub challenges-length : length out ≢ 1 + s .numbers .repeats → first (challengesTests p s round out) ≡ Refused 1 0
+    pub challenges-length : length out ≢ 1 + s .numbers .repeats → first (challengesTests s round out) ≡ Refused 1 0
     unfolding challengesTests first
     challenges-length n = rw (e, ne-eqb (length out) (1 + s .numbers .repeats) n)
 
-    pub challenges-taken : length out ≡ 1 + s .numbers .repeats → first (challengesTests p s round out) ≡ Taken
+    pub challenges-taken : length out ≡ 1 + s .numbers .repeats → first (challengesTests s round out) ≡ Taken
     unfolding challengesTests first
     challenges-taken n = rw (e, eq-eqb (length out) (1 + s .numbers .repeats) n)
 

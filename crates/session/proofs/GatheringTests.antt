@@ -28,20 +28,20 @@ use Rattle.session.specs.declared.Session.{Session}
 
 -- ---- clear
 
-module _ (p : ℕ) (reg text : Bytes) where
-  pub clear-length : length reg ≢ registerLength → first (clearTests p reg text) ≡ Refused 1 0
+module _ (reg text : Bytes) where
+  pub clear-length : length reg ≢ registerLength → first (clearTests reg text) ≡ Refused 1 0
   unfolding clearTests first
   clear-length e = rw (ne-eqb (length reg) registerLength e)
 
   module _ (e : length reg ≡ registerLength) where
-    said : first (clearTests p reg text) ≡ replyOf (reading p text)
+    said : first (clearTests reg text) ≡ replyOf (reading text)
     unfolding clearTests first
-    said = rw (eq-eqb (length reg) registerLength e) (sym (reply-is p text))
+    said = rw (eq-eqb (length reg) registerLength e) (sym (reply-is text))
 
-    pub clear-refused : {n : ℕ} → reading p text ≡ reading.Refused n → first (clearTests p reg text) ≡ Refused n 0
+    pub clear-refused : {n : ℕ} → reading text ≡ reading.Refused n → first (clearTests reg text) ≡ Refused n 0
     clear-refused f = said ∙ ap replyOf f
 
-    pub clear-taken : {k : Numbers} → reading p text ≡ reading.Taken k → first (clearTests p reg text) ≡ Taken
+    pub clear-taken : {k : Numbers} → reading text ≡ reading.Taken k → first (clearTests reg text) ≡ Taken
     clear-taken f = said ∙ ap replyOf f
 
 -- ---- admit
@@ -52,44 +52,44 @@ pub ranged : (q : ℕ) (ballot : Bytes) {b : Bool} → 4 ≤ length ballot
 unfolding vector
 ranged q ballot h e = e ∙ ap (λ (x : Bytes). allBelow q (list (length x / 8) (poly x))) (take-all (length ballot - 4) (drop 4 ballot) (omega (arith, length-drop 4 ballot)))
 
-module _ (p : ℕ) (s : Session) (reg ballot : Bytes) where
-  pub admit-phase : (valid p s && eqb (s .progress .phase) gathering) ≡ false → first (admitTests p s reg ballot) ≡ Refused 31 0
+module _ (s : Session) (reg ballot : Bytes) where
+  pub admit-phase : (valid s && eqb (s .progress .phase) gathering) ≡ false → first (admitTests s reg ballot) ≡ Refused 31 0
   unfolding admitTests first
   admit-phase e = rw e
 
-  module _ (e : (valid p s && eqb (s .progress .phase) gathering) ≡ true) where
-    pub admit-register : length reg ≢ registerLength → first (admitTests p s reg ballot) ≡ Refused 1 0
+  module _ (e : (valid s && eqb (s .progress .phase) gathering) ≡ true) where
+    pub admit-register : length reg ≢ registerLength → first (admitTests s reg ballot) ≡ Refused 1 0
     unfolding admitTests first same
     admit-register l = rw (e, ne-eqb (length reg) registerLength l)
 
-    pub admit-ballot : length ballot ≢ ballotLength (s .numbers .ring) → first (admitTests p s reg ballot) ≡ Refused 1 0
+    pub admit-ballot : length ballot ≢ ballotLength (s .numbers .ring) → first (admitTests s reg ballot) ≡ Refused 1 0
     unfolding admitTests first same
     admit-ballot l = rw (e, ne-eqb (length ballot) (ballotLength (s .numbers .ring)) l, and-false (eqb (length reg) registerLength))
 
     module _ (l : length reg ≡ registerLength) (m : length ballot ≡ ballotLength (s .numbers .ring)) where
-      pub admit-range : allBelow (s .numbers .modulus) (vector (drop 4 ballot)) ≡ false → first (admitTests p s reg ballot) ≡ Refused 5 0
+      pub admit-range : allBelow (s .numbers .modulus) (vector (drop 4 ballot)) ≡ false → first (admitTests s reg ballot) ≡ Refused 5 0
       unfolding admitTests first same
       admit-range b = rw (e, eq-eqb (length reg) registerLength l, eq-eqb (length ballot) (ballotLength (s .numbers .ring)) m, b)
 
       -- the register decides
-      pub admit-on : allBelow (s .numbers .modulus) (vector (drop 4 ballot)) ≡ true → first (admitTests p s reg ballot) ≡ first (admissionTests reg (s .progress .used) (markOf ballot))
+      pub admit-on : allBelow (s .numbers .modulus) (vector (drop 4 ballot)) ≡ true → first (admitTests s reg ballot) ≡ first (admissionTests reg (s .progress .used) (markOf ballot))
       unfolding admitTests first same
       admit-on b = rw (e, eq-eqb (length reg) registerLength l, eq-eqb (length ballot) (ballotLength (s .numbers .ring)) m, b)
 
 -- ---- withdraw
 
-module _ (p : ℕ) (s : Session) (reg : Bytes) (mark : ℕ) where
-  pub withdraw-phase : (valid p s && eqb (s .progress .phase) gathering) ≡ false → first (withdrawTests p s reg mark) ≡ Refused 31 0
+module _ (s : Session) (reg : Bytes) (mark : ℕ) where
+  pub withdraw-phase : (valid s && eqb (s .progress .phase) gathering) ≡ false → first (withdrawTests s reg mark) ≡ Refused 31 0
   unfolding withdrawTests first
   withdraw-phase e = rw e
 
-  module _ (e : (valid p s && eqb (s .progress .phase) gathering) ≡ true) where
-    pub withdraw-register : length reg ≢ registerLength → first (withdrawTests p s reg mark) ≡ Refused 1 0
+  module _ (e : (valid s && eqb (s .progress .phase) gathering) ≡ true) where
+    pub withdraw-register : length reg ≢ registerLength → first (withdrawTests s reg mark) ≡ Refused 1 0
     unfolding withdrawTests first
     withdraw-register l = rw (e, ne-eqb (length reg) registerLength l)
 
     -- the register decides
-    pub withdraw-on : length reg ≡ registerLength → first (withdrawTests p s reg mark) ≡ first (withdrawalTests reg (s .progress .used) mark)
+    pub withdraw-on : length reg ≡ registerLength → first (withdrawTests s reg mark) ≡ first (withdrawalTests reg (s .progress .used) mark)
     unfolding withdrawTests first
     withdraw-on l = rw (e, eq-eqb (length reg) registerLength l)
 
@@ -100,47 +100,47 @@ pub digests-counted : (reg : Bytes) (n : ℕ) → length (standingDigests reg n)
 unfolding standingDigests
 digests-counted reg n = length-map (standing reg n) (digestAt reg)
 
-module _ (p : ℕ) (s : Session) (reg : Bytes) where
-  pub close-phase : (valid p s && eqb (s .progress .phase) gathering) ≡ false → first (closeTests p s reg) ≡ Refused 31 0
+module _ (s : Session) (reg : Bytes) where
+  pub close-phase : (valid s && eqb (s .progress .phase) gathering) ≡ false → first (closeTests s reg) ≡ Refused 31 0
   unfolding closeTests first
   close-phase e = rw e
 
-  module _ (e : (valid p s && eqb (s .progress .phase) gathering) ≡ true) where
-    pub close-register : length reg ≢ registerLength → first (closeTests p s reg) ≡ Refused 1 0
+  module _ (e : (valid s && eqb (s .progress .phase) gathering) ≡ true) where
+    pub close-register : length reg ≢ registerLength → first (closeTests s reg) ≡ Refused 1 0
     unfolding closeTests first
     close-register l = rw (e, ne-eqb (length reg) registerLength l)
 
     module _ (l : length reg ≡ registerLength) {count : ℕ} (f : count ≡ length (standing reg (s .progress .used))) where
-      pub close-none : count ≡ 0 → first (closeTests p s reg) ≡ Refused 36 0
+      pub close-none : count ≡ 0 → first (closeTests s reg) ≡ Refused 36 0
       unfolding closeTests first
       close-none h = rw (e, eq-eqb (length reg) registerLength l, ← f, eq-eqb count 0 h)
 
-      pub close-taken : count ≢ 0 → first (closeTests p s reg) ≡ Taken
+      pub close-taken : count ≢ 0 → first (closeTests s reg) ≡ Taken
       unfolding closeTests first
       close-taken h = rw (e, eq-eqb (length reg) registerLength l, ← f, ne-eqb count 0 h)
 
 -- ---- turnout
 
-module _ (p : ℕ) (s : Session) (reg : Bytes) (enrolled : ℕ) where
-  pub turnout-invalid : valid p s ≡ false → first (turnoutTests p s reg enrolled) ≡ Refused 31 0
+module _ (s : Session) (reg : Bytes) (enrolled : ℕ) where
+  pub turnout-invalid : valid s ≡ false → first (turnoutTests s reg enrolled) ≡ Refused 31 0
   unfolding turnoutTests first
   turnout-invalid e = rw e
 
-  module _ (e : valid p s ≡ true) where
-    pub turnout-register : length reg ≢ registerLength → first (turnoutTests p s reg enrolled) ≡ Refused 1 0
+  module _ (e : valid s ≡ true) where
+    pub turnout-register : length reg ≢ registerLength → first (turnoutTests s reg enrolled) ≡ Refused 1 0
     unfolding turnoutTests first
     turnout-register l = rw (e, ne-eqb (length reg) registerLength l)
 
     module _ (l : length reg ≡ registerLength) where
-      pub turnout-few : enrolled < 1 → first (turnoutTests p s reg enrolled) ≡ Refused 3 0
+      pub turnout-few : enrolled < 1 → first (turnoutTests s reg enrolled) ≡ Refused 3 0
       unfolding turnoutTests first
       turnout-few h = rw (e, eq-eqb (length reg) registerLength l, lt-ltb enrolled 1 h)
 
       module _ (g : 1 ≤ enrolled) where
-        pub turnout-many : 1000000 < enrolled → first (turnoutTests p s reg enrolled) ≡ Refused 3 0
+        pub turnout-many : 1000000 < enrolled → first (turnoutTests s reg enrolled) ≡ Refused 3 0
         unfolding turnoutTests first
         turnout-many h = rw (e, eq-eqb (length reg) registerLength l, le-ltb enrolled 1 g, lt-ltb 1000000 enrolled h)
 
-        pub turnout-taken : enrolled ≤ 1000000 → first (turnoutTests p s reg enrolled) ≡ Taken
+        pub turnout-taken : enrolled ≤ 1000000 → first (turnoutTests s reg enrolled) ≡ Taken
         unfolding turnoutTests first
         turnout-taken h = rw (e, eq-eqb (length reg) registerLength l, le-ltb enrolled 1 g, le-ltb 1000000 enrolled h)

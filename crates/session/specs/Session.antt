@@ -7,8 +7,8 @@ use Rattle.progress.specs.declared.Progress.{Progress}
 use Rattle.session.specs.declared.Session.{Session}
 
 -- a known phase, counts within their limits, and numbers that 3 and 4 take, for the plaintext modulus p
-abbrev pub valid : (p : ℕ) → Session → Bool
-valid p s = inLimits p (s .numbers) (s .progress)
+abbrev pub valid : Session → Bool
+valid s = inLimits (s .numbers) (s .progress)
 
 -- the digest of the first message of round k
 unfoldable pub trailAt : Session → ℕ → Bytes

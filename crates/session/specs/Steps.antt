@@ -30,13 +30,13 @@ use Rattle.session.specs.declared.Turnout.the-variants.{Counted, Refused
 use Rattle.session.specs.Session.{valid, trailAt, changed}
 
 -- 31: not valid, or not due
-abbrev pub dueTest : (p : ℕ) → Session → (due : Bool) → Test
-dueTest p s due = test 31 0 (not (valid p s && due))
+abbrev pub dueTest : Session → (due : Bool) → Test
+dueTest s due = test 31 0 (not (valid s && due))
 
 -- ---- clear: 1, 2, 3, 4, 5, from any session. It starts a zeroed register
 
-unfoldable pub clearTests : (p : ℕ) → (reg text : Bytes) → List Test
-clearTests p reg text = test 1 0 (not (eqb (length reg) registerLength)) ∷ order p text
+unfoldable pub clearTests : (reg text : Bytes) → List Test
+clearTests reg text = test 1 0 (not (eqb (length reg) registerLength)) ∷ order text
 
 unfoldable pub cleared : (text : Bytes) → Session
 cleared text = record {
@@ -51,9 +51,9 @@ cleared text = record {
 
 -- ---- admit: 31, 1, 5, 32, 33, 35
 
-unfoldable pub admitTests : (p : ℕ) → Session → (reg ballot : Bytes) → List Test
-admitTests p s reg ballot =
-    dueTest p s (eqb (s .progress .phase) gathering)
+unfoldable pub admitTests : Session → (reg ballot : Bytes) → List Test
+admitTests s reg ballot =
+    dueTest s (eqb (s .progress .phase) gathering)
     ∷ test 1 0 (not (same (length reg ∷ length ballot ∷ []) (registerLength ∷ ballotLength (s .numbers .ring) ∷ [])))
     ∷ test 5 0 (not (allBelow (s .numbers .modulus) (vector (drop 4 ballot))))
     ∷ admissionTests reg (s .progress .used) (markOf ballot)
@@ -64,15 +64,15 @@ admittedBy s = changed s (withEntry (s .progress)) (s .closing) (s .claim) (s .s
 
 -- ---- withdraw: 31, 1, 34, 33
 
-unfoldable pub withdrawTests : (p : ℕ) → Session → (reg : Bytes) (mark : ℕ) → List Test
-withdrawTests p s reg mark =
-    dueTest p s (eqb (s .progress .phase) gathering) ∷ test 1 0 (not (eqb (length reg) registerLength)) ∷ withdrawalTests reg (s .progress .used) mark
+unfoldable pub withdrawTests : Session → (reg : Bytes) (mark : ℕ) → List Test
+withdrawTests s reg mark =
+    dueTest s (eqb (s .progress .phase) gathering) ∷ test 1 0 (not (eqb (length reg) registerLength)) ∷ withdrawalTests reg (s .progress .used) mark
 
 -- ---- close: 31, 1, 36
 
-unfoldable pub closeTests : (p : ℕ) → Session → (reg : Bytes) → List Test
-closeTests p s reg =
-    dueTest p s (eqb (s .progress .phase) gathering)
+unfoldable pub closeTests : Session → (reg : Bytes) → List Test
+closeTests s reg =
+    dueTest s (eqb (s .progress .phase) gathering)
     ∷ test 1 0 (not (eqb (length reg) registerLength))
     ∷ test 36 0 (eqb (length (standing reg (s .progress .used))) 0)
     ∷ []
@@ -85,11 +85,11 @@ closedBy s reg =
 
 -- ---- claim: 31, 1, 5
 
-unfoldable pub claimTests : (p : ℕ) → Session → (claims : Bytes) → List Test
-claimTests p s claims =
-    dueTest p s (eqb (s .progress .phase) closed)
+unfoldable pub claimTests : Session → (claims : Bytes) → List Test
+claimTests s claims =
+    dueTest s (eqb (s .progress .phase) closed)
     ∷ test 1 0 (not (eqb (length claims) (s .numbers .ring * s .progress .closed)))
-    ∷ test 5 0 (not (allBelow p claims))
+    ∷ test 5 0 (not (allBelow (plain (s .numbers)) claims))
     ∷ []
 
 unfoldable pub claimedBy : Session → (claims : Bytes) → Session
@@ -97,10 +97,10 @@ claimedBy s claims = changed s (withClaims (s .progress)) (s .closing) (claimDig
 
 -- ---- commit: 31, 1. Rounds come in order
 
-unfoldable pub commitTests : (p : ℕ) → Session → (round : ℕ) (head shares0 shares1 : Bytes) → List Test
-commitTests p s round head shares0 shares1 =
+unfoldable pub commitTests : Session → (round : ℕ) (head shares0 shares1 : Bytes) → List Test
+commitTests s round head shares0 shares1 =
     let n = s .numbers .ring in
-    dueTest p s (commitDue (s .numbers) (s .progress) round)
+    dueTest s (commitDue (s .numbers) (s .progress) round)
     ∷ test 1 0 (not (same (length head ∷ length shares0 ∷ length shares1 ∷ []) (headLength n (s .numbers .repeats) ∷ 8 * n * s .progress .closed ∷ 8 * n * s .progress .closed ∷ [])))
     ∷ []
 
@@ -110,9 +110,9 @@ committedBy s round head shares0 shares1 =
 
 -- ---- draw: 31, 1. All rounds are committed
 
-unfoldable pub drawTests : (p : ℕ) → Session → (seed : Bytes) → List Test
-drawTests p s seed =
-    dueTest p s (drawDue (s .numbers) (s .progress))
+unfoldable pub drawTests : Session → (seed : Bytes) → List Test
+drawTests s seed =
+    dueTest s (drawDue (s .numbers) (s .progress))
     ∷ test 1 0 (not (eqb (length seed) 32))
     ∷ []
 
@@ -134,15 +134,15 @@ storedFor s round = record {
 }
 
 -- before the round itself is looked at
-unfoldable pub checkEarly : (p : ℕ) → Session → (round : ℕ) → Inputs → List Test
-checkEarly p s round x =
-    dueTest p s (checkDue (s .numbers) (s .progress) round) ∷ earlyTests (storedFor s round) p x
+unfoldable pub checkEarly : Session → (round : ℕ) → Inputs → List Test
+checkEarly s round x =
+    dueTest s (checkDue (s .numbers) (s .progress) round) ∷ earlyTests (storedFor s round) x
 
-unfoldable pub checkLate : (p : ℕ) → Session → (round : ℕ) → Inputs → List Test
-checkLate p s round x = lateTests (storedFor s round) p x
+unfoldable pub checkLate : Session → (round : ℕ) → Inputs → List Test
+checkLate s round x = lateTests (storedFor s round) x
 
-unfoldable pub checkTests : (p : ℕ) → Session → (round : ℕ) → Inputs → List Test
-checkTests p s round x = checkEarly p s round x ++ checkLate p s round x
+unfoldable pub checkTests : Session → (round : ℕ) → Inputs → List Test
+checkTests s round x = checkEarly s round x ++ checkLate s round x
 
 -- the last acceptance ends the session accepted
 unfoldable pub acceptedBy : Session → Session
@@ -152,8 +152,8 @@ unfoldable pub refusedBy : Session → Session
 refusedBy s = changed s (withRefusal (s .progress)) (s .closing) (s .claim) (s .seed) (s .trail)
 
 -- what a check leaves
-unfoldable pub checkedBy : (p : ℕ) → Session → (round : ℕ) → Inputs → Session
-checkedBy p s round x = leaves (first (checkEarly p s round x)) (leaves (first (checkLate p s round x)) (acceptedBy s) (refusedBy s)) s
+unfoldable pub checkedBy : Session → (round : ℕ) → Inputs → Session
+checkedBy s round x = leaves (first (checkEarly s round x)) (leaves (first (checkLate s round x)) (acceptedBy s) (refusedBy s)) s
 
 -- the same by the verdict that it comes to
 abbrev pub judgedBy : Verdict → Session → Session
@@ -163,9 +163,9 @@ judgedBy Passed s = acceptedBy s
 
 -- ---- challenges: 31, 1. From draw on, for any round of the session
 
-unfoldable pub challengesTests : (p : ℕ) → Session → (round : ℕ) (out : Bytes) → List Test
-challengesTests p s round out =
-    dueTest p s (challengesDue (s .numbers) (s .progress) round)
+unfoldable pub challengesTests : Session → (round : ℕ) (out : Bytes) → List Test
+challengesTests s round out =
+    dueTest s (challengesDue (s .numbers) (s .progress) round)
     ∷ test 1 0 (not (eqb (length out) (1 + s .numbers .repeats)))
     ∷ []
 
@@ -175,9 +175,9 @@ challengesOut s round = drawnSide (s .seed) round ∷ drawnChallenges (s .seed) 
 
 -- ---- turnout: 31, 1, 3, in any phase
 
-unfoldable pub turnoutTests : (p : ℕ) → Session → (reg : Bytes) (enrolled : ℕ) → List Test
-turnoutTests p s reg enrolled =
-    test 31 0 (not (valid p s))
+unfoldable pub turnoutTests : Session → (reg : Bytes) (enrolled : ℕ) → List Test
+turnoutTests s reg enrolled =
+    test 31 0 (not (valid s))
     ∷ test 1 0 (not (eqb (length reg) registerLength))
     ∷ test 3 0 (ltb enrolled 1 || ltb 1000000 enrolled)
     ∷ []

@@ -57,9 +57,9 @@ impl Session {
         answers: &[u8],
         scratch: &mut [u8],
     ) -> Stepped
-        ensures reply { λ r. ⌜ r .reply ≡ first (checkTests 2 self round (inputsOf (now (sheet .entry)) (now (ballots .entry)) (now (claims .entry)) (now (head .entry)) (now (shares0 .entry)) (now (shares1 .entry)) (now (opening .entry)) (now (answers .entry)) (now (scratch .entry)))) ⌝ }
-        ensures session { λ r. ⌜ r .session ≡ checkedBy 2 self round (inputsOf (now (sheet .entry)) (now (ballots .entry)) (now (claims .entry)) (now (head .entry)) (now (shares0 .entry)) (now (shares1 .entry)) (now (opening .entry)) (now (answers .entry)) (now (scratch .entry))) ⌝ }
-        ensures scratch { λ _. ⌜ now (scratch .exit) ≡ swept (first (checkTests 2 self round (inputsOf (now (sheet .entry)) (now (ballots .entry)) (now (claims .entry)) (now (head .entry)) (now (shares0 .entry)) (now (shares1 .entry)) (now (opening .entry)) (now (answers .entry)) (now (scratch .entry))))) (now (scratch .entry)) ⌝ }
+        ensures reply { λ r. ⌜ r .reply ≡ first (checkTests self round (inputsOf (now (sheet .entry)) (now (ballots .entry)) (now (claims .entry)) (now (head .entry)) (now (shares0 .entry)) (now (shares1 .entry)) (now (opening .entry)) (now (answers .entry)) (now (scratch .entry)))) ⌝ }
+        ensures session { λ r. ⌜ r .session ≡ checkedBy self round (inputsOf (now (sheet .entry)) (now (ballots .entry)) (now (claims .entry)) (now (head .entry)) (now (shares0 .entry)) (now (shares1 .entry)) (now (opening .entry)) (now (answers .entry)) (now (scratch .entry))) ⌝ }
+        ensures scratch { λ _. ⌜ now (scratch .exit) ≡ swept (first (checkTests self round (inputsOf (now (sheet .entry)) (now (ballots .entry)) (now (claims .entry)) (now (head .entry)) (now (shares0 .entry)) (now (shares1 .entry)) (now (opening .entry)) (now (answers .entry)) (now (scratch .entry))))) (now (scratch .entry)) ⌝ }
     {
         let progress = self.progress;
         let numbers = self.numbers;
@@ -98,8 +98,8 @@ impl Session {
 
     // Writes the side and the challenges that were drawn for a round.
     pub fn challenges(self, round: u64, out: &mut [u8]) -> Reply
-        ensures reply { λ r. ⌜ r ≡ first (challengesTests 2 self round (now (out .entry))) ⌝ }
-        ensures output { λ _. ⌜ now (out .exit) ≡ leaves (first (challengesTests 2 self round (now (out .entry)))) (challengesOut self round) (now (out .entry)) ⌝ }
+        ensures reply { λ r. ⌜ r ≡ first (challengesTests self round (now (out .entry))) ⌝ }
+        ensures output { λ _. ⌜ now (out .exit) ≡ leaves (first (challengesTests self round (now (out .entry)))) (challengesOut self round) (now (out .entry)) ⌝ }
     {
         let progress = self.progress;
         if !progress.has_challenges(self.numbers, round) {

@@ -25,8 +25,8 @@ fn times(bytes: u64, ballots: u64) -> usize
 impl Session {
     // Takes the claims.
     pub fn claim(self, claims: &[u8]) -> Stepped
-        ensures reply { λ r. ⌜ r .reply ≡ first (claimTests 2 self (now (claims .entry))) ⌝ }
-        ensures session { λ r. ⌜ r .session ≡ leaves (first (claimTests 2 self (now (claims .entry)))) (claimedBy self (now (claims .entry))) self ⌝ }
+        ensures reply { λ r. ⌜ r .reply ≡ first (claimTests self (now (claims .entry))) ⌝ }
+        ensures session { λ r. ⌜ r .session ≡ leaves (first (claimTests self (now (claims .entry)))) (claimedBy self (now (claims .entry))) self ⌝ }
     {
         let progress = self.progress;
         let numbers = self.numbers;
@@ -52,7 +52,7 @@ impl Session {
 
     // Whether a first message has its lengths.
     fn message_sized(self, head: &[u8], shares0: &[u8], shares1: &[u8]) -> bool
-        requires { ⌜ valid 2 self ≡ true ⌝ }
+        requires { ⌜ valid self ≡ true ⌝ }
         ensures { λ r. ⌜ r ≡ same (length (now (head .entry)) ∷ length (now (shares0 .entry)) ∷ length (now (shares1 .entry)) ∷ []) (headLength (self .numbers .ring) (self .numbers .repeats) ∷ 8 * self .numbers .ring * self .progress .closed ∷ 8 * self .numbers .ring * self .progress .closed ∷ []) ⌝ }
     {
         let n = self.numbers.ring;
@@ -66,8 +66,8 @@ impl Session {
 
     // Takes the first message of the next round.
     pub fn commit(self, round: u64, head: &[u8], shares0: &[u8], shares1: &[u8]) -> Stepped
-        ensures reply { λ r. ⌜ r .reply ≡ first (commitTests 2 self round (now (head .entry)) (now (shares0 .entry)) (now (shares1 .entry))) ⌝ }
-        ensures session { λ r. ⌜ r .session ≡ leaves (first (commitTests 2 self round (now (head .entry)) (now (shares0 .entry)) (now (shares1 .entry)))) (committedBy self round (now (head .entry)) (now (shares0 .entry)) (now (shares1 .entry))) self ⌝ }
+        ensures reply { λ r. ⌜ r .reply ≡ first (commitTests self round (now (head .entry)) (now (shares0 .entry)) (now (shares1 .entry))) ⌝ }
+        ensures session { λ r. ⌜ r .session ≡ leaves (first (commitTests self round (now (head .entry)) (now (shares0 .entry)) (now (shares1 .entry)))) (committedBy self round (now (head .entry)) (now (shares0 .entry)) (now (shares1 .entry))) self ⌝ }
     {
         let progress = self.progress;
         if !progress.may_commit(self.numbers, round) {
@@ -91,8 +91,8 @@ impl Session {
 
     // Takes the seed, once all rounds are committed.
     pub fn draw(self, seed: &[u8]) -> Stepped
-        ensures reply { λ r. ⌜ r .reply ≡ first (drawTests 2 self (now (seed .entry))) ⌝ }
-        ensures session { λ r. ⌜ r .session ≡ leaves (first (drawTests 2 self (now (seed .entry)))) (drawnBy self (now (seed .entry))) self ⌝ }
+        ensures reply { λ r. ⌜ r .reply ≡ first (drawTests self (now (seed .entry))) ⌝ }
+        ensures session { λ r. ⌜ r .session ≡ leaves (first (drawTests self (now (seed .entry)))) (drawnBy self (now (seed .entry))) self ⌝ }
     {
         let progress = self.progress;
         if !progress.may_draw(self.numbers) {

@@ -30,43 +30,43 @@ countedAnswer (turnout.Refused number) = number
 abbrev pub imageLeft : Reply → (image : Bytes) → Session → Bytes
 imageLeft reply image session = leaves reply (encode session) image
 
-module _ (p : ℕ) (image : Bytes) where
+module _ (image : Bytes) where
   abbrev lent : Session
   lent = decode image
 
   unfoldable pub clearReply : (reg text : Bytes) → Reply
-  clearReply reg text = lentReply image (λ s. first (clearTests p reg text))
+  clearReply reg text = lentReply image (λ s. first (clearTests reg text))
 
   unfoldable pub admitReply : (reg ballot : Bytes) → Reply
-  admitReply reg ballot = lentReply image (λ s. first (admitTests p s reg ballot))
+  admitReply reg ballot = lentReply image (λ s. first (admitTests s reg ballot))
 
   unfoldable pub withdrawReply : (reg : Bytes) (mark : ℕ) → Reply
-  withdrawReply reg mark = lentReply image (λ s. first (withdrawTests p s reg mark))
+  withdrawReply reg mark = lentReply image (λ s. first (withdrawTests s reg mark))
 
   unfoldable pub closeReply : (reg : Bytes) → Reply
-  closeReply reg = lentReply image (λ s. first (closeTests p s reg))
+  closeReply reg = lentReply image (λ s. first (closeTests s reg))
 
   unfoldable pub claimReply : (claims : Bytes) → Reply
-  claimReply claims = lentReply image (λ s. first (claimTests p s claims))
+  claimReply claims = lentReply image (λ s. first (claimTests s claims))
 
   unfoldable pub commitReply : (round : ℕ) (head shares0 shares1 : Bytes) → Reply
-  commitReply round head shares0 shares1 = lentReply image (λ s. first (commitTests p s round head shares0 shares1))
+  commitReply round head shares0 shares1 = lentReply image (λ s. first (commitTests s round head shares0 shares1))
 
   unfoldable pub drawReply : (seed : Bytes) → Reply
-  drawReply seed = lentReply image (λ s. first (drawTests p s seed))
+  drawReply seed = lentReply image (λ s. first (drawTests s seed))
 
   unfoldable pub checkReply : (round : ℕ) → Inputs → Reply
-  checkReply round x = lentReply image (λ s. first (checkTests p s round x))
+  checkReply round x = lentReply image (λ s. first (checkTests s round x))
 
   -- a refusal before the round is looked at leaves the image; one listed after 16 ends the session refused
   unfoldable pub checkImage : (round : ℕ) → Inputs → Bytes
-  checkImage round x = imageLeft (lentReply image (λ s. first (checkEarly p s round x))) image (checkedBy p lent round x)
+  checkImage round x = imageLeft (lentReply image (λ s. first (checkEarly s round x))) image (checkedBy lent round x)
 
   unfoldable pub challengesReply : (round : ℕ) (out : Bytes) → Reply
-  challengesReply round out = lentReply image (λ s. first (challengesTests p s round out))
+  challengesReply round out = lentReply image (λ s. first (challengesTests s round out))
 
   unfoldable pub turnoutReply : (reg : Bytes) (enrolled : ℕ) → Reply
-  turnoutReply reg enrolled = lentReply image (λ s. first (turnoutTests p s reg enrolled))
+  turnoutReply reg enrolled = lentReply image (λ s. first (turnoutTests s reg enrolled))
 
   -- the thousandths are the value of a count that is taken
   unfoldable pub turnoutAnswer : (reg : Bytes) (enrolled : ℕ) → ℕ

@@ -45,9 +45,9 @@ fn keep(stepped: Stepped, image: &mut [u8]) -> Reply
 
 // Starts anew, on a sheet and with an empty register, whatever the image holds.
 pub fn clear(image: &mut [u8], reg: &mut [u8], sheet: &[u8]) -> Reply
-    ensures { λ r. ⌜ r ≡ clearReply 2 (now (image .entry)) (now (reg .entry)) (now (sheet .entry)) ⌝ }
-    ensures { λ _. ⌜ now (image .exit) ≡ imageLeft (clearReply 2 (now (image .entry)) (now (reg .entry)) (now (sheet .entry))) (now (image .entry)) (cleared (now (sheet .entry))) ⌝ }
-    ensures { λ _. ⌜ now (reg .exit) ≡ leaves (clearReply 2 (now (image .entry)) (now (reg .entry)) (now (sheet .entry))) (zeros registerLength) (now (reg .entry)) ⌝ }
+    ensures { λ r. ⌜ r ≡ clearReply (now (image .entry)) (now (reg .entry)) (now (sheet .entry)) ⌝ }
+    ensures { λ _. ⌜ now (image .exit) ≡ imageLeft (clearReply (now (image .entry)) (now (reg .entry)) (now (sheet .entry))) (now (image .entry)) (cleared (now (sheet .entry))) ⌝ }
+    ensures { λ _. ⌜ now (reg .exit) ≡ leaves (clearReply (now (image .entry)) (now (reg .entry)) (now (sheet .entry))) (zeros registerLength) (now (reg .entry)) ⌝ }
 {
     if image.len() != image::IMAGE {
         return refused();
@@ -59,9 +59,9 @@ pub fn clear(image: &mut [u8], reg: &mut [u8], sheet: &[u8]) -> Reply
 
 // Admits a ballot.
 pub fn admit(image: &mut [u8], reg: &mut [u8], ballot: &[u8]) -> Reply
-    ensures { λ r. ⌜ r ≡ admitReply 2 (now (image .entry)) (now (reg .entry)) (now (ballot .entry)) ⌝ }
-    ensures { λ _. ⌜ now (image .exit) ≡ imageLeft (admitReply 2 (now (image .entry)) (now (reg .entry)) (now (ballot .entry))) (now (image .entry)) (admittedBy (decode (now (image .entry)))) ⌝ }
-    ensures { λ _. ⌜ now (reg .exit) ≡ leaves (admitReply 2 (now (image .entry)) (now (reg .entry)) (now (ballot .entry))) (admitted (now (reg .entry)) (decode (now (image .entry)) .progress .used) (now (ballot .entry))) (now (reg .entry)) ⌝ }
+    ensures { λ r. ⌜ r ≡ admitReply (now (image .entry)) (now (reg .entry)) (now (ballot .entry)) ⌝ }
+    ensures { λ _. ⌜ now (image .exit) ≡ imageLeft (admitReply (now (image .entry)) (now (reg .entry)) (now (ballot .entry))) (now (image .entry)) (admittedBy (decode (now (image .entry)))) ⌝ }
+    ensures { λ _. ⌜ now (reg .exit) ≡ leaves (admitReply (now (image .entry)) (now (reg .entry)) (now (ballot .entry))) (admitted (now (reg .entry)) (decode (now (image .entry)) .progress .used) (now (ballot .entry))) (now (reg .entry)) ⌝ }
 {
     if image.len() != image::IMAGE {
         return refused();
@@ -73,8 +73,8 @@ pub fn admit(image: &mut [u8], reg: &mut [u8], ballot: &[u8]) -> Reply
 
 // Withdraws the ballot with a mark.
 pub fn withdraw(image: &[u8], reg: &mut [u8], mark: u32) -> Reply
-    ensures { λ r. ⌜ r ≡ withdrawReply 2 (now (image .entry)) (now (reg .entry)) mark ⌝ }
-    ensures { λ _. ⌜ now (reg .exit) ≡ leaves (withdrawReply 2 (now (image .entry)) (now (reg .entry)) mark) (withdrawn (now (reg .entry)) (find (now (reg .entry)) mark (decode (now (image .entry)) .progress .used))) (now (reg .entry)) ⌝ }
+    ensures { λ r. ⌜ r ≡ withdrawReply (now (image .entry)) (now (reg .entry)) mark ⌝ }
+    ensures { λ _. ⌜ now (reg .exit) ≡ leaves (withdrawReply (now (image .entry)) (now (reg .entry)) mark) (withdrawn (now (reg .entry)) (find (now (reg .entry)) mark (decode (now (image .entry)) .progress .used))) (now (reg .entry)) ⌝ }
 {
     if image.len() != image::IMAGE {
         return refused();
@@ -86,8 +86,8 @@ pub fn withdraw(image: &[u8], reg: &mut [u8], mark: u32) -> Reply
 
 // Closes the batch of the standing entries.
 pub fn close(image: &mut [u8], reg: &[u8]) -> Reply
-    ensures { λ r. ⌜ r ≡ closeReply 2 (now (image .entry)) (now (reg .entry)) ⌝ }
-    ensures { λ _. ⌜ now (image .exit) ≡ imageLeft (closeReply 2 (now (image .entry)) (now (reg .entry))) (now (image .entry)) (closedBy (decode (now (image .entry))) (now (reg .entry))) ⌝ }
+    ensures { λ r. ⌜ r ≡ closeReply (now (image .entry)) (now (reg .entry)) ⌝ }
+    ensures { λ _. ⌜ now (image .exit) ≡ imageLeft (closeReply (now (image .entry)) (now (reg .entry))) (now (image .entry)) (closedBy (decode (now (image .entry))) (now (reg .entry))) ⌝ }
 {
     if image.len() != image::IMAGE {
         return refused();
@@ -99,8 +99,8 @@ pub fn close(image: &mut [u8], reg: &[u8]) -> Reply
 
 // Takes the claims.
 pub fn claim(image: &mut [u8], claims: &[u8]) -> Reply
-    ensures { λ r. ⌜ r ≡ claimReply 2 (now (image .entry)) (now (claims .entry)) ⌝ }
-    ensures { λ _. ⌜ now (image .exit) ≡ imageLeft (claimReply 2 (now (image .entry)) (now (claims .entry))) (now (image .entry)) (claimedBy (decode (now (image .entry))) (now (claims .entry))) ⌝ }
+    ensures { λ r. ⌜ r ≡ claimReply (now (image .entry)) (now (claims .entry)) ⌝ }
+    ensures { λ _. ⌜ now (image .exit) ≡ imageLeft (claimReply (now (image .entry)) (now (claims .entry))) (now (image .entry)) (claimedBy (decode (now (image .entry))) (now (claims .entry))) ⌝ }
 {
     if image.len() != image::IMAGE {
         return refused();
@@ -112,8 +112,8 @@ pub fn claim(image: &mut [u8], claims: &[u8]) -> Reply
 
 // Commits the first message of a round.
 pub fn commit(image: &mut [u8], round: u64, head: &[u8], shares0: &[u8], shares1: &[u8]) -> Reply
-    ensures { λ r. ⌜ r ≡ commitReply 2 (now (image .entry)) round (now (head .entry)) (now (shares0 .entry)) (now (shares1 .entry)) ⌝ }
-    ensures { λ _. ⌜ now (image .exit) ≡ imageLeft (commitReply 2 (now (image .entry)) round (now (head .entry)) (now (shares0 .entry)) (now (shares1 .entry))) (now (image .entry)) (committedBy (decode (now (image .entry))) round (now (head .entry)) (now (shares0 .entry)) (now (shares1 .entry))) ⌝ }
+    ensures { λ r. ⌜ r ≡ commitReply (now (image .entry)) round (now (head .entry)) (now (shares0 .entry)) (now (shares1 .entry)) ⌝ }
+    ensures { λ _. ⌜ now (image .exit) ≡ imageLeft (commitReply (now (image .entry)) round (now (head .entry)) (now (shares0 .entry)) (now (shares1 .entry))) (now (image .entry)) (committedBy (decode (now (image .entry))) round (now (head .entry)) (now (shares0 .entry)) (now (shares1 .entry))) ⌝ }
 {
     if image.len() != image::IMAGE {
         return refused();
@@ -125,8 +125,8 @@ pub fn commit(image: &mut [u8], round: u64, head: &[u8], shares0: &[u8], shares1
 
 // Takes the seed.
 pub fn draw(image: &mut [u8], seed: &[u8]) -> Reply
-    ensures { λ r. ⌜ r ≡ drawReply 2 (now (image .entry)) (now (seed .entry)) ⌝ }
-    ensures { λ _. ⌜ now (image .exit) ≡ imageLeft (drawReply 2 (now (image .entry)) (now (seed .entry))) (now (image .entry)) (drawnBy (decode (now (image .entry))) (now (seed .entry))) ⌝ }
+    ensures { λ r. ⌜ r ≡ drawReply (now (image .entry)) (now (seed .entry)) ⌝ }
+    ensures { λ _. ⌜ now (image .exit) ≡ imageLeft (drawReply (now (image .entry)) (now (seed .entry))) (now (image .entry)) (drawnBy (decode (now (image .entry))) (now (seed .entry))) ⌝ }
 {
     if image.len() != image::IMAGE {
         return refused();

@@ -17,7 +17,7 @@ as-written : written (small 97 (3 ∷ 7 ∷ 94 ∷ 92 ∷ [])) ≡ text
 unfolding written lines listed decimal
 as-written = refl
 
-as-read : reading 2 text ≡ Taken (numbers 97)
+as-read : reading text ≡ Taken (numbers 97)
 unfolding reading first formed sheetOf rows line values step digit any outside unsound unfit allBelow power least most
 as-read = refl
 

@@ -180,41 +180,41 @@ by-fit k true f = refl
 by-fit k false true = refl
 by-fit k false false = refl
 
-judged-by : (p : ℕ) (s : Sheet) (counts tops : List ℕ) → counts ≡ map length (lists s) → tops ≡ map (largest 0) (lists s)
-    → judged p (s .numbers) counts tops ≡ after-form (s .numbers) (outside (s .numbers)) (unsound p (s .numbers)) (unfit s)
+judged-by : (s : Sheet) (counts tops : List ℕ) → counts ≡ map length (lists s) → tops ≡ map (largest 0) (lists s)
+    → judged (s .numbers) counts tops ≡ after-form (s .numbers) (outside (s .numbers)) (unsound (s .numbers)) (unfit s)
 unfolding unfit
-judged-by p s counts tops c t = go (outside (s .numbers)) refl
+judged-by s counts tops c t = go (outside (s .numbers)) refl
   where
     go : (o : Bool) → outside (s .numbers) ≡ o
-        → cond o (Refused 3) (cond (unsound p (s .numbers)) (Refused 4)
+        → cond o (Refused 3) (cond (unsound (s .numbers)) (Refused 4)
         (cond (every (λ n. eqb n (s .numbers .ring)) counts && allBelow (s .numbers .modulus) tops) (Taken (s .numbers)) (Refused 5)))
-        ≡ after-form (s .numbers) o (unsound p (s .numbers)) (not (every (fits (s .numbers .ring) (s .numbers .modulus)) (lists s)))
+        ≡ after-form (s .numbers) o (unsound (s .numbers)) (not (every (fits (s .numbers .ring) (s .numbers .modulus)) (lists s)))
     go true o = refl
     go false o =
         let q : 0 < s .numbers .modulus = omega (arith, in-range (s .numbers) o .modulus-low) in
         rw (c, t, fits-all (s .numbers .ring) (s .numbers .modulus) q (lists s))
-        (by-fit (s .numbers) (unsound p (s .numbers)) (every (fits (s .numbers .ring) (s .numbers .modulus)) (lists s)))
+        (by-fit (s .numbers) (unsound (s .numbers)) (every (fits (s .numbers .ring) (s .numbers .modulus)) (lists s)))
 
-module _ (p : ℕ) (text : Bytes) where
-  pub no-text : length text ≡ 0 → Refused 1 ≡ reading p text
+module _ (text : Bytes) where
+  pub no-text : length text ≡ 0 → Refused 1 ≡ reading text
   unfolding reading first
   no-text e = rw (eq-eqb (length text) 0 e)
 
-  pub too-much : (length text ≡ 0 → ⊥) → 262144 < length text → Refused 1 ≡ reading p text
+  pub too-much : (length text ≡ 0 → ⊥) → 262144 < length text → Refused 1 ≡ reading text
   unfolding reading first
   too-much n h = rw (ne-eqb (length text) 0 n, lt-ltb 262144 (length text) h)
 
   module _ (n : length text ≡ 0 → ⊥) (h : length text ≤ 262144) where
-    pub no-form : formed text ≡ false → Refused 2 ≡ reading p text
+    pub no-form : formed text ≡ false → Refused 2 ≡ reading text
     unfolding reading first
     no-form e = rw (ne-eqb (length text) 0 n, le-ltb 262144 (length text) h, e)
 
-    by-tests : formed text ≡ true → after-form (sheetOf text .numbers) (outside (sheetOf text .numbers)) (unsound p (sheetOf text .numbers)) (unfit (sheetOf text)) ≡ reading p text
+    by-tests : formed text ≡ true → after-form (sheetOf text .numbers) (outside (sheetOf text .numbers)) (unsound (sheetOf text .numbers)) (unfit (sheetOf text)) ≡ reading text
     unfolding reading first
     by-tests e =
         rw (ne-eqb (length text) 0 n, le-ltb 262144 (length text) h, e)
-        (by-order (sheetOf text .numbers) (outside (sheetOf text .numbers)) (unsound p (sheetOf text .numbers)) (unfit (sheetOf text)))
+        (by-order (sheetOf text .numbers) (outside (sheetOf text .numbers)) (unsound (sheetOf text .numbers)) (unfit (sheetOf text)))
 
     pub judged-is : formed text ≡ true → (counts tops : List ℕ) → counts ≡ map length (lists (sheetOf text)) → tops ≡ map (largest 0) (lists (sheetOf text))
-        → judged p (sheetOf text .numbers) counts tops ≡ reading p text
-    judged-is e counts tops c t = judged-by p (sheetOf text) counts tops c t ∙ by-tests e
+        → judged (sheetOf text .numbers) counts tops ≡ reading text
+    judged-is e counts tops c t = judged-by (sheetOf text) counts tops c t ∙ by-tests e

@@ -44,14 +44,14 @@ five-tests false false false true e k ts = refl
 five-tests false false false false true k ts = refl
 five-tests false false false false false k ts = refl
 
-pub order-first : (p : ℕ) (text : Bytes) (ts : List Test) → first (order p text ++ ts) ≡ onwards (reading p text) (first ts)
+pub order-first : (text : Bytes) (ts : List Test) → first (order text ++ ts) ≡ onwards (reading text) (first ts)
 unfolding reading
-order-first p text ts = five-tests _ _ _ _ _ (sheetOf text .numbers) ts
+order-first text ts = five-tests _ _ _ _ _ (sheetOf text .numbers) ts
 
 -- the reply of the sheet's own call
-pub reply-is : (p : ℕ) (text : Bytes) → replyOf (reading p text) ≡ first (order p text)
+pub reply-is : (text : Bytes) → replyOf (reading text) ≡ first (order text)
 unfolding first
-reply-is p text = by (reading p text) ∙ sym (order-first p text [])
+reply-is text = by (reading text) ∙ sym (order-first text [])
   where
     by : (r : Reading) → replyOf r ≡ onwards r reply.Taken
     by (Taken k) = refl
@@ -64,14 +64,14 @@ pub record Coefficients (n q : ℕ) (xs : List ℕ) : Type 0 where
   pub count : length xs ≡ n
   pub below : (i : ℕ) → getD xs i 0 < q
 
-pub record Taking (p : ℕ) (text : Bytes) (k : Numbers) : Type 0 where
+pub record Taking (text : Bytes) (k : Numbers) : Type 0 where
   pub some : length text ≡ 0 → ⊥
   pub few : length text ≤ 262144
   pub form : formed text ≡ true
   pub numbers : sheetOf text .numbers ≡ k
   pub inside : outside k ≡ false
   pub ranged : InRange k
-  pub sound : Sound p k
+  pub sound : Sound k
   pub fit : unfit (sheetOf text) ≡ false
 
 not-refused : {A : Type 0} {n : ℕ} {k : Numbers} → Refused n ≡ Taken k → A
@@ -81,11 +81,11 @@ neither : (a b : Bool) → (a || b) ≡ false → (a ≡ false) × (b ≡ false)
 neither true b e = absurd (let z : _≡_ {A = ℕ} 0 1 = cc in omega arith)
 neither false b e = (refl, e)
 
-pub taken : (p : ℕ) (text : Bytes) {k : Numbers} → reading p text ≡ Taken k → Taking p text k
+pub taken : (text : Bytes) {k : Numbers} → reading text ≡ Taken k → Taking text k
 unfolding reading
-taken p text {k} e = by (first (order p text)) refl e
+taken text {k} e = by (first (order text)) refl e
   where
-    from : None (order p text) → sheetOf text .numbers ≡ k → Taking p text k
+    from : None (order text) → sheetOf text .numbers ≡ k → Taking text k
     from n q =
         let l = neither (eqb (length text) 0) (ltb 262144 (length text)) (n .0) in
         record {
@@ -95,12 +95,12 @@ taken p text {k} e = by (first (order p text)) refl e
           numbers = q;
           inside = rw q at (n .1 .1 .0);
           ranged = rw q at (in-range (sheetOf text .numbers) (n .1 .1 .0));
-          sound = rw q at (is-sound p (sheetOf text .numbers) (n .1 .1 .1 .0));
+          sound = rw q at (is-sound (sheetOf text .numbers) (n .1 .1 .1 .0));
           fit = n .1 .1 .1 .1 .0;
         }
 
-    by : (r : Reply) → first (order p text) ≡ r → readingBy r (sheetOf text .numbers) ≡ Taken k → Taking p text k
-    by reply.Taken f e = from (taken-exactly (order p text) .0 f) (cc)
+    by : (r : Reply) → first (order text) ≡ r → readingBy r (sheetOf text .numbers) ≡ Taken k → Taking text k
+    by reply.Taken f e = from (taken-exactly (order text) .0 f) (cc)
     by (reply.Refused n place) f e = not-refused e
 
 -- ---- its lists are polynomials
@@ -120,18 +120,18 @@ all-polynomials n q h (l ∷ ls) e =
     let p = both (fits n q l) (every (fits n q) ls) e in
     (polynomial n q h l (p .0), all-polynomials n q h ls (p .1))
 
-pub lists-taken : (p : ℕ) (text : Bytes) {k : Numbers} → reading p text ≡ Taken k → AllCoefficients (k .ring) (k .modulus) (lists (sheetOf text))
+pub lists-taken : (text : Bytes) {k : Numbers} → reading text ≡ Taken k → AllCoefficients (k .ring) (k .modulus) (lists (sheetOf text))
 unfolding unfit
-lists-taken p text {k} e =
-    let t = taken p text e in
+lists-taken text {k} e =
+    let t = taken text e in
     let h : 0 < sheetOf text .numbers .modulus = rw (t .numbers) (omega (arith, t .ranged .modulus-low)) in
     rw (t .numbers) at (all-polynomials (sheetOf text .numbers .ring) (sheetOf text .numbers .modulus) h (lists (sheetOf text)) (not-false _ (t .fit)))
 
 -- they fill 40N bytes
-pub length-polynomials : (p : ℕ) (text : Bytes) {k : Numbers} → reading p text ≡ Taken k → length (polynomials text) ≡ 40 * k .ring
+pub length-polynomials : (text : Bytes) {k : Numbers} → reading text ≡ Taken k → length (polynomials text) ≡ 40 * k .ring
 unfolding polynomials
-length-polynomials p text {k} e =
-    let t = taken p text e in
+length-polynomials text {k} e =
+    let t = taken text e in
     all-size text (k .ring) (zeros (40 * k .ring))
     (record { form = t .form; ring = ap (λ (n : Numbers). n .ring) (t .numbers); fit = t .fit; space = omega (arith, length-replicate {A = ℕ} (40 * k .ring) 0) })
 
@@ -143,10 +143,10 @@ sheet k ls = record { numbers = k; a = getD ls 0 []; b = getD ls 1 []; k1 = getD
 same-sheet : (s t : Sheet) → s .numbers ≡ t .numbers → lists s ≡ lists t → s ≡ t
 same-sheet s t e f = ap₂ sheet e f
 
-pub canonical : (p : ℕ) (text other : Bytes) (k : Numbers) → reading p text ≡ Taken k → reading p other ≡ Taken k
+pub canonical : (text other : Bytes) (k : Numbers) → reading text ≡ Taken k → reading other ≡ Taken k
     → lists (sheetOf text) ≡ lists (sheetOf other) → text ≡ other
-canonical p text other k e f g =
-    let t = taken p text e in
-    let u = taken p other f in
+canonical text other k e f g =
+    let t = taken text e in
+    let u = taken other f in
     let s = same-sheet (sheetOf text) (sheetOf other) (t .numbers ∙ sym (u .numbers)) g in
     written-is text (t .form) .0 ∙ ap written s ∙ sym (written-is other (u .form) .0)

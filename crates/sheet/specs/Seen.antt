@@ -43,9 +43,9 @@ pub record Fitting (text : Bytes) (n : ℕ) (d : Bytes) : Type 0 where
   pub space : 40 * n ≤ length d
 
 -- the refusals 3, 4 and 5, by the counts and the largest coefficients of the lists
-abbrev pub judged : ℕ → Numbers → List ℕ → List ℕ → Reading
-judged p k counts tops =
+abbrev pub judged : Numbers → List ℕ → List ℕ → Reading
+judged k counts tops =
     cond (outside k) (Refused 3)
-    (cond (unsound p k) (Refused 4)
+    (cond (unsound k) (Refused 4)
     (cond (every (λ c. eqb c (k .ring)) counts && allBelow (k .modulus) tops) (Taken k)
     (Refused 5)))

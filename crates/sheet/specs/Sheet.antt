@@ -27,12 +27,12 @@ unfoldable pub unfit : Sheet → Bool
 unfit s = not (every (fits (s .numbers .ring) (s .numbers .modulus)) (lists s))
 
 -- the order of a call that is lent the sheet, at its head; the sheet's own call has no more
-abbrev pub order : ℕ → Bytes → List Test
-order p text =
+abbrev pub order : Bytes → List Test
+order text =
     test 1 0 (eqb (length text) 0 || ltb 262144 (length text))
     ∷ test 2 0 (not (formed text))
     ∷ test 3 0 (outside (sheetOf text .numbers))
-    ∷ test 4 0 (unsound p (sheetOf text .numbers))
+    ∷ test 4 0 (unsound (sheetOf text .numbers))
     ∷ test 5 0 (unfit (sheetOf text))
     ∷ []
 
@@ -46,8 +46,8 @@ readingBy reply.Taken k = Taken k
 readingBy (reply.Refused n place) k = Refused n
 
 -- what is said of a text
-unfoldable pub reading : ℕ → Bytes → Reading
-reading p text = readingBy (first (order p text)) (sheetOf text .numbers)
+unfoldable pub reading : Bytes → Reading
+reading text = readingBy (first (order text)) (sheetOf text .numbers)
 
 -- a, b, k1, k2, k3 in 40N bytes, 8 to a coefficient
 unfoldable pub polynomials : Bytes → Bytes
@@ -58,5 +58,5 @@ abbrev pub filled : Reading → Bytes → Bytes → Bytes
 filled (Taken k) text d = put d 0 (polynomials text)
 filled (Refused n) text d = d
 
-unfoldable pub loaded : ℕ → Bytes → Bytes → Bytes
-loaded p text d = filled (reading p text) text d
+unfoldable pub loaded : Bytes → Bytes → Bytes
+loaded text d = filled (reading text) text d

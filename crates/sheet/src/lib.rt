@@ -16,7 +16,7 @@ pub enum Reading {
 
 // The refusals 3, 4 and 5 in their order, by the numbers and by the counts and the largest coefficients of the lists.
 fn judge(k: Numbers, counts: [u64; 5], largest: [u64; 5]) -> Reading
-    ensures { λ r. ⌜ r ≡ judged 2 k counts largest ⌝ }
+    ensures { λ r. ⌜ r ≡ judged k counts largest ⌝ }
 {
     if outside(k) {
         return Reading::Refused { number: 3 };
@@ -35,7 +35,7 @@ fn judge(k: Numbers, counts: [u64; 5], largest: [u64; 5]) -> Reading
 
 // Reads a sheet.
 pub fn read(text: &[u8]) -> Reading
-    ensures { λ r. ⌜ r ≡ reading 2 (now (text .entry)) ⌝ }
+    ensures { λ r. ⌜ r ≡ reading (now (text .entry)) ⌝ }
 {
     if text.len() == 0 {
         return Reading::Refused { number: 1 };
@@ -73,8 +73,8 @@ pub fn read(text: &[u8]) -> Reading
 
 // Reads a sheet and puts its polynomials a, b, k1, k2, k3, in 40N bytes, at the head of the lent bytes. A refusal leaves them as they are.
 pub fn load(text: &[u8], out: &mut [u8; 81920]) -> Reading
-    ensures result { λ r. ⌜ r ≡ reading 2 (now (text .entry)) ⌝ }
-    ensures output { λ _. ⌜ now (out .exit) ≡ loaded 2 (now (text .entry)) (now (out .entry)) ⌝ }
+    ensures result { λ r. ⌜ r ≡ reading (now (text .entry)) ⌝ }
+    ensures output { λ _. ⌜ now (out .exit) ≡ loaded (now (text .entry)) (now (out .entry)) ⌝ }
 {
     let r = read(text);
     match r {

@@ -20,43 +20,43 @@ use Rattle.sheet.proofs.Taken.{onwards, order-first, reply-is, taken, length-po
 use Rattle.sheet_calls.specs.Calls.{describeReply, polynomialsReply}
 
 -- the call that writes N, D, B and L
-module _ (p : ℕ) (text out : Bytes) where
-  pub describe-length : (length out ≡ 32 → ⊥) → describeReply p text out ≡ reply.Refused 1 0
+module _ (text out : Bytes) where
+  pub describe-length : (length out ≡ 32 → ⊥) → describeReply text out ≡ reply.Refused 1 0
   unfolding describeReply first
   describe-length h = rw (ne-eqb (length out) 32 h)
 
   module _ (h : length out ≡ 32) where
     -- as the sheet is read
-    said : describeReply p text out ≡ replyOf (reading p text)
+    said : describeReply text out ≡ replyOf (reading text)
     unfolding describeReply first
-    said = rw (eq-eqb (length out) 32 h) (sym (reply-is p text))
+    said = rw (eq-eqb (length out) 32 h) (sym (reply-is text))
 
-    pub describe-refused : {v : ℕ} → reading p text ≡ Refused v → describeReply p text out ≡ reply.Refused v 0
+    pub describe-refused : {v : ℕ} → reading text ≡ Refused v → describeReply text out ≡ reply.Refused v 0
     describe-refused e = said ∙ ap replyOf e
 
-    pub describe-taken : {k : Numbers} → reading p text ≡ Taken k → describeReply p text out ≡ reply.Taken
+    pub describe-taken : {k : Numbers} → reading text ≡ Taken k → describeReply text out ≡ reply.Taken
     describe-taken e = said ∙ ap replyOf e
 
 -- the call that writes the polynomials
-module _ (p : ℕ) (text out : Bytes) where
+module _ (text out : Bytes) where
   -- its own test, after the sheet's order
   abbrev own : List Test
   own = test 1 0 (not (eqb (length out) (40 * sheetOf text .numbers .ring))) ∷ []
 
-  by-reading : {r : Reading} → reading p text ≡ r → polynomialsReply p text out ≡ onwards r (first own)
+  by-reading : {r : Reading} → reading text ≡ r → polynomialsReply text out ≡ onwards r (first own)
   unfolding polynomialsReply
-  by-reading e = order-first p text own ∙ ap (λ (r : Reading). onwards r (first own)) e
+  by-reading e = order-first text own ∙ ap (λ (r : Reading). onwards r (first own)) e
 
-  pub refused : {v : ℕ} → reading p text ≡ Refused v → polynomialsReply p text out ≡ reply.Refused v 0
+  pub refused : {v : ℕ} → reading text ≡ Refused v → polynomialsReply text out ≡ reply.Refused v 0
   refused e = by-reading e
 
-  pub wrong-length : {k : Numbers} → reading p text ≡ Taken k → (length out ≡ 40 * k .ring → ⊥) → polynomialsReply p text out ≡ reply.Refused 1 0
+  pub wrong-length : {k : Numbers} → reading text ≡ Taken k → (length out ≡ 40 * k .ring → ⊥) → polynomialsReply text out ≡ reply.Refused 1 0
   unfolding first
-  wrong-length {k} e h = by-reading e ∙ rw (taken p text e .numbers, ne-eqb (length out) (40 * k .ring) h)
+  wrong-length {k} e h = by-reading e ∙ rw (taken text e .numbers, ne-eqb (length out) (40 * k .ring) h)
 
-  pub is-taken : {k : Numbers} → reading p text ≡ Taken k → length out ≡ 40 * k .ring → polynomialsReply p text out ≡ reply.Taken
+  pub is-taken : {k : Numbers} → reading text ≡ Taken k → length out ≡ 40 * k .ring → polynomialsReply text out ≡ reply.Taken
   unfolding first
-  is-taken {k} e h = by-reading e ∙ rw (taken p text e .numbers, eq-eqb (length out) (40 * k .ring) h)
+  is-taken {k} e h = by-reading e ∙ rw (taken text e .numbers, eq-eqb (length out) (40 * k .ring) h)
 
 -- what `load` leaves in a buffer: the polynomials at its head
 pub record Loaded (text : Bytes) (k : Numbers) (b : Bytes) : Type 0 where
@@ -64,12 +64,12 @@ pub record Loaded (text : Bytes) (k : Numbers) (b : Bytes) : Type 0 where
   pub head : take (40 * k .ring) b ≡ polynomials text
   pub size : length (take (40 * k .ring) b) ≡ 40 * k .ring
 
-pub load-taken : (p : ℕ) (text : Bytes) {k : Numbers} (d b : Bytes) → reading p text ≡ Taken k → b ≡ loaded p text d → 81920 ≤ length d → Loaded text k b
+pub load-taken : (text : Bytes) {k : Numbers} (d b : Bytes) → reading text ≡ Taken k → b ≡ loaded text d → 81920 ≤ length d → Loaded text k b
 unfolding loaded
-load-taken p text {k} d b t g h =
-    let l = length-polynomials p text t in
+load-taken text {k} d b t g h =
+    let l = length-polynomials text t in
     let w : b ≡ put d 0 (polynomials text) = g ∙ rw t in
-    let m : 0 + length (polynomials text) ≤ length d = omega (arith, taken p text t .ranged .ring-high) in
+    let m : 0 + length (polynomials text) ≤ length d = omega (arith, taken text t .ranged .ring-high) in
     let a : take (40 * k .ring) b ≡ polynomials text = rw (← l, w) (part-put d 0 (polynomials text) m) in
     record { fits = rw (w, length-put d 0 (polynomials text) m) (omega arith); head = a; size = ap length a ∙ l }
 

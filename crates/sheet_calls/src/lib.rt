@@ -12,18 +12,18 @@ ghost use Rattle.sheet_calls.specs.Calls.{description, describeReply, de
 // Writes N, D, B and L.
 fn write_description(k: Numbers, out: &mut [u8])
     requires { ⌜ (outside k ≡ false) × (length (now out) ≡ 32) ⌝ }
-    ensures { λ _. ⌜ now (out .exit) ≡ description 2 k ⌝ }
+    ensures { λ _. ⌜ now (out .exit) ≡ description k ⌝ }
 {
     codec::write64(out, 0, k.ring);
-    codec::write64(out, 8, sheet_numbers::noise_bound(k.ring));
-    codec::write64(out, 16, sheet_numbers::mask_bound(k.ring, k.drown));
+    codec::write64(out, 8, sheet_numbers::noise_bound(k));
+    codec::write64(out, 16, sheet_numbers::mask_bound(k));
     codec::write64(out, 24, sheet_numbers::unknowns(k.ring));
 }
 
 // Reads a sheet, and writes N, D, B and L into 32 lent bytes.
 pub fn describe(text: &[u8], out: &mut [u8]) -> Reply
-    ensures reply { λ r. ⌜ r ≡ describeReply 2 (now (text .entry)) (now (out .entry)) ⌝ }
-    ensures output { λ _. ⌜ now (out .exit) ≡ describeOut 2 (now (text .entry)) (now (out .entry)) ⌝ }
+    ensures reply { λ r. ⌜ r ≡ describeReply (now (text .entry)) (now (out .entry)) ⌝ }
+    ensures output { λ _. ⌜ now (out .exit) ≡ describeOut (now (text .entry)) (now (out .entry)) ⌝ }
 {
     if out.len() != 32 {
         return Reply::Refused {
@@ -43,8 +43,8 @@ pub fn describe(text: &[u8], out: &mut [u8]) -> Reply
 
 // Reads a sheet, and writes its polynomials into 40N lent bytes.
 pub fn polynomials(text: &[u8], out: &mut [u8]) -> Reply
-    ensures reply { λ r. ⌜ r ≡ polynomialsReply 2 (now (text .entry)) (now (out .entry)) ⌝ }
-    ensures output { λ _. ⌜ now (out .exit) ≡ polynomialsOut 2 (now (text .entry)) (now (out .entry)) ⌝ }
+    ensures reply { λ r. ⌜ r ≡ polynomialsReply (now (text .entry)) (now (out .entry)) ⌝ }
+    ensures output { λ _. ⌜ now (out .exit) ≡ polynomialsOut (now (text .entry)) (now (out .entry)) ⌝ }
 {
     let mut buffer = [0u8; 81920];
     let r = sheet::load(text, &mut buffer);
@@ -67,8 +67,8 @@ pub fn polynomials(text: &[u8], out: &mut [u8]) -> Reply
 // `polynomials` over the C boundary, for tests.
 #[no_mangle]
 pub extern "C" fn sheet_polynomials(text: &[u8], out: &mut [u8]) -> u64
-    ensures reply { λ r. ⌜ r ≡ packed (polynomialsReply 2 (now (text .entry)) (now (out .entry))) ⌝ }
-    ensures output { λ _. ⌜ now (out .exit) ≡ polynomialsOut 2 (now (text .entry)) (now (out .entry)) ⌝ }
+    ensures reply { λ r. ⌜ r ≡ packed (polynomialsReply (now (text .entry)) (now (out .entry))) ⌝ }
+    ensures output { λ _. ⌜ now (out .exit) ≡ polynomialsOut (now (text .entry)) (now (out .entry)) ⌝ }
 {
     codec::pack(polynomials(text, out))
 }

@@ -3,19 +3,23 @@ use mathlib.Core.Path.{_≡_, refl, sym}
 use mathlib.Core.Bool.{Bool, true, false, cond, not, _||_}
 use mathlib.Core.List.{List, [], _∷_}
 use Prim.Native.Nat.{ℕ, zero, suc, _+_, _*_, _-_, _/_, _%_, _≤_, _<_, _^_}
-use native.Mathlib.Nat.{mul-le-mul}
+use native.Mathlib.Nat.{mul-le-mul, mul-left-comm, one-mul, div-add-mod'}
 use native.Mathlib.Omega.{arith}
 use borrow.Author.Tests.{eqb-true, le-ltb, ltb-true, ltb-false, leb-false, not-false}
 use lib.Dec.{ltb, eqb}
 use lib.ListN.{getD}
 use Rattle.codec.specs.Lists.{all}
 use Rattle.codec.proofs.Lists.{all-sound}
-use Rattle.sheet_numbers.specs.Bounds.{noise, power}
+use Rattle.modular.specs.Division.{Coprime}
+use Rattle.modular.proofs.Division.{odd-coprime}
+use Rattle.sheet_numbers.specs.Bounds.{power}
+use Rattle.sheet_numbers.specs.Plain.{plain, noiseOf}
+use Rattle.sheet_numbers.specs.Usable.{Usable}
 use Rattle.sheet_numbers.specs.Rules.{any, ranges, outside, conditions, unsound}
 use Rattle.sheet_numbers.specs.declared.Numbers.{Numbers}
 
 -- (1 + 2^d) D at its largest
-pub times : (x y : ℕ) → x ≤ 1099511627777 → y ≤ 8195 → x * y ≤ 1099511627777 * 8195
+pub times : (x y : ℕ) → x ≤ 1099511627777 → y ≤ 1028597 → x * y ≤ 1099511627777 * 1028597
 times x y h k = mul-le-mul h k
 
 -- ---- a ring is a power of two
@@ -48,6 +52,8 @@ pub record InRange (k : Numbers) : Type 0 where
   pub rounds-low : 1 ≤ k .rounds
   pub rounds-high : k .rounds ≤ 128
   pub repeats-high : k .repeats ≤ 256
+  pub plain-low : 2 ≤ plain k
+  pub plain-high : plain k ≤ 251
 
 none-at : (ts : List Bool) (i : ℕ) → any ts ≡ false → getD ts i false ≡ false
 unfolding any
@@ -67,17 +73,53 @@ in-range k e = record {
   rounds-low = ltb-false _ _ (none-at (ranges k) 6 e);
   rounds-high = ltb-false _ _ (none-at (ranges k) 7 e);
   repeats-high = ltb-false _ _ (none-at (ranges k) 9 e);
+  plain-low = omega arith;
+  plain-high = omega arith;
 }
 
 -- ---- the conditions
 
-pub record Sound (p : ℕ) (k : Numbers) : Type 0 where
+pub record Sound (k : Numbers) : Type 0 where
   pub divided : (k .modulus - 1) % (2 * k .ring) ≡ 0
-  pub noise-fits : (1 + 2 ^ k .drown) * noise p (k .ring) < (k .modulus - 1) / 2
+  pub noise-fits : (1 + 2 ^ k .drown) * noiseOf k < (k .modulus - 1) / 2
 
-pub is-sound : (p : ℕ) (k : Numbers) → unsound p k ≡ false → Sound p k
+pub is-sound : (k : Numbers) → unsound k ≡ false → Sound k
 unfolding unsound
-is-sound p k e = record {
-  divided = eqb-true _ _ (not-false _ (none-at (conditions p k) 0 e));
-  noise-fits = ltb-true _ _ (not-false _ (none-at (conditions p k) 1 e));
+is-sound k e = record {
+  divided = eqb-true _ _ (not-false _ (none-at (conditions k) 0 e));
+  noise-fits = ltb-true _ _ (not-false _ (none-at (conditions k) 1 e));
 }
+
+-- ---- what the functions that are lent a sheet's numbers rely on
+
+module _ (k : Numbers) (i : InRange k) (s : Sound k) where
+  abbrev q : ℕ
+  q = k .modulus
+
+  -- 2N divides q - 1
+  odd : q % 2 ≡ 1
+  odd = omega (arith, i .modulus-low, s .divided, div-add-mod' (q - 1) (2 * k .ring), mul-left-comm ((q - 1) / (2 * k .ring)) 2 (k .ring))
+
+  apart : Coprime (plain k) q
+  apart = odd-coprime q odd
+
+  -- D is below (q - 1)/2, and p at most D
+  plain-below : plain k < q
+  plain-below = omega (arith, s .noise-fits, mul-le-mul {n₁ = 1} {m₁ = noiseOf k} {n₂ = 1 + 2 ^ k .drown} {m₂ = noiseOf k} (omega arith) (omega arith), one-mul (noiseOf k))
+
+  pub usable : Usable k
+  usable = record {
+    ring-low = i .ring-low;
+    ring-high = i .ring-high;
+    modulus-low = i .modulus-low;
+    modulus-high = i .modulus-high;
+    odd = odd;
+    drown-high = i .drown-high;
+    rounds-low = i .rounds-low;
+    rounds-high = i .rounds-high;
+    repeats-high = i .repeats-high;
+    plain-low = i .plain-low;
+    plain-high = i .plain-high;
+    plain-below = plain-below;
+    apart = apart;
+  }

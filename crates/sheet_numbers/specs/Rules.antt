@@ -1,9 +1,10 @@
--- Document 01, "Sheet", the refusals 3 and 4: the ranges of a sheet's numbers, and the conditions on them for the plaintext modulus p. Assumes nothing.
+-- Document 01, "Sheet", the refusals 3 and 4: the ranges of a sheet's numbers, and the conditions on them. Assumes nothing.
 use mathlib.Core.Bool.{Bool, false, not, _||_}
 use mathlib.Core.List.{List, [], _∷_}
-use Prim.Native.Nat.{ℕ, _+_, _*_, _-_, _/_, _%_, _^_}
+use Prim.Native.Nat.{_+_, _*_, _-_, _/_, _%_, _^_}
 use lib.Dec.{ltb, leb, eqb}
-use Rattle.sheet_numbers.specs.Bounds.{noise, least, power}
+use Rattle.sheet_numbers.specs.Bounds.{least, power}
+use Rattle.sheet_numbers.specs.Plain.{noiseOf}
 use Rattle.sheet_numbers.specs.declared.Numbers.{Numbers}
 
 -- any of the tests holds
@@ -24,10 +25,10 @@ unfoldable pub outside : Numbers → Bool
 outside k = any (ranges k)
 
 -- 4: 2N does not divide q - 1, or (1 + 2^d) D is not below (q - 1)/2
-abbrev pub conditions : ℕ → Numbers → List Bool
-conditions p k =
+abbrev pub conditions : Numbers → List Bool
+conditions k =
     not (eqb ((k .modulus - 1) % (2 * k .ring)) 0)
-    ∷ not (ltb ((1 + 2 ^ k .drown) * noise p (k .ring)) ((k .modulus - 1) / 2)) ∷ []
+    ∷ not (ltb ((1 + 2 ^ k .drown) * noiseOf k) ((k .modulus - 1) / 2)) ∷ []
 
-unfoldable pub unsound : ℕ → Numbers → Bool
-unsound p k = any (conditions p k)
+unfoldable pub unsound : Numbers → Bool
+unsound k = any (conditions k)

@@ -5,10 +5,15 @@ ghost use mathlib.Core.Path.{_≡_};
 ghost use Prim.Native.Nat.{_^_, _≤_};
 ghost use mathlib.Core.Bool.{false};
 ghost use Rattle.sheet_numbers.specs.Bounds as def;
+ghost use Rattle.sheet_numbers.specs.Plain as here;
 ghost use Rattle.sheet_numbers.specs.Rules as rule;
 
 // The plaintext modulus p.
-const P: u64 = 2;
+pub fn plain(k: Numbers) -> u64
+    ensures { λ r. ⌜ r ≡ here.plain k ⌝ }
+{
+    2
+}
 
 // 2^d.
 pub fn power(d: u64) -> u64
@@ -19,19 +24,20 @@ pub fn power(d: u64) -> u64
 }
 
 // The noise bound D.
-pub fn noise_bound(n: u64) -> u64
-    requires { ⌜ n ≤ 2048 ⌝ }
-    ensures { λ r. ⌜ r ≡ def.noise 2 n ⌝ }
+pub fn noise_bound(k: Numbers) -> u64
+    requires { ⌜ (k .ring ≤ 2048) × (2 ≤ here.plain k) × (here.plain k ≤ 251) ⌝ }
+    ensures { λ r. ⌜ (r ≡ here.noiseOf k) × (r ≤ 1028597) ⌝ }
 {
-    P * (2 * n + 1) + P - 1
+    let p = plain(k);
+    p * (2 * k.ring + 1) + p - 1
 }
 
 // The mask bound B.
-pub fn mask_bound(n: u64, d: u64) -> u64
-    requires { ⌜ (n ≤ 2048) × (d ≤ 40) ⌝ }
-    ensures { λ r. ⌜ r ≡ def.mask 2 n d ⌝ }
+pub fn mask_bound(k: Numbers) -> u64
+    requires { ⌜ (k .ring ≤ 2048) × (k .drown ≤ 40) × (2 ≤ here.plain k) × (here.plain k ≤ 251) ⌝ }
+    ensures { λ r. ⌜ r ≡ here.maskOf k ⌝ }
 {
-    power(d) * noise_bound(n) / (2 * P)
+    power(k.drown) * noise_bound(k) / (2 * plain(k))
 }
 
 // The unknowns of the shortness argument, L.
@@ -82,12 +88,12 @@ pub fn outside(k: Numbers) -> bool
 // Refusal 4: 2N does not divide q - 1, or (1 + 2^d) D is not below (q - 1)/2.
 pub fn unsound(k: Numbers) -> bool
     requires { ⌜ rule.outside k ≡ false ⌝ }
-    ensures { λ r. ⌜ r ≡ rule.unsound 2 k ⌝ }
+    ensures { λ r. ⌜ r ≡ rule.unsound k ⌝ }
 {
     if (k.modulus - 1) % (2 * k.ring) != 0 {
         return true;
     }
-    if (k.modulus - 1) / 2 <= (1 + power(k.drown)) * noise_bound(k.ring) {
+    if (k.modulus - 1) / 2 <= (1 + power(k.drown)) * noise_bound(k) {
         return true;
     }
     false

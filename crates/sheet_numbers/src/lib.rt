@@ -5,6 +5,7 @@ mod repeats;
 pub use bounds::mask_bound;
 pub use bounds::noise_bound;
 pub use bounds::outside;
+pub use bounds::plain;
 pub use bounds::unknowns;
 pub use bounds::unsound;
 pub use repeats::least_repeats;

@@ -7,7 +7,8 @@ use lib.Dec.{ltb}
 use lib.ListN.{length}
 use Rattle.codec.specs.Bytes.{Bytes, put}
 use Rattle.sheet_lines.specs.Form.{decimal}
-use Rattle.sheet_numbers.specs.Bounds.{noise, mask, unknowns}
+use Rattle.sheet_numbers.specs.Bounds.{unknowns}
+use Rattle.sheet_numbers.specs.Plain.{noiseOf, maskOf}
 use Rattle.sheet.specs.Sheet.{reading}
 use Rattle.sheet.specs.declared.Reading.{Reading}
 use Rattle.sheet.specs.declared.Reading.the-variants.{Taken, Refused}
@@ -34,14 +35,14 @@ abbrev pub unknowns= : Bytes
 unknowns= = 117 ∷ 110 ∷ 107 ∷ 110 ∷ 111 ∷ 119 ∷ 110 ∷ 115 ∷ 61 ∷ []
 
 -- verdict, N, D, B and L; a refusal prints the verdict line only
-unfoldable pub printedBy : ℕ → Reading → Bytes
-printedBy p (Taken k) =
-    line verdict= 0 ++ line ring= (k .ring) ++ line noise= (noise p (k .ring)) ++ line mask= (mask p (k .ring) (k .drown)) ++ line unknowns= (unknowns (k .ring))
-printedBy p (Refused n) = line verdict= n
+unfoldable pub printedBy : Reading → Bytes
+printedBy (Taken k) =
+    line verdict= 0 ++ line ring= (k .ring) ++ line noise= (noiseOf k) ++ line mask= (maskOf k) ++ line unknowns= (unknowns (k .ring))
+printedBy (Refused n) = line verdict= n
 
 -- over 65,536 bytes: verdict 1
-unfoldable pub printed : ℕ → Bytes → Bytes
-printed p text = cond (ltb 65536 (length text)) (line verdict= 1) (printedBy p (reading p text))
+unfoldable pub printed : Bytes → Bytes
+printed text = cond (ltb 65536 (length text)) (line verdict= 1) (printedBy (reading text))
 
 -- t was put into d from at to r
 pub record Puts (d : Bytes) (at : ℕ) (t : Bytes) (r : ℕ) (out : Bytes) : Type 0 where

@@ -29,24 +29,19 @@ fn put_line(out: &mut [u8], at: usize, key: &[u8], n: u64) -> usize
 // The lines of a sheet that is taken, at the head of out.
 fn show(k: Numbers, out: &mut [u8]) -> usize
     requires { ⌜ (outside k ≡ false) × (length (now out) ≡ 160) ⌝ }
-    ensures { λ r. ⌜ Puts (now (out .entry)) 0 (printedBy 2 (Taken k)) r (now (out .exit)) ⌝ }
+    ensures { λ r. ⌜ Puts (now (out .entry)) 0 (printedBy (Taken k)) r (now (out .exit)) ⌝ }
 {
     let a1 = put_line(out, 0, b"verdict=", 0);
     let a2 = put_line(out, a1, b"ring=", k.ring);
-    let a3 = put_line(out, a2, b"noise=", sheet_numbers::noise_bound(k.ring));
-    let a4 = put_line(
-        out,
-        a3,
-        b"mask=",
-        sheet_numbers::mask_bound(k.ring, k.drown),
-    );
+    let a3 = put_line(out, a2, b"noise=", sheet_numbers::noise_bound(k));
+    let a4 = put_line(out, a3, b"mask=", sheet_numbers::mask_bound(k));
     put_line(out, a4, b"unknowns=", sheet_numbers::unknowns(k.ring))
 }
 
 // Puts what the program prints at the head of out, and answers how many bytes that is.
 fn report(text: &[u8], out: &mut [u8; 160]) -> usize
     ensures count { λ r. ⌜ Counts r (now (out .exit)) ⌝ }
-    ensures output { λ r. ⌜ take r (now (out .exit)) ≡ printed 2 (now (text .entry)) ⌝ }
+    ensures output { λ r. ⌜ take r (now (out .exit)) ≡ printed (now (text .entry)) ⌝ }
 {
     if 65536 < text.len() {
         return put_line(out, 0, b"verdict=", 1);

@@ -20,4 +20,3 @@ pub mod Tests
 pub mod Walk
 pub mod Written
 pub mod Cut
-pub mod Numbers

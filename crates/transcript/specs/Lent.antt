@@ -1,20 +1,10 @@
 -- What the producer's calls are lent, from the names of their slices in a contract: in a `requires` (`..Now`), and in an `ensures` what stands in them at entry (`..In`)
 -- and at exit (`..Out`). Assumes nothing.
 use denote.Ref.{RefT}
-use denote.Triple.Both.{Both}
 use Rattle.codec.specs.Bytes.{Bytes}
+use Rattle.codec.specs.Slices.{Slice, given, left}
 use Rattle.transcript.specs.Producer.{Material, materialOf}
 use Rattle.transcript.specs.Writes.{FirstRoom, firstRoom, SecondRoom, secondRoom}
-
--- a slice as an `ensures` sees it
-abbrev pub Slice : Type 0
-Slice = Both (RefT Bytes) (RefT Bytes)
-
-abbrev pub given : Slice → Bytes
-given s = s .entry .now
-
-abbrev pub left : Slice → Bytes
-left s = s .exit .now
 
 abbrev pub materialNow : (secrets s0 e0 masks0 masks1 vectors permutations salts ballots : RefT Bytes) → Material
 materialNow secrets s0 e0 masks0 masks1 vectors permutations salts ballots =

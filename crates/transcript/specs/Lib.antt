@@ -3,7 +3,6 @@ pub mod Round
 pub mod Accepted
 pub mod Method
 pub mod Sheets
-pub mod Usable
 pub mod Producer
 pub mod Writes
 pub mod Lent

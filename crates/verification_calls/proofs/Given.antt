@@ -33,26 +33,26 @@ module _ (x : Openings) (answer : Extraction) (out out' w w' : Bytes) where
 
   abbrev pub ExtractOver : Bytes → Bytes → Type 0
   ExtractOver text w'' =
-      (answer ≡ extraction (extractReply 2 text x out w) (kind (parametersOf 2 text) (ballotsIn text (x .ballots)) x))
-      × ((out' ≡ leaves (extractReply 2 text x out w) (extracted (parametersOf 2 text) (ballotsIn text (x .ballots)) x) out)
-      × (w'' ≡ swept (extractReply 2 text x out w) w))
+      (answer ≡ extraction (extractReply text x out w) (kind (parametersOf text) (ballotsIn text (x .ballots)) x))
+      × ((out' ≡ leaves (extractReply text x out w) (extracted (parametersOf text) (ballotsIn text (x .ballots)) x) out)
+      × (w'' ≡ swept (extractReply text x out w) w))
 
-  pub extract-over : (text : Bytes) {k : Numbers} {w'' : Bytes} {said : Reply} → reading 2 text ≡ Taken k → Extract (parametersOf 2 text) → said ≡ replyOf answer → w'' ≡ swept said w' → ExtractOver text w''
+  pub extract-over : (text : Bytes) {k : Numbers} {w'' : Bytes} {said : Reply} → reading text ≡ Taken k → Extract (parametersOf text) → said ≡ replyOf answer → w'' ≡ swept said w' → ExtractOver text w''
   unfolding extractReply
   extract-over text taken f s z =
-      let P = parametersOf 2 text in
+      let P = parametersOf text in
       let k : ℕ = kind P (ballotsIn text (x .ballots)) x in
-      let e = over 2 text (openingsTests P x out w) taken refl in
+      let e = over text (openingsTests P x out w) taken refl in
       let y = s ∙ ap replyOf (f .0) ∙ reply-of (first (openingsTests P x out w)) k in (
         f .0 ∙ ap (λ (t : Reply). extraction t k) e,
         (f .1 .0 ∙ ap (λ (t : Reply). leaves t (extracted P (ballotsIn text (x .ballots)) x) out) e, z ∙ ap (λ (t : Reply). swept t w') y ∙ f .1 .1 ∙ ap (λ (t : Reply). swept t w) e),
       )
 
-pub extract-refused : (x : Openings) (out w text : Bytes) {w'' : Bytes} {s : Reading} {i : ℕ} → s ≡ reading 2 text → s ≡ Refused i → w'' ≡ swept (reply.Refused i 0) w
+pub extract-refused : (x : Openings) (out w text : Bytes) {w'' : Bytes} {s : Reading} {i : ℕ} → s ≡ reading text → s ≡ Refused i → w'' ≡ swept (reply.Refused i 0) w
     → ExtractOver x (found.Refused i 0) out out w w text w''
 unfolding extractReply extraction leaves
 extract-refused x out w text f e z =
-    let P = parametersOf 2 text in
+    let P = parametersOf text in
     let k : ℕ = kind P (ballotsIn text (x .ballots)) x in
-    let y = refused-over 2 text (openingsTests P x out w) f e in
+    let y = refused-over text (openingsTests P x out w) f e in
     (ap (λ (t : Reply). extraction t k) y, (ap (λ (t : Reply). leaves t (extracted P (ballotsIn text (x .ballots)) x) out) y, z ∙ ap (λ (t : Reply). swept t w) y))

@@ -9,5 +9,5 @@ use Rattle.transcript.specs.Extractor.{Openings}
 use Rattle.lengths.specs.Calls.{openingsTests}
 use Rattle.lengths.specs.Sheets.{parametersOf}
 
-unfoldable pub extractReply : (p : ℕ) (text : Bytes) → Openings → (out scratch : Bytes) → Reply
-extractReply p text x out scratch = first (order p text ++ openingsTests (parametersOf p text) x out scratch)
+unfoldable pub extractReply : (text : Bytes) → Openings → (out scratch : Bytes) → Reply
+extractReply text x out scratch = first (order text ++ openingsTests (parametersOf text) x out scratch)

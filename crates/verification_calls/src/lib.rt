@@ -29,9 +29,9 @@ pub fn extract(
     out: &mut [u8],
     scratch: &mut [u8],
 ) -> Extraction
-    ensures { λ answer. ⌜ answer ≡ extraction (extractReply 2 (now (sheet .entry)) (openingsOf (now (head .entry)) (now (shares0 .entry)) (now (shares1 .entry)) (now (ballots .entry)) (now (claims .entry)) (now (opening0 .entry)) (now (opening1 .entry)) repetition (now (answer1 .entry)) (now (answer2 .entry)) (now (answer3 .entry))) (now (out .entry)) (now (scratch .entry))) (kind (parametersOf 2 (now (sheet .entry))) (ballotsIn (now (sheet .entry)) (now (ballots .entry))) (openingsOf (now (head .entry)) (now (shares0 .entry)) (now (shares1 .entry)) (now (ballots .entry)) (now (claims .entry)) (now (opening0 .entry)) (now (opening1 .entry)) repetition (now (answer1 .entry)) (now (answer2 .entry)) (now (answer3 .entry)))) ⌝ }
-    ensures { λ _. ⌜ now (out .exit) ≡ leaves (extractReply 2 (now (sheet .entry)) (openingsOf (now (head .entry)) (now (shares0 .entry)) (now (shares1 .entry)) (now (ballots .entry)) (now (claims .entry)) (now (opening0 .entry)) (now (opening1 .entry)) repetition (now (answer1 .entry)) (now (answer2 .entry)) (now (answer3 .entry))) (now (out .entry)) (now (scratch .entry))) (extracted (parametersOf 2 (now (sheet .entry))) (ballotsIn (now (sheet .entry)) (now (ballots .entry))) (openingsOf (now (head .entry)) (now (shares0 .entry)) (now (shares1 .entry)) (now (ballots .entry)) (now (claims .entry)) (now (opening0 .entry)) (now (opening1 .entry)) repetition (now (answer1 .entry)) (now (answer2 .entry)) (now (answer3 .entry)))) (now (out .entry)) ⌝ }
-    ensures { λ _. ⌜ now (scratch .exit) ≡ swept (extractReply 2 (now (sheet .entry)) (openingsOf (now (head .entry)) (now (shares0 .entry)) (now (shares1 .entry)) (now (ballots .entry)) (now (claims .entry)) (now (opening0 .entry)) (now (opening1 .entry)) repetition (now (answer1 .entry)) (now (answer2 .entry)) (now (answer3 .entry))) (now (out .entry)) (now (scratch .entry))) (now (scratch .entry)) ⌝ }
+    ensures { λ answer. ⌜ answer ≡ extraction (extractReply (now (sheet .entry)) (openingsOf (now (head .entry)) (now (shares0 .entry)) (now (shares1 .entry)) (now (ballots .entry)) (now (claims .entry)) (now (opening0 .entry)) (now (opening1 .entry)) repetition (now (answer1 .entry)) (now (answer2 .entry)) (now (answer3 .entry))) (now (out .entry)) (now (scratch .entry))) (kind (parametersOf (now (sheet .entry))) (ballotsIn (now (sheet .entry)) (now (ballots .entry))) (openingsOf (now (head .entry)) (now (shares0 .entry)) (now (shares1 .entry)) (now (ballots .entry)) (now (claims .entry)) (now (opening0 .entry)) (now (opening1 .entry)) repetition (now (answer1 .entry)) (now (answer2 .entry)) (now (answer3 .entry)))) ⌝ }
+    ensures { λ _. ⌜ now (out .exit) ≡ leaves (extractReply (now (sheet .entry)) (openingsOf (now (head .entry)) (now (shares0 .entry)) (now (shares1 .entry)) (now (ballots .entry)) (now (claims .entry)) (now (opening0 .entry)) (now (opening1 .entry)) repetition (now (answer1 .entry)) (now (answer2 .entry)) (now (answer3 .entry))) (now (out .entry)) (now (scratch .entry))) (extracted (parametersOf (now (sheet .entry))) (ballotsIn (now (sheet .entry)) (now (ballots .entry))) (openingsOf (now (head .entry)) (now (shares0 .entry)) (now (shares1 .entry)) (now (ballots .entry)) (now (claims .entry)) (now (opening0 .entry)) (now (opening1 .entry)) repetition (now (answer1 .entry)) (now (answer2 .entry)) (now (answer3 .entry)))) (now (out .entry)) ⌝ }
+    ensures { λ _. ⌜ now (scratch .exit) ≡ swept (extractReply (now (sheet .entry)) (openingsOf (now (head .entry)) (now (shares0 .entry)) (now (shares1 .entry)) (now (ballots .entry)) (now (claims .entry)) (now (opening0 .entry)) (now (opening1 .entry)) repetition (now (answer1 .entry)) (now (answer2 .entry)) (now (answer3 .entry))) (now (out .entry)) (now (scratch .entry))) (now (scratch .entry)) ⌝ }
 {
     let mut public = [0u8; 81920];
     let reading = sheet::load(sheet, &mut public);
@@ -39,7 +39,7 @@ pub fn extract(
         sheet::Reading::Taken(k) => {
             let n = k.ring as usize;
             let repeats = k.repeats as usize;
-            let bound = sheet_numbers::mask_bound(k.ring, k.drown);
+            let bound = sheet_numbers::mask_bound(k);
             let answer = parted::extract(
                 &public,
                 head,

@@ -14,7 +14,7 @@ scale-slot-requires c κs =
     let w1 = c .before .before .before .multiply .last .0 in
     let e1 = c .before .before .before .multiply .ensures in
     let h = scale-asks (a .q) (a .n) (p .0 .0 .ring-high) (p .0 .0 .modulus-low) (p .0 .0 .modulus-high) (a .work .now) (poly (a .a .now)) (p .0 .1) w1 e1 (p .1 .1) in
-    (omega (arith, p .0 .0 .modulus-low), p .0 .0 .modulus-high, h .0, h .1)
+    (p .0 .2, p .0 .0 .modulus-high, h .0, h .1)
 
 add-slot-requires : tie.Need-add-slot-requires
 add-slot-requires c κs =
@@ -22,7 +22,7 @@ add-slot-requires c κs =
     let p = c .before .before .before .before .before .before .before .before .before .before .before .pre in
     let w1 = c .before .before .before .before .before .before .before .multiply .last .0 in
     let e1 = c .before .before .before .before .before .before .before .multiply .ensures in
-    let h = add-asks (a .q) (a .n) (p .0 .0 .ring-high) (p .0 .0 .modulus-low) (p .0 .0 .modulus-high) (a .work .now) (poly (a .a .now)) (p .0 .1) w1 e1 (p .1 .1) (c .before .before .before .scale-slot .last .0) (c .before .before .before .scale-slot .ensures) in
+    let h = add-asks (a .q) (a .n) (p .0 .0 .ring-high) (p .0 .0 .modulus-low) (p .0 .0 .modulus-high) (a .p) (a .work .now) (poly (a .a .now)) (p .0 .1) w1 e1 (p .1 .1) (c .before .before .before .scale-slot .last .0) (c .before .before .before .scale-slot .ensures) in
     (p .0 .0 .modulus-high, h .0, h .1, h .2)
 
 returns : tie.Need-returns
@@ -31,7 +31,7 @@ returns c =
     let p = c .before .before .before .before .before .before .before .before .before .before .before .before .before .before .pre in
     let w1 = c .before .before .before .before .before .before .before .before .before .before .multiply .last .0 in
     let e1 = c .before .before .before .before .before .before .before .before .before .before .multiply .ensures in
-    combined (a .q) (a .n) (p .0 .0 .ring-high) (p .0 .0 .modulus-low) (p .0 .0 .modulus-high) (a .work .now) (poly (a .a .now)) (p .0 .1) w1 e1 (p .1 .1) (c .before .before .before .before .before .before .scale-slot .last .0) (c .before .before .before .before .before .before .scale-slot .ensures) (c .before .before .add-slot .last .0) (c .before .before .add-slot .ensures)
+    combined (a .q) (a .n) (p .0 .0 .ring-high) (p .0 .0 .modulus-low) (p .0 .0 .modulus-high) (a .p) (a .work .now) (poly (a .a .now)) (p .0 .1) w1 e1 (p .1 .1) (c .before .before .before .before .before .before .scale-slot .last .0) (c .before .before .before .before .before .before .scale-slot .ensures) (c .before .before .add-slot .last .0) (c .before .before .add-slot .ensures)
 
 pub combine-spec : {M : Type 1} → statement M
 combine-spec = tie.close (tie.spec (λ c κs. search needs) scale-slot-requires add-slot-requires (λ c. search needs) returns)

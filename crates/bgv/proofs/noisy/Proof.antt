@@ -17,7 +17,7 @@ combine-requires c κs =
     let x = ternary-load (a .q) (a .n) (p .0 .ring-high) (p .0 .modulus-low) (p .0 .modulus-high) (a .work .now) w1 0 (p .1) (omega (arith, p .0 .ring-high)) (a .x .now) (p .2) (c .before .before .before .before .before .before .before .load-ternary .ensures) in
     let y = ternary-load (a .q) (a .n) (p .0 .ring-high) (p .0 .modulus-low) (p .0 .modulus-high) w1 w2 16384 (loaded-length (a .q) (a .n) (p .0 .ring-high) (p .0 .modulus-low) (p .0 .modulus-high) (ternary (a .q) (a .x .now)) (a .work .now) w1 (p .1) x) (omega (arith, p .0 .ring-high)) (a .y .now) (p .3) (c .before .before .before .load-ternary2 .ensures) in
     let h = both-asks (a .q) (a .n) (p .0 .ring-high) (p .0 .modulus-low) (p .0 .modulus-high) (ternary (a .q) (a .x .now)) (ternary (a .q) (a .y .now)) (a .work .now) w1 w2 (p .1) x y in
-    ((p .0, h .0), (h .1, h .2))
+    ((p .0, h .0, p .4), (h .1, h .2))
 
 returns : tie.Need-returns
 returns c =
@@ -27,7 +27,7 @@ returns c =
     let w2 = c .before .before .before .before .before .before .load-ternary2 .last .0 in
     let x = ternary-load (a .q) (a .n) (p .0 .ring-high) (p .0 .modulus-low) (p .0 .modulus-high) (a .work .now) w1 0 (p .1) (omega (arith, p .0 .ring-high)) (a .x .now) (p .2) (c .before .before .before .before .before .before .before .before .before .before .load-ternary .ensures) in
     let y = ternary-load (a .q) (a .n) (p .0 .ring-high) (p .0 .modulus-low) (p .0 .modulus-high) w1 w2 16384 (loaded-length (a .q) (a .n) (p .0 .ring-high) (p .0 .modulus-low) (p .0 .modulus-high) (ternary (a .q) (a .x .now)) (a .work .now) w1 (p .1) x) (omega (arith, p .0 .ring-high)) (a .y .now) (p .3) (c .before .before .before .before .before .before .load-ternary2 .ensures) in
-    stands-noisy (a .q) (a .n) (p .0 .ring-high) (p .0 .modulus-low) (p .0 .modulus-high) (ternary (a .q) (a .x .now)) (ternary (a .q) (a .y .now)) (a .work .now) w1 w2 (p .1) x y (poly (a .a .now)) (c .before .before .combine .last .0) (c .before .before .combine .ensures)
+    stands-noisy (a .q) (a .n) (p .0 .ring-high) (p .0 .modulus-low) (p .0 .modulus-high) (a .p) (ternary (a .q) (a .x .now)) (ternary (a .q) (a .y .now)) (a .work .now) w1 w2 (p .1) x y (poly (a .a .now)) (c .before .before .combine .last .0) (c .before .before .combine .ensures)
 
 pub noisy-spec : {M : Type 1} → statement M
 noisy-spec = tie.close (tie.spec (λ c κs. search needs) (λ c κs. search needs) combine-requires (λ c. search needs) returns)

@@ -38,7 +38,7 @@ combine-requires c κs =
     let w2 = c .before .before .before .difference2 .last .0 in
     let y = modulo-load (a .q) (a .n) (p .0 .ring-high) (p .0 .modulus-low) (p .0 .modulus-high) w1 w2 16384 h l (omega arith) (c .before .before .before .difference2 .ensures) in
     let k = both-asks (a .q) (a .n) (p .0 .ring-high) (p .0 .modulus-low) (p .0 .modulus-high) g h (a .work .now) w1 w2 (p .3) x y in
-    ((p .0, k .0), (k .1, k .2))
+    ((p .0, k .0, p .6), (k .1, k .2))
 
 returns : tie.Need-returns
 returns c =
@@ -52,7 +52,7 @@ returns c =
     let h = other (a .q) (ternary (a .q) (a .y .now)) (poly (a .y0 .now)) in
     let w2 = c .before .before .before .before .before .before .difference2 .last .0 in
     let y = modulo-load (a .q) (a .n) (p .0 .ring-high) (p .0 .modulus-low) (p .0 .modulus-high) w1 w2 16384 h l (omega arith) (c .before .before .before .before .before .before .difference2 .ensures) in
-    stands-noisy (a .q) (a .n) (p .0 .ring-high) (p .0 .modulus-low) (p .0 .modulus-high) g h (a .work .now) w1 w2 (p .3) x y (poly (a .a .now)) (c .before .before .combine .last .0) (c .before .before .combine .ensures)
+    stands-noisy (a .q) (a .n) (p .0 .ring-high) (p .0 .modulus-low) (p .0 .modulus-high) (a .p) g h (a .work .now) w1 w2 (p .3) x y (poly (a .a .now)) (c .before .before .combine .last .0) (c .before .before .combine .ensures)
 
 pub noisy-difference-spec : {M : Type 1} → statement M
 noisy-difference-spec = tie.close (tie.spec difference-requires difference-requires-2 combine-requires (λ c. search needs) returns)

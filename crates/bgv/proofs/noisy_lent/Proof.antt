@@ -16,7 +16,7 @@ combine-requires c κs =
     let x = lent-load (a .q) (a .n) (p .0 .ring-high) (p .0 .modulus-low) (p .0 .modulus-high) (a .work .now) w1 0 (p .3) (omega (arith, p .0 .ring-high)) (a .x .now) (p .1 .sized) (p .1 .below) (c .before .before .before .before .before .before .before .copy .ensures) in
     let y = lent-load (a .q) (a .n) (p .0 .ring-high) (p .0 .modulus-low) (p .0 .modulus-high) w1 w2 16384 (loaded-length (a .q) (a .n) (p .0 .ring-high) (p .0 .modulus-low) (p .0 .modulus-high) (poly (a .x .now)) (a .work .now) w1 (p .3) x) (omega (arith, p .0 .ring-high)) (a .y .now) (p .2 .sized) (p .2 .below) (c .before .before .before .copy2 .ensures) in
     let h = both-asks (a .q) (a .n) (p .0 .ring-high) (p .0 .modulus-low) (p .0 .modulus-high) (poly (a .x .now)) (poly (a .y .now)) (a .work .now) w1 w2 (p .3) x y in
-    ((p .0, h .0), (h .1, h .2))
+    ((p .0, h .0, p .4), (h .1, h .2))
 
 returns : tie.Need-returns
 returns c =
@@ -26,7 +26,7 @@ returns c =
     let w2 = c .before .before .before .before .before .before .copy2 .last .0 in
     let x = lent-load (a .q) (a .n) (p .0 .ring-high) (p .0 .modulus-low) (p .0 .modulus-high) (a .work .now) w1 0 (p .3) (omega (arith, p .0 .ring-high)) (a .x .now) (p .1 .sized) (p .1 .below) (c .before .before .before .before .before .before .before .before .before .before .copy .ensures) in
     let y = lent-load (a .q) (a .n) (p .0 .ring-high) (p .0 .modulus-low) (p .0 .modulus-high) w1 w2 16384 (loaded-length (a .q) (a .n) (p .0 .ring-high) (p .0 .modulus-low) (p .0 .modulus-high) (poly (a .x .now)) (a .work .now) w1 (p .3) x) (omega (arith, p .0 .ring-high)) (a .y .now) (p .2 .sized) (p .2 .below) (c .before .before .before .before .before .before .copy2 .ensures) in
-    stands-noisy (a .q) (a .n) (p .0 .ring-high) (p .0 .modulus-low) (p .0 .modulus-high) (poly (a .x .now)) (poly (a .y .now)) (a .work .now) w1 w2 (p .3) x y (poly (a .a .now)) (c .before .before .combine .last .0) (c .before .before .combine .ensures)
+    stands-noisy (a .q) (a .n) (p .0 .ring-high) (p .0 .modulus-low) (p .0 .modulus-high) (a .p) (poly (a .x .now)) (poly (a .y .now)) (a .work .now) w1 w2 (p .3) x y (poly (a .a .now)) (c .before .before .combine .last .0) (c .before .before .combine .ensures)
 
 pub noisy-lent-spec : {M : Type 1} → statement M
 noisy-lent-spec = tie.close (tie.spec (λ c κs. search needs) (λ c κs. search needs) combine-requires (λ c. search needs) returns)

@@ -13,10 +13,10 @@ use Rattle.bgv.proofs.plain.Statement.{statement}
 use Rattle.bgv.proofs.plain.Tie as tie
 
 abbrev Inv-loop : tie.InvT-loop
-Inv-loop work vote₀ n q i₀ vote i = (i ≤ n) × (length vote ≡ length vote₀) × (vote ≡ voted vote₀ (plain q 2 (poly work)) i)
+Inv-loop work vote₀ p n q i₀ vote i = (i ≤ n) × (length vote ≡ length vote₀) × (vote ≡ voted vote₀ (plain q p (poly work)) i)
 
 abbrev μ-loop : tie.MeasureT-loop
-μ-loop work vote₀ n q i₀ vote i = n - i
+μ-loop work vote₀ p n q i₀ vote i = n - i
 
 loop-holds : tie.Need-loop-holds Inv-loop μ-loop
 loop-holds c = (omega arith, refl, voted-none _ _)
@@ -31,7 +31,7 @@ residue-requires c κs =
 cast-write8 : tie.Need-cast-write8 Inv-loop μ-loop
 cast-write8 c =
     let a = c .before .before .before .before .before .before .before .args in
-    let h = rw (← c .before .residue .ensures) at (remainder-lt 2 (centre (a .q) (c .before .before .read64 .result)) (omega arith)) in
+    let h = rw (← c .before .residue .ensures) at (remainder-lt (a .p) (centre (a .q) (c .before .before .read64 .result)) (omega arith)) in
     omega arith
 
 loop-again : tie.Need-loop-again Inv-loop μ-loop
@@ -41,8 +41,8 @@ loop-again c =
     let l = c .before .before .before .before .before .before .before .loop in (
       omega arith,
       c .before .before .write8 .kept .0 ∙ l .inv .1,
-      voted-more (a .vote .now) (plain (a .q) 2 (poly (a .work .now))) (l .i) (l .vote) _ _ (l .inv .2) (omega arith)
-          (c .before .before .before .before .residue .ensures ∙ ap (λ x. remainder 2 (centre (a .q) x)) (c .before .before .before .before .before .read64 .ensures)) (c .before .before .write8 .ensures),
+      voted-more (a .vote .now) (plain (a .q) (a .p) (poly (a .work .now))) (l .i) (l .vote) _ _ (l .inv .2) (omega arith)
+          (c .before .before .before .before .residue .ensures ∙ ap (λ x. remainder (a .p) (centre (a .q) x)) (c .before .before .before .before .before .read64 .ensures)) (c .before .before .write8 .ensures),
     )
 
 same-length : tie.Need-same-length Inv-loop μ-loop

@@ -4,23 +4,23 @@ use Prim.Native.Nat.{_*_}
 use native.Mathlib.Omega.{arith}
 use borrow.Author.Needs.{needs}
 use Rattle.call.proofs.Lent.{lent}
-use Rattle.bgv.proofs.Sheets.{two-sound}
+use Rattle.bgv.proofs.Sheets.{sheet-sound}
 use Rattle.scheme_calls.proofs.Keys.{lent-keys}
 use Rattle.round_parts.specs.Orders.{roundOf}
-use Rattle.lengths.proofs.OverSheet.{parameters-are}
+use Rattle.lengths.proofs.OverSheet.{parameters-with}
 use Rattle.checker_calls.proofs.Given.{check-restated, check-over, check-refused}
 use Rattle.checker_calls.proofs.check.Statement.{statement}
 use Rattle.checker_calls.proofs.check.Tie as tie
 
 mask-bound-requires : tie.Need-mask-bound-requires
-mask-bound-requires c κs = let r = lent 2 (c .before .before .before .before .before .before .before .before .before .before .before .before .before .before .before .args .sheet .now) (c .before .before .before .load .ensures) (c .before .reading .given .1) .ranged in (r .ring-high, r .drown-high)
+mask-bound-requires c κs = let r = lent (c .before .before .before .before .before .before .before .before .before .before .before .before .before .before .before .args .sheet .now) (c .before .before .before .load .ensures) (c .before .reading .given .1) .ranged in (r .ring-high, r .drown-high, r .plain-low, r .plain-high)
 
 slice-aggregate-check : tie.Need-slice-aggregate-check
-slice-aggregate-check c = sym (lent 2 (c .before .before .before .before .before .before .before .before .before .before .before .before .before .before .before .before .before .args .sheet .now) (c .before .before .before .before .before .load .ensures) (c .before .before .before .reading .given .1) .sized)
+slice-aggregate-check c = sym (lent (c .before .before .before .before .before .before .before .before .before .before .before .before .before .before .before .before .before .args .sheet .now) (c .before .before .before .before .before .load .ensures) (c .before .before .before .reading .given .1) .sized)
 
 check-requires : tie.Need-check-requires
 check-requires c κs =
-    let h = lent 2 (c .before .before .before .before .before .before .before .before .before .before .before .before .before .before .before .before .before .before .args .sheet .now) (c .before .before .before .before .before .before .load .ensures) (c .before .before .before .before .reading .given .1) in
+    let h = lent (c .before .before .before .before .before .before .before .before .before .before .before .before .before .before .before .before .before .before .args .sheet .now) (c .before .before .before .before .before .before .load .ensures) (c .before .before .before .before .reading .given .1) in
     let k = c .before .before .before .before .reading .given .0 .0 in
     let n = k .ring in
     (h .polynomial 0 0 (8 * n) (omega arith) (omega arith) refl, h .polynomial 1 (8 * n) (8 * n) (omega arith) (omega arith) refl, lent-keys h (16 * n) (24 * n) refl refl, two-sound (c .before .before .before .before .before .before .before .before .before .before .before .before .before .before .before .before .before .before .args .sheet .now) k (h .said) .odd, h .ranged .repeats-high, omega (arith, h .sized, h .ranged .ring-high))
@@ -30,8 +30,8 @@ returns c =
     let a = c .before .before .before .before .before .before .before .before .before .before .before .before .before .before .before .before .before .before .before .before .before .before .before .before .before .args in
     let l = c .before .before .before .before .before .before .before .before .before .before .before .before .before .load .ensures in
     let t = c .before .before .before .before .before .before .before .before .before .before .before .reading .given .1 in
-    check-over (roundOf (a .side) (a .challenges .now) (a .ballots .now) (a .claims .now) (a .head .now) (a .shares0 .now) (a .shares1 .now) (a .opening .now) (a .answers .now)) (c .before .before .before .before .before .before .check .result) (a .scratch .now) _ (a .sheet .now) (lent 2 (a .sheet .now) l t .said)
-    (check-restated (roundOf (a .side) (a .challenges .now) (a .ballots .now) (a .claims .now) (a .head .now) (a .shares0 .now) (a .shares1 .now) (a .opening .now) (a .answers .now)) (c .before .before .before .before .before .before .check .result) (a .scratch .now) _ (parameters-are 2 (a .sheet .now) l t (c .before .before .before .before .before .before .before .before .before .mask-bound .result) (c .before .before .before .before .before .before .before .before .before .mask-bound .ensures)) (c .before .before .before .before .before .before .check .ensures)) (c .before .before .sweep .ensures)
+    check-over (roundOf (a .side) (a .challenges .now) (a .ballots .now) (a .claims .now) (a .head .now) (a .shares0 .now) (a .shares1 .now) (a .opening .now) (a .answers .now)) (c .before .before .before .before .before .before .check .result) (a .scratch .now) _ (a .sheet .now) (lent (a .sheet .now) l t .said)
+    (check-restated (roundOf (a .side) (a .challenges .now) (a .ballots .now) (a .claims .now) (a .head .now) (a .shares0 .now) (a .shares1 .now) (a .opening .now) (a .answers .now)) (c .before .before .before .before .before .before .check .result) (a .scratch .now) _ (parameters-with (a .sheet .now) l t (c .before .before .before .before .before .before .before .before .before .mask-bound .result) (c .before .before .before .before .before .before .before .before .before .mask-bound .ensures)) (c .before .before .before .before .before .before .check .ensures)) (c .before .before .sweep .ensures)
 
 returns-2 : tie.Need-returns-2
 returns-2 c =

@@ -11,10 +11,10 @@ use Rattle.checking.proofs.check.Statement.{statement}
 use Rattle.checking.proofs.check.Tie as tie
 
 slice-aggregate-check-taken : tie.Need-slice-aggregate-check-taken
-slice-aggregate-check-taken c = sym (lent 2 (c .before .before .before .before .before .before .before .before .before .before .before .before .before .before .before .args .sheet .now) (c .before .before .before .before .load .ensures) (c .before .before .reading .given .1) .sized)
+slice-aggregate-check-taken c = sym (lent (c .before .before .before .before .before .before .before .before .before .before .before .before .before .before .before .args .sheet .now) (c .before .before .before .before .load .ensures) (c .before .before .reading .given .1) .sized)
 
 check-taken-requires : tie.Need-check-taken-requires
-check-taken-requires c κs = let h = lent 2 (c .before .before .before .before .before .before .before .before .before .before .before .before .before .before .before .before .args .sheet .now) (c .before .before .before .before .before .load .ensures) (c .before .before .before .reading .given .1) in (c .before .before .before .before .before .before .before .before .before .before .before .before .before .before .before .before .pre, h .numbers, sheet-loaded h)
+check-taken-requires c κs = let h = lent (c .before .before .before .before .before .before .before .before .before .before .before .before .before .before .before .before .args .sheet .now) (c .before .before .before .before .before .load .ensures) (c .before .before .before .reading .given .1) in (c .before .before .before .before .before .before .before .before .before .before .before .before .before .before .before .before .pre, h .numbers, sheet-loaded h)
 
 returns : tie.Need-returns
 returns c =
@@ -23,7 +23,7 @@ returns c =
     let l = c .before .before .before .before .before .before .before .before .before .before .before .before .before .load .ensures in
     let t = c .before .before .before .before .before .before .before .before .before .before .before .reading .given .1 in
     let k = c .before .before .before .before .before .before .before .before .before .before .before .reading .given .0 .0 in
-    checked-over (a .held) x _ (lent 2 (a .sheet .now) l t .said) (parameters-are 2 (a .sheet .now) l t (mask 2 (k .ring) (k .drown)) refl) (c .before .before .before .before .before .before .before .check-taken .ensures) (c .before .before .before .before .reply-of .ensures) (c .before .before .sweep .ensures)
+    checked-over (a .held) x _ (lent (a .sheet .now) l t .said) (parameters-are (a .sheet .now) l t) (c .before .before .before .before .before .before .before .check-taken .ensures) (c .before .before .before .before .reply-of .ensures) (c .before .before .sweep .ensures)
 
 returns-2 : tie.Need-returns-2
 returns-2 c =

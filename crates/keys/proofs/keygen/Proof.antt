@@ -17,7 +17,7 @@ noisy-requires c κs =
     let a = c .before .before .before .before .before .before .before .before .before .before .before .before .args in
     let p = c .before .before .before .before .before .before .before .before .before .before .before .before .pre in
     let h = keygen-passed (a .n) (a .q) (a .s .now) (a .e .now) (a .b .now) (a .scratch .now) (c .before .before .before .before .keygen-tests .result) (c .before .before .before .before .keygen-tests .ensures) (c .before .before .enum-told .given .1) in
-    (p, h .0, h .1, h .2, omega (arith, h .3))
+    (p, h .0, h .1, h .2, omega (arith, h .3), omega (arith, p .modulus-low))
 
 returns : tie.Need-returns
 unfolding keygenWrites

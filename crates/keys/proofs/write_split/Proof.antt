@@ -33,7 +33,7 @@ mul-lent-key c =
 lent-key-requires : tie.Need-lent-key-requires
 lent-key-requires c κs =
     let p = c .before .before .before .before .before .before .before .before .before .before .before .before .before .before .before .before .before .before .before .before .before .before .before .pre in
-    (p .0, p .1, p .2, c .before .before .before .before .before .before .difference2 .ensures .1 ∙ c .before .before .before .before .before .before .before .before .before .before .before .before .before .difference .ensures .1 ∙ p .6, omega (arith, p .5, c .before .before .before .before .before .before .difference2 .kept .0, c .before .before .before .before .before .before .before .before .before .before .before .before .before .difference .kept .0))
+    (p .0, p .1, p .2, c .before .before .before .before .before .before .difference2 .ensures .1 ∙ c .before .before .before .before .before .before .before .before .before .before .before .before .before .difference .ensures .1 ∙ p .6, omega (arith, p .5, c .before .before .before .before .before .before .difference2 .kept .0, c .before .before .before .before .before .before .before .before .before .before .before .before .before .difference .kept .0), omega (arith, p .0 .modulus-low))
 
 mul-other-key : tie.Need-mul-other-key
 mul-other-key c =
@@ -44,7 +44,7 @@ other-key-requires : tie.Need-other-key-requires
 other-key-requires c κs =
     let p = c .before .before .before .before .before .before .before .before .before .before .before .before .before .before .before .before .before .before .before .before .before .before .before .before .before .before .before .before .before .before .pre in
     let l = c .before .before .before .before .before .before .lent-key .ensures .1 ∙ c .before .before .before .before .before .before .before .before .before .before .before .before .before .difference2 .ensures .1 ∙ c .before .before .before .before .before .before .before .before .before .before .before .before .before .before .before .before .before .before .before .before .difference .ensures .1 ∙ p .6 in
-    (p .0, p .1, p .2, l, p .3, p .4, omega (arith, p .5, c .before .before .before .before .before .before .lent-key .kept .0, c .before .before .before .before .before .before .before .before .before .before .before .before .before .difference2 .kept .0, c .before .before .before .before .before .before .before .before .before .before .before .before .before .before .before .before .before .before .before .before .difference .kept .0))
+    (p .0, p .1, p .2, l, p .3, p .4, omega (arith, p .5, c .before .before .before .before .before .before .lent-key .kept .0, c .before .before .before .before .before .before .before .before .before .before .before .before .before .difference2 .kept .0, c .before .before .before .before .before .before .before .before .before .before .before .before .before .before .before .before .before .before .before .before .difference .kept .0), omega (arith, p .0 .modulus-low))
 
 returns : tie.Need-returns
 unfolding splitWrites

@@ -5,7 +5,6 @@ use lib.ListN.{length, length-replicate}
 use Rattle.transcript.specs.Producer.{Material, materialOf}
 use Rattle.transcript.specs.Round.{Parameters}
 use Rattle.transcript.specs.Sheets.{parameters}
-use Rattle.transcript.proofs.Numbers.{numbers}
 use Rattle.material.proofs.Sequence.{stopped, ended, ballots-passed}
 use Rattle.material.proofs.test_material.Statement.{statement}
 use Rattle.material.proofs.test_material.Tie as tie
@@ -24,7 +23,7 @@ test-each-requires c κs =
     let s = c .before .before .before .before .before .before .before .before .before .before .before .before .before .before .before .before .before .before .before .before .before .before in
     let z = s .pre .3 in
     let t = c .before .before .before .before .before .before .before .before .before .test-secret .ensures in (
-      numbers (s .pre .0),
+      s .pre .0 .numbers,
       ap length (c .before .before .before .before .before .wipe .ensures) ∙ length-replicate _ 0 ∙ t .1 ∙ s .pre .1,
       s .pre .2,
       z .secrets,

@@ -15,7 +15,7 @@ write-head-requires c κs =
     let z = c .before .before .before .before .before .before .before .before .before .before .before .before .before .before .before .before .before .before .before .args .public .now in
     let p = c .before .before .before .before .before .before .before .before .before .before .before .before .before .before .before .before .before .before .before .pre .0 in
     let r = c .before .before .before .before .before .before .before .before .before .before .before .before .before .before .before .before .before .before .before .pre .1 in
-    (subst (Polynomial (k .ring) (k .modulus)) (sym (a-cut k z)) (p .a), subst (PublicKeys (k .ring) (k .modulus)) (sym (keys-cut k z)) (p .keys), r .s0, r .e0, r .scratch, p .repeats-high, r .head, r .drawings)
+    (subst (Polynomial (k .ring) (k .modulus)) (sym (a-cut k z)) (p .a), subst (PublicKeys (k .ring) (k .modulus)) (sym (keys-cut k z)) (p .keys), r .s0, r .e0, r .scratch, p .numbers .repeats-high, r .head, r .drawings)
 
 write-ballots-requires : tie.Need-write-ballots-requires
 write-ballots-requires c κs = let r = c .before .before .before .before .before .before .before .before .before .before .before .before .before .before .before .before .before .before .before .before .before .before .before .before .before .before .before .before .pre .1 in (r .s0, r .drawings .secrets-sized, c .before .before .before .before .before .before .before .before .write-head .ensures .1 ∙ r .scratch, r .few, r .masked, r .shares0, r .shares1, r .claims)

@@ -36,7 +36,7 @@ returns-6 : tie.Need-returns-6
 unfolding numbersReply answer first leaves
 returns-6 c =
     let a = c .before .before .before .before .before .before .args in
-    rw (le-ltb 6 (a .operation) (c .before .before .before .before .before .if1 .left), lt-leb 72057594037927936 (a .q) (c .before .before .before .before .if2 .left), eq-eqb (a .q % 2) 1 (c .before .before .before .if3 .left), lt-leb (a .q) (a .x) (c .before .before .if4 .left), lt-leb (a .q) (a .y) (c .before .if5 .left)) (ap (λ (v : ℕ). 256 * v) (c .on-numbers .ensures .0))
+    rw (le-ltb 5 (a .operation) (c .before .before .before .before .before .if1 .left), lt-leb 72057594037927936 (a .q) (c .before .before .before .before .if2 .left), eq-eqb (a .q % 2) 1 (c .before .before .before .if3 .left), lt-leb (a .q) (a .x) (c .before .before .if4 .left), lt-leb (a .q) (a .y) (c .before .if5 .left)) (ap (λ (v : ℕ). 256 * v) (c .on-numbers .ensures .0))
 
 pub modular-numbers-spec : {M : Type 1} → statement M
 modular-numbers-spec = tie.close (tie.spec returns returns-2 returns-3 returns-4 returns-5 (λ c κs. search needs) mul-result returns-6)

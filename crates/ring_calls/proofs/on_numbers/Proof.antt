@@ -4,7 +4,6 @@ use native.Mathlib.Omega.{arith}
 use borrow.Author.Needs.{needs}
 use borrow.Author.Tests.{eq-eqb, ne-eqb}
 use Rattle.modular.proofs.Centring.{centre-size, remainder-lt}
-use Rattle.modular.specs.Division.{divide}
 use Rattle.modular.specs.Modulo.{centre}
 use Rattle.ring_calls.specs.Calls.{onNumbers}
 use Rattle.ring_calls.proofs.on_numbers.Statement.{statement}
@@ -43,14 +42,8 @@ returns-5 c =
 returns-6 : tie.Need-returns-6
 unfolding onNumbers
 returns-6 c =
-    let a = c .before .before .before .before .before .before .before .args in
-    (rw (ne-eqb (a .operation) 0 (c .before .before .before .before .before .before .if1 .left), ne-eqb (a .operation) 1 (c .before .before .before .before .before .if2 .left), ne-eqb (a .operation) 2 (c .before .before .before .before .if3 .left), ne-eqb (a .operation) 3 (c .before .before .before .if4 .left), ne-eqb (a .operation) 4 (c .before .before .if5 .left), eq-eqb (a .operation) 5 (c .before .if6 .taken)) (c .residue .ensures), rw (c .residue .ensures) (let l = remainder-lt 2 (centre (a .q) (a .x)) (omega arith) in omega arith))
-
-returns-7 : tie.Need-returns-7
-unfolding onNumbers
-returns-7 c =
-    let a = c .before .before .before .before .before .before .before .args in
-    (rw (ne-eqb (a .operation) 0 (c .before .before .before .before .before .before .if1 .left), ne-eqb (a .operation) 1 (c .before .before .before .before .before .if2 .left), ne-eqb (a .operation) 2 (c .before .before .before .before .if3 .left), ne-eqb (a .operation) 3 (c .before .before .before .if4 .left), ne-eqb (a .operation) 4 (c .before .before .if5 .left), ne-eqb (a .operation) 5 (c .before .if6 .left)) (c .halve .ensures), rw (c .halve .ensures) (unfold divide in le-of-lt (mod-lt _ (omega arith))))
+    let a = c .before .before .before .before .before .before .args in
+    (rw (ne-eqb (a .operation) 0 (c .before .before .before .before .before .if1 .left), ne-eqb (a .operation) 1 (c .before .before .before .before .if2 .left), ne-eqb (a .operation) 2 (c .before .before .before .if3 .left), ne-eqb (a .operation) 3 (c .before .before .if4 .left), ne-eqb (a .operation) 4 (c .before .if5 .left)) (c .residue .ensures), rw (c .residue .ensures) (let l = remainder-lt 2 (centre (a .q) (a .x)) (omega arith) in omega arith))
 
 pub on-numbers-spec : {M : Type 1} → statement M
-on-numbers-spec = tie.close (tie.spec (λ c κs. search needs) returns (λ c κs. search needs) returns-2 (λ c κs. search needs) returns-3 (λ c κs. search needs) returns-4 (λ c κs. search needs) returns-5 (λ c κs. search needs) returns-6 (λ c κs. search needs) returns-7)
+on-numbers-spec = tie.close (tie.spec (λ c κs. search needs) returns (λ c κs. search needs) returns-2 (λ c κs. search needs) returns-3 (λ c κs. search needs) returns-4 (λ c κs. search needs) returns-5 (λ c κs. search needs) returns-6)

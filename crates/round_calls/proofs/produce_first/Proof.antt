@@ -16,10 +16,10 @@ abbrev room : tie.Start → FirstRoom
 room s = let a = s .args in firstRoom (a .head .now) (a .shares0 .now) (a .shares1 .now) (a .claims .now) (a .scratch .now)
 
 slice-aggregate-produce-first : tie.Need-slice-aggregate-produce-first
-slice-aggregate-produce-first c = sym (lent 2 (c .before .before .before .before .before .before .before .before .before .before .before .before .before .before .before .before .before .before .before .before .before .args .sheet .now) (c .before .before .before .before .load .ensures) (c .before .before .reading .given .1) .sized)
+slice-aggregate-produce-first c = sym (lent (c .before .before .before .before .before .before .before .before .before .before .before .before .before .before .before .before .before .before .before .before .before .args .sheet .now) (c .before .before .before .before .load .ensures) (c .before .before .reading .given .1) .sized)
 
 produce-first-requires : tie.Need-produce-first-requires
-produce-first-requires c κs = sheet-loaded (lent 2 (c .before .before .before .before .before .before .before .before .before .before .before .before .before .before .before .before .before .before .before .before .before .before .before .before .before .before .args .sheet .now) (c .before .before .before .before .before .before .before .before .before .load .ensures) (c .before .before .before .before .before .before .before .reading .given .1))
+produce-first-requires c κs = sheet-loaded (lent (c .before .before .before .before .before .before .before .before .before .before .before .before .before .before .before .before .before .before .before .before .before .before .before .before .before .before .args .sheet .now) (c .before .before .before .before .before .before .before .before .before .load .ensures) (c .before .before .before .before .before .before .before .reading .given .1))
 
 returns : tie.Need-returns
 returns c = let s = c .before .before .before .before .before .before .before .before .before .before .before .before .before .before .before .before .before .before .before .before .before .before .before .before .before .before .before .before .before .before .before .before .before .before .before .before .before .before .before .before .before in first-over (s .args .sheet .now) (c .before .before .before .before .before .before .before .before .before .before .before .before .before .before .before .before .before .before .before .before .before .before .before .before .load .ensures) (c .before .before .before .before .before .before .before .before .before .before .before .before .before .before .before .before .before .before .before .before .before .before .reading .given .1) (x s) (room s) (c .before .before .before .before .before .before .before .before .before .before .before .before .before .before .produce-first .ensures) (c .before .before .sweep .ensures)

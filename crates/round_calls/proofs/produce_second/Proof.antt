@@ -16,10 +16,10 @@ abbrev room : tie.Start → SecondRoom
 room s = let a = s .args in secondRoom (a .opening .now) (a .answers .now) (a .scratch .now)
 
 slice-aggregate-produce-second : tie.Need-slice-aggregate-produce-second
-slice-aggregate-produce-second c = sym (lent 2 (c .before .before .before .before .before .before .before .before .before .before .before .before .before .before .before .before .before .before .before .before .args .sheet .now) (c .before .before .before .before .load .ensures) (c .before .before .reading .given .1) .sized)
+slice-aggregate-produce-second c = sym (lent (c .before .before .before .before .before .before .before .before .before .before .before .before .before .before .before .before .before .before .before .before .args .sheet .now) (c .before .before .before .before .load .ensures) (c .before .before .reading .given .1) .sized)
 
 produce-second-requires : tie.Need-produce-second-requires
-produce-second-requires c κs = sheet-loaded (lent 2 (c .before .before .before .before .before .before .before .before .before .before .before .before .before .before .before .before .before .before .before .before .before .before .before .args .sheet .now) (c .before .before .before .before .before .before .before .load .ensures) (c .before .before .before .before .before .reading .given .1))
+produce-second-requires c κs = sheet-loaded (lent (c .before .before .before .before .before .before .before .before .before .before .before .before .before .before .before .before .before .before .before .before .before .before .before .args .sheet .now) (c .before .before .before .before .before .before .before .load .ensures) (c .before .before .before .before .before .reading .given .1))
 
 returns : tie.Need-returns
 returns c = let s = c .before .before .before .before .before .before .before .before .before .before .before .before .before .before .before .before .before .before .before .before .before .before .before .before .before .before .before .before .before .before .before .before .before .before in second-over (s .args .sheet .now) (c .before .before .before .before .before .before .before .before .before .before .before .before .before .before .before .before .before .before .load .ensures) (c .before .before .before .before .before .before .before .before .before .before .before .before .before .before .before .before .reading .given .1) (x s) (s .args .side) (s .args .challenges .now) (room s) (c .before .before .before .before .before .before .before .before .before .before .produce-second .ensures) (c .before .before .sweep .ensures)

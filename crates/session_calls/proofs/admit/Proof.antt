@@ -15,7 +15,7 @@ returns : tie.Need-returns
 unfolding admitReply
 returns c =
     let a = c .before .before .before .before .before .args in
-    let R : Session → Reply = λ s. first (admitTests 2 s (a .reg .now) (a .ballot .now)) in
+    let R : Session → Reply = λ s. first (admitTests s (a .reg .now) (a .ballot .now)) in
     let short = c .before .if1 .taken in
     (c .refused .ensures ∙ sym (wrong-reply (a .image .now) R short), (wrong-left (a .image .now) R short _ _, wrong-left (a .image .now) R short _ _))
 
@@ -23,7 +23,7 @@ returns-2 : tie.Need-returns-2
 unfolding admitReply
 returns-2 c =
     let a = c .before .before .before .before .before .before .before .before .before .before .before .before .before .before .args in
-    let R : Session → Reply = λ s. first (admitTests 2 s (a .reg .now) (a .ballot .now)) in
+    let R : Session → Reply = λ s. first (admitTests s (a .reg .now) (a .ballot .now)) in
     let long = c .before .before .before .before .before .before .before .before .before .before .if1 .left in
     let held = c .before .before .before .before .before .before .before .before .load .ensures in
     let d = c .before .before .before .before .before .before .admit .ensures in

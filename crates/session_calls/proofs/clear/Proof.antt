@@ -16,7 +16,7 @@ returns : tie.Need-returns
 unfolding clearReply
 returns c =
     let a = c .before .before .before .before .before .args in
-    let R : Session → Reply = λ s. first (clearTests 2 (a .reg .now) (a .sheet .now)) in
+    let R : Session → Reply = λ s. first (clearTests (a .reg .now) (a .sheet .now)) in
     let short = c .before .if1 .taken in
     (c .refused .ensures ∙ sym (wrong-reply (a .image .now) R short), (wrong-left (a .image .now) R short _ _, wrong-left (a .image .now) R short _ _))
 
@@ -24,7 +24,7 @@ returns-2 : tie.Need-returns-2
 unfolding clearReply
 returns-2 c =
     let a = c .before .before .before .before .before .before .before .before .before .before .before .before .before .before .args in
-    let R : Session → Reply = λ s. first (clearTests 2 (a .reg .now) (a .sheet .now)) in
+    let R : Session → Reply = λ s. first (clearTests (a .reg .now) (a .sheet .now)) in
     let long = c .before .before .before .before .before .before .before .before .before .before .if1 .left in
     let held = c .before .before .before .before .before .before .before .before .load .ensures in
     let d = c .before .before .before .before .before .before .clear .ensures in

@@ -15,7 +15,7 @@ returns : tie.Need-returns
 unfolding withdrawReply
 returns c =
     let a = c .before .before .before .before .args in
-    let R : Session → Reply = λ s. first (withdrawTests 2 s (a .reg .now) (a .mark)) in
+    let R : Session → Reply = λ s. first (withdrawTests s (a .reg .now) (a .mark)) in
     let short = c .before .if1 .taken in
     (c .refused .ensures ∙ sym (wrong-reply (a .image .now) R short), wrong-left (a .image .now) R short _ _)
 
@@ -23,7 +23,7 @@ returns-2 : tie.Need-returns-2
 unfolding withdrawReply
 returns-2 c =
     let a = c .before .before .before .before .before .before .before .before .args in
-    let R : Session → Reply = λ s. first (withdrawTests 2 s (a .reg .now) (a .mark)) in
+    let R : Session → Reply = λ s. first (withdrawTests s (a .reg .now) (a .mark)) in
     let long = c .before .before .before .before .before .if1 .left in
     let held = c .before .before .before .before .load .ensures in
     let d = c .before .before .withdraw .ensures in (

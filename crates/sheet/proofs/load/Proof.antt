@@ -10,7 +10,7 @@ use Rattle.sheet.proofs.load.Tie as tie
 
 write-lists-requires : tie.Need-write-lists-requires
 write-lists-requires c κs =
-    let t = taken 2 (c .before .before .before .before .before .before .args .text .now) (sym (c .before .before .before .before .read .ensures) ∙ c .before .before .r .given .1) in
+    let t = taken (c .before .before .before .before .before .before .args .text .now) (sym (c .before .before .before .before .read .ensures) ∙ c .before .before .r .given .1) in
     record { form = t .form; ring = ap (λ (k : Numbers). k .ring) (t .numbers); fit = t .fit; space = omega (arith, t .ranged .ring-high) }
 
 returns : tie.Need-returns

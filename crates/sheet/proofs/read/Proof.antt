@@ -13,23 +13,23 @@ use Rattle.sheet.proofs.read.Statement.{statement}
 use Rattle.sheet.proofs.read.Tie as tie
 
 returns : tie.Need-returns
-returns c = no-text 2 (c .before .before .args .text .now) (c .if1 .taken)
+returns c = no-text (c .before .before .args .text .now) (c .if1 .taken)
 
 returns-2 : tie.Need-returns-2
-returns-2 c = too-much 2 (c .before .before .before .args .text .now) (c .before .if1 .left) (omega arith)
+returns-2 c = too-much (c .before .before .before .args .text .now) (c .before .if1 .left) (omega arith)
 
 returns-3 : tie.Need-returns-3
 returns-3 c =
     let t = c .before .before .before .before .before .before .args .text .now in
     let h = c .before .before .scan-lines in
-    no-form 2 t (c .before .before .before .before .if1 .left) (omega arith) (head-broken t (h .result) (h .ensures) (not-true _ (c .if3 .taken)))
+    no-form t (c .before .before .before .before .if1 .left) (omega arith) (head-broken t (h .result) (h .ensures) (not-true _ (c .if3 .taken)))
 
 returns-4 : tie.Need-returns-4
 returns-4 c =
     let t = c .before .before .before .before .before .before .before .before .before .args .text .now in
     let h = c .before .before .before .before .before .scan-lines in
     let l = c .before .before .scan-lines2 in
-    no-form 2 t (c .before .before .before .before .before .before .before .if1 .left) (omega arith)
+    no-form t (c .before .before .before .before .before .before .before .if1 .left) (omega arith)
     (tail-broken t (h .result) (h .ensures) (not-false _ (c .before .before .before .if3 .left)) (l .result) (l .ensures) (not-true _ (c .if4 .taken)))
 
 returns-5 : tie.Need-returns-5
@@ -37,7 +37,7 @@ returns-5 c =
     let t = c .before .before .before .before .before .before .before .before .before .before .before .args .text .now in
     let h = c .before .before .before .before .before .before .before .scan-lines in
     let l = c .before .before .before .before .scan-lines2 in
-    no-form 2 t (c .before .before .before .before .before .before .before .before .before .if1 .left) (omega arith)
+    no-form t (c .before .before .before .before .before .before .before .before .before .if1 .left) (omega arith)
     (more-text t (h .result) (h .ensures) (not-false _ (c .before .before .before .before .before .if3 .left)) (l .result) (l .ensures) (not-false _ (c .before .before .if4 .left)) (omega arith))
 
 returns-6 : tie.Need-returns-6
@@ -45,7 +45,7 @@ returns-6 c =
     let t = c .before .before .before .before .before .before .before .before .before .before .before .before .before .before .args .text .now in
     let h = c .before .before .before .before .before .before .before .before .before .before .scan-lines in
     let l = c .before .before .before .before .before .before .before .scan-lines2 in
-    no-form 2 t (c .before .before .before .before .before .before .before .before .before .before .before .before .if1 .left) (omega arith)
+    no-form t (c .before .before .before .before .before .before .before .before .before .before .before .before .if1 .left) (omega arith)
     (not-single t (h .result) (h .ensures) (not-false _ (c .before .before .before .before .before .before .before .before .if3 .left)) (l .result) (l .ensures) (not-false _ (c .before .before .before .before .before .if4 .left)) (omega arith)
     (sym (c .before .all-are .ensures) ∙ not-true _ (c .if6 .taken)))
 
@@ -59,8 +59,8 @@ returns-7 c =
     let z : length t ≤ l .result .next = omega arith in
     let y = sym (c .before .before .before .before .before .all-are .ensures) ∙ not-false _ (c .before .before .before .before .if6 .left) in
     c .judge .ensures
-    ∙ ap (λ (k : Numbers). judged 2 k (l .result .counts) (l .result .largest)) (numbers-are t (h .result) (h .ensures) w (l .result) (l .ensures) x z y)
-    ∙ judged-is 2 t (c .before .before .before .before .before .before .before .before .before .before .before .before .before .before .before .before .if1 .left) (omega arith) (has-form t (h .result) (h .ensures) w (l .result) (l .ensures) x z y) (l .result .counts) (l .result .largest)
+    ∙ ap (λ (k : Numbers). judged k (l .result .counts) (l .result .largest)) (numbers-are t (h .result) (h .ensures) w (l .result) (l .ensures) x z y)
+    ∙ judged-is t (c .before .before .before .before .before .before .before .before .before .before .before .before .before .before .before .before .if1 .left) (omega arith) (has-form t (h .result) (h .ensures) w (l .result) (l .ensures) x z y) (l .result .counts) (l .result .largest)
     (counts-are t (h .result) (h .ensures) w (l .result) (l .ensures) x z y) (largest-are t (h .result) (h .ensures) w (l .result) (l .ensures) x z y)
 
 pub read-spec : {M : Type 1} → statement M

@@ -9,10 +9,10 @@ use Rattle.sheet_calls.proofs.write_description.Statement.{statement}
 use Rattle.sheet_calls.proofs.write_description.Tie as tie
 
 noise-bound-requires : tie.Need-noise-bound-requires
-noise-bound-requires c κs = let i = in-range (c .before .before .before .before .before .before .args .k) (c .before .before .before .before .before .before .pre .0) in omega arith
+noise-bound-requires c κs = let i = in-range (c .before .before .before .before .before .before .args .k) (c .before .before .before .before .before .before .pre .0) in (omega arith, omega arith, omega arith)
 
 mask-bound-requires : tie.Need-mask-bound-requires
-mask-bound-requires c κs = let i = in-range (c .before .before .before .before .before .before .before .before .before .before .before .args .k) (c .before .before .before .before .before .before .before .before .before .before .before .pre .0) in (omega arith, omega arith)
+mask-bound-requires c κs = let i = in-range (c .before .before .before .before .before .before .before .before .before .before .before .args .k) (c .before .before .before .before .before .before .before .before .before .before .before .pre .0) in (omega arith, omega arith, omega arith, omega arith)
 
 unknowns-requires : tie.Need-unknowns-requires
 unknowns-requires c κs = let i = in-range (c .before .before .before .before .before .before .before .before .before .before .before .before .before .before .before .before .args .k) (c .before .before .before .before .before .before .before .before .before .before .before .before .before .before .before .before .pre .0) in omega arith
@@ -28,7 +28,7 @@ returns c =
       c .before .before .before .before .before .before .before .before .before .before .before .before .before .before .before .before .before .write64 .ensures,
       c .before .before .before .unknowns .ensures,
       c .before .before .before .before .before .before .before .before .mask-bound .ensures,
-      c .before .before .before .before .before .before .before .before .before .before .before .before .before .noise-bound .ensures,
+      c .before .before .before .before .before .before .before .before .before .before .before .before .before .noise-bound .ensures .0,
     )
     (four-words (s .args .out .now) _ _ _ _ (length-bytes 8 _) (length-bytes 8 _) (length-bytes 8 _) (length-bytes 8 _) (s .pre .1))
 

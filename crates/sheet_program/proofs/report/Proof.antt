@@ -17,7 +17,7 @@ returns c =
     (puts-counts (c .put-line .ensures .0), rw (lt-ltb 65536 (length t) (omega arith)) (puts-head (c .put-line .ensures .0)))
 
 show-requires : tie.Need-show-requires
-show-requires c κs = (taken 2 _ (sym (c .before .before .before .before .read .ensures) ∙ c .before .before .r .given .1) .inside, search needs)
+show-requires c κs = (taken _ (sym (c .before .before .before .before .read .ensures) ∙ c .before .before .r .given .1) .inside, search needs)
 
 returns-2 : tie.Need-returns-2
 unfolding printed

@@ -8,10 +8,10 @@ use Rattle.sheet_program.proofs.show.Statement.{statement}
 use Rattle.sheet_program.proofs.show.Tie as tie
 
 noise-bound-requires : tie.Need-noise-bound-requires
-noise-bound-requires c κs = let i = in-range (c .before .before .before .before .before .before .before .before .before .before .before .before .before .args .k) (c .before .before .before .before .before .before .before .before .before .before .before .before .before .pre .0) in omega arith
+noise-bound-requires c κs = let i = in-range (c .before .before .before .before .before .before .before .before .before .before .before .before .before .args .k) (c .before .before .before .before .before .before .before .before .before .before .before .before .before .pre .0) in (omega arith, omega arith, omega arith)
 
 mask-bound-requires : tie.Need-mask-bound-requires
-mask-bound-requires c κs = let i = in-range (c .before .before .before .before .before .before .before .before .before .before .before .before .before .before .before .before .before .before .before .args .k) (c .before .before .before .before .before .before .before .before .before .before .before .before .before .before .before .before .before .before .before .pre .0) in (omega arith, omega arith)
+mask-bound-requires c κs = let i = in-range (c .before .before .before .before .before .before .before .before .before .before .before .before .before .before .before .before .before .before .before .args .k) (c .before .before .before .before .before .before .before .before .before .before .before .before .before .before .before .before .before .before .before .pre .0) in (omega arith, omega arith, omega arith, omega arith)
 
 unknowns-requires : tie.Need-unknowns-requires
 unknowns-requires c κs = let i = in-range (c .before .before .before .before .before .before .before .before .before .before .before .before .before .before .before .before .before .before .before .before .before .before .before .before .before .args .k) (c .before .before .before .before .before .before .before .before .before .before .before .before .before .before .before .before .before .before .before .before .before .before .before .before .before .pre .0) in omega arith
@@ -26,7 +26,7 @@ returns c =
     let p5 = c .before .before .put-line5 .ensures in
     puts-more
     (puts-more
-    (puts-more (puts-more (p1 .0) (p2 .0) (omega arith)) (rw (c .before .before .before .before .before .before .before .before .before .before .before .before .before .before .before .noise-bound .ensures) at (p3 .0)) (omega arith))
+    (puts-more (puts-more (p1 .0) (p2 .0) (omega arith)) (rw (c .before .before .before .before .before .before .before .before .before .before .before .before .before .before .before .noise-bound .ensures .0) at (p3 .0)) (omega arith))
     (rw (c .before .before .before .before .before .before .before .before .before .mask-bound .ensures) at (p4 .0)) (omega arith))
     (rw (c .before .before .before .unknowns .ensures) at (p5 .0)) (omega arith)
 

@@ -3,7 +3,7 @@ use mathlib.Core.Path.{refl, ap, _∙_}
 use borrow.Author.Needs.{needs}
 use Rattle.codec.specs.Reply.{first}
 use Rattle.transcript.specs.Round.{Round, roundTests}
-use Rattle.lengths.specs.Sheets.{given}
+use Rattle.transcript.specs.Sheets as sheets
 use Rattle.stored.specs.Stored.{inputsOf, drawnRound}
 use Rattle.checking.proofs.Held.{round-lengths}
 use Rattle.checking.proofs.Outcome.{stopped, judged, judged-swept, drawn-round}
@@ -29,7 +29,7 @@ returns-2 c =
     let a = c .before .before .before .before .before .before .before .before .before .before .before .before .before .before .before .before .before .before .before .before .args in
     let p = c .before .before .before .before .before .before .before .before .before .before .before .before .before .before .before .before .before .before .before .before .pre in
     let x = inputsOf (a .sheet .now) (a .ballots .now) (a .claims .now) (a .head .now) (a .shares0 .now) (a .shares1 .now) (a .opening .now) (a .answers .now) (a .scratch .now) in
-    let P = given 2 (a .k) (a .public .now) in
+    let P = sheets.parameters (a .k) (a .public .now) in
     let m = a .held .closed in
     let r = drawnRound (a .held) x in
     let e = c .before .before .before .test-round .ensures in

@@ -21,7 +21,7 @@ check-round-requires c κs =
     let q = a .k .modulus in
     let s = a .public .now in
     let r = roundOf (a .side) (a .challenges .now) (a .ballots .now) (a .claims .now) (a .head .now) (a .shares0 .now) (a .shares1 .now) (a .opening .now) (a .answers .now) in (
-      (cut (Polynomial n q) s 0 (8 * n) (8 * n - 0) (omega arith) (p .0 .a), cut (Polynomial n q) s (8 * n) (8 * n) (16 * n - 8 * n) (omega arith) (p .0 .b), cut (PublicKeys n q) s (16 * n) (24 * n) (40 * n - 16 * n) (omega arith) (p .0 .keys), p .0 .odd, p .2, p .1, p .0 .repeats-high),
+      (cut (Polynomial n q) s 0 (8 * n) (8 * n - 0) (omega arith) (p .0 .a), cut (Polynomial n q) s (8 * n) (8 * n) (16 * n - 8 * n) (omega arith) (p .0 .b), cut (PublicKeys n q) s (16 * n) (24 * n) (40 * n - 16 * n) (omega arith) (p .0 .keys), p .0 .numbers .odd, p .2, p .1, p .0 .numbers .repeats-high),
       subst (λ (P : Parameters). Lengths P (a .closed) r) (sym (parted (a .k) s (c .before .before .before .before .mask-bound .ensures))) (p .3),
     )
 

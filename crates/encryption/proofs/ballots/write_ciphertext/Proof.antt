@@ -14,7 +14,7 @@ use Rattle.encryption.proofs.ballots.write_ciphertext.Tie as tie
 noisy-requires : tie.Need-noisy-requires
 noisy-requires c κs =
     let p = c .before .before .before .before .before .before .before .before .before .before .pre in
-    (p .0, p .8, p .2, p .3, omega (arith, p .7))
+    (p .0, p .8, p .2, p .3, omega (arith, p .7), omega (arith, p .0 .modulus-low))
 
 mul-cipher-v : tie.Need-mul-cipher-v
 mul-cipher-v c =
@@ -24,7 +24,7 @@ mul-cipher-v c =
 cipher-v-requires : tie.Need-cipher-v-requires
 cipher-v-requires c κs =
     let p = c .before .before .before .before .before .before .before .before .before .before .before .before .before .before .before .before .before .pre in
-    (p .1, c .before .before .before .before .before .before .noisy .ensures .1 ∙ p .8, p .2, p .4, p .5, p .6, omega (arith, p .7, c .before .before .before .before .before .before .noisy .kept .0))
+    (p .1, c .before .before .before .before .before .before .noisy .ensures .1 ∙ p .8, p .2, p .4, p .5, p .6, omega (arith, p .7, c .before .before .before .before .before .before .noisy .kept .0), omega (arith, p .0 .modulus-low))
 
 returns : tie.Need-returns
 unfolding encryptWrites

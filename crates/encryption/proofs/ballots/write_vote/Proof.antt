@@ -27,7 +27,7 @@ plain-requires c κs =
     let a = c .before .before .before .before .before .before .before .before .before .before .before .before .args in
     let p = c .before .before .before .before .before .before .before .before .before .before .before .before .pre in
     let m = c .before .before .before .before .opened .ensures .sized in
-    (omega arith, p .4, omega arith, stands-below (a .q) (a .n) _ _ _ (c .before .before .before .before .opened .ensures) (omega arith) (p .0 .3))
+    (omega arith, p .4, omega arith, stands-below (a .q) (a .n) _ _ _ (c .before .before .before .before .opened .ensures) (omega arith) (p .0 .3), omega arith, omega arith)
 
 returns : tie.Need-returns
 unfolding decryptWrites

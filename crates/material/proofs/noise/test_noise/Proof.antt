@@ -61,7 +61,7 @@ returns c =
     let m = c .before .before .before .before .before .before .before .noise-bound in
     let b = c .before .before .before .is-quiet-at in (
       walked-refused (l .inv .1) 15 (omega arith) (sym (b .ensures .0 ∙ ap (quiet q n (m .result) (a .secrets .now) (a .ballots .now)) (l .inv .1 .place)) ∙ not-true (b .result) (c .if1 .taken))
-          ∙ ap (λ (D : ℕ). first (noiseTests q n D (a .count) (a .secrets .now) (a .ballots .now))) (m .ensures),
+          ∙ ap (λ (D : ℕ). first (noiseTests q n D (a .count) (a .secrets .now) (a .ballots .now))) (m .ensures .0),
       b .ensures .1 ∙ l .inv .0,
     )
 
@@ -80,7 +80,7 @@ loop-again c =
 returns-2 : tie.Need-returns-2 Inv-loop μ-loop
 returns-2 c =
     let a = c .before .before .before .before .before .before .args in
-    (walked-taken (c .before .loop .inv .1) 15 (omega arith) ∙ ap (λ (D : ℕ). first (noiseTests (a .k .modulus) (a .k .ring) D (a .count) (a .secrets .now) (a .ballots .now))) (c .before .before .noise-bound .ensures), c .before .loop .inv .0)
+    (walked-taken (c .before .loop .inv .1) 15 (omega arith) ∙ ap (λ (D : ℕ). first (noiseTests (a .k .modulus) (a .k .ring) D (a .count) (a .secrets .now) (a .ballots .now))) (c .before .before .noise-bound .ensures .0), c .before .loop .inv .0)
 
 pub test-noise-spec : {M : Type 1} → statement M
 test-noise-spec = tie.close (tie.spec Inv-loop μ-loop (λ c κs. search needs) loop-holds is-quiet-at-requires (λ c. search needs) (λ c. search needs) returns (λ c. search needs) (λ c. search needs) (λ c. search needs) add-at-2 (λ c. search needs) loop-again (λ c. search needs) returns-2)

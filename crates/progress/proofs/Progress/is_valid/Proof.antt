@@ -10,25 +10,25 @@ use Rattle.progress.proofs.Progress.is_valid.Statement.{statement}
 use Rattle.progress.proofs.Progress.is_valid.Tie as tie
 
 returns : tie.Need-returns
-returns c = sym (beyond 2 _ _ (λ w. omega (arith, w .phase)))
+returns c = sym (beyond _ _ (λ w. omega (arith, w .phase)))
 
 returns-2 : tie.Need-returns-2
-returns-2 c = sym (beyond 2 _ _ (λ w. true≢false (sym (c .if2 .taken) ∙ c .before .outside .ensures ∙ w .ranged)))
+returns-2 c = sym (beyond _ _ (λ w. true≢false (sym (c .if2 .taken) ∙ c .before .outside .ensures ∙ w .ranged)))
 
 unsound-requires : tie.Need-unsound-requires
 unsound-requires c κs = sym (c .before .outside .ensures) ∙ c .if2 .left
 
 returns-3 : tie.Need-returns-3
-returns-3 c = sym (beyond 2 _ _ (λ w. true≢false (sym (c .if3 .taken) ∙ c .before .unsound .ensures ∙ w .sound)))
+returns-3 c = sym (beyond _ _ (λ w. true≢false (sym (c .if3 .taken) ∙ c .before .unsound .ensures ∙ w .sound)))
 
 returns-4 : tie.Need-returns-4
-returns-4 c = sym (beyond 2 _ _ (λ w. omega (arith, w .used)))
+returns-4 c = sym (beyond _ _ (λ w. omega (arith, w .used)))
 
 returns-5 : tie.Need-returns-5
-returns-5 c = sym (beyond 2 _ _ (λ w. omega (arith, w .closed)))
+returns-5 c = sym (beyond _ _ (λ w. omega (arith, w .closed)))
 
 returns-6 : tie.Need-returns-6
-returns-6 c = sym (beyond 2 _ _ (λ w. omega (arith, w .committed)))
+returns-6 c = sym (beyond _ _ (λ w. omega (arith, w .committed)))
 
 returns-7 : tie.Need-returns-7
 unfolding inLimits

@@ -8,12 +8,12 @@ use Rattle.progress.proofs.Progress.may_draw.Statement.{statement}
 use Rattle.progress.proofs.Progress.may_draw.Tie as tie
 
 returns : tie.Need-returns
-returns c = let a = c .before .before .args in sym (wrong-phase 2 (a .numbers) (a .self) 2 (eqb (a .self .committed) (a .numbers .rounds)) (sym (c .before .is-in .ensures) ∙ not-true _ (c .if1 .taken)))
+returns c = let a = c .before .before .args in sym (wrong-phase (a .numbers) (a .self) 2 (eqb (a .self .committed) (a .numbers .rounds)) (sym (c .before .is-in .ensures) ∙ not-true _ (c .if1 .taken)))
 
 returns-2 : tie.Need-returns-2
 returns-2 c =
     let a = c .before .before .before .before .args in
-    sym (due 2 (a .numbers) (a .self) 2 (eqb (a .self .committed) (a .numbers .rounds)) (sym (c .before .before .before .is-in .ensures) ∙ not-false _ (c .before .before .if1 .left)))
+    sym (due (a .numbers) (a .self) 2 (eqb (a .self .committed) (a .numbers .rounds)) (sym (c .before .before .before .is-in .ensures) ∙ not-false _ (c .before .before .if1 .left)))
 
 pub may-draw-spec : {M : Type 1} → statement M
 may-draw-spec = tie.close (tie.spec (λ c κs. search needs) returns returns-2)

@@ -14,7 +14,7 @@ share-requires c κs =
     let a = c .before .before .before .before .before .before .before .before .before .before .before .before .args in
     let p = c .before .before .before .before .before .before .before .before .before .before .before .before .pre in
     let h = share-passed (a .n) (a .q) (p .0) (p .1) (p .2) (p .3) (a .bound) (a .half .now) (a .u .now) (a .mask .now) (a .t .now) (a .scratch .now) (c .before .before .before .before .share-tests .result) (c .before .before .before .before .share-tests .ensures) (c .before .before .enum-told .given .1) in
-    (h .0 .0, h .0 .1, h .1, h .2, omega (arith, h .3))
+    (h .0 .0, h .0 .1, h .1, h .2, omega (arith, h .3), omega arith)
 
 returns : tie.Need-returns
 unfolding shareWrites

@@ -15,7 +15,7 @@ plain-requires c κs =
     let h = p .0 .ring-high in
     let some = p .0 .modulus-low in
     let m = c .before .before .before .before .rebuilt .ensures .sized in
-    (omega arith, p .3, omega arith, stands-below (a .q) (a .n) _ _ _ (c .before .before .before .before .rebuilt .ensures) (omega arith) (p .0 .modulus-high))
+    (omega arith, p .3, omega arith, stands-below (a .q) (a .n) _ _ _ (c .before .before .before .before .rebuilt .ensures) (omega arith) (p .0 .modulus-high), omega arith, omega arith)
 
 returns : tie.Need-returns
 unfolding reconstructWrites

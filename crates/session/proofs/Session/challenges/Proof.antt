@@ -16,19 +16,19 @@ use Rattle.session.proofs.Session.challenges.Statement.{statement}
 use Rattle.session.proofs.Session.challenges.Tie as tie
 
 returns : tie.Need-returns
-returns c = silent _ _ _ (challenges-undue 2 _ _ _ (sym (c .before .has-challenges .ensures) ∙ not-true _ (c .if1 .taken)))
+returns c = silent _ _ _ (challenges-undue _ _ _ (sym (c .before .has-challenges .ensures) ∙ not-true _ (c .if1 .taken)))
 
 add-if2 : tie.Need-add-if2
-add-if2 c = omega (arith, bounds (within-due 2 _ _ _ (sym (c .before .has-challenges .ensures) ∙ not-false _ (c .if1 .left))) .repeats-high)
+add-if2 c = omega (arith, bounds (within-due _ _ _ (sym (c .before .has-challenges .ensures) ∙ not-false _ (c .if1 .left))) .repeats-high)
 
 returns-2 : tie.Need-returns-2
-returns-2 c = silent _ _ _ (challenges-length 2 _ _ _ (sym (c .before .before .has-challenges .ensures) ∙ not-false _ (c .before .if1 .left)) (c .if2 .taken))
+returns-2 c = silent _ _ _ (challenges-length _ _ _ (sym (c .before .before .has-challenges .ensures) ∙ not-false _ (c .before .if1 .left)) (c .if2 .taken))
 
 cast-side : tie.Need-cast-side
-cast-side c = omega (arith, challenges-below 2 (c .before .before .before .before .before .before .before .before .args .t1) (c .before .before .before .before .before .before .before .before .args .round) (c .before .before .before .before .before .before .before .before .args .out .now) (sym (c .before .before .before .before .has-challenges .ensures) ∙ not-false _ (c .before .before .before .if1 .left)), bounds (within-due 2 _ _ _ (sym (c .before .before .before .before .has-challenges .ensures) ∙ not-false _ (c .before .before .before .if1 .left))) .rounds-high)
+cast-side c = omega (arith, challenges-below 2 (c .before .before .before .before .before .before .before .before .args .t1) (c .before .before .before .before .before .before .before .before .args .round) (c .before .before .before .before .before .before .before .before .args .out .now) (sym (c .before .before .before .before .has-challenges .ensures) ∙ not-false _ (c .before .before .before .if1 .left)), bounds (within-due _ _ _ (sym (c .before .before .before .before .has-challenges .ensures) ∙ not-false _ (c .before .before .before .if1 .left))) .rounds-high)
 
 cast-challenges : tie.Need-cast-challenges
-cast-challenges c = omega (arith, challenges-below 2 (c .before .before .before .before .before .before .before .before .before .before .before .args .t1) (c .before .before .before .before .before .before .before .before .before .before .before .args .round) (c .before .before .before .before .before .before .before .before .before .before .before .args .out .now) (sym (c .before .before .before .before .before .before .before .has-challenges .ensures) ∙ not-false _ (c .before .before .before .before .before .before .if1 .left)), bounds (within-due 2 _ _ _ (sym (c .before .before .before .before .before .before .before .has-challenges .ensures) ∙ not-false _ (c .before .before .before .before .before .before .if1 .left))) .rounds-high)
+cast-challenges c = omega (arith, challenges-below 2 (c .before .before .before .before .before .before .before .before .before .before .before .args .t1) (c .before .before .before .before .before .before .before .before .before .before .before .args .round) (c .before .before .before .before .before .before .before .before .before .before .before .args .out .now) (sym (c .before .before .before .before .before .before .before .has-challenges .ensures) ∙ not-false _ (c .before .before .before .before .before .before .if1 .left)), bounds (within-due _ _ _ (sym (c .before .before .before .before .before .before .before .has-challenges .ensures) ∙ not-false _ (c .before .before .before .before .before .before .if1 .left))) .rounds-high)
 
 sub-challenges : tie.Need-sub-challenges
 sub-challenges c = simp length-set (omega arith)
@@ -39,7 +39,7 @@ part-challenges-start c = simp length-set (omega arith)
 challenges-requires : tie.Need-challenges-requires
 challenges-requires c κs =
     let a = c .before .before .before .before .before .before .before .before .before .before .before .before .args in
-    omega (arith, bounds (within-due 2 _ _ _ (sym (c .before .before .before .before .before .before .before .before .has-challenges .ensures) ∙ not-false _ (c .before .before .before .before .before .before .before .if1 .left))) .repeats-high, room (a .out .now) (c .before .before .before .side .result) (a .t1 .numbers .repeats) (c .before .before .before .before .before .before .if2 .left))
+    omega (arith, bounds (within-due _ _ _ (sym (c .before .before .before .before .before .before .before .before .has-challenges .ensures) ∙ not-false _ (c .before .before .before .before .before .before .before .if1 .left))) .repeats-high, room (a .out .now) (c .before .before .before .side .result) (a .t1 .numbers .repeats) (c .before .before .before .before .before .before .if2 .left))
 
 same-length : tie.Need-same-length
 same-length c = c .before .out .given .1 ∙ simp length-set
@@ -50,7 +50,7 @@ returns-3 c =
     let a = c .before .before .before .before .before .before .before .before .before .before .before .before .before .before .before .args in
     let n = a .t1 .numbers .repeats in
     let side = c .before .before .before .before .before .before .side .result in
-    writes _ _ _ (challenges-taken 2 _ _ _ (sym (c .before .before .before .before .before .before .before .before .before .before .before .has-challenges .ensures) ∙ not-false _ (c .before .before .before .before .before .before .before .before .before .before .if1 .left)) (c .before .before .before .before .before .before .before .before .before .if2 .left))
+    writes _ _ _ (challenges-taken _ _ _ (sym (c .before .before .before .before .before .before .before .before .before .before .before .has-challenges .ensures) ∙ not-false _ (c .before .before .before .before .before .before .before .before .before .before .if1 .left)) (c .before .before .before .before .before .before .before .before .before .if2 .left))
     (laid (a .out .now) side n _ (c .before .before .before .before .before .before .before .before .before .if2 .left)
     ∙ ap₂ (λ (x : ℕ) (t : Bytes). x ∷ t) (c .before .before .before .before .before .before .side .ensures .0) (c .before .before .challenges .ensures ∙ ap (drawnChallenges (a .t1 .seed) (a .round)) (room (a .out .now) side n (c .before .before .before .before .before .before .before .before .before .if2 .left))))
 

@@ -8,19 +8,19 @@ use Rattle.session.proofs.Session.message_sized.Statement.{statement}
 use Rattle.session.proofs.Session.message_sized.Tie as tie
 
 mul-times : tie.Need-mul-times
-mul-times c = omega (arith, bounds (within 2 _ _ (c .before .before .before .pre)) .ring-high)
+mul-times c = omega (arith, bounds (within _ _ (c .before .before .before .pre)) .ring-high)
 
 times-requires : tie.Need-times-requires
-times-requires c κs = let w = within 2 _ _ (c .before .before .before .pre) in (omega (arith, bounds w .ring-high), w .closed)
+times-requires c κs = let w = within _ _ (c .before .before .before .pre) in (omega (arith, bounds w .ring-high), w .closed)
 
 mul-front : tie.Need-mul-front
-mul-front c = omega (arith, bounds (within 2 _ _ (c .before .before .before .before .pre)) .ring-high)
+mul-front c = omega (arith, bounds (within _ _ (c .before .before .before .before .pre)) .ring-high)
 
 mul-front-2 : tie.Need-mul-front-2
-mul-front-2 c = omega (arith, bounds (within 2 _ _ (c .before .before .before .before .before .pre)) .repeats-high)
+mul-front-2 c = omega (arith, bounds (within _ _ (c .before .before .before .before .before .pre)) .repeats-high)
 
 add-front : tie.Need-add-front
-add-front c = let b = bounds (within 2 _ _ (c .before .before .before .before .before .pre)) in omega (arith, b .ring-high, b .repeats-high)
+add-front c = let b = bounds (within _ _ (c .before .before .before .before .before .pre)) in omega (arith, b .ring-high, b .repeats-high)
 
 returns : tie.Need-returns
 unfolding same

@@ -19,8 +19,8 @@ unfolding checkReply checkImage
 returns c =
     let a = c .before .before .before .before .before .before .before .before .before .before .before .before .args in
     let x : Inputs = inputsOf (a .sheet .now) (a .ballots .now) (a .claims .now) (a .head .now) (a .shares0 .now) (a .shares1 .now) (a .opening .now) (a .answers .now) (a .scratch .now) in
-    let R : Session → Reply = λ s. first (checkTests 2 s (a .round) x) in
-    let E : Session → Reply = λ s. first (checkEarly 2 s (a .round) x) in
+    let R : Session → Reply = λ s. first (checkTests s (a .round) x) in
+    let E : Session → Reply = λ s. first (checkEarly s (a .round) x) in
     let short = c .before .if1 .taken in
     let one = c .refused .ensures in (
       one ∙ sym (wrong-reply (a .image .now) R short),
@@ -32,9 +32,9 @@ unfolding checkReply checkImage checkedBy
 returns-2 c =
     let a = c .before .before .before .before .before .before .before .before .before .before .before .before .before .before .before .before .before .before .before .before .before .before .args in
     let x : Inputs = inputsOf (a .sheet .now) (a .ballots .now) (a .claims .now) (a .head .now) (a .shares0 .now) (a .shares1 .now) (a .opening .now) (a .answers .now) (a .scratch .now) in
-    let R : Session → Reply = λ s. first (checkTests 2 s (a .round) x) in
-    let E : Session → Reply = λ s. first (checkEarly 2 s (a .round) x) in
-    let next : Session → Session = λ s. leaves (first (checkLate 2 s (a .round) x)) (acceptedBy s) (refusedBy s) in
+    let R : Session → Reply = λ s. first (checkTests s (a .round) x) in
+    let E : Session → Reply = λ s. first (checkEarly s (a .round) x) in
+    let next : Session → Session = λ s. leaves (first (checkLate s (a .round) x)) (acceptedBy s) (refusedBy s) in
     let octets : Octets (a .image .now) = λ i l. omega (arith, c .before .before .before .before .before .before .before .before .before .before .before .before .before .before .before .before .before .before .before .before .before .slice-known .given i) in
     let long = c .before .before .before .before .before .before .before .before .before .before .before .if1 .left in
     let held = c .before .before .before .before .before .before .before .before .before .load .ensures in

@@ -16,18 +16,18 @@ returns : tie.Need-returns
 unfolding turnoutReply
 returns c =
     let a = c .before .before .before .args in
-    let R : Session → Reply = λ s. first (turnoutTests 2 s (a .reg .now) (a .enrolled)) in
+    let R : Session → Reply = λ s. first (turnoutTests s (a .reg .now) (a .enrolled)) in
     sym (ap (λ (r : Reply). turnoutBy r (entries.turnout (a .reg .now) (decode (a .image .now) .progress .used) (a .enrolled))) (wrong-reply (a .image .now) R (c .if1 .taken)))
 
 returns-2 : tie.Need-returns-2
 unfolding turnoutReply
 returns-2 c =
     let a = c .before .before .before .before .before .args in
-    let R : Session → Reply = λ s. first (turnoutTests 2 s (a .reg .now) (a .enrolled)) in
+    let R : Session → Reply = λ s. first (turnoutTests s (a .reg .now) (a .enrolled)) in
     let held = c .before .load .ensures in
     c .turnout .ensures
     ∙ ap (λ (r : Reply). turnoutBy r (entries.turnout (a .reg .now) (c .before .load .result .progress .used) (a .enrolled))) (sym (held-reply (a .image .now) R (c .before .before .if1 .left) _ held))
-    ∙ ap (λ (s : Session). turnoutBy (turnoutReply 2 (a .image .now) (a .reg .now) (a .enrolled)) (entries.turnout (a .reg .now) (s .progress .used) (a .enrolled))) held
+    ∙ ap (λ (s : Session). turnoutBy (turnoutReply (a .image .now) (a .reg .now) (a .enrolled)) (entries.turnout (a .reg .now) (s .progress .used) (a .enrolled))) held
 
 pub turnout-spec : {M : Type 1} → statement M
 turnout-spec = tie.close (tie.spec returns (λ c κs. search needs) (λ c κs. search needs) returns-2)

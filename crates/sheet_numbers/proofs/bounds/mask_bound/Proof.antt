@@ -9,7 +9,7 @@ mul-result : tie.Need-mul-result
 mul-result c = omega (arith, times (c .before .power .result) (c .noise-bound .result) (omega arith) (omega arith))
 
 returns : tie.Need-returns
-returns c = rw (c .noise-bound .ensures, c .before .power .ensures .0)
+returns c = rw (c .before .noise-bound .ensures .0, c .before .before .power .ensures .0, c .plain .ensures)
 
 pub mask-bound-spec : {M : Type 1} → statement M
-mask-bound-spec = tie.close (tie.spec (λ c κs. search needs) (λ c κs. search needs) mul-result (λ c. search needs) (λ c. search needs) returns)
+mask-bound-spec = tie.close (tie.spec (λ c κs. search needs) (λ c κs. search needs) mul-result (λ c κs. search needs) (λ c. search needs) (λ c. search needs) returns)

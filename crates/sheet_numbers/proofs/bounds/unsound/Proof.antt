@@ -28,7 +28,7 @@ power-requires : tie.Need-power-requires
 power-requires c κs = let i = in-range (c .before .before .before .before .args .k) (c .before .before .before .before .pre) in omega arith
 
 noise-bound-requires : tie.Need-noise-bound-requires
-noise-bound-requires c κs = let i = in-range (c .before .before .before .before .before .args .k) (c .before .before .before .before .before .pre) in omega arith
+noise-bound-requires c κs = let i = in-range (c .before .before .before .before .before .args .k) (c .before .before .before .before .before .pre) in (omega arith, omega arith, omega arith)
 
 mul-if2 : tie.Need-mul-if2
 mul-if2 c =
@@ -37,11 +37,11 @@ mul-if2 c =
 
 returns-2 : tie.Need-returns-2
 unfolding unsound any
-returns-2 c = rw (← c .before .noise-bound .ensures, ← c .before .before .power .ensures .0) (search (needs, le-ltb, lt-ltb, le-leb, lt-leb, eq-eqb, ne-eqb))
+returns-2 c = rw (← c .before .noise-bound .ensures .0, ← c .before .before .power .ensures .0) (search (needs, le-ltb, lt-ltb, le-leb, lt-leb, eq-eqb, ne-eqb))
 
 returns-3 : tie.Need-returns-3
 unfolding unsound any
-returns-3 c = rw (← c .before .noise-bound .ensures, ← c .before .before .power .ensures .0) (search (needs, le-ltb, lt-ltb, le-leb, lt-leb, eq-eqb, ne-eqb))
+returns-3 c = rw (← c .before .noise-bound .ensures .0, ← c .before .before .power .ensures .0) (search (needs, le-ltb, lt-ltb, le-leb, lt-leb, eq-eqb, ne-eqb))
 
 pub unsound-spec : {M : Type 1} → statement M
 unsound-spec = tie.close (tie.spec sub-if1 mul-if1 rem-if1 returns sub-if2 power-requires (λ c. search needs) noise-bound-requires mul-if2 returns-2 returns-3)

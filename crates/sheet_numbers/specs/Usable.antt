@@ -1,8 +1,9 @@
 -- What the functions that are lent a sheet's numbers rely on: the sheet was taken, so that neither 3 nor 4 refuses them. Assumes nothing.
 use mathlib.Core.Path.{_≡_}
 use Prim.Native.Nat.{_%_, _^_, _≤_, _<_}
+use Rattle.modular.specs.Division.{Coprime}
 use Rattle.sheet_numbers.specs.Plain.{plain}
 use Rattle.sheet_numbers.specs.declared.Numbers.{Numbers}
 
 pub record Usable (k : Numbers) : Type 0 where
   pub ring-low : 4 ≤ k .ring
@@ -11,7 +12,10 @@ pub record Usable (k : Numbers) : Type 0 where
   pub modulus-high : k .modulus < 2 ^ 56
   pub odd : k .modulus % 2 ≡ 1
   pub drown-high : k .drown ≤ 40
+  pub rounds-low : 1 ≤ k .rounds
+  pub rounds-high : k .rounds ≤ 128
   pub repeats-high : k .repeats ≤ 256
   pub plain-low : 2 ≤ plain k
   pub plain-high : plain k ≤ 251
   pub plain-below : plain k < k .modulus
+  pub apart : Coprime (plain k) (k .modulus)
