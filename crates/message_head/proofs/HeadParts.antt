@@ -41,22 +41,23 @@ module _ (k : Numbers) (s secrets s0 e0 : Bytes) where
   abbrev q : ℕ
   q = k .modulus
 
-  abbrev lentKey : (a : Bytes) → Poly
-  lentKey a = key q n (plain k) (poly a) (poly s0) (poly e0)
+  abbrev lentKey : (p : ℕ) (a : Bytes) → Poly
+  lentKey p a = key q n p (poly a) (poly s0) (poly e0)
 
-  abbrev otherKey : (a x y : Bytes) → Poly
-  otherKey a x y = key q n (plain k) (poly a) (other q (ternary q x) (poly s0)) (other q (ternary q y) (poly e0))
+  abbrev otherKey : (p : ℕ) (a x y : Bytes) → Poly
+  otherKey p a x y = key q n p (poly a) (other q (ternary q x) (poly s0)) (other q (ternary q y) (poly e0))
 
   abbrev b : ℕ → Bytes
   b = keyBytesOf q n secrets s0 e0 (plain k) (poly (aOf k s))
 
-  pub keys-written : (d d1 d2 : Bytes) → 16 * n ≤ length d → d1 ≡ put d 0 (coefficientBytes q n (lentKey (take (8 * n - 0) (drop 0 s))))
-      → d2 ≡ put d1 (8 * n) (coefficientBytes q n (otherKey (take (8 * n - 0) (drop 0 s)) (take (n - 0) (drop 0 secrets)) (take (2 * n - n) (drop n secrets)))) → d2 ≡ put d 0 (b 0 ++ b 1)
-  keys-written d d1 d2 h e1 e2 =
+  pub keys-written : (p : ℕ) (d d1 d2 : Bytes) → p ≡ plain k → 16 * n ≤ length d → d1 ≡ put d 0 (coefficientBytes q n (lentKey p (take (8 * n - 0) (drop 0 s))))
+      → d2 ≡ put d1 (8 * n) (coefficientBytes q n (otherKey p (take (8 * n - 0) (drop 0 s)) (take (n - 0) (drop 0 secrets)) (take (2 * n - n) (drop n secrets)))) → d2 ≡ put d 0 (b 0 ++ b 1)
+  keys-written p d d1 d2 is h e1 e2 =
       let a = take (8 * n - 0) (drop 0 s) in
-      two-behind q n (lentKey (aOf k s)) (otherKey (aOf k s) (sIn n secrets) (eIn n secrets)) d d1 d2 h (e1 ∙ ap (λ (x : Bytes). put d 0 (coefficientBytes q n (lentKey x))) (a-cut k s))
-      (e2 ∙ ap₂ (λ (x y : Bytes). put d1 (8 * n) (coefficientBytes q n (otherKey a x y))) (cut secrets 0 (n - 0) n (omega arith)) (cut secrets n (2 * n - n) n (omega arith))
-      ∙ ap (λ (x : Bytes). put d1 (8 * n) (coefficientBytes q n (otherKey x (sIn n secrets) (eIn n secrets)))) (a-cut k s))
+      two-behind q n (lentKey (plain k) (aOf k s)) (otherKey (plain k) (aOf k s) (sIn n secrets) (eIn n secrets)) d d1 d2 h
+      (e1 ∙ ap₂ (λ (i : ℕ) (x : Bytes). put d 0 (coefficientBytes q n (lentKey i x))) is (a-cut k s))
+      (e2 ∙ ap₂ (λ (x y : Bytes). put d1 (8 * n) (coefficientBytes q n (otherKey p a x y))) (cut secrets 0 (n - 0) n (omega arith)) (cut secrets n (2 * n - n) n (omega arith))
+      ∙ ap₂ (λ (i : ℕ) (x : Bytes). put d1 (8 * n) (coefficientBytes q n (otherKey i x (sIn n secrets) (eIn n secrets)))) is (a-cut k s))
 
 -- ---- the head: keys, pairs, digests
 

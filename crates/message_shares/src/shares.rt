@@ -87,15 +87,24 @@ fn write_shares(
     write_masked(shares0, at, work, LENT, mask0, p, n, q);
 }
 
-// The claim, v - s u centred, by 2, from s u at 0.
-fn write_claim(claims: &mut [u8], at: usize, work: &mut [u8], v: &[u8], n: usize, q: u64)
-    requires { ⌜ Polynomial n q (now v) × (length (now work) ≡ scratchLength) × Below q n (slot (now work) 0) × (at + n ≤ length (now claims)) ⌝ }
-    ensures { λ _. let vote = list n (plain q 2 (minus q (poly (given v)) (slot (given work) 0))) in
+// The claim, v - s u centred, by p, from s u at 0.
+fn write_claim(
+    claims: &mut [u8],
+    at: usize,
+    work: &mut [u8],
+    v: &[u8],
+    p: u64,
+    n: usize,
+    q: u64,
+)
+    requires { ⌜ Polynomial n q (now v) × (length (now work) ≡ scratchLength) × Below q n (slot (now work) 0)
+              × (at + n ≤ length (now claims)) × (0 < p) × (p ≤ 251) ⌝ }
+    ensures { λ _. let vote = list n (plain q p (minus q (poly (given v)) (slot (given work) 0))) in
               ⌜ (left claims ≡ put (given claims) at vote) × (length (left work) ≡ length (given work)) ⌝ }
 {
     ring::scale_slot(work, 0, q - 1, n, q);
     ring::add(work, 0, v, n, q);
-    bgv::plain(work, &mut claims[at..at + n], 2, n, q);
+    bgv::plain(work, &mut claims[at..at + n], p, n, q);
 }
 
 // The shares of both sides and the claim of one ballot, at places of their slices.
@@ -122,8 +131,9 @@ pub fn write_ballot(
               ⌜ BallotWritten k s (poly (given s0)) (poly (given u)) (poly (given v)) (given mask0) (given mask1) at claim before after ⌝ }
 {
     let n = k.ring as usize;
+    let p = sheet_numbers::plain(k);
     let q = k.modulus;
     products(work, s, s0, u, n, q);
-    write_shares(shares0, shares1, at, work, mask0, mask1, 2, n, q);
-    write_claim(claims, claim, work, v, n, q);
+    write_shares(shares0, shares1, at, work, mask0, mask1, p, n, q);
+    write_claim(claims, claim, work, v, p, n, q);
 }

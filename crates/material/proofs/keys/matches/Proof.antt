@@ -16,6 +16,7 @@ is-key-requires c κs =
     let p = c .before .before .before .before .before .before .before .before .pre in
     let n = a .k .ring in
     let f = Polynomial n (a .k .modulus) in (
+      p .0 .numbers,
       subst f (sym (a-cut (a .k) (a .public .now))) (p .0 .a),
       subst f (sym (b-cut (a .k) (a .public .now))) (p .0 .b),
       p .1,
