@@ -7,7 +7,7 @@ ghost use Rattle.transcript.specs.Extractor.{kind, extracted};
 ghost use Rattle.openings_checker.specs.Orders.{openingsOf};
 ghost use Rattle.lengths.specs.Sheets.{parametersOf, ballotsIn};
 ghost use Rattle.verification.specs.Extraction.{extraction, answered};
-ghost use Rattle.rounds.specs.Lent.{materialIn, firstIn, firstOut, secondIn, secondOut};
+ghost use Rattle.transcript.specs.Lent.{materialIn, firstIn, firstOut, secondIn, secondOut};
 ghost use Rattle.round_calls.specs.Replies.{firstReply, FirstCalled, secondReply, SecondCalled};
 ghost use Rattle.verification_calls.specs.Replies.{extractReply};
 ghost use Rattle.opened_share.specs.Opened.{openedReply};

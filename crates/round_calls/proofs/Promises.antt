@@ -16,7 +16,7 @@ use Rattle.transcript.specs.Round.{Parameters}
 use Rattle.transcript.specs.Sheets.{parameters}
 use Rattle.transcript.specs.Producer.{Material}
 use Rattle.transcript.specs.Writes.{FirstRoom, firstRoom}
-use Rattle.lengths.specs.Calls.{SecondRoom, secondRoom}
+use Rattle.transcript.specs.Writes.{SecondRoom, secondRoom}
 use Rattle.lengths.proofs.OverSheet.{parameters-are, over, refused-over}
 use Rattle.rounds.specs.First.{FirstWritten}
 use Rattle.rounds.specs.Second.{SecondWritten}

@@ -1,5 +1,5 @@
 // The producer's two calls over the sheet and lent bytes (document 01, "One round"). p is 2.
-ghost use Rattle.rounds.specs.Lent.{materialIn, firstIn, firstOut, secondIn, secondOut};
+ghost use Rattle.transcript.specs.Lent.{materialIn, firstIn, firstOut, secondIn, secondOut};
 ghost use Rattle.round_calls.specs.Replies.{FirstCalled, SecondCalled};
 
 // Writes the first message and the claims.

@@ -4,7 +4,7 @@ use borrow.Author.Needs.{needs}
 use Rattle.call.proofs.Lent.{lent}
 use Rattle.scheme_calls.proofs.Keys.{sheet-loaded}
 use Rattle.transcript.specs.Producer.{Material, materialOf}
-use Rattle.lengths.specs.Calls.{SecondRoom, secondRoom}
+use Rattle.transcript.specs.Writes.{SecondRoom, secondRoom}
 use Rattle.round_calls.proofs.Promises.{second-over, second-unread}
 use Rattle.round_calls.proofs.produce_second.Statement.{statement}
 use Rattle.round_calls.proofs.produce_second.Tie as tie
