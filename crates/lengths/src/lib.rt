@@ -1,4 +1,5 @@
-// Whether the slices that are lent to the calls of a round have their lengths: specs/Calls.antt. The producer, the check and the extractor share them.
+// Whether the slices that are lent to the calls of a round have their lengths: specs/Calls.antt. The producer, the check and the
+// extractor share them.
 use codec::Reply;
 use sheet_numbers::Numbers;
 ghost use mathlib.Core.Path.{_≡_};

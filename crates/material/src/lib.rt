@@ -1,5 +1,5 @@
-// The tests of what the producer of a round is lent (document 01, the producer's order after the lengths: 5, 14, 12, 9, 15), in the stretches of
-// crates/transcript/specs/Producer.antt.
+// The tests of what the producer of a round is lent (document 01, the producer's order after the lengths: 5, 14, 12, 9, 15), in the
+// stretches of crates/transcript/specs/Producer.antt.
 mod keys;
 mod masks;
 mod noise;
@@ -40,7 +40,8 @@ fn test_secret(
     asked: bool,
 ) -> Reply
     requires { ⌜ Loaded k (now public) × (length (now work) ≡ scratchLength) × (count ≤ 4096) × (length (now secrets) ≡ 14 * k .ring)
-              × (length (now s0) ≡ 8 * k .ring) × (length (now e0) ≡ 8 * k .ring) × (length (now ballots) ≡ ballotLength (k .ring) * count) ⌝ }
+              × (length (now s0) ≡ 8 * k .ring) × (length (now e0) ≡ 8 * k .ring)
+              × (length (now ballots) ≡ ballotLength (k .ring) * count) ⌝ }
     ensures { λ reply. let P = parameters k (given public) in
               ⌜ (reply ≡ first (secretTests P count asked (given secrets) (given s0) (given e0) (given vectors) (given ballots)))
               × (length (left work) ≡ length (given work)) ⌝ }
@@ -121,7 +122,8 @@ pub fn test_material(
     scratch: &mut [u8],
 ) -> Reply
     requires { let x = materialNow secrets s0 e0 masks0 masks1 vectors permutations salts ballots in
-              ⌜ Loaded k (now public) × (length (now scratch) ≡ scratchLength) × (count ≤ 4096) × Sized (parameters k (now public)) count x ⌝ }
+              ⌜ Loaded k (now public) × (length (now scratch) ≡ scratchLength) × (count ≤ 4096)
+              × Sized (parameters k (now public)) count x ⌝ }
     ensures { λ reply. let x = materialIn secrets s0 e0 masks0 masks1 vectors permutations salts ballots in
               ⌜ MaterialTested (parameters k (given public)) count x asked reply (given scratch) (left scratch) ⌝ }
 {

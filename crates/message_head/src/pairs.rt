@@ -47,7 +47,8 @@ fn lent_pair(
 fn pair_difference(work: &mut [u8], k: &[u8], x: &[u8], x0: &[u8], r: &[u8], n: usize, q: u64)
     requires { ⌜ PublicKeys n q (now k) × Polynomial n q (now x0) × (length (now x) ≡ n) × (length (now r) ≡ 3 * n)
               × (length (now work) ≡ scratchLength) ⌝ }
-    ensures { λ _. let made = committed q n (keysOf n (given k)) (threeOf q n (given r)) (other q (ternary q (given x)) (poly (given x0))) in
+    ensures { λ _. let half = other q (ternary q (given x)) (poly (given x0)) in
+              let made = committed q n (keysOf n (given k)) (threeOf q n (given r)) half in
               ⌜ PairStands q n made (given work) (left work) ⌝ }
 {
     commitment::load_three(work, r, n, q);
@@ -70,7 +71,8 @@ fn other_pair(
 )
     requires { ⌜ PublicKeys n q (now k) × Polynomial n q (now x0) × (length (now x) ≡ n) × (length (now r) ≡ 3 * n)
               × (length (now work) ≡ scratchLength) × (at + 16 * n ≤ length (now out)) ⌝ }
-    ensures { λ _. ⌜ (left out ≡ put (given out) at (pairOf q n (keysOf n (given k)) (given r) (other q (ternary q (given x)) (poly (given x0)))))
+    ensures { λ _. let half = other q (ternary q (given x)) (poly (given x0)) in
+              ⌜ (left out ≡ put (given out) at (pairOf q n (keysOf n (given k)) (given r) half))
               × (length (left work) ≡ length (given work)) ⌝ }
 {
     pair_difference(work, k, x, x0, r, n, q);
@@ -92,7 +94,8 @@ fn both_pairs(
     requires { ⌜ PublicKeys n q (now k) × Polynomial n q (now x0) × (length (now x) ≡ n) × (length (now r) ≡ 6 * n)
               × (length (now work) ≡ scratchLength) × (at + 32 * n ≤ length (now out)) ⌝ }
     ensures { λ _. let one = pairOf q n (keysOf n (given k)) (part (given r) 0 (3 * n)) (poly (given x0)) in
-              let two = pairOf q n (keysOf n (given k)) (part (given r) (3 * n) (3 * n)) (other q (ternary q (given x)) (poly (given x0))) in
+              let half = other q (ternary q (given x)) (poly (given x0)) in
+              let two = pairOf q n (keysOf n (given k)) (part (given r) (3 * n) (3 * n)) half in
               ⌜ (left out ≡ put (given out) at (one ++ two)) × (length (left work) ≡ length (given work)) ⌝ }
 {
     let second = at + 16 * n;

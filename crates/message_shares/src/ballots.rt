@@ -75,7 +75,8 @@ pub fn write_ballots(
 )
     requires { ⌜ Usable k × Polynomial (k .ring) (k .modulus) (now s0) × (length (now secrets) ≡ 14 * k .ring) × (count ≤ 4096)
               × Masked (k .modulus) (k .ring) count (now ballots) (now masks0) (now masks1) × (length (now shares0) ≡ 8 * k .ring * count)
-              × (length (now shares1) ≡ 8 * k .ring * count) × (length (now claims) ≡ k .ring * count) × (length (now work) ≡ scratchLength) ⌝ }
+              × (length (now shares1) ≡ 8 * k .ring * count) × (length (now claims) ≡ k .ring * count)
+              × (length (now work) ≡ scratchLength) ⌝ }
     ensures { λ _. let before = roomIn shares0 shares1 claims work in let after = roomOut shares0 shares1 claims work in
               ⌜ BallotsWritten k count (given secrets) (given s0) (given masks0) (given masks1) (given ballots) before after ⌝ }
 {

@@ -1,4 +1,5 @@
-// The decryption shares and the claim of one ballot. s u and s0 u are made once each, and s1 u is their difference. What is made from secrets is left in scratch.
+// The decryption shares and the claim of one ballot. s u and s0 u are made once each, and s1 u is their difference. What is made from
+// secrets is left in scratch.
 use sheet_numbers::Numbers;
 ghost use mathlib.Core.Path.{_≡_};
 ghost use Prim.Native.Nat.{_+_, _*_, _≤_, _<_, _^_};
@@ -78,7 +79,8 @@ fn write_shares(
               × (at + 8 * n ≤ length (now shares0)) × (at + 8 * n ≤ length (now shares1)) × (p < q) ⌝ }
     ensures { λ _. let t0 = plus (slot (given work) 16384) (scale p (residues q (lentMask (given mask0)))) in
               let t1 = plus (minus q (slot (given work) 0) (slot (given work) 16384)) (scale p (residues q (lentMask (given mask1)))) in
-              ⌜ (left shares0 ≡ put (given shares0) at (coefficientBytes q n t0)) × (left shares1 ≡ put (given shares1) at (coefficientBytes q n t1))
+              ⌜ (left shares0 ≡ put (given shares0) at (coefficientBytes q n t0))
+              × (left shares1 ≡ put (given shares1) at (coefficientBytes q n t1))
               × (length (left work) ≡ length (given work)) × (part (left work) 0 16384 ≡ part (given work) 0 16384) ⌝ }
 {
     ring::copy_slot(work, OTHER, 0, n);

@@ -36,7 +36,8 @@ fn other_halves(
               × (16 * n ≤ length (now opening)) ⌝ }
     ensures { λ _. let s1 = other q (ternary q (sIn n (given secrets))) (poly (given s0)) in
               let e1 = other q (ternary q (eIn n (given secrets))) (poly (given e0)) in
-              ⌜ (left opening ≡ put (given opening) 0 (coefficientBytes q n s1 ++ coefficientBytes q n e1)) × (length (left work) ≡ length (given work)) ⌝ }
+              ⌜ (left opening ≡ put (given opening) 0 (coefficientBytes q n s1 ++ coefficientBytes q n e1))
+              × (length (left work) ≡ length (given work)) ⌝ }
 {
     scheme::written::difference(opening, 0, work, &secrets[0..n], s0, n, q);
     scheme::written::difference(opening, 8 * n, work, &secrets[n..2 * n], e0, n, q);
@@ -62,7 +63,8 @@ pub fn write_opening(
     e0: &[u8],
     side: u64,
 )
-    requires { ⌜ Polynomial (k .ring) (k .modulus) (now s0) × Polynomial (k .ring) (k .modulus) (now e0) × (length (now secrets) ≡ 14 * k .ring)
+    requires { ⌜ Polynomial (k .ring) (k .modulus) (now s0) × Polynomial (k .ring) (k .modulus) (now e0)
+              × (length (now secrets) ≡ 14 * k .ring)
               × (length (now work) ≡ scratchLength) × (side < 2) × (length (now opening) ≡ 22 * k .ring) ⌝ }
     ensures { λ _. ⌜ (left opening ≡ openingBytes (k .modulus) (k .ring) (given secrets) (given s0) (given e0) side)
               × (length (left work) ≡ length (given work)) ⌝ }
