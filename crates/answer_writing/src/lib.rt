@@ -29,10 +29,10 @@ pub fn write_digests(
     q: u64,
 )
     requires { ⌜ PublicKeys n q (now k) × (length (now work) ≡ scratchLength) × (at + 96 ≤ length (now out))
-              × Material q n (now x) (now r) (now p) (now salts) ⌝ }
+        × Material q n (now x) (now r) (now p) (now salts) ⌝ }
     ensures { λ _. let drawn = drawnOf (given p) (given r) (given salts) in
-              ⌜ (left out ≡ put (given out) at (honestDigests q n (keysOf n (given k)) (given x) drawn))
-              × (left work ≡ zeros (length (given work))) ⌝ }
+        ⌜ (left out ≡ put (given out) at (honestDigests q n (keysOf n (given k)) (given x) drawn))
+        × (left work ≡ zeros (length (given work))) ⌝ }
 {
     let second = at + 32;
     let third = at + 64;
@@ -60,9 +60,9 @@ pub fn write_answer1(out: &mut [u8], x: &[u8], r: &[u8], p: &[u8], salts: &[u8],
 // Answer 2: P, extended + R, salts 1 and 3.
 pub fn write_answer2(out: &mut [u8], x: &[u8], r: &[u8], p: &[u8], salts: &[u8], n: usize, q: u64)
     requires { ⌜ (n ≤ 2048) × (3 ≤ q) × (q < 2 ^ 56) × (length (now out) ≡ 504 * n + 64)
-              × Material q n (now x) (now r) (now p) (now salts) ⌝ }
+        × Material q n (now x) (now r) (now p) (now salts) ⌝ }
     ensures { λ _. let drawn = drawnOf (given p) (given r) (given salts) in
-              ⌜ left out ≡ answer2Bytes (answer2 q (14 * n) (given x) drawn) ⌝ }
+        ⌜ left out ≡ answer2Bytes (answer2 q (14 * n) (given x) drawn) ⌝ }
 {
     let minus = 14 * n - ring::count_of(x, 2);
     let zeros = 14 * n - ring::count_of(x, 0);
@@ -75,7 +75,7 @@ pub fn write_answer2(out: &mut [u8], x: &[u8], r: &[u8], p: &[u8], salts: &[u8],
 // Answer 3: P, R, salts 1 and 2.
 pub fn write_answer3(out: &mut [u8], r: &[u8], p: &[u8], salts: &[u8], n: usize)
     requires { ⌜ (n ≤ 2048) × (length (now out) ≡ 504 * n + 64) × (length (now r) ≡ 336 * n) × (length (now p) ≡ 168 * n)
-              × (length (now salts) ≡ 96) ⌝ }
+        × (length (now salts) ≡ 96) ⌝ }
     ensures { λ _. ⌜ left out ≡ answer3Bytes (answer3 (drawnOf (given p) (given r) (given salts))) ⌝ }
 {
     codec::copy(out, 0, p);
@@ -95,7 +95,7 @@ pub fn write_answer(
     q: u64,
 )
     requires { ⌜ (n ≤ 2048) × (3 ≤ q) × (q < 2 ^ 56) × (length (now out) ≡ answerLength n challenge)
-              × Material q n (now x) (now r) (now p) (now salts) ⌝ }
+        × Material q n (now x) (now r) (now p) (now salts) ⌝ }
     ensures { λ _. ⌜ left out ≡ honestAnswer q n (given x) (drawnOf (given p) (given r) (given salts)) challenge ⌝ }
 {
     if challenge == 1 {

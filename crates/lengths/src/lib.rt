@@ -54,7 +54,7 @@ pub fn material_sized(
 ) -> bool
     requires { ⌜ Usable k × (count ≤ 4096) ⌝ }
     ensures { λ r. let x = materialIn secrets s0 e0 masks0 masks1 vectors permutations salts ballots in
-              ⌜ r ≡ materialSized (k .ring) (k .repeats) count x ⌝ }
+        ⌜ r ≡ materialSized (k .ring) (k .repeats) count x ⌝ }
 {
     let n = k.ring as usize;
     let repeats = k.repeats as usize;
@@ -205,7 +205,7 @@ pub fn openings_sized(
 ) -> bool
     requires { ⌜ n ≤ 2048 ⌝ }
     ensures { λ r. ⌜ r ≡ openingsSized n (given opening0) (given opening1) (given answer1) (given answer2) (given answer3)
-              (given out) (given scratch) ⌝ }
+        (given out) (given scratch) ⌝ }
 {
     if !call::sized(
         [

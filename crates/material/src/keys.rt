@@ -18,11 +18,11 @@ ghost use Rattle.transcript.specs.Sheets.{parameters};
 // Whether b is a s + p e, for ternary bytes s and e.
 fn is_key(work: &mut [u8], k: Numbers, a: &[u8], b: &[u8], s: &[u8], e: &[u8]) -> bool
     requires { ⌜ Usable k × Polynomial (k .ring) (k .modulus) (now a) × Polynomial (k .ring) (k .modulus) (now b)
-              × (length (now work) ≡ scratchLength) × (length (now s) ≡ k .ring) × (length (now e) ≡ k .ring) ⌝ }
+        × (length (now work) ≡ scratchLength) × (length (now s) ≡ k .ring) × (length (now e) ≡ k .ring) ⌝ }
     ensures { λ r. let q = k .modulus in
-              let made = key q (k .ring) (plain k) (poly (given a)) (ternary q (given s)) (ternary q (given e)) in
-              ⌜ (r ≡ same (coefficientBytes q (k .ring) made) (coefficientBytes q (k .ring) (poly (given b))))
-              × (length (left work) ≡ length (given work)) ⌝ }
+        let made = key q (k .ring) (plain k) (poly (given a)) (ternary q (given s)) (ternary q (given e)) in
+        ⌜ (r ≡ same (coefficientBytes q (k .ring) made) (coefficientBytes q (k .ring) (poly (given b))))
+        × (length (left work) ≡ length (given work)) ⌝ }
 {
     let n = k.ring as usize;
     bgv::noisy(work, a, s, e, sheet_numbers::plain(k), n, k.modulus);

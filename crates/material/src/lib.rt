@@ -40,11 +40,11 @@ fn test_secret(
     asked: bool,
 ) -> Reply
     requires { ⌜ Loaded k (now public) × (length (now work) ≡ scratchLength) × (count ≤ 4096) × (length (now secrets) ≡ 14 * k .ring)
-              × (length (now s0) ≡ 8 * k .ring) × (length (now e0) ≡ 8 * k .ring)
-              × (length (now ballots) ≡ ballotLength (k .ring) * count) ⌝ }
+        × (length (now s0) ≡ 8 * k .ring) × (length (now e0) ≡ 8 * k .ring)
+        × (length (now ballots) ≡ ballotLength (k .ring) * count) ⌝ }
     ensures { λ reply. let P = parameters k (given public) in
-              ⌜ (reply ≡ first (secretTests P count asked (given secrets) (given s0) (given e0) (given vectors) (given ballots)))
-              × (length (left work) ≡ length (given work)) ⌝ }
+        ⌜ (reply ≡ first (secretTests P count asked (given secrets) (given s0) (given e0) (given vectors) (given ballots)))
+        × (length (left work) ≡ length (given work)) ⌝ }
 {
     if !asked {
         return Reply::Refused {
@@ -89,13 +89,13 @@ fn test_each(
     count: usize,
 ) -> Reply
     requires { ⌜ Usable k × (length (now work) ≡ scratchLength) × (count ≤ 4096) × (length (now secrets) ≡ 14 * k .ring)
-              × (length (now masks0) ≡ 8 * k .ring * count) × (length (now masks1) ≡ 8 * k .ring * count)
-              × (length (now permutations) ≡ 168 * k .ring * k .repeats) × (length (now ballots) ≡ ballotLength (k .ring) * count)
-              × (ballotsBelow (k .modulus) (k .ring) count (now ballots) ≡ true) ⌝ }
+        × (length (now masks0) ≡ 8 * k .ring * count) × (length (now masks1) ≡ 8 * k .ring * count)
+        × (length (now permutations) ≡ 168 * k .ring * k .repeats) × (length (now ballots) ≡ ballotLength (k .ring) * count)
+        × (ballotsBelow (k .modulus) (k .ring) count (now ballots) ≡ true) ⌝ }
     ensures { λ reply. let masks = maskTests (k .ring) (maskOf k) count (given masks0) (given masks1) in
-              let noise = noiseTests (k .modulus) (k .ring) (noiseOf k) count (given secrets) (given ballots) in
-              ⌜ (reply ≡ first (masks ++ (permutationTests (k .ring) (k .repeats) (given permutations) ++ noise)))
-              × (left work ≡ zeros (length (given work))) ⌝ }
+        let noise = noiseTests (k .modulus) (k .ring) (noiseOf k) count (given secrets) (given ballots) in
+        ⌜ (reply ≡ first (masks ++ (permutationTests (k .ring) (k .repeats) (given permutations) ++ noise)))
+        × (left work ≡ zeros (length (given work))) ⌝ }
 {
     let masked = masks::test_masks(k, masks0, masks1, count);
     let permuting = permutations::test_permutations(work, k, permutations);
@@ -122,13 +122,22 @@ pub fn test_material(
     scratch: &mut [u8],
 ) -> Reply
     requires { let x = materialNow secrets s0 e0 masks0 masks1 vectors permutations salts ballots in
-              ⌜ Loaded k (now public) × (length (now scratch) ≡ scratchLength) × (count ≤ 4096)
-              × Sized (parameters k (now public)) count x ⌝ }
+        ⌜ Loaded k (now public) × (length (now scratch) ≡ scratchLength) × (count ≤ 4096)
+        × Sized (parameters k (now public)) count x ⌝ }
     ensures { λ reply. let x = materialIn secrets s0 e0 masks0 masks1 vectors permutations salts ballots in
-              ⌜ MaterialTested (parameters k (given public)) count x asked reply (given scratch) (left scratch) ⌝ }
+        ⌜ MaterialTested (parameters k (given public)) count x asked reply (given scratch) (left scratch) ⌝ }
 {
     let secret = test_secret(
-        scratch, k, public, secrets, s0, e0, vectors, ballots, count, asked,
+        scratch,
+        k,
+        public,
+        secrets,
+        s0,
+        e0,
+        vectors,
+        ballots,
+        count,
+        asked,
     );
     codec::wipe(scratch);
     match secret {

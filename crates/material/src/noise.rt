@@ -37,7 +37,7 @@ fn head_within(work: &[u8], bound: u64, n: usize, q: u64) -> bool
 fn is_quiet(work: &mut [u8], s: &[u8], u: &[u8], v: &[u8], bound: u64, n: usize, q: u64) -> bool
     requires { ⌜ Polynomial n q (now u) × Polynomial n q (now v) × (length (now work) ≡ scratchLength) × (length (now s) ≡ n) ⌝ }
     ensures { λ r. ⌜ (r ≡ within bound n (centred q (opened q n (ternary q (given s)) (poly (given u)) (poly (given v)))))
-              × (length (left work) ≡ length (given work)) ⌝ }
+        × (length (left work) ≡ length (given work)) ⌝ }
 {
     bgv::opened(work, s, u, v, n, q);
     head_within(work, bound, n, q)
@@ -54,10 +54,10 @@ fn is_quiet_at(
     q: u64,
 ) -> bool
     requires { ⌜ (4 ≤ n) × (n ≤ 2048) × (3 ≤ q) × (q < 2 ^ 56) × (length (now work) ≡ scratchLength) × (length (now secrets) ≡ 14 * n)
-              × (at + 4 + 16 * n ≤ length (now ballots)) × Below q (2 * n) (slot (now ballots) (at + 4)) ⌝ }
+        × (at + 4 + 16 * n ≤ length (now ballots)) × Below q (2 * n) (slot (now ballots) (at + 4)) ⌝ }
     ensures { λ r. let u = slot (given ballots) (at + 4) in let v = slot (given ballots) (at + 4 + 8 * n) in
-              ⌜ (r ≡ within bound n (centred q (opened q n (ternary q (sIn n (given secrets))) u v)))
-              × (length (left work) ≡ length (given work)) ⌝ }
+        ⌜ (r ≡ within bound n (centred q (opened q n (ternary q (sIn n (given secrets))) u v)))
+        × (length (left work) ≡ length (given work)) ⌝ }
 {
     let from = at + 4;
     let middle = from + 8 * n;
@@ -74,12 +74,18 @@ fn is_quiet_at(
 }
 
 // The noise of every ballot, in order.
-pub fn test_noise(work: &mut [u8], k: Numbers, secrets: &[u8], ballots: &[u8], count: usize) -> Reply
+pub fn test_noise(
+    work: &mut [u8],
+    k: Numbers,
+    secrets: &[u8],
+    ballots: &[u8],
+    count: usize,
+) -> Reply
     requires { ⌜ Usable k × (count ≤ 4096) × (length (now work) ≡ scratchLength) × (length (now secrets) ≡ 14 * k .ring)
-              × (length (now ballots) ≡ ballotLength (k .ring) * count)
-              × (ballotsBelow (k .modulus) (k .ring) count (now ballots) ≡ true) ⌝ }
+        × (length (now ballots) ≡ ballotLength (k .ring) * count)
+        × (ballotsBelow (k .modulus) (k .ring) count (now ballots) ≡ true) ⌝ }
     ensures { λ reply. ⌜ (reply ≡ first (noiseTests (k .modulus) (k .ring) (noiseOf k) count (given secrets) (given ballots)))
-              × (length (left work) ≡ length (given work)) ⌝ }
+        × (length (left work) ≡ length (given work)) ⌝ }
 {
     let n = k.ring as usize;
     let q = k.modulus;

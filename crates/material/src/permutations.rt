@@ -14,7 +14,7 @@ ghost use Rattle.sheet_numbers.specs.Usable.{Usable};
 pub fn test_permutations(work: &mut [u8], k: Numbers, permutations: &[u8]) -> Reply
     requires { ⌜ Usable k × (length (now work) ≡ scratchLength) × (length (now permutations) ≡ 168 * k .ring * k .repeats) ⌝ }
     ensures { λ reply. ⌜ (reply ≡ first (permutationTests (k .ring) (k .repeats) (given permutations)))
-              × (length (left work) ≡ length (given work)) ⌝ }
+        × (length (left work) ≡ length (given work)) ⌝ }
 {
     let n = k.ring as usize;
     let repeats = k.repeats as usize;

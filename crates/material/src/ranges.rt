@@ -18,9 +18,9 @@ pub fn in_range(
     count: usize,
 ) -> bool
     requires { ⌜ (k .ring ≤ 2048) × (count ≤ 4096) × (length (now s0) ≡ 8 * k .ring) × (length (now e0) ≡ 8 * k .ring)
-              × (length (now ballots) ≡ ballotLength (k .ring) * count) ⌝ }
+        × (length (now ballots) ≡ ballotLength (k .ring) * count) ⌝ }
     ensures { λ r. ⌜ r ≡ materialRanged (k .modulus) (k .ring) count (given secrets) (given s0) (given e0) (given vectors)
-              (given ballots) ⌝ }
+        (given ballots) ⌝ }
 {
     let q = k.modulus;
     if !ring::is_ternary(secrets) {

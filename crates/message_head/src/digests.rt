@@ -30,14 +30,14 @@ fn digests_at(
     q: u64,
 )
     requires { ⌜ PublicKeys n q (now k) × (length (now work) ≡ scratchLength) × (at + 96 ≤ length (now out))
-              × (vector + 336 * n ≤ length (now vectors))
-              × (permutation + 168 * n ≤ length (now permutations)) × (salt + 96 ≤ length (now salts))
-              × Material q n (now secrets) (part (now vectors) vector (336 * n)) (part (now permutations) permutation (168 * n))
-              (part (now salts) salt 96) ⌝ }
+        × (vector + 336 * n ≤ length (now vectors))
+        × (permutation + 168 * n ≤ length (now permutations)) × (salt + 96 ≤ length (now salts))
+        × Material q n (now secrets) (part (now vectors) vector (336 * n)) (part (now permutations) permutation (168 * n))
+        (part (now salts) salt 96) ⌝ }
     ensures { λ _. let drawn = drawnOf (part (given permutations) permutation (168 * n)) (part (given vectors) vector (336 * n))
-              (part (given salts) salt 96) in
-              ⌜ (left out ≡ put (given out) at (honestDigests q n (keysOf n (given k)) (given secrets) drawn))
-              × (length (left work) ≡ length (given work)) ⌝ }
+        (part (given salts) salt 96) in
+        ⌜ (left out ≡ put (given out) at (honestDigests q n (keysOf n (given k)) (given secrets) drawn))
+        × (length (left work) ≡ length (given work)) ⌝ }
 {
     answer_writing::write_digests(
         out,
@@ -65,11 +65,11 @@ pub fn write_digests(
     work: &mut [u8],
 )
     requires { ⌜ Loaded k (now public) × (length (now work) ≡ scratchLength) × (length (now head) ≡ headLength (k .ring) (k .repeats))
-              × Drawings (k .modulus) (k .ring) (k .repeats) (now secrets) (now vectors) (now permutations) (now salts) ⌝ }
+        × Drawings (k .modulus) (k .ring) (k .repeats) (now secrets) (now vectors) (now permutations) (now salts) ⌝ }
     ensures { λ _. let digests = digestsBytes (k .modulus) (k .ring) (k .repeats) (given secrets) (given vectors) (given permutations)
-              (given salts) in
-              ⌜ (left head ≡ put (given head) (80 * k .ring) (digests (keysOf (k .ring) (keyBytes k (given public)))))
-              × (length (left work) ≡ length (given work)) ⌝ }
+        (given salts) in
+        ⌜ (left head ≡ put (given head) (80 * k .ring) (digests (keysOf (k .ring) (keyBytes k (given public)))))
+        × (length (left work) ≡ length (given work)) ⌝ }
 {
     let n = k.ring as usize;
     let q = k.modulus;

@@ -28,10 +28,10 @@ fn write_keys(
     work: &mut [u8],
 )
     requires { ⌜ Loaded k (now public) × Polynomial (k .ring) (k .modulus) (now s0) × Polynomial (k .ring) (k .modulus) (now e0)
-              × (length (now secrets) ≡ 14 * k .ring) × (length (now work) ≡ scratchLength) × (16 * k .ring ≤ length (now head)) ⌝ }
+        × (length (now secrets) ≡ 14 * k .ring) × (length (now work) ≡ scratchLength) × (16 * k .ring ≤ length (now head)) ⌝ }
     ensures { λ _. let a = poly (aOf k (given public)) in
-              let b = keyBytesOf (k .modulus) (k .ring) (given secrets) (given s0) (given e0) (plain k) a in
-              ⌜ (left head ≡ put (given head) 0 (b 0 ++ b 1)) × (length (left work) ≡ length (given work)) ⌝ }
+        let b = keyBytesOf (k .modulus) (k .ring) (given secrets) (given s0) (given e0) (plain k) a in
+        ⌜ (left head ≡ put (given head) 0 (b 0 ++ b 1)) × (length (left work) ≡ length (given work)) ⌝ }
 {
     let n = k.ring as usize;
     let p = sheet_numbers::plain(k);
@@ -66,11 +66,11 @@ pub fn write_head(
     work: &mut [u8],
 )
     requires { ⌜ Loaded k (now public) × Polynomial (k .ring) (k .modulus) (now s0) × Polynomial (k .ring) (k .modulus) (now e0)
-              × (length (now work) ≡ scratchLength) × (length (now head) ≡ headLength (k .ring) (k .repeats))
-              × Drawings (k .modulus) (k .ring) (k .repeats) (now secrets) (now vectors) (now permutations) (now salts) ⌝ }
+        × (length (now work) ≡ scratchLength) × (length (now head) ≡ headLength (k .ring) (k .repeats))
+        × Drawings (k .modulus) (k .ring) (k .repeats) (now secrets) (now vectors) (now permutations) (now salts) ⌝ }
     ensures { λ _. let P = parameters k (given public) in
-              ⌜ (left head ≡ headBytes P (given secrets) (given s0) (given e0) (given vectors) (given permutations) (given salts))
-              × (left work ≡ zeros (length (given work))) ⌝ }
+        ⌜ (left head ≡ headBytes P (given secrets) (given s0) (given e0) (given vectors) (given permutations) (given salts))
+        × (left work ≡ zeros (length (given work))) ⌝ }
 {
     write_keys(k, public, secrets, s0, e0, head, work);
     write_pairs(k, public, secrets, s0, e0, head, work);

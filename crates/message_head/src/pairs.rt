@@ -35,9 +35,9 @@ fn lent_pair(
     q: u64,
 )
     requires { ⌜ PublicKeys n q (now k) × Polynomial n q (now x0) × (length (now r) ≡ 3 * n) × (length (now work) ≡ scratchLength)
-              × (at + 16 * n ≤ length (now out)) ⌝ }
+        × (at + 16 * n ≤ length (now out)) ⌝ }
     ensures { λ _. ⌜ (left out ≡ put (given out) at (pairOf q n (keysOf n (given k)) (given r) (poly (given x0))))
-              × (length (left work) ≡ length (given work)) ⌝ }
+        × (length (left work) ≡ length (given work)) ⌝ }
 {
     commitment::pair(work, k, x0, r, n, q);
     write_halves(out, at, work, n);
@@ -46,10 +46,10 @@ fn lent_pair(
 // The pair of x - x0, the other half, stands in scratch, for ternary bytes x.
 fn pair_difference(work: &mut [u8], k: &[u8], x: &[u8], x0: &[u8], r: &[u8], n: usize, q: u64)
     requires { ⌜ PublicKeys n q (now k) × Polynomial n q (now x0) × (length (now x) ≡ n) × (length (now r) ≡ 3 * n)
-              × (length (now work) ≡ scratchLength) ⌝ }
+        × (length (now work) ≡ scratchLength) ⌝ }
     ensures { λ _. let half = other q (ternary q (given x)) (poly (given x0)) in
-              let made = committed q n (keysOf n (given k)) (threeOf q n (given r)) half in
-              ⌜ PairStands q n made (given work) (left work) ⌝ }
+        let made = committed q n (keysOf n (given k)) (threeOf q n (given r)) half in
+        ⌜ PairStands q n made (given work) (left work) ⌝ }
 {
     commitment::load_three(work, r, n, q);
     ring::load_ternary(work, commitment::MESSAGE, x, q);
@@ -70,10 +70,10 @@ fn other_pair(
     q: u64,
 )
     requires { ⌜ PublicKeys n q (now k) × Polynomial n q (now x0) × (length (now x) ≡ n) × (length (now r) ≡ 3 * n)
-              × (length (now work) ≡ scratchLength) × (at + 16 * n ≤ length (now out)) ⌝ }
+        × (length (now work) ≡ scratchLength) × (at + 16 * n ≤ length (now out)) ⌝ }
     ensures { λ _. let half = other q (ternary q (given x)) (poly (given x0)) in
-              ⌜ (left out ≡ put (given out) at (pairOf q n (keysOf n (given k)) (given r) half))
-              × (length (left work) ≡ length (given work)) ⌝ }
+        ⌜ (left out ≡ put (given out) at (pairOf q n (keysOf n (given k)) (given r) half))
+        × (length (left work) ≡ length (given work)) ⌝ }
 {
     pair_difference(work, k, x, x0, r, n, q);
     write_halves(out, at, work, n);
@@ -92,11 +92,11 @@ fn both_pairs(
     q: u64,
 )
     requires { ⌜ PublicKeys n q (now k) × Polynomial n q (now x0) × (length (now x) ≡ n) × (length (now r) ≡ 6 * n)
-              × (length (now work) ≡ scratchLength) × (at + 32 * n ≤ length (now out)) ⌝ }
+        × (length (now work) ≡ scratchLength) × (at + 32 * n ≤ length (now out)) ⌝ }
     ensures { λ _. let one = pairOf q n (keysOf n (given k)) (part (given r) 0 (3 * n)) (poly (given x0)) in
-              let half = other q (ternary q (given x)) (poly (given x0)) in
-              let two = pairOf q n (keysOf n (given k)) (part (given r) (3 * n) (3 * n)) half in
-              ⌜ (left out ≡ put (given out) at (one ++ two)) × (length (left work) ≡ length (given work)) ⌝ }
+        let half = other q (ternary q (given x)) (poly (given x0)) in
+        let two = pairOf q n (keysOf n (given k)) (part (given r) (3 * n) (3 * n)) half in
+        ⌜ (left out ≡ put (given out) at (one ++ two)) × (length (left work) ≡ length (given work)) ⌝ }
 {
     let second = at + 16 * n;
     lent_pair(out, at, work, k, x0, &r[0..3 * n], n, q);
@@ -114,10 +114,10 @@ pub fn write_pairs(
     work: &mut [u8],
 )
     requires { ⌜ Loaded k (now public) × Polynomial (k .ring) (k .modulus) (now s0) × Polynomial (k .ring) (k .modulus) (now e0)
-              × (length (now secrets) ≡ 14 * k .ring) × (length (now work) ≡ scratchLength) × (80 * k .ring ≤ length (now head)) ⌝ }
+        × (length (now secrets) ≡ 14 * k .ring) × (length (now work) ≡ scratchLength) × (80 * k .ring ≤ length (now head)) ⌝ }
     ensures { λ _. let keys = keysOf (k .ring) (keyBytes k (given public)) in
-              let pairs = pairsBytes (k .modulus) (k .ring) (given secrets) (given s0) (given e0) keys in
-              ⌜ (left head ≡ put (given head) (16 * k .ring) pairs) × (length (left work) ≡ length (given work)) ⌝ }
+        let pairs = pairsBytes (k .modulus) (k .ring) (given secrets) (given s0) (given e0) keys in
+        ⌜ (left head ≡ put (given head) (16 * k .ring) pairs) × (length (left work) ≡ length (given work)) ⌝ }
 {
     let n = k.ring as usize;
     let q = k.modulus;

@@ -31,14 +31,14 @@ fn ballot_at(
     at: usize,
 )
     requires { ⌜ Usable k × Polynomial (k .ring) (k .modulus) (now s0) × (length (now secrets) ≡ 14 * k .ring)
-              × (at + 4 + 16 * k .ring ≤ length (now ballots)) × Below (k .modulus) (2 * k .ring) (slot (now ballots) (at + 4))
-              × (sent + 8 * k .ring ≤ length (now masks0)) × (sent + 8 * k .ring ≤ length (now masks1))
-              × Fits (k .ring) sent claim (roomNow shares0 shares1 claims work) ⌝ }
+        × (at + 4 + 16 * k .ring ≤ length (now ballots)) × Below (k .modulus) (2 * k .ring) (slot (now ballots) (at + 4))
+        × (sent + 8 * k .ring ≤ length (now masks0)) × (sent + 8 * k .ring ≤ length (now masks1))
+        × Fits (k .ring) sent claim (roomNow shares0 shares1 claims work) ⌝ }
     ensures { λ _. let s = ternary (k .modulus) (sIn (k .ring) (given secrets)) in
-              let u = slot (given ballots) (at + 4) in let v = slot (given ballots) (at + 4 + 8 * k .ring) in
-              let mask0 = part (given masks0) sent (8 * k .ring) in let mask1 = part (given masks1) sent (8 * k .ring) in
-              let before = roomIn shares0 shares1 claims work in let after = roomOut shares0 shares1 claims work in
-              ⌜ BallotWritten k s (poly (given s0)) u v mask0 mask1 sent claim before after ⌝ }
+        let u = slot (given ballots) (at + 4) in let v = slot (given ballots) (at + 4 + 8 * k .ring) in
+        let mask0 = part (given masks0) sent (8 * k .ring) in let mask1 = part (given masks1) sent (8 * k .ring) in
+        let before = roomIn shares0 shares1 claims work in let after = roomOut shares0 shares1 claims work in
+        ⌜ BallotWritten k s (poly (given s0)) u v mask0 mask1 sent claim before after ⌝ }
 {
     let n = k.ring as usize;
     let end = sent + 8 * n;
@@ -74,11 +74,11 @@ pub fn write_ballots(
     count: usize,
 )
     requires { ⌜ Usable k × Polynomial (k .ring) (k .modulus) (now s0) × (length (now secrets) ≡ 14 * k .ring) × (count ≤ 4096)
-              × Masked (k .modulus) (k .ring) count (now ballots) (now masks0) (now masks1) × (length (now shares0) ≡ 8 * k .ring * count)
-              × (length (now shares1) ≡ 8 * k .ring * count) × (length (now claims) ≡ k .ring * count)
-              × (length (now work) ≡ scratchLength) ⌝ }
+        × Masked (k .modulus) (k .ring) count (now ballots) (now masks0) (now masks1) × (length (now shares0) ≡ 8 * k .ring * count)
+        × (length (now shares1) ≡ 8 * k .ring * count) × (length (now claims) ≡ k .ring * count)
+        × (length (now work) ≡ scratchLength) ⌝ }
     ensures { λ _. let before = roomIn shares0 shares1 claims work in let after = roomOut shares0 shares1 claims work in
-              ⌜ BallotsWritten k count (given secrets) (given s0) (given masks0) (given masks1) (given ballots) before after ⌝ }
+        ⌜ BallotsWritten k count (given secrets) (given s0) (given masks0) (given masks1) (given ballots) before after ⌝ }
 {
     let n = k.ring as usize;
     let mut j = 0;
@@ -87,7 +87,19 @@ pub fn write_ballots(
     let mut sent = 0;
     while j < count {
         ballot_at(
-            shares0, shares1, sent, claims, claim, work, k, secrets, s0, masks0, masks1, ballots, at,
+            shares0,
+            shares1,
+            sent,
+            claims,
+            claim,
+            work,
+            k,
+            secrets,
+            s0,
+            masks0,
+            masks1,
+            ballots,
+            at,
         );
         j += 1;
         at += 4 + 16 * n;

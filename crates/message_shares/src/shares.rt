@@ -31,7 +31,7 @@ const ROOM: usize = 65536;
 fn products(work: &mut [u8], s: &[u8], s0: &[u8], u: &[u8], n: usize, q: u64)
     requires { ⌜ Polynomial n q (now s0) × Polynomial n q (now u) × (length (now s) ≡ n) × (length (now work) ≡ scratchLength) ⌝ }
     ensures { λ _. let u = poly (given u) in
-              ⌜ TwoStand q n (mul q n (ternary q (given s)) u) (mul q n (poly (given s0)) u) (given work) (left work) ⌝ }
+        ⌜ TwoStand q n (mul q n (ternary q (given s)) u) (mul q n (poly (given s0)) u) (given work) (left work) ⌝ }
 {
     ring::load_ternary(work, 0, s, q);
     codec::copy(work, LENT, s0);
@@ -51,10 +51,10 @@ fn write_masked(
     q: u64,
 )
     requires { ⌜ (n ≤ 2048) × (3 ≤ q) × (q < 2 ^ 56) × (length (now mask) ≡ 8 * n) × (length (now work) ≡ scratchLength)
-              × (from + 8 * n ≤ 49152) × Below q n (slot (now work) from) × (at + 8 * n ≤ length (now out)) × (p < q) ⌝ }
+        × (from + 8 * n ≤ 49152) × Below q n (slot (now work) from) × (at + 8 * n ≤ length (now out)) × (p < q) ⌝ }
     ensures { λ _. let sum = plus (slot (given work) from) (scale p (residues q (lentMask (given mask)))) in
-              ⌜ (left out ≡ put (given out) at (coefficientBytes q n sum)) × (length (left work) ≡ length (given work))
-              × (part (left work) 0 from ≡ part (given work) 0 from) ⌝ }
+        ⌜ (left out ≡ put (given out) at (coefficientBytes q n sum)) × (length (left work) ≡ length (given work))
+        × (part (left work) 0 from ≡ part (given work) 0 from) ⌝ }
 {
     ring::load_signed(work, MASK, mask, n, q);
     ring::scale_slot(work, MASK, p, n, q);
@@ -75,13 +75,13 @@ fn write_shares(
     q: u64,
 )
     requires { ⌜ (n ≤ 2048) × (3 ≤ q) × (q < 2 ^ 56) × (length (now mask0) ≡ 8 * n) × (length (now mask1) ≡ 8 * n)
-              × (length (now work) ≡ scratchLength) × Below q n (slot (now work) 0) × Below q n (slot (now work) 16384)
-              × (at + 8 * n ≤ length (now shares0)) × (at + 8 * n ≤ length (now shares1)) × (p < q) ⌝ }
+        × (length (now work) ≡ scratchLength) × Below q n (slot (now work) 0) × Below q n (slot (now work) 16384)
+        × (at + 8 * n ≤ length (now shares0)) × (at + 8 * n ≤ length (now shares1)) × (p < q) ⌝ }
     ensures { λ _. let t0 = plus (slot (given work) 16384) (scale p (residues q (lentMask (given mask0)))) in
-              let t1 = plus (minus q (slot (given work) 0) (slot (given work) 16384)) (scale p (residues q (lentMask (given mask1)))) in
-              ⌜ (left shares0 ≡ put (given shares0) at (coefficientBytes q n t0))
-              × (left shares1 ≡ put (given shares1) at (coefficientBytes q n t1))
-              × (length (left work) ≡ length (given work)) × (part (left work) 0 16384 ≡ part (given work) 0 16384) ⌝ }
+        let t1 = plus (minus q (slot (given work) 0) (slot (given work) 16384)) (scale p (residues q (lentMask (given mask1)))) in
+        ⌜ (left shares0 ≡ put (given shares0) at (coefficientBytes q n t0))
+        × (left shares1 ≡ put (given shares1) at (coefficientBytes q n t1))
+        × (length (left work) ≡ length (given work)) × (part (left work) 0 16384 ≡ part (given work) 0 16384) ⌝ }
 {
     ring::copy_slot(work, OTHER, 0, n);
     ring::subtract_slot(work, OTHER, LENT, n, q);
@@ -90,19 +90,11 @@ fn write_shares(
 }
 
 // The claim, v - s u centred, by p, from s u at 0.
-fn write_claim(
-    claims: &mut [u8],
-    at: usize,
-    work: &mut [u8],
-    v: &[u8],
-    p: u64,
-    n: usize,
-    q: u64,
-)
+fn write_claim(claims: &mut [u8], at: usize, work: &mut [u8], v: &[u8], p: u64, n: usize, q: u64)
     requires { ⌜ Polynomial n q (now v) × (length (now work) ≡ scratchLength) × Below q n (slot (now work) 0)
-              × (at + n ≤ length (now claims)) × (0 < p) × (p ≤ 251) ⌝ }
+        × (at + n ≤ length (now claims)) × (0 < p) × (p ≤ 251) ⌝ }
     ensures { λ _. let vote = list n (plain q p (minus q (poly (given v)) (slot (given work) 0))) in
-              ⌜ (left claims ≡ put (given claims) at vote) × (length (left work) ≡ length (given work)) ⌝ }
+        ⌜ (left claims ≡ put (given claims) at vote) × (length (left work) ≡ length (given work)) ⌝ }
 {
     ring::scale_slot(work, 0, q - 1, n, q);
     ring::add(work, 0, v, n, q);
@@ -126,11 +118,11 @@ pub fn write_ballot(
     mask1: &[u8],
 )
     requires { ⌜ Usable k × Polynomial (k .ring) (k .modulus) (now s0) × Polynomial (k .ring) (k .modulus) (now u)
-              × Polynomial (k .ring) (k .modulus) (now v) × (length (now s) ≡ k .ring) × (length (now mask0) ≡ 8 * k .ring)
-              × (length (now mask1) ≡ 8 * k .ring) × Fits (k .ring) at claim (roomNow shares0 shares1 claims work) ⌝ }
+        × Polynomial (k .ring) (k .modulus) (now v) × (length (now s) ≡ k .ring) × (length (now mask0) ≡ 8 * k .ring)
+        × (length (now mask1) ≡ 8 * k .ring) × Fits (k .ring) at claim (roomNow shares0 shares1 claims work) ⌝ }
     ensures { λ _. let before = roomIn shares0 shares1 claims work in let after = roomOut shares0 shares1 claims work in
-              let s = ternary (k .modulus) (given s) in
-              ⌜ BallotWritten k s (poly (given s0)) (poly (given u)) (poly (given v)) (given mask0) (given mask1) at claim before after ⌝ }
+        let s = ternary (k .modulus) (given s) in
+        ⌜ BallotWritten k s (poly (given s0)) (poly (given u)) (poly (given v)) (given mask0) (given mask1) at claim before after ⌝ }
 {
     let n = k.ring as usize;
     let p = sheet_numbers::plain(k);

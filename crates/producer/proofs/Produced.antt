@@ -32,5 +32,5 @@ pub ballots-asked : (k : Numbers) (x : Material) (room : FirstRoom) → Usable k
     × (length (room .shares0) ≡ 8 * k .ring * n) × (length (room .shares1) ≡ 8 * k .ring * n) × (length (room .claims) ≡ k .ring * n) × (length w ≡ scratchLength)
 ballots-asked k x room u r is w e =
     let f = subst (λ (i : ℕ). (i ≤ 4096) × Masked (k .modulus) (k .ring) i (x .ballots) (x .masks0) (x .masks1) × (length (room .shares0) ≡ 8 * k .ring * i) × (length (room .shares1) ≡ 8 * k .ring * i) × (length (room .claims) ≡ k .ring * i)) (sym is)
-        (r .few, r .masked, r .shares0, r .shares1, r .claims) in
+    (r .few, r .masked, r .shares0, r .shares1, r .claims) in
     (u, r .s0, r .drawings .secrets-sized, f .0, f .1, f .2, f .3, f .4, ap length e ∙ length-replicate (length (room .scratch)) 0 ∙ r .scratch)

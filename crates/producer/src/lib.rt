@@ -32,10 +32,10 @@ pub fn write_first(
     scratch: &mut [u8],
 )
     requires { let x = materialNow secrets s0 e0 masks0 masks1 vectors permutations salts ballots in
-              ⌜ Loaded k (now public) × FirstReady k x (firstNow head shares0 shares1 claims scratch) ⌝ }
+        ⌜ Loaded k (now public) × FirstReady k x (firstNow head shares0 shares1 claims scratch) ⌝ }
     ensures { λ _. let x = materialIn secrets s0 e0 masks0 masks1 vectors permutations salts ballots in
-              let before = firstIn head shares0 shares1 claims scratch in let after = firstOut head shares0 shares1 claims scratch in
-              ⌜ FirstProduced (parameters k (given public)) (countOf (k .ring) (given ballots)) x before after ⌝ }
+        let before = firstIn head shares0 shares1 claims scratch in let after = firstOut head shares0 shares1 claims scratch in
+        ⌜ FirstProduced (parameters k (given public)) (countOf (k .ring) (given ballots)) x before after ⌝ }
 {
     message_head::write_head(
         k,
@@ -51,7 +51,17 @@ pub fn write_first(
     );
     let count = lengths::count_of(ballots, k.ring as usize);
     message_shares::write_ballots(
-        shares0, shares1, claims, scratch, k, secrets, s0, masks0, masks1, ballots, count,
+        shares0,
+        shares1,
+        claims,
+        scratch,
+        k,
+        secrets,
+        s0,
+        masks0,
+        masks1,
+        ballots,
+        count,
     );
 }
 
@@ -71,12 +81,20 @@ pub fn write_second(
     scratch: &mut [u8],
 )
     requires { let room = secondNow opening answers scratch in
-              ⌜ SecondReady k (now secrets) (now s0) (now e0) (now vectors) (now permutations) (now salts) side (now challenges) room ⌝ }
+        ⌜ SecondReady k (now secrets) (now s0) (now e0) (now vectors) (now permutations) (now salts) side (now challenges) room ⌝ }
     ensures { λ _. let before = secondIn opening answers scratch in let after = secondOut opening answers scratch in
-              ⌜ SecondProduced k (given secrets) (given s0) (given e0) (given vectors) (given permutations) (given salts) side
-              (given challenges) before after ⌝ }
+        ⌜ SecondProduced k (given secrets) (given s0) (given e0) (given vectors) (given permutations) (given salts) side
+        (given challenges) before after ⌝ }
 {
     opening::write_opening(opening, scratch, k, secrets, s0, e0, side);
     codec::wipe(scratch);
-    repetitions::write_answers(answers, k, challenges, secrets, vectors, permutations, salts);
+    repetitions::write_answers(
+        answers,
+        k,
+        challenges,
+        secrets,
+        vectors,
+        permutations,
+        salts,
+    );
 }

@@ -16,7 +16,7 @@ ghost use Rattle.transcript.specs.Producer.{sIn, eIn, openingBytes};
 fn lent_halves(opening: &mut [u8], s0: &[u8], e0: &[u8], n: usize, q: u64)
     requires { ⌜ Polynomial n q (now s0) × Polynomial n q (now e0) × (16 * n ≤ length (now opening)) ⌝ }
     ensures { λ _. let halves = coefficientBytes q n (poly (given s0)) ++ coefficientBytes q n (poly (given e0)) in
-              ⌜ left opening ≡ put (given opening) 0 halves ⌝ }
+        ⌜ left opening ≡ put (given opening) 0 halves ⌝ }
 {
     codec::copy(opening, 0, s0);
     codec::copy(opening, 8 * n, e0);
@@ -33,11 +33,11 @@ fn other_halves(
     q: u64,
 )
     requires { ⌜ Polynomial n q (now s0) × Polynomial n q (now e0) × (length (now secrets) ≡ 14 * n) × (length (now work) ≡ scratchLength)
-              × (16 * n ≤ length (now opening)) ⌝ }
+        × (16 * n ≤ length (now opening)) ⌝ }
     ensures { λ _. let s1 = other q (ternary q (sIn n (given secrets))) (poly (given s0)) in
-              let e1 = other q (ternary q (eIn n (given secrets))) (poly (given e0)) in
-              ⌜ (left opening ≡ put (given opening) 0 (coefficientBytes q n s1 ++ coefficientBytes q n e1))
-              × (length (left work) ≡ length (given work)) ⌝ }
+        let e1 = other q (ternary q (eIn n (given secrets))) (poly (given e0)) in
+        ⌜ (left opening ≡ put (given opening) 0 (coefficientBytes q n s1 ++ coefficientBytes q n e1))
+        × (length (left work) ≡ length (given work)) ⌝ }
 {
     scheme::written::difference(opening, 0, work, &secrets[0..n], s0, n, q);
     scheme::written::difference(opening, 8 * n, work, &secrets[n..2 * n], e0, n, q);
@@ -47,7 +47,7 @@ fn other_halves(
 fn hiding(opening: &mut [u8], secrets: &[u8], s: usize, e: usize, n: usize)
     requires { ⌜ (n ≤ 2048) × (s + 3 * n ≤ length (now secrets)) × (e + 3 * n ≤ length (now secrets)) × (22 * n ≤ length (now opening)) ⌝ }
     ensures { λ _. let hides = part (given secrets) s (3 * n) ++ part (given secrets) e (3 * n) in
-              ⌜ left opening ≡ put (given opening) (16 * n) hides ⌝ }
+        ⌜ left opening ≡ put (given opening) (16 * n) hides ⌝ }
 {
     codec::copy(opening, 16 * n, &secrets[s..s + 3 * n]);
     codec::copy(opening, 19 * n, &secrets[e..e + 3 * n]);
@@ -64,10 +64,10 @@ pub fn write_opening(
     side: u64,
 )
     requires { ⌜ Polynomial (k .ring) (k .modulus) (now s0) × Polynomial (k .ring) (k .modulus) (now e0)
-              × (length (now secrets) ≡ 14 * k .ring)
-              × (length (now work) ≡ scratchLength) × (side < 2) × (length (now opening) ≡ 22 * k .ring) ⌝ }
+        × (length (now secrets) ≡ 14 * k .ring)
+        × (length (now work) ≡ scratchLength) × (side < 2) × (length (now opening) ≡ 22 * k .ring) ⌝ }
     ensures { λ _. ⌜ (left opening ≡ openingBytes (k .modulus) (k .ring) (given secrets) (given s0) (given e0) side)
-              × (length (left work) ≡ length (given work)) ⌝ }
+        × (length (left work) ≡ length (given work)) ⌝ }
 {
     let n = k.ring as usize;
     let q = k.modulus;

@@ -28,13 +28,13 @@ fn answer_at(
     q: u64,
 )
     requires { ⌜ (n ≤ 2048) × (3 ≤ q) × (q < 2 ^ 56) × (size ≡ answerLength n challenge) × (at + size ≤ length (now answers))
-              × (vector + 336 * n ≤ length (now vectors)) × (permutation + 168 * n ≤ length (now permutations))
-              × (salt + 96 ≤ length (now salts))
-              × Material q n (now secrets) (part (now vectors) vector (336 * n)) (part (now permutations) permutation (168 * n))
-              (part (now salts) salt 96) ⌝ }
+        × (vector + 336 * n ≤ length (now vectors)) × (permutation + 168 * n ≤ length (now permutations))
+        × (salt + 96 ≤ length (now salts))
+        × Material q n (now secrets) (part (now vectors) vector (336 * n)) (part (now permutations) permutation (168 * n))
+        (part (now salts) salt 96) ⌝ }
     ensures { λ _. let drawn = drawnOf (part (given permutations) permutation (168 * n)) (part (given vectors) vector (336 * n))
-              (part (given salts) salt 96) in
-              ⌜ left answers ≡ put (given answers) at (honestAnswer q n (given secrets) drawn challenge) ⌝ }
+        (part (given salts) salt 96) in
+        ⌜ left answers ≡ put (given answers) at (honestAnswer q n (given secrets) drawn challenge) ⌝ }
 {
     answer_writing::write_answer(
         &mut answers[at..at + size],
@@ -59,10 +59,10 @@ pub fn write_answers(
     salts: &[u8],
 )
     requires { ⌜ Usable k × Drawings (k .modulus) (k .ring) (k .repeats) (now secrets) (now vectors) (now permutations) (now salts)
-              × (length (now challenges) ≡ k .repeats) × (length (now answers) ≡ answersLength (k .ring) (now challenges)) ⌝ }
+        × (length (now challenges) ≡ k .repeats) × (length (now answers) ≡ answersLength (k .ring) (now challenges)) ⌝ }
     ensures { λ _. let drawn = answersBytes (k .modulus) (k .ring) (k .repeats) (given secrets) (given vectors) (given permutations)
-              (given salts) in
-              ⌜ left answers ≡ drawn (given challenges) ⌝ }
+        (given salts) in
+        ⌜ left answers ≡ drawn (given challenges) ⌝ }
 {
     let n = k.ring as usize;
     let q = k.modulus;

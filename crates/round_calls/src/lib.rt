@@ -22,8 +22,8 @@ pub fn produce_first(
     scratch: &mut [u8],
 ) -> codec::Reply
     ensures { λ reply. let x = materialIn secrets s0 e0 masks0 masks1 vectors permutations salts ballots in
-              let before = firstIn head shares0 shares1 claims scratch in let after = firstOut head shares0 shares1 claims scratch in
-              ⌜ FirstCalled (given sheet) x before reply after ⌝ }
+        let before = firstIn head shares0 shares1 claims scratch in let after = firstOut head shares0 shares1 claims scratch in
+        ⌜ FirstCalled (given sheet) x before reply after ⌝ }
 {
     let mut public = [0u8; 81920];
     let reading = sheet::load(sheet, &mut public);
@@ -75,8 +75,8 @@ pub fn produce_second(
     scratch: &mut [u8],
 ) -> codec::Reply
     ensures { λ reply. let x = materialIn secrets s0 e0 masks0 masks1 vectors permutations salts ballots in
-              let before = secondIn opening answers scratch in let after = secondOut opening answers scratch in
-              ⌜ SecondCalled (given sheet) x side (given challenges) before reply after ⌝ }
+        let before = secondIn opening answers scratch in let after = secondOut opening answers scratch in
+        ⌜ SecondCalled (given sheet) x side (given challenges) before reply after ⌝ }
 {
     let mut public = [0u8; 81920];
     let reading = sheet::load(sheet, &mut public);

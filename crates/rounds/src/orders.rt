@@ -35,8 +35,8 @@ pub fn first_tests(
 ) -> Reply
     requires { ⌜ Loaded k (now public) ⌝ }
     ensures { λ reply. let x = materialIn secrets s0 e0 masks0 masks1 vectors permutations salts ballots in
-              let room = firstIn head shares0 shares1 claims scratch in
-              ⌜ Tested (firstTests (parameters k (given public)) x room) reply (given scratch) (left scratch) ⌝ }
+        let room = firstIn head shares0 shares1 claims scratch in
+        ⌜ Tested (firstTests (parameters k (given public)) x room) reply (given scratch) (left scratch) ⌝ }
 {
     let count = count_of(ballots, k.ring as usize);
     if count > 4096 {
@@ -99,8 +99,8 @@ pub fn second_tests(
 ) -> Reply
     requires { ⌜ Loaded k (now public) ⌝ }
     ensures { λ reply. let x = materialIn secrets s0 e0 masks0 masks1 vectors permutations salts ballots in
-              let tests = secondTests (parameters k (given public)) x side (given challenges) (secondIn opening answers scratch) in
-              ⌜ Tested tests reply (given scratch) (left scratch) ⌝ }
+        let tests = secondTests (parameters k (given public)) x side (given challenges) (secondIn opening answers scratch) in
+        ⌜ Tested tests reply (given scratch) (left scratch) ⌝ }
 {
     let n = k.ring as usize;
     let repeats = k.repeats as usize;

@@ -31,8 +31,8 @@ pub fn produce_first(
 ) -> Reply
     requires { ⌜ Loaded k (now public) ⌝ }
     ensures { λ reply. let x = materialIn secrets s0 e0 masks0 masks1 vectors permutations salts ballots in
-              let before = firstIn head shares0 shares1 claims scratch in let after = firstOut head shares0 shares1 claims scratch in
-              ⌜ FirstWritten (parameters k (given public)) x before reply after ⌝ }
+        let before = firstIn head shares0 shares1 claims scratch in let after = firstOut head shares0 shares1 claims scratch in
+        ⌜ FirstWritten (parameters k (given public)) x before reply after ⌝ }
 {
     let reply = first_tests(
         k,
@@ -102,8 +102,8 @@ pub fn produce_second(
 ) -> Reply
     requires { ⌜ Loaded k (now public) ⌝ }
     ensures { λ reply. let x = materialIn secrets s0 e0 masks0 masks1 vectors permutations salts ballots in
-              let before = secondIn opening answers scratch in let after = secondOut opening answers scratch in
-              ⌜ SecondWritten (parameters k (given public)) x side (given challenges) before reply after ⌝ }
+        let before = secondIn opening answers scratch in let after = secondOut opening answers scratch in
+        ⌜ SecondWritten (parameters k (given public)) x side (given challenges) before reply after ⌝ }
 {
     let reply = second_tests(
         k,
