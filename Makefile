@@ -13,7 +13,7 @@ version = 0.8
 ARCHIVE ?=
 library = $(if $(ARCHIVE),$(ARCHIVE),target/staticlib/libjackdawnail.a)
 
-host_flags = -std=c11 -D_GNU_SOURCE -O2 -Wall -Wextra -Wconversion -Iinclude
+host_flags = -std=c11 -D_GNU_SOURCE -O2 -Wall -Wextra -Wconversion -Iinclude -DELECTION_VERSION='"$(version)"'
 election_sources = $(filter-out host/digest.c,$(wildcard host/*.c))
 host_headers = $(wildcard host/*.h) include/jackdawnail.h
 
@@ -51,7 +51,7 @@ target/digest: host/digest.c include/jackdawnail.h $(library)
 	@mkdir -p target
 	$(CC) $(host_flags) -o $@ host/digest.c $(library)
 
-target/election: $(election_sources) $(host_headers) $(library)
+target/election: $(election_sources) $(host_headers) $(library) Makefile
 	@mkdir -p target
 	$(CC) $(host_flags) -o $@ $(election_sources) $(library)
 

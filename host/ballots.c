@@ -6,13 +6,21 @@
 
 #include "say.h"
 
-#define ENTRY 40
-#define ENTRY_STATE 4
-#define ENTRY_DIGEST 8
-#define STANDING 1
-
 void ballot_name(char *name, uint32_t mark) {
-    snprintf(name, BALLOT_NAME_ROOM, "ballots/%u.ballot", (unsigned)mark);
+    snprintf(name, BALLOT_NAME_ROOM, BALLOT_FOLDER "/%u" BALLOT_END, (unsigned)mark);
+}
+
+/* Whether a name ends as those of ballots do. */
+static bool has_ballot_end(const char *name) {
+    size_t length = strlen(name), end = strlen(BALLOT_END);
+    return length > end && !strcmp(name + length - end, BALLOT_END);
+}
+
+bool is_ballot_name(const char *name, uint32_t *mark) {
+    uint64_t number = 0;
+    if (!has_ballot_end(name) || !read_decimal(name, strlen(name) - strlen(BALLOT_END), UINT32_MAX, &number)) return false;
+    *mark = (uint32_t)number;
+    return true;
 }
 
 /* The place of a mark among the first `count`, or `count`. */
@@ -46,7 +54,7 @@ enum status ballots_open(const struct election *election, struct ballots *ballot
     bool single = false;
     memset(ballots, 0, sizeof *ballots);
     enum status status = file_find(&election->folder, "ballots.bin", &ballots->whole);
-    if (!status) status = file_find(&election->folder, "ballots", &single);
+    if (!status) status = file_find(&election->folder, BALLOT_FOLDER, &single);
     if (!status && ballots->whole == single) {
         say("%s has %s ballots.bin: one of the two is due", election->folder.name, single ? "both ballots/ and" : "neither ballots/ nor");
         return TROUBLE;
@@ -81,25 +89,57 @@ enum status ballots_take(const struct election *election, const struct ballots *
     return status;
 }
 
+enum status ballots_of_entry(const struct election *election, const struct ballots *ballots, size_t entry, struct bytes *ballot) {
+    uint8_t digest[DIGEST];
+    enum status status = ballots_take(election, ballots, entry_mark(election, entry), ballot);
+    if (status) return status;
+    jdn_digest(LENT(*ballot), digest, sizeof digest);
+    if (!memcmp(digest, entry_digest(election, entry), sizeof digest)) return DONE;
+    say("%s: the ballot with the mark %u is not the one that was admitted", election->folder.name, (unsigned)entry_mark(election, entry));
+    bytes_free(ballot);
+    return REFUSED;
+}
+
+/* Whether a file of the folder of ballots is a ballot that no entry of the register names: one that is written under the name of no mark,
+ * too. */
+static bool is_unlogged(const struct election *election, const char *name) {
+    uint32_t mark = 0;
+    return has_ballot_end(name) && (!is_ballot_name(name, &mark) || entry_find(election, mark) == election_used(election));
+}
+
+static enum status name_unlogged_files(const struct election *election) {
+    struct names names = {0};
+    enum status status = folder_list(&election->folder, BALLOT_FOLDER, &names);
+    for (size_t i = 0; i < names.count && !status; i++)
+        if (is_unlogged(election, names.at[i]))
+            say("%s/" BALLOT_FOLDER "/%s is admitted by no line of log.txt, and is not counted", election->folder.name, names.at[i]);
+    names_free(&names);
+    return status;
+}
+
+enum status ballots_name_unlogged(const struct election *election, const struct ballots *ballots) {
+    if (!ballots->whole) return name_unlogged_files(election);
+    for (size_t i = 0; i < ballots->count; i++)
+        if (entry_find(election, ballots->marks[i]) == election_used(election))
+            say("%s/ballots.bin: the ballot with the mark %u is admitted by no line of log.txt, and is not counted", election->folder.name,
+                (unsigned)ballots->marks[i]);
+    return DONE;
+}
+
 void ballots_close(struct ballots *ballots) {
     bytes_free(&ballots->all);
 }
 
+enum status batch_close(struct election *election) {
+    uint64_t reply = jdn_close(election->image, JDN_IMAGE, election->reg, JDN_REGISTER);
+    return reply ? say_refused(reply, "closing the ballots") : DONE;
+}
+
 /* Puts the ballot of a standing entry at the end of the batch. */
-static enum status batch_add(const struct election *election, const struct ballots *ballots, const uint8_t *entry, struct batch *batch) {
+static enum status batch_add(const struct election *election, const struct ballots *ballots, size_t entry, struct batch *batch) {
     struct bytes ballot = {0};
-    uint8_t digest[32];
-    uint32_t mark = read32(entry);
-    enum status status = ballots_take(election, ballots, mark, &ballot);
-    if (status) return status;
-    jdn_digest(LENT(ballot), digest, sizeof digest);
-    if (memcmp(digest, entry + ENTRY_DIGEST, sizeof digest)) {
-        say("%s: the ballot with the mark %u is not the one that was admitted", election->folder.name, (unsigned)mark);
-        status = REFUSED;
-    } else {
-        memcpy(batch->all.at + batch->count * batch->length, ballot.at, batch->length);
-        batch->count++;
-    }
+    enum status status = ballots_of_entry(election, ballots, entry, &ballot);
+    if (!status) memcpy(batch->all.at + batch->count++ * batch->length, ballot.at, batch->length);
     bytes_free(&ballot);
     return status;
 }
@@ -110,10 +150,9 @@ enum status batch_make(const struct election *election, const struct ballots *ba
     batch->length = ballot_length(&election->numbers);
     enum status status = bytes_make(&batch->all, closed * batch->length);
     for (size_t i = 0; i < used && !status; i++) {
-        const uint8_t *entry = election->reg + ENTRY * i;
-        if (entry[ENTRY_STATE] != STANDING) continue;
+        if (!entry_stands(election, i)) continue;
         progress("Ballots of the batch", ++standing, closed);
-        if (standing <= closed) status = batch_add(election, ballots, entry, batch);
+        if (standing <= closed) status = batch_add(election, ballots, i, batch);
     }
     progress_end();
     if (!status && standing != closed) {

@@ -52,6 +52,10 @@ void text_add_hex(struct text *text, const uint8_t *at, size_t length) {
     for (size_t i = 0; i < length; i++) text_add(text, "%02x", at[i]);
 }
 
+void text_add_groups(struct text *text, const uint8_t *digest) {
+    for (size_t i = 0; i < DIGEST; i += 2) text_add(text, "%s%02x%02x", i ? "-" : "", digest[i], digest[i + 1]);
+}
+
 enum status text_print(struct text *text) {
     enum status status = text->failed ? say_no_memory() : DONE;
     if (!status && (fwrite(text->at, 1, text->length, stdout) != text->length || fflush(stdout))) {
@@ -81,6 +85,29 @@ void write32(uint8_t *at, uint32_t value) {
 
 void write64(uint8_t *at, uint64_t value) {
     for (size_t i = 0; i < 8; i++) at[i] = (uint8_t)(value >> (8 * i));
+}
+
+/* The value of a hexadecimal digit, or -1. */
+static int digit(char c) {
+    if (c >= '0' && c <= '9') return c - '0';
+    if (c >= 'a' && c <= 'f') return c - 'a' + 10;
+    return c >= 'A' && c <= 'F' ? c - 'A' + 10 : -1;
+}
+
+bool read_digest(const char *text, uint8_t *digest) {
+    uint8_t read[DIGEST] = {0};
+    size_t digits = 0;
+    for (; *text; text++) {
+        int value = digit(*text);
+        if (value < 0 && !strchr(" -:", *text)) return false;
+        if (value < 0) continue;
+        if (digits == 2 * DIGEST) return false;
+        read[digits / 2] = (uint8_t)(16 * read[digits / 2] + value);
+        digits++;
+    }
+    if (digits != 2 * DIGEST) return false;
+    memcpy(digest, read, sizeof read);
+    return true;
 }
 
 bool read_decimal(const char *at, size_t length, uint64_t most, uint64_t *value) {

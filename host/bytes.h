@@ -7,6 +7,9 @@
 
 #include "status.h"
 
+/* The length of a digest, SHA3-256. */
+#define DIGEST 32
+
 /* A run of bytes that its holder frees. All zero: none. */
 struct bytes {
     uint8_t *at;
@@ -31,6 +34,8 @@ struct text {
 void text_add(struct text *text, const char *form, ...) __attribute__((format(printf, 2, 3)));
 /* Bytes as hexadecimal digits. */
 void text_add_hex(struct text *text, const uint8_t *at, size_t length);
+/* A digest, or a seed, as 16 groups of 4 hexadecimal digits with hyphens between: one word to a shell, and fit for being read aloud. */
+void text_add_groups(struct text *text, const uint8_t *digest);
 /* Shows the text on standard output, and frees it. */
 enum status text_print(struct text *text);
 void text_free(struct text *text);
@@ -39,6 +44,10 @@ uint32_t read32(const uint8_t *at);
 uint64_t read64(const uint8_t *at);
 void write32(uint8_t *at, uint32_t value);
 void write64(uint8_t *at, uint64_t value);
+
+/* Reads a digest: 64 hexadecimal digits of either case, with or without blanks, hyphens and colons between. False, and no digest, where it
+ * is none. */
+bool read_digest(const char *text, uint8_t *digest);
 
 /* Reads a decimal of digits alone with no leading zero, at most `most`. False, and no value, where it is none. */
 bool read_decimal(const char *at, size_t length, uint64_t most, uint64_t *value);

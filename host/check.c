@@ -1,98 +1,118 @@
-/* The check of a published transcript, as a member runs it on another machine: the session is built anew from the files, and nothing that the
- * counting side says of itself is taken over. */
+/* The check of a published transcript, as a member runs it on another machine. */
 #include <stdio.h>
+#include <string.h>
 
-#include "ballots.h"
+#include "assurance.h"
 #include "commands.h"
-#include "election.h"
-#include "log.h"
 #include "result.h"
-#include "rounds.h"
 #include "say.h"
+#include "state.h"
+#include "transcript.h"
 
-/* Clear is done; the log is taken and the ballots are closed. */
-static enum status gather(struct election *election, const struct ballots *ballots) {
-    enum status status = log_take(election, ballots);
-    if (status) return status;
-    uint64_t reply = jdn_close(election->image, JDN_IMAGE, election->reg, JDN_REGISTER);
-    return reply ? say_refused(reply, "closing the ballots") : DONE;
-}
-
-static enum status claim(struct election *election, struct bytes *claims) {
-    enum status status = claims_read(election, claims);
-    if (status) return status;
-    uint64_t reply = jdn_claim(election->image, JDN_IMAGE, LENT(*claims));
-    return reply ? say_refused(reply, "claims.bin") : DONE;
-}
-
-static enum status commit_all(struct election *election) {
-    enum status status = DONE;
-    size_t rounds = election->numbers.rounds;
-    for (size_t round = 0; round < rounds && !status; round++) {
-        struct first first = {0};
-        progress("First messages", round + 1, rounds);
-        status = first_read(election, round, &first);
-        if (!status) status = round_commit(election, round, &first);
-        first_free(&first);
+/* Says what stands in the folder and must never be given away. */
+static enum status warn_secrets(const char *name) {
+    static const char *const secrets[] = {"key", STATE};
+    struct folder folder;
+    enum status status = folder_open(&folder, name);
+    for (size_t i = 0; i < sizeof secrets / sizeof *secrets && !status; i++) {
+        bool there = false;
+        status = file_find(&folder, secrets[i], &there);
+        if (there) say("WARNING: %s/%s is here. It is never given away: `election publish` leaves it out", name, secrets[i]);
     }
+    folder_close(&folder);
+    if (status) say("%s is not accepted", name);
     return status;
 }
 
-static enum status draw(struct election *election) {
-    struct bytes seed = {0};
-    enum status status = file_read(&election->folder, "seed.bin", SEED, SEED, &seed);
-    if (!status) {
-        uint64_t reply = jdn_draw(election->image, JDN_IMAGE, LENT(seed));
-        if (reply) status = say_refused(reply, "seed.bin");
-    }
-    bytes_free(&seed);
-    return status;
+/* Whether a digest of the transcript is the one that the member named, where one was named. */
+static enum status compare(const struct named *named, const uint8_t *found, const char *what) {
+    struct text text = {0};
+    if (!named->given || !memcmp(named->digest, found, DIGEST)) return DONE;
+    text_add(&text, "the %s is ", what);
+    text_add_groups(&text, found);
+    text_add(&text, ", and not the one that you named, ");
+    text_add_groups(&text, named->digest);
+    say("%s", text.failed ? what : text.at);
+    text_free(&text);
+    return REFUSED;
 }
 
-static enum status check_all(struct election *election, const struct ballots *ballots, const struct bytes *claims) {
-    size_t rounds = election->numbers.rounds;
-    struct batch batch = {0};
-    enum status status = batch_make(election, ballots, &batch);
-    for (size_t round = 0; round < rounds && !status; round++) {
-        struct first first = {0};
-        struct second second = {0};
-        progress("Checks", round + 1, rounds);
-        status = first_read(election, round, &first);
-        if (!status) status = second_read(election, round, &second);
-        if (!status) status = round_check(election, round, &batch, claims, &first, &second);
-        first_free(&first);
-        second_free(&second);
-    }
-    progress_end();
-    batch_free(&batch);
-    return status;
+static enum status compare_named(const struct transcript *transcript, const struct expected *expected) {
+    enum status status = compare(&expected->committed, transcript->commitment, "commitment");
+    if (!status) status = compare(&expected->seed, election_seed(&transcript->election), "seed");
+    return status ? status : compare(&expected->fingerprint, transcript->fingerprint, "fingerprint of the election");
 }
 
-static enum status compare_result(const struct election *election, const struct bytes *claims) {
+/* The first lines of an acceptance: on what condition it holds, or that what the condition is about was named. */
+static void add_verdict(struct text *text, const struct expected *expected) {
+    if (expected->committed.given && expected->seed.given)
+        text_add(text,
+                 "accepted: commitment and seed are the ones that you named.\nIt holds if that commitment was public before that seed was "
+                 "drawn.\n\n");
+    else
+        text_add(text, "accepted, on one condition. %s\n%s Check again with --committed and --seed, as the society published them.\n\n",
+                 condition_sentence, condition_reason);
+}
+
+/* The lists that a counted ballot marked, by its place in the batch. */
+static void add_marks(struct text *text, const struct transcript *transcript, size_t place) {
+    size_t ring = transcript->election.numbers.ring, marks = 0;
+    const uint8_t *claim = transcript->claims.at + ring * place;
+    const struct lists *lists = &transcript->paper.lists;
+    for (size_t i = 0; i < ring; i++) {
+        if (!claim[i]) continue;
+        text_add(text, "%s%s", marks++ ? ", " : " It marks: ", i < lists->count ? lists->names[i] : "(no list)");
+    }
+    text_add(text, marks ? "\n" : " It marks no list.\n");
+}
+
+/* Finds a ballot by its mark. REFUSED where it is not counted. */
+static enum status add_ballot(struct text *text, const struct transcript *transcript, uint32_t mark) {
+    const struct election *election = &transcript->election;
+    size_t entry = entry_find(election, mark), place = 0;
+    if (entry == election_used(election)) {
+        text_add(text, "The ballot with the mark %u is in no line of the log, and is NOT COUNTED.\n\n", (unsigned)mark);
+        return REFUSED;
+    }
+    text_add(text, "The ballot with the mark %u has the digest\n  ", (unsigned)mark);
+    text_add_groups(text, entry_digest(election, entry));
+    if (!entry_stands(election, entry)) {
+        text_add(text, "\nIt was withdrawn, and is NOT COUNTED.\n\n");
+        return REFUSED;
+    }
+    for (size_t i = 0; i < entry; i++) place += entry_stands(election, i);
+    text_add(text, "\nIt is counted.");
+    add_marks(text, transcript, place);
+    text_add(text, "\n");
+    return DONE;
+}
+
+/* The verdict, the ballot that was asked for, and the result. */
+static enum status print_verdict(const struct transcript *transcript, const struct result *result, const struct expected *expected) {
+    struct text text = {0};
+    add_verdict(&text, expected);
+    enum status found = expected->mark_given ? add_ballot(&text, transcript, expected->mark) : DONE;
+    result_text(result, &text);
+    enum status status = text_print(&text);
+    return status ? status : found;
+}
+
+enum status check(const char *folder, const struct expected *expected) {
+    struct transcript transcript;
     struct result result = {0};
-    enum status status = result_make(election, claims, &result);
+    enum status status = warn_secrets(folder);
+    if (status) return status;
+    status = transcript_read(&transcript, folder);
+    if (!status) status = ballots_name_unlogged(&transcript.election, &transcript.ballots);
+    if (!status) status = compare_named(&transcript, expected);
+    if (!status) status = transcript_check(&transcript);
+    if (!status) status = result_make(&transcript, &result);
     if (!status) status = result_compare(&result);
-    if (!status && puts("accepted\n") < 0) status = TROUBLE;
-    if (!status) status = result_print(&result);
+    if (status)
+        say("%s is not accepted", folder);
+    else
+        status = print_verdict(&transcript, &result, expected);
     result_free(&result);
-    return status;
-}
-
-enum status check(const char *folder) {
-    struct election election;
-    struct ballots ballots = {0};
-    struct bytes claims = {0};
-    enum status status = election_start(&election, folder);
-    if (!status) status = ballots_open(&election, &ballots);
-    if (!status) status = gather(&election, &ballots);
-    if (!status) status = claim(&election, &claims);
-    if (!status) status = commit_all(&election);
-    if (!status) status = draw(&election);
-    if (!status) status = check_all(&election, &ballots, &claims);
-    if (!status) status = compare_result(&election, &claims);
-    if (status) say("%s is not accepted", folder);
-    bytes_free(&claims);
-    ballots_close(&ballots);
-    election_end(&election);
+    transcript_end(&transcript);
     return status;
 }

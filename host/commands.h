@@ -1,7 +1,9 @@
 /* The commands of the program, each over the folder of an election. */
 #ifndef COMMANDS_H
 #define COMMANDS_H
+#include "bytes.h"
 #include "random.h"
+#include "sheet.h"
 #include "status.h"
 
 /* How far a run goes. */
@@ -11,18 +13,39 @@ enum goal {
     COUNTED    /* the result is there */
 };
 
-/* Runs an election from where it stands on disk. The seed is seed.bin, or else is drawn here. */
-enum status run(const char *folder, enum goal goal, const struct origin *origin);
-
-/* Checks a published transcript, with no key, and compares the result with what follows from it. */
-enum status check(const char *folder);
-
-/* The numbers of a new sheet. repeats 0: the least that the library takes. */
-struct new_sheet {
-    uint64_t ring, modulus, drown, rounds, repeats;
+/* A digest or a seed that was named on the command line. */
+struct named {
+    bool given;
+    uint8_t digest[DIGEST];
 };
 
-/* Makes a key and its sheet. */
+/* Where the seed of the draw comes from, where seed.bin is not there: it was named, or this machine draws it, which convinces nobody who
+ * does not trust it. */
+struct draw {
+    struct named seed;
+    bool here;
+};
+
+/* Runs an election from where it stands on disk. */
+enum status run(const char *folder, enum goal goal, const struct draw *draw, const struct origin *origin);
+
+/* What a member holds a transcript against, where it was named, and a ballot to look for. */
+struct expected {
+    struct named fingerprint, committed, seed;
+    bool mark_given;
+    uint32_t mark;
+};
+
+/* Checks a published transcript, with no key, and compares the result with what follows from it. */
+enum status check(const char *folder, const struct expected *expected);
+
+/* Writes what a member may have of an election to the folder `out`. */
+enum status publish(const char *folder, const char *out);
+
+/* Tells where an election stands and what is to be done next. */
+enum status report(const char *folder);
+
+/* Makes a key and its sheet. repeats 0: the least that the library takes. */
 enum status keygen(const char *folder, const struct new_sheet *numbers, const struct origin *origin);
 
 /* Makes a ballot for the named lists and adds its admission to the log. */

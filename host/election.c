@@ -4,6 +4,7 @@
 #include <string.h>
 
 #include "say.h"
+#include "sheet.h"
 #include "state.h"
 
 #define MOST_SHEET 262144
@@ -25,6 +26,12 @@ enum field {
     CHECKED = 193,
     ROUND_DIGESTS = 201
 };
+
+/* Where an entry of the register has its fields. */
+#define ENTRY 40
+#define ENTRY_STATE 4
+#define ENTRY_DIGEST 8
+#define STANDING 1
 
 static size_t count_at(const struct election *election, enum field field) {
     return (size_t)read64(election->image + field);
@@ -70,6 +77,30 @@ const uint8_t *election_round_digest(const struct election *election, size_t rou
     return election->image + ROUND_DIGESTS + 32 * round;
 }
 
+uint32_t entry_mark(const struct election *election, size_t entry) {
+    return read32(election->reg + ENTRY * entry);
+}
+
+bool entry_stands(const struct election *election, size_t entry) {
+    return election->reg[ENTRY * entry + ENTRY_STATE] == STANDING;
+}
+
+const uint8_t *entry_digest(const struct election *election, size_t entry) {
+    return election->reg + ENTRY * entry + ENTRY_DIGEST;
+}
+
+size_t entry_find(const struct election *election, uint32_t mark) {
+    size_t entry = 0, used = election_used(election);
+    while (entry < used && entry_mark(election, entry) != mark) entry++;
+    return entry;
+}
+
+size_t election_standing(const struct election *election) {
+    size_t standing = 0, used = election_used(election);
+    for (size_t i = 0; i < used; i++) standing += entry_stands(election, i);
+    return standing;
+}
+
 size_t ballot_length(const struct numbers *numbers) {
     return 4 + 16 * numbers->ring;
 }
@@ -92,11 +123,15 @@ enum status numbers_read(const struct bytes *sheet, uint8_t *image, uint8_t *reg
     uint8_t about[32]; /* N, D, B, L */
     uint64_t reply = jdn_sheet(LENT(*sheet), about, sizeof about);
     if (!reply) reply = jdn_clear(image, JDN_IMAGE, reg, JDN_REGISTER, LENT(*sheet));
-    if (reply) return say_refused(reply, "sheet.txt");
+    if (reply) {
+        sheet_explain(sheet, JDN_NUMBER(reply), "sheet.txt: ");
+        return say_refused(reply, "sheet.txt");
+    }
     numbers->ring = (size_t)read64(image + RING);
     numbers->modulus = read64(image + MODULUS);
     numbers->rounds = (size_t)read64(image + ROUNDS);
     numbers->repeats = (size_t)read64(image + REPEATS);
+    numbers->noise_bound = read64(about + 8);
     numbers->mask_bound = read64(about + 16);
     return DONE;
 }
@@ -113,17 +148,27 @@ enum status election_start(struct election *election, const char *folder) {
     return status;
 }
 
+/* Goes on from the state on disk, where there is one. */
+static enum status load_state(struct election *election, bool *there) {
+    enum status status = file_find(&election->folder, STATE, there);
+    return status || !*there ? status : state_load(election);
+}
+
 enum status election_resume(struct election *election, const char *folder) {
     bool there = false;
     enum status status = election_start(election, folder);
     if (!status) status = folder_lock(&election->folder);
-    if (!status) status = file_find(&election->folder, STATE, &there);
-    election->kept = true;
-    return status || !there ? status : state_load(election);
+    election->stored = true;
+    return status ? status : load_state(election, &there);
+}
+
+enum status election_look(struct election *election, const char *folder, bool *there) {
+    enum status status = election_start(election, folder);
+    return status ? status : load_state(election, there);
 }
 
 enum status election_save(const struct election *election) {
-    return election->kept ? state_save(election) : DONE;
+    return election->stored ? state_save(election) : DONE;
 }
 
 void election_end(struct election *election) {

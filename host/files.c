@@ -7,12 +7,15 @@
 #include <string.h>
 #include <sys/file.h>
 #include <sys/stat.h>
+#include <time.h>
 #include <unistd.h>
 
 #include "say.h"
 
-/* The longest name inside a folder; the host makes none longer than 30. */
-#define NAME_ROOM 64
+/* The longest name inside a folder; the host makes none longer than 30. A folder that is made may have any name that the system takes. */
+#define NAME_ROOM 4096
+/* How long another command is waited for: so many times a tenth of a second. */
+#define LOCK_TRIES 50
 
 static enum status trouble(const struct folder *folder, const char *name) {
     if (errno == ENOENT)
@@ -30,8 +33,22 @@ enum status folder_open(struct folder *folder, const char *name) {
     return TROUBLE;
 }
 
+/* Puts on disk which names the folder that holds the file has: a new name lasts only then. */
+static int sync_names(const struct folder *folder, const char *name) {
+    char parent[NAME_ROOM];
+    size_t length = strlen(name);
+    while (length && name[length - 1] == '/') length--; /* a folder may be named with a slash at its end */
+    while (length && name[length - 1] != '/') length--;
+    snprintf(parent, sizeof parent, "%.*s", length ? (int)length : 1, length ? name : ".");
+    int handle = openat(folder->handle, parent, O_RDONLY | O_DIRECTORY | O_CLOEXEC);
+    if (handle < 0) return -1;
+    int failed = fsync(handle);
+    return close(handle) || failed ? -1 : 0;
+}
+
 enum status folder_make(struct folder *folder, const char *name) {
-    if (mkdir(name, 0755) && errno != EEXIST) {
+    const struct folder here = {.name = ".", .handle = AT_FDCWD};
+    if (!mkdirat(AT_FDCWD, name, 0755) ? sync_names(&here, name) : errno != EEXIST) {
         say("the folder %s: %s", name, strerror(errno));
         return TROUBLE;
     }
@@ -39,7 +56,12 @@ enum status folder_make(struct folder *folder, const char *name) {
 }
 
 enum status folder_lock(const struct folder *folder) {
-    if (!flock(folder->handle, LOCK_EX | LOCK_NB)) return DONE;
+    const struct timespec pause = {.tv_nsec = 100000000};
+    for (int i = 0; i < LOCK_TRIES; i++) {
+        if (!flock(folder->handle, LOCK_EX | LOCK_NB)) return DONE;
+        if (errno != EWOULDBLOCK) break;
+        nanosleep(&pause, NULL);
+    }
     say("the folder %s is in use by another command: %s", folder->name, strerror(errno));
     return TROUBLE;
 }
@@ -47,17 +69,6 @@ enum status folder_lock(const struct folder *folder) {
 void folder_close(struct folder *folder) {
     if (folder->handle >= 0) close(folder->handle);
     folder->handle = -1;
-}
-
-/* Puts on disk which names the folder that holds the file has: a new name lasts only then. */
-static int sync_names(const struct folder *folder, const char *name) {
-    char parent[NAME_ROOM];
-    const char *slash = strrchr(name, '/');
-    snprintf(parent, sizeof parent, "%.*s", slash ? (int)(slash - name) : 1, slash ? name : ".");
-    int handle = openat(folder->handle, parent, O_RDONLY | O_DIRECTORY | O_CLOEXEC);
-    if (handle < 0) return -1;
-    int failed = fsync(handle);
-    return close(handle) || failed ? -1 : 0;
 }
 
 enum status folder_add(const struct folder *folder, const char *name, enum readers readers) {
@@ -118,7 +129,7 @@ enum status file_read(const struct folder *folder, const char *name, size_t leas
     return status;
 }
 
-/* Writes all bytes and has them on disk. */
+/* Writes all bytes. */
 static bool write_full(int handle, const uint8_t *at, size_t length) {
     size_t done = 0;
     while (done < length) {
@@ -127,30 +138,55 @@ static bool write_full(int handle, const uint8_t *at, size_t length) {
         if (part < 0) return false;
         done += (size_t)part;
     }
-    return !fsync(handle);
+    return true;
 }
 
-/* Writes the file under a name of its own beside its place, NAME.new. */
-static bool write_beside(const struct folder *folder, const char *beside, enum readers readers, const void *at, size_t length) {
-    if (unlinkat(folder->handle, beside, 0) && errno != ENOENT) return false; /* what a crash left */
+/* Writes the file under a name of its own beside its place, NAME.new; has its bytes on disk where it is to be synced. */
+static enum status write_beside(const struct folder *folder, const char *beside, enum readers readers, const void *at, size_t length,
+                                bool synced) {
+    if (unlinkat(folder->handle, beside, 0) && errno != ENOENT) return trouble(folder, beside); /* what a crash left */
     int handle = openat(folder->handle, beside, O_WRONLY | O_CREAT | O_EXCL | O_CLOEXEC, (mode_t)readers);
-    if (handle < 0) return false;
-    bool written = write_full(handle, at, length);
-    return !close(handle) && written;
+    if (handle < 0) return trouble(folder, beside);
+    bool written = write_full(handle, at, length) && (!synced || !fsync(handle));
+    return !close(handle) && written ? DONE : trouble(folder, beside);
+}
+
+static void name_beside(char *beside, const char *name) {
+    snprintf(beside, NAME_ROOM, "%s.new", name);
+}
+
+enum status file_stage(const struct folder *folder, const char *name, enum readers readers, const void *at, size_t length) {
+    char beside[NAME_ROOM];
+    name_beside(beside, name);
+    return write_beside(folder, beside, readers, at, length, false);
+}
+
+enum status folder_sync_all(const struct folder *folder) {
+    if (!syncfs(folder->handle)) return DONE;
+    say("the folder %s: %s", folder->name, strerror(errno));
+    return TROUBLE;
+}
+
+enum status file_place(const struct folder *folder, const char *name) {
+    char beside[NAME_ROOM];
+    name_beside(beside, name);
+    return renameat(folder->handle, beside, folder->handle, name) ? trouble(folder, name) : DONE;
 }
 
 enum status file_write(const struct folder *folder, const char *name, enum readers readers, const void *at, size_t length) {
     char beside[NAME_ROOM];
-    snprintf(beside, sizeof beside, "%s.new", name);
-    if (!write_beside(folder, beside, readers, at, length)) return trouble(folder, beside);
-    if (renameat(folder->handle, beside, folder->handle, name)) return trouble(folder, name);
+    name_beside(beside, name);
+    enum status status = write_beside(folder, beside, readers, at, length, true);
+    if (!status) status = file_place(folder, name);
+    if (status) return status;
     return sync_names(folder, name) ? trouble(folder, name) : DONE;
 }
 
 enum status file_write_new(const struct folder *folder, const char *name, enum readers readers, const void *at, size_t length) {
     char beside[NAME_ROOM];
-    snprintf(beside, sizeof beside, "%s.new", name);
-    if (!write_beside(folder, beside, readers, at, length)) return trouble(folder, beside);
+    name_beside(beside, name);
+    enum status status = write_beside(folder, beside, readers, at, length, true);
+    if (status) return status;
     int failed = linkat(folder->handle, beside, folder->handle, name, 0);
     bool there = failed && errno == EEXIST;
     if (failed && !there) return trouble(folder, name);

@@ -2,47 +2,11 @@
 #include <stdio.h>
 #include <string.h>
 
+#include "assurance.h"
 #include "commands.h"
 #include "election.h"
 #include "say.h"
-
-#define MOST_RING 2048
-/* a, b, k1, k2, k3 */
-#define POLYNOMIALS 5
-
-static void add_polynomial(struct text *text, const char *name, const uint8_t *at, uint64_t ring) {
-    text_add(text, "%s=", name);
-    for (uint64_t i = 0; i < ring; i++) text_add(text, i ? ",%llu" : "%llu", (unsigned long long)read64(at + 8 * i));
-    text_add(text, "\n");
-}
-
-/* The sheet with these numbers and polynomials, 8 bytes to a coefficient, a first. */
-static void write_sheet(struct text *text, const struct new_sheet *numbers, const uint8_t *polynomials) {
-    static const char *const names[POLYNOMIALS] = {"a", "b", "k1", "k2", "k3"};
-    text_add(text, "ring=%llu\nmodulus=%llu\n", (unsigned long long)numbers->ring, (unsigned long long)numbers->modulus);
-    text_add(text, "drown=%llu\nrounds=%llu\n", (unsigned long long)numbers->drown, (unsigned long long)numbers->rounds);
-    text_add(text, "repeats=%llu\n", (unsigned long long)numbers->repeats);
-    for (size_t i = 0; i < POLYNOMIALS; i++) add_polynomial(text, names[i], polynomials + 8 * numbers->ring * i, numbers->ring);
-}
-
-/* Whether the library takes a small sheet with so many rounds and repeats. */
-static bool repeats_suffice(uint64_t rounds, uint64_t repeats) {
-    static const uint8_t zeros[POLYNOMIALS * 4 * 8];
-    const struct new_sheet small = {.ring = 4, .modulus = 97, .drown = 0, .rounds = rounds, .repeats = repeats};
-    struct text text = {0};
-    uint8_t about[32];
-    write_sheet(&text, &small, zeros);
-    bool taken = !text.failed && !jdn_sheet((uint8_t *)text.at, text.length, about, sizeof about);
-    text_free(&text);
-    return taken;
-}
-
-/* The least repeats for the rounds, by asking the library (document 01, "Sheet"); the most there are where none suffice. */
-static uint64_t least_repeats(uint64_t rounds) {
-    uint64_t repeats = 1;
-    while (repeats < MOST_REPEATS && !repeats_suffice(rounds, repeats)) repeats++;
-    return repeats;
-}
+#include "sheet.h"
 
 /* Random s and e, and all polynomials of the sheet: b stays zero until the key is made. */
 static enum status draw_key(const struct new_sheet *numbers, const struct origin *origin, struct bytes *key, struct bytes *polynomials) {
@@ -69,11 +33,12 @@ static enum status make_public_key(const struct new_sheet *numbers, const struct
     struct text text = {0};
     struct bytes scratch = {0}, b = {0};
     size_t ring = (size_t)numbers->ring;
-    write_sheet(&text, numbers, polynomials->at);
+    sheet_write(&text, numbers, polynomials->at);
     enum status status = text.failed ? say_no_memory() : bytes_make(&scratch, JDN_SCRATCH);
     if (!status) status = bytes_make(&b, 8 * ring);
     if (!status) {
         uint64_t reply = jdn_keygen((uint8_t *)text.at, text.length, key->at, ring, key->at + ring, ring, LENT(b), LENT(scratch));
+        if (reply) sheet_explain(&(struct bytes){.at = (uint8_t *)text.at, .length = text.length}, JDN_NUMBER(reply), "--");
         if (reply) status = say_refused(reply, "the numbers for a new sheet");
     }
     if (!status) memcpy(polynomials->at + 8 * ring, b.at, b.length);
@@ -84,10 +49,11 @@ static enum status make_public_key(const struct new_sheet *numbers, const struct
 }
 
 /* The key first: a sheet whose key is lost would be of no use. */
-static enum status write_files(const struct folder *folder, const struct new_sheet *numbers, const struct bytes *key, const struct bytes *polynomials) {
+static enum status write_files(const struct folder *folder, const struct new_sheet *numbers, const struct bytes *key,
+                               const struct bytes *polynomials) {
     size_t ring = (size_t)numbers->ring;
     struct text text = {0};
-    write_sheet(&text, numbers, polynomials->at);
+    sheet_write(&text, numbers, polynomials->at);
     enum status status = text.failed ? say_no_memory() : folder_add(folder, "key", FOR_OWNER);
     if (!status) status = file_write_new(folder, "key/s", FOR_OWNER, key->at, ring);
     if (!status) status = file_write_new(folder, "key/e", FOR_OWNER, key->at + ring, ring);
@@ -100,16 +66,14 @@ enum status keygen(const char *name, const struct new_sheet *numbers, const stru
     struct new_sheet chosen = *numbers;
     struct folder folder = {.handle = -1};
     struct bytes key = {0}, polynomials = {0};
-    if (chosen.ring < 1 || chosen.ring > MOST_RING || chosen.modulus < 3) {
-        say("the ring is 4 to %d, a power of two, and the modulus at least 3", MOST_RING);
-        return USAGE;
-    }
     if (!chosen.repeats) chosen.repeats = least_repeats(chosen.rounds);
+    if (!sheet_numbers_fit(&chosen, "--")) return USAGE;
     enum status status = draw_key(&chosen, origin, &key, &polynomials);
     if (!status) status = make_public_key(&chosen, &key, &polynomials);
     if (!status) status = folder_make(&folder, name);
     if (!status) status = folder_lock(&folder);
     if (!status) status = write_files(&folder, &chosen, &key, &polynomials);
+    if (!status) say_if_for_trying((size_t)chosen.ring, (size_t)chosen.rounds);
     bytes_free(&key);
     bytes_free(&polynomials);
     folder_close(&folder);

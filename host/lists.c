@@ -1,9 +1,12 @@
 /* Reading lists.txt and enrolled.txt. */
 #include "lists.h"
 
+#include <stdio.h>
 #include <stdlib.h>
 #include <string.h>
 
+#include "jackdawnail.h"
+#include "letters.h"
 #include "say.h"
 
 /* 2,048 names of 128 bytes. */
@@ -16,28 +19,41 @@ size_t lists_find(const struct lists *lists, const char *name) {
     return i;
 }
 
-/* Whether a line is a name: not empty, no control characters. */
-static bool is_name(const uint8_t *at, const uint8_t *end) {
-    if (at == end) return false;
-    for (; at < end; at++)
-        if (*at < 32 || *at == 127) return false;
-    return true;
+/* What a name of the file looks like. */
+static char *looks_of(const struct lists *lists, const char *name) {
+    return (char *)lists->looks.at + (name - (const char *)lists->file.at);
+}
+
+/* The place of a name that looks like this one, or the count. */
+static size_t find_alike(const struct lists *lists, const char *name) {
+    size_t i = 0;
+    while (i < lists->count && strcmp(looks_of(lists, lists->names[i]), looks_of(lists, name))) i++;
+    return i;
+}
+
+/* Whether the line from `at` to `end`, where its line feed stands, is a name for the next list. The line feed gives way to a zero. */
+static bool line_names(const struct lists *lists, uint8_t *at, uint8_t *end, size_t most, char *fault) {
+    if (!end) {
+        snprintf(fault, FAULT_ROOM, "has no line end");
+        return false;
+    }
+    *end = 0;
+    if (!name_reads(at, (size_t)(end - at), fault)) return false;
+    name_looks((char *)at, looks_of(lists, (char *)at));
+    size_t alike = find_alike(lists, (char *)at);
+    if (alike < lists->count)
+        snprintf(fault, FAULT_ROOM, "looks like line %zu", alike + 1);
+    else if (lists->count == most)
+        snprintf(fault, FAULT_ROOM, "is one more than the ring has coefficients (%zu)", most);
+    return alike == lists->count && lists->count < most;
 }
 
 /* Adds the line that begins at `at`; answers where the next one begins, or NULL where this one is wrong. */
 static uint8_t *add_line(const struct folder *folder, struct lists *lists, uint8_t *at, size_t most) {
+    char fault[FAULT_ROOM];
     uint8_t *end = memchr(at, '\n', (size_t)(lists->file.at + lists->file.length - at));
-    const char *wrong = NULL;
-    if (!end)
-        wrong = "does not end";
-    else if (!is_name(at, end))
-        wrong = "is empty or has control characters";
-    else if (lists->count == most)
-        wrong = "is one more than the ring has coefficients";
-    if (end) *end = 0;
-    if (!wrong && lists_find(lists, (char *)at) < lists->count) wrong = "has a name that stood before";
-    if (wrong) {
-        say("%s/lists.txt, line %zu %s", folder->name, lists->count + 1, wrong);
+    if (!line_names(lists, at, end, most, fault)) {
+        say("%s/%s, line %zu %s", folder->name, LISTS_FILE, lists->count + 1, fault);
         return NULL;
     }
     lists->names[lists->count++] = (char *)at;
@@ -45,8 +61,10 @@ static uint8_t *add_line(const struct folder *folder, struct lists *lists, uint8
 }
 
 enum status lists_read(const struct folder *folder, size_t most, struct lists *lists) {
-    enum status status = file_read(folder, "lists.txt", 2, MOST_NAMES, &lists->file);
+    enum status status = file_read(folder, LISTS_FILE, 2, MOST_NAMES, &lists->file);
+    if (!status) status = bytes_make(&lists->looks, lists->file.length);
     if (status) return status;
+    jdn_digest(LENT(lists->file), lists->digest, sizeof lists->digest);
     lists->count = 0;
     lists->names = calloc(most, sizeof *lists->names);
     if (!lists->names) return say_no_memory();
@@ -58,16 +76,21 @@ enum status lists_read(const struct folder *folder, size_t most, struct lists *l
 void lists_free(struct lists *lists) {
     free(lists->names);
     bytes_free(&lists->file);
+    bytes_free(&lists->looks);
     *lists = (struct lists){0};
 }
 
-enum status enrolled_read(const struct folder *folder, uint64_t *enrolled) {
+enum status enrolment_read(const struct folder *folder, struct enrolment *enrolment) {
     struct bytes file = {0};
-    enum status status = file_read(folder, "enrolled.txt", 2, MOST_DIGITS + 1, &file);
-    if (!status && (file.at[file.length - 1] != '\n' || !read_decimal((char *)file.at, file.length - 1, UINT64_MAX, enrolled))) {
-        say("%s/enrolled.txt is not one decimal number on a line", folder->name);
-        status = REFUSED;
+    enum status status = file_read(folder, ENROLLED_FILE, 1, MOST_DIGITS + 1, &file);
+    if (status) return status;
+    bool ended = file.at[file.length - 1] == '\n';
+    if (!ended) say("%s/%s, line 1 has no line end", folder->name, ENROLLED_FILE);
+    if (ended && !read_decimal((char *)file.at, file.length - 1, UINT64_MAX, &enrolment->number)) {
+        say("%s/%s is not one decimal number on a line, of digits alone", folder->name, ENROLLED_FILE);
+        ended = false;
     }
+    jdn_digest(LENT(file), enrolment->digest, sizeof enrolment->digest);
     bytes_free(&file);
-    return status;
+    return ended ? DONE : REFUSED;
 }

@@ -2,6 +2,7 @@
 #include "log.h"
 
 #include <stdio.h>
+#include <stdlib.h>
 #include <string.h>
 
 #include "say.h"
@@ -13,71 +14,96 @@
 
 /* A line of the log. */
 struct line {
+    const char *fault; /* what is wrong with it; NULL where it reads */
     bool withdraws;
     uint32_t mark;
+    size_t end; /* where the next line begins */
 };
 
-/* Whether the line is `word` and then a mark, with one blank between. */
-static bool is_word(const char *at, size_t length, const char *word, uint32_t *mark) {
+/* Whether a line begins with this word and a blank; if so its mark is read, or the line has a fault. */
+static bool has_word(const char *at, size_t length, const char *word, struct line *line) {
     uint64_t number = 0;
     size_t skip = strlen(word);
-    if (length < skip || memcmp(at, word, skip) || !read_decimal(at + skip, length - skip, UINT32_MAX, &number)) return false;
-    *mark = (uint32_t)number;
+    if (length < skip || memcmp(at, word, skip)) return false;
+    if (!read_decimal(at + skip, length - skip, UINT32_MAX, &number))
+        line->fault = "has a mark that is no whole number from 0 to 4294967295, in digits alone and with no zero before them";
+    line->mark = (uint32_t)number;
     return true;
 }
 
-static bool line_read(const char *at, size_t length, struct line *line) {
-    line->withdraws = is_word(at, length, "withdraw ", &line->mark);
-    return line->withdraws || is_word(at, length, "admit ", &line->mark);
+/* Reads the line that begins at a place of the log, before its end. */
+static struct line line_read(const struct bytes *log, size_t place) {
+    struct line line = {.end = log->length};
+    const char *at = (const char *)log->at + place;
+    const char *end = memchr(at, '\n', log->length - place);
+    if (!end) {
+        line.fault = "has no line end";
+        return line;
+    }
+    line.end = (size_t)(end + 1 - (const char *)log->at);
+    line.withdraws = has_word(at, (size_t)(end - at), "withdraw ", &line);
+    if (!line.withdraws && !has_word(at, (size_t)(end - at), "admit ", &line)) line.fault = "is not `admit MARK` or `withdraw MARK`";
+    return line;
 }
 
+/* A ballot that has the mark and is otherwise zeros: it is in range, and the register goes by the mark. */
+static enum status blank_ballot(const struct election *election, uint32_t mark, struct bytes *ballot) {
+    enum status status = bytes_make(ballot, ballot_length(&election->numbers));
+    if (!status) write32(ballot->at, mark);
+    return status;
+}
+
+/* Takes a line that reads. With no ballots a blank one is admitted. */
 static enum status line_take(struct election *election, const struct ballots *ballots, const struct line *line) {
     unsigned long long number = (unsigned long long)election->log_lines + 1;
     struct bytes ballot = {0};
     uint64_t reply;
     if (line->withdraws) {
         reply = jdn_withdraw(election->image, JDN_IMAGE, election->reg, JDN_REGISTER, line->mark);
-        return reply ? say_refused(reply, "log.txt, line %llu, withdraw %u", number, (unsigned)line->mark) : DONE;
+        return reply ? say_refused(reply, LOG ", line %llu, withdraw %u", number, (unsigned)line->mark) : DONE;
     }
-    enum status status = ballots_take(election, ballots, line->mark, &ballot);
+    enum status status = ballots ? ballots_take(election, ballots, line->mark, &ballot) : blank_ballot(election, line->mark, &ballot);
     if (status) return status;
     reply = jdn_admit(election->image, JDN_IMAGE, election->reg, JDN_REGISTER, LENT(ballot));
     bytes_free(&ballot);
-    return reply ? say_refused(reply, "log.txt, line %llu, admit %u", number, (unsigned)line->mark) : DONE;
+    return reply ? say_refused(reply, LOG ", line %llu, admit %u", number, (unsigned)line->mark) : DONE;
 }
 
 /* Whether the log still begins with what was taken of it. */
 static enum status log_continues(const struct election *election, const struct bytes *log) {
-    uint8_t digest[32];
+    uint8_t digest[DIGEST];
     bool same = election->log_length <= log->length;
     if (same) {
         jdn_digest(log->at, (size_t)election->log_length, digest, sizeof digest);
         same = !memcmp(digest, election->log_digest, sizeof digest);
     }
     if (!same) {
-        say("%s/log.txt was changed in the lines that are taken already", election->folder.name);
+        say("%s/" LOG " was changed in the lines that are taken already", election->folder.name);
         return REFUSED;
     }
     if (election_phase(election) != GATHERING && election->log_length < log->length) {
-        say("%s/log.txt has grown since the ballots were closed", election->folder.name);
+        say("%s/" LOG " has grown since the ballots were closed", election->folder.name);
         return REFUSED;
     }
     return DONE;
 }
 
+/* Goes past a line. */
+static void line_pass(struct election *election, const struct line *line) {
+    election->log_length = line->end;
+    election->log_lines++;
+}
+
 /* Takes the next line of the log, which is not at its end. */
 static enum status log_step(struct election *election, const struct ballots *ballots, const struct bytes *log) {
-    struct line line = {0};
-    const uint8_t *at = log->at + election->log_length;
-    const uint8_t *end = memchr(at, '\n', log->length - (size_t)election->log_length);
-    if (!end || !line_read((const char *)at, (size_t)(end - at), &line)) {
-        say("%s/log.txt, line %llu is not `admit MARK` or `withdraw MARK`", election->folder.name, (unsigned long long)election->log_lines + 1);
+    struct line line = line_read(log, (size_t)election->log_length);
+    if (line.fault) {
+        say("%s/" LOG ", line %llu %s", election->folder.name, (unsigned long long)election->log_lines + 1, line.fault);
         return REFUSED;
     }
     enum status status = line_take(election, ballots, &line);
     if (status) return status;
-    election->log_length = (uint64_t)(end + 1 - log->at);
-    election->log_lines++;
+    line_pass(election, &line);
     progress("Log, bytes", (size_t)election->log_length, log->length);
     return DONE;
 }
@@ -86,6 +112,29 @@ static enum status log_step(struct election *election, const struct ballots *bal
 static enum status log_save(struct election *election, const struct bytes *log) {
     jdn_digest(log->at, (size_t)election->log_length, election->log_digest, sizeof election->log_digest);
     return election_save(election);
+}
+
+/* Goes past a line that was refused, in a session that is thrown away. A ballot that is no good has a blank one in its place, so that a
+ * line that withdraws it is not called wrong too. */
+static void skip_line(struct election *election, const struct bytes *log) {
+    struct bytes blank = {0};
+    struct line line = line_read(log, (size_t)election->log_length);
+    if (!line.fault && !line.withdraws && !blank_ballot(election, line.mark, &blank))
+        jdn_admit(election->image, JDN_IMAGE, election->reg, JDN_REGISTER, LENT(blank));
+    bytes_free(&blank);
+    line_pass(election, &line);
+}
+
+/* Names every wrong line behind one that was refused. */
+static void name_others(const struct election *election, const struct ballots *ballots, const struct bytes *log) {
+    struct election *other = malloc(sizeof *other);
+    if (!other) return;
+    *other = *election;
+    skip_line(other, log);
+    while (other->log_length < log->length)
+        if (log_step(other, ballots, log)) skip_line(other, log);
+    explicit_bzero(other, sizeof *other);
+    free(other);
 }
 
 /* Takes what is left of the log; the lines before one that is refused are taken all the same, and saved. */
@@ -98,6 +147,7 @@ static enum status log_rest(struct election *election, const struct ballots *bal
         saved = log_save(election, log);
         on_disk = election->log_lines;
     }
+    if (status) name_others(election, ballots, log);
     progress_end();
     if (!saved && election->log_lines != on_disk) saved = log_save(election, log);
     return status ? status : saved;
@@ -105,11 +155,19 @@ static enum status log_rest(struct election *election, const struct ballots *bal
 
 enum status log_take(struct election *election, const struct ballots *ballots) {
     struct bytes log = {0};
-    enum status status = file_read(&election->folder, "log.txt", ANY_LENGTH, MOST_LOG, &log);
+    enum status status = file_read(&election->folder, LOG, ANY_LENGTH, MOST_LOG, &log);
     if (!status) status = log_continues(election, &log);
     if (!status) status = log_rest(election, ballots, &log);
     bytes_free(&log);
     return status;
+}
+
+enum status log_rehearse(const struct election *election, struct election *after) {
+    bool there = false;
+    enum status status = file_find(&election->folder, LOG, &there);
+    *after = *election;
+    after->stored = false;
+    return status || !there ? status : log_take(after, NULL);
 }
 
 enum status log_add(const struct folder *folder, const char *word, uint32_t mark) {
@@ -117,17 +175,13 @@ enum status log_add(const struct folder *folder, const char *word, uint32_t mark
     char line[32];
     bool there = false;
     int length = snprintf(line, sizeof line, "%s %u\n", word, (unsigned)mark);
-    enum status status = file_find(folder, "log.txt", &there);
-    if (!status && there) status = file_read(folder, "log.txt", ANY_LENGTH, MOST_LOG - sizeof line, &log);
-    if (!status && log.length && log.at[log.length - 1] != '\n') {
-        say("%s/log.txt does not end with a whole line", folder->name);
-        status = REFUSED;
-    }
+    enum status status = file_find(folder, LOG, &there);
+    if (!status && there) status = file_read(folder, LOG, ANY_LENGTH, MOST_LOG - sizeof line, &log);
     if (!status) status = bytes_make(&longer, log.length + (size_t)length);
     if (!status) {
         if (log.length) memcpy(longer.at, log.at, log.length);
         memcpy(longer.at + log.length, line, (size_t)length);
-        status = file_write(folder, "log.txt", FOR_ALL, LENT(longer));
+        status = file_write(folder, LOG, FOR_ALL, LENT(longer));
     }
     bytes_free(&log);
     bytes_free(&longer);

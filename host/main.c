@@ -2,114 +2,206 @@
 #include <stdio.h>
 #include <string.h>
 
-#include "bytes.h"
 #include "commands.h"
 #include "election.h"
+#include "options.h"
 #include "say.h"
+
+/* The release, which the Makefile names. */
+#ifndef ELECTION_VERSION
+#define ELECTION_VERSION "of no release"
+#endif
 
 /* A prime near 2^55 (document 000, table 1) with 4096 dividing it less one, which fits every ring. */
 #define MODULUS 36028797018820609
 #define DROWN 40
 
-static const char usage[] =
-    "usage: election COMMAND [OPTION..] FOLDER ..\n"
-    "\n"
-    "  run FOLDER                 runs the election from where it stands, to result.txt and result.html\n"
-    "  check FOLDER               checks a published election, with no key: exit status 0 only if it is accepted\n"
-    "  gather FOLDER              only takes the log so far\n"
-    "  commit FOLDER              runs up to the first messages, so that the society can draw seed.bin (32 bytes)\n"
-    "  keygen FOLDER              makes key/s, key/e and sheet.txt\n"
-    "  vote FOLDER MARK LIST..    makes a ballot for the named lists and adds its admission to the log\n"
-    "  withdraw FOLDER MARK       adds a withdrawal to the log\n"
-    "  sample FOLDER              makes a small election to try: its ring is too small for a real one\n"
-    "\n"
-    "options of keygen and sample: --ring N --rounds R --repeats M --drown D --modulus Q; of sample: --ballots K\n"
+static enum status do_keygen(const struct options *options, char **words, size_t count) {
+    (void)count;
+    return keygen(words[0], &options->numbers, &options->origin);
+}
+
+static enum status do_vote(const struct options *options, char **words, size_t count) {
+    uint32_t mark = 0;
+    return mark_read(words[1], &mark) ? vote(words[0], mark, words + 2, count - 2, &options->origin) : USAGE;
+}
+
+static enum status do_withdraw(const struct options *options, char **words, size_t count) {
+    uint32_t mark = 0;
+    (void)options, (void)count;
+    return mark_read(words[1], &mark) ? withdraw(words[0], mark) : USAGE;
+}
+
+static enum status do_gather(const struct options *options, char **words, size_t count) {
+    (void)count;
+    return run(words[0], GATHERED, &options->draw, &options->origin);
+}
+
+static enum status do_commit(const struct options *options, char **words, size_t count) {
+    (void)count;
+    return run(words[0], COMMITTED, &options->draw, &options->origin);
+}
+
+static enum status do_run(const struct options *options, char **words, size_t count) {
+    (void)count;
+    return run(words[0], COUNTED, &options->draw, &options->origin);
+}
+
+static enum status do_publish(const struct options *options, char **words, size_t count) {
+    (void)options, (void)count;
+    return publish(words[0], words[1]);
+}
+
+static enum status do_check(const struct options *options, char **words, size_t count) {
+    (void)count;
+    return check(words[0], &options->expected);
+}
+
+static enum status do_status(const struct options *options, char **words, size_t count) {
+    (void)options, (void)count;
+    return report(words[0]);
+}
+
+static enum status do_sample(const struct options *options, char **words, size_t count) {
+    (void)count;
+    return sample(words[0], &options->numbers, (size_t)options->ballots, &options->origin);
+}
+
+/* A command: the words behind it, as many as it needs, the options that it takes, and what is said of it. */
+struct command {
+    const char *name, *words;
+    size_t least, most;
+    unsigned takes;
+    enum status (*act)(const struct options *options, char **words, size_t count);
+    const char *line, *more;
+};
+
+#define NO_LIMIT 100000
+
+static const char numbers_help[] =
+    "  --ring N       2048 by default: a power of two from 4 to 2048. Below 1024 it is for trying only\n"
+    "  --rounds R     40 by default: 1 to 128. Below 40 it is for trying only\n"
+    "  --repeats M    the least for the rounds by default, 256 at most\n"
+    "  --drown D      40 by default: 0 to 40\n"
+    "  --modulus Q    a prime near 2^55 by default; twice the ring divides Q less one\n";
+
+/* In the order of an election. */
+static const struct command commands[] = {
+    {"keygen", "FOLDER", 1, 1, TAKES_NUMBERS | TAKES_UNSAFE_SEED, do_keygen, "makes key/s, key/e and sheet.txt", numbers_help},
+    {"vote", "FOLDER MARK LIST..", 2, NO_LIMIT, TAKES_UNSAFE_SEED, do_vote,
+     "makes a ballot for the named lists and adds its admission to the log",
+     "Prints the digest of the ballot: with the mark it finds the ballot again in what is published. Where a ballot with this mark\n"
+     "is there and in no line of the log, that one is admitted as it is. From the first ballot on lists.txt may not be changed.\n"
+     "A list whose name begins with -- goes behind --.\n"},
+    {"withdraw", "FOLDER MARK", 2, 2, 0, do_withdraw, "adds a withdrawal to the log", "Possible until the ballots are closed.\n"},
+    {"gather", "FOLDER", 1, 1, TAKES_UNSAFE_SEED, do_gather, "takes the log so far, and names every ballot that is no good",
+     "Reads and judges lists.txt and enrolled.txt too. The noise of the ballots is looked at where key/ is there, all else without it.\n"},
+    {"commit", "FOLDER", 1, 1, TAKES_UNSAFE_SEED, do_commit,
+     "closes the ballots, makes the first messages and prints the commitment to publish",
+     "The commitment is to be public before the seed is drawn.\n"},
+    {"run", "FOLDER", 1, 1, TAKES_SEED | TAKES_DRAW | TAKES_UNSAFE_SEED, do_run,
+     "runs the election from where it stands, to result.txt and result.html",
+     "  --seed SEED    the seed that was drawn in public after the commitment was: 64 hexadecimal digits. Or seed.bin holds it, 32 bytes\n"
+     "  --draw-here    for trying only: this machine draws the seed, which is no public draw\n"},
+    {"publish", "FOLDER OUT", 2, 2, 0, do_publish, "writes to the folder OUT exactly what a member may have",
+     "Never key/ and never state.bin. OUT is made; what is there already may only be an earlier publication of this election.\n"},
+    {"check", "FOLDER", 1, 1, TAKES_SEED | TAKES_EXPECTED, do_check,
+     "checks a published election, with no key: exit status 0 only if it is accepted",
+     "  --committed C    the commitment, as the society published it before the draw\n"
+     "  --seed SEED      the seed, as it was drawn in public\n"
+     "  --fingerprint F  the fingerprint that another member, or the society, reads out\n"
+     "  --mark M         finds the ballot with this mark: exit status 0 only if it is counted, too\n"
+     "Without --committed and --seed an acceptance holds only if this seed was drawn after this commitment was public.\n"},
+    {"status", "FOLDER", 1, 1, 0, do_status, "tells where an election stands and what to do next", ""},
+    {"sample", "FOLDER", 1, 1, TAKES_NUMBERS | TAKES_BALLOTS | TAKES_UNSAFE_SEED, do_sample,
+     "makes a small election to try: its ring is too small for a real one",
+     "  --ballots K    12 by default, and one that is withdrawn\n"
+     "and the options of keygen, with a ring of 64 and 2 rounds by default. To run it: election run --draw-here FOLDER\n"},
+};
+#define COMMANDS (sizeof commands / sizeof *commands)
+
+static const char usage_end[] =
+    "\n`election help COMMAND` says more of a command; `election --version` names the release. Options stand before or after the folder.\n"
     "--unsafe-test-seed HEX      for tests only: all random numbers follow from these 64 digits, and so does the key\n"
     "\n"
     "FOLDER has sheet.txt, lists.txt, enrolled.txt, log.txt (admit MARK, withdraw MARK), ballots/MARK.ballot or ballots.bin,\n"
     "claims.bin, seed.bin, rounds/ and the result. key/ and state.bin are never given away, and an old state.bin is never put back.\n"
+    "docs/ELECTIONS.md leads through an election.\n"
     "exit status: 0 done or accepted, 1 refused, 2 usage, 3 a file is missing or cannot be read or written\n";
 
-struct options {
-    struct new_sheet numbers;
-    uint64_t ballots;
-    struct origin origin;
-};
-
-static int digit(char c) {
-    if (c >= '0' && c <= '9') return c - '0';
-    return c >= 'a' && c <= 'f' ? c - 'a' + 10 : -1;
+static const struct command *find_command(const char *name) {
+    for (size_t i = 0; i < COMMANDS; i++)
+        if (!strcmp(commands[i].name, name)) return &commands[i];
+    return NULL;
 }
 
-static bool read_seed(const char *text, struct origin *origin) {
-    if (strlen(text) != 2 * SEED) return false;
-    for (size_t i = 0; i < SEED; i++) {
-        int high = digit(text[2 * i]), low = digit(text[2 * i + 1]);
-        if (high < 0 || low < 0) return false;
-        origin->seed[i] = (uint8_t)(16 * high + low);
+static void add_usage(struct text *text) {
+    text_add(text, "usage: election COMMAND [OPTION..] FOLDER ..\n\n");
+    for (size_t i = 0; i < COMMANDS; i++) text_add(text, "  %-8s %-19s %s\n", commands[i].name, commands[i].words, commands[i].line);
+    text_add(text, "%s", usage_end);
+}
+
+static void add_help(struct text *text, const struct command *command) {
+    text_add(text, "usage: election %s [OPTION..] %s\n\n%s\n%s%s", command->name, command->words, command->line,
+             command->more[0] ? "\n" : "", command->more);
+}
+
+/* Help that was asked for: of a command, or of all. */
+static enum status help(const char *name) {
+    struct text text = {0};
+    const struct command *command = name ? find_command(name) : NULL;
+    if (name && !command) {
+        say("%s is no command: `election help` lists them", name);
+        return USAGE;
     }
-    origin->given = true;
-    say("UNSAFE: the random numbers follow from a given seed. For tests only.");
-    return true;
+    if (command)
+        add_help(&text, command);
+    else
+        add_usage(&text);
+    return text_print(&text);
 }
 
-/* Reads one option and its value. */
-static bool read_option(struct options *options, const char *name, const char *value) {
-    const struct {
-        const char *name;
-        uint64_t most;
-        uint64_t *place;
-    } numbers[] = {
-        {"--ring", 2048, &options->numbers.ring},
-        {"--modulus", UINT64_MAX, &options->numbers.modulus},
-        {"--drown", 1000, &options->numbers.drown},
-        {"--rounds", 1000, &options->numbers.rounds},
-        {"--repeats", 1000, &options->numbers.repeats},
-        {"--ballots", MOST_BALLOTS - 1, &options->ballots},
-    };
-    if (!strcmp(name, "--unsafe-test-seed")) return read_seed(value, &options->origin);
-    for (size_t i = 0; i < sizeof numbers / sizeof *numbers; i++)
-        if (!strcmp(name, numbers[i].name)) return read_decimal(value, strlen(value), numbers[i].most, numbers[i].place);
-    return false;
-}
-
-static enum status wrong_usage(void) {
-    fputs(usage, stderr);
+/* Help where nothing was asked for that can be done. */
+static enum status show_usage(void) {
+    struct text text = {0};
+    add_usage(&text);
+    fputs(text.failed ? usage_end : text.at, stderr);
+    text_free(&text);
     return USAGE;
 }
 
-/* Runs the command on what stands behind the options: the folder first. */
-static enum status command(const char *name, struct options *options, char **words, size_t count) {
-    const struct origin *origin = &options->origin;
-    uint64_t mark = 0;
-    if (!strcmp(name, "run") && count == 1) return run(words[0], COUNTED, origin);
-    if (!strcmp(name, "check") && count == 1) return check(words[0]);
-    if (!strcmp(name, "gather") && count == 1) return run(words[0], GATHERED, origin);
-    if (!strcmp(name, "commit") && count == 1) return run(words[0], COMMITTED, origin);
-    if (!strcmp(name, "keygen") && count == 1) return keygen(words[0], &options->numbers, origin);
-    if (!strcmp(name, "sample") && count == 1) return sample(words[0], &options->numbers, (size_t)options->ballots, origin);
-    if (count < 2 || !read_decimal(words[1], strlen(words[1]), UINT32_MAX, &mark)) return wrong_usage();
-    if (!strcmp(name, "vote")) return vote(words[0], (uint32_t)mark, words + 2, count - 2, origin);
-    if (!strcmp(name, "withdraw") && count == 2) return withdraw(words[0], (uint32_t)mark);
-    return wrong_usage();
-}
-
-static enum status read_command(size_t count, char **words) {
-    struct options options = {.numbers = {.modulus = MODULUS, .drown = DROWN}};
-    if (count < 3) return wrong_usage();
-    bool small = !strcmp(words[1], "sample");
-    options.numbers.ring = small ? 64 : 2048;
-    options.numbers.rounds = small ? 2 : 40;
-    options.ballots = 12;
-    size_t next = 2;
-    while (next + 1 < count && !strncmp(words[next], "--", 2)) {
-        if (!read_option(&options, words[next], words[next + 1])) return wrong_usage();
-        next += 2;
+static enum status act(const struct command *command, char **words, size_t count) {
+    bool small = !strcmp(command->name, "sample");
+    struct options options = {.numbers = {.modulus = MODULUS, .drown = DROWN, .ring = small ? 64 : 2048, .rounds = small ? 2 : 40},
+                              .ballots = 12};
+    enum status status = USAGE;
+    bool read = options_read(&options, command->takes, words, &count);
+    if (read && options.help) {
+        status = help(command->name);
+    } else if (read && count >= command->least && count <= command->most) {
+        status = command->act(&options, words, count);
+    } else {
+        if (read)
+            say("%s needs %s, and %s words are here", command->name, command->words, count < command->least ? "too few" : "too many");
+        say("`election help %s` says more", command->name);
     }
-    if (next >= count || !strncmp(words[next], "--", 2) || !options.ballots) return wrong_usage();
-    enum status status = command(words[1], &options, words + next, count - next);
     explicit_bzero(&options, sizeof options);
     return status;
+}
+
+static enum status read_command(char **words, size_t count) {
+    struct text text = {0};
+    if (!count) return show_usage();
+    if (!strcmp(words[0], "help") && count <= 2) return help(words[1]);
+    if (!strcmp(words[0], "--help")) return help(NULL);
+    if (!strcmp(words[0], "--version")) {
+        text_add(&text, "election (Jackdawnail) " ELECTION_VERSION "\n");
+        return text_print(&text);
+    }
+    const struct command *command = find_command(words[0]);
+    if (command) return act(command, words + 1, count - 1);
+    say("%s is no command: `election help` lists them", words[0]);
+    return USAGE;
 }
 
 /* Whether the header that this was compiled with and the library that it was linked with agree on the fixed lengths. */
@@ -118,7 +210,7 @@ static bool library_fits(void) {
 }
 
 int main(int count, char **words) {
-    if (library_fits()) return (int)read_command((size_t)count, words);
+    if (library_fits()) return (int)read_command(words + 1, (size_t)(count > 1 ? count - 1 : 0));
     say("the library is another one than its header");
     return TROUBLE;
 }

@@ -3,10 +3,36 @@
 
 #include <string.h>
 
-enum status key_read(const struct election *election, struct key *key) {
+#include "say.h"
+#include "sheet.h"
+
+enum status key_find(const struct election *election, bool *there) {
+    return file_find(&election->folder, "key/s", there);
+}
+
+/* The refusal of a secret key that does not match the sheet (document 01). */
+#define NO_MATCH 14
+
+/* Whether the key gives the public key of the sheet: the line of b that is made from it stands in the sheet. */
+static enum status key_fits(struct election *election, const struct key *key) {
+    struct bytes b = {0};
+    struct text line = {0};
+    enum status status = bytes_make(&b, 8 * election->numbers.ring);
+    uint64_t reply = status ? 0 : jdn_keygen(LENT(election->sheet), LENT(key->s), LENT(key->e), LENT(b), LENT(election->scratch));
+    text_add(&line, "\n");
+    if (!status && !reply) sheet_add_polynomial(&line, "b", b.at, election->numbers.ring);
+    if (!status && line.failed) status = say_no_memory();
+    if (!status && !reply && !memmem(LENT(election->sheet), line.at, line.length)) reply = NO_MATCH;
+    bytes_free(&b);
+    text_free(&line);
+    return reply ? say_refused(reply, "%s/key", election->folder.name) : status;
+}
+
+enum status key_read(struct election *election, struct key *key) {
     size_t ring = election->numbers.ring;
     enum status status = file_read(&election->folder, "key/s", ring, ring, &key->s);
-    return status ? status : file_read(&election->folder, "key/e", ring, ring, &key->e);
+    if (!status) status = file_read(&election->folder, "key/e", ring, ring, &key->e);
+    return status ? status : key_fits(election, key);
 }
 
 void key_free(struct key *key) {
@@ -28,7 +54,8 @@ static enum status material_room(struct material *material, const struct numbers
     return status;
 }
 
-/* The secrets are s, e and the twelve r; the halves s1 and e1 follow from s0 and e0. A permutation has 3L = 42N entries, as a vector has. */
+/* The secrets are s, e and the twelve r; the halves s1 and e1 follow from s0 and e0. A permutation has
+ * 3L = 42N entries, as a vector has. */
 static void material_fill(struct material *material, const struct numbers *numbers, const struct key *key, struct source *source) {
     size_t ring = numbers->ring, entries = 42 * ring;
     memcpy(material->secrets.at, key->s.at, ring);
@@ -43,7 +70,8 @@ static void material_fill(struct material *material, const struct numbers *numbe
     source_bytes(source, LENT(material->salts));
 }
 
-enum status material_make(struct material *material, const struct numbers *numbers, const struct key *key, size_t ballots, const uint8_t *seed) {
+enum status material_make(struct material *material, const struct numbers *numbers, const struct key *key, size_t ballots,
+                          const uint8_t *seed) {
     struct source source;
     enum status status = material_room(material, numbers, ballots);
     if (status) return status;

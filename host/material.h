@@ -8,7 +8,10 @@ struct key {
     struct bytes s, e;
 };
 
-enum status key_read(const struct election *election, struct key *key);
+/* Whether the folder has one. */
+enum status key_find(const struct election *election, bool *there);
+/* Reads it; REFUSED where it is not the key of the sheet. */
+enum status key_read(struct election *election, struct key *key);
 void key_free(struct key *key);
 
 struct material {
@@ -16,11 +19,13 @@ struct material {
 };
 
 /* The material as the producer's calls are lent it. */
-#define LENT_MATERIAL(m) \
-    LENT((m).secrets), LENT((m).s0), LENT((m).e0), LENT((m).masks0), LENT((m).masks1), LENT((m).vectors), LENT((m).permutations), LENT((m).salts)
+#define LENT_MATERIAL(m)                                                                                                          \
+    LENT((m).secrets), LENT((m).s0), LENT((m).e0), LENT((m).masks0), LENT((m).masks1), LENT((m).vectors), LENT((m).permutations), \
+        LENT((m).salts)
 
 /* All of a round's random numbers from its seed: the same seed gives the same ones, for the first and the second message. */
-enum status material_make(struct material *material, const struct numbers *numbers, const struct key *key, size_t ballots, const uint8_t *seed);
+enum status material_make(struct material *material, const struct numbers *numbers, const struct key *key, size_t ballots,
+                          const uint8_t *seed);
 void material_free(struct material *material);
 
 #endif

@@ -1,10 +1,10 @@
 /* The result as a page: one file, nothing from outside, fit for a small screen and for being read aloud. */
 #include "result.h"
 
-#include <stdio.h>
+#include "assurance.h"
 
-static const char head[] =
-    "<!DOCTYPE html>\n<html lang=\"en\">\n<head>\n<meta charset=\"utf-8\">\n"
+static const char head[] = PAGE_START RESULT_FORM
+    " -->\n<html lang=\"en\">\n<head>\n<meta charset=\"utf-8\">\n"
     "<meta name=\"viewport\" content=\"width=device-width, initial-scale=1\">\n"
     "<meta http-equiv=\"Content-Security-Policy\" content=\"default-src 'none'; style-src 'unsafe-inline'\">\n"
     "<title>Result of the election</title>\n<style>\n"
@@ -16,6 +16,7 @@ static const char head[] =
     "th[scope=row] { font-weight: normal; overflow-wrap: anywhere; min-width: 6rem; }\n"
     ".number { text-align: right; font-variant-numeric: tabular-nums; padding-right: 0; }\n"
     "code { overflow-wrap: anywhere; }\n"
+    ".condition { border-left: .3rem solid; padding-left: .8rem; }\n"
     "</style>\n</head>\n<body>\n<main>\n<h1>Result of the election</h1>\n";
 
 /* A name with what a page would read as its own signs written out. */
@@ -43,54 +44,75 @@ static void number_row(struct text *text, const char *name, unsigned long long v
     text_add(text, "</th><td class=\"number\">%llu</td></tr>\n", value);
 }
 
-static void digest_row(struct text *text, const char *name, const uint8_t *digest) {
-    text_add(text, "<tr><th scope=\"row\">%s</th><td><code>", name);
-    text_add_hex(text, digest, 32);
-    text_add(text, "</code></td></tr>\n");
-}
-
 static void page_votes(const struct result *result, struct text *text) {
     table_start(text, "Votes", "List", "Votes", " class=\"number\"");
-    for (size_t i = 0; i < result->lists.count; i++) number_row(text, result->lists.names[i], result->votes[i]);
+    const struct lists *lists = &result->transcript->paper.lists;
+    for (size_t i = 0; i < lists->count; i++) number_row(text, lists->names[i], result->votes[i]);
     if (result->elsewhere) number_row(text, "Marks for no list", result->elsewhere);
     text_add(text, "</tbody>\n</table>\n");
 }
 
 static void page_turnout(const struct result *result, struct text *text) {
+    const struct paper *paper = &result->transcript->paper;
     table_start(text, "Turnout", "What", "Number", " class=\"number\"");
-    number_row(text, "Enrolled", result->enrolled);
+    number_row(text, "Enrolled", paper->enrolment.number);
     number_row(text, "Ballots counted", result->counted);
     number_row(text, "Ballots withdrawn", result->withdrawn);
-    number_row(text, "Turnout per thousand enrolled", result->turnout);
+    number_row(text, "Turnout per thousand enrolled", paper->turnout);
+    text_add(text, "</tbody>\n</table>\n");
+}
+
+/* How the count was shown, and how far that holds. */
+static void page_assurance(const struct numbers *numbers, struct text *text) {
+    char words[WORDS_ROOM];
+    chance_in_words(numbers, words);
+    text_add(text, "<h2>How it was checked</h2>\n<p>The count was shown in <strong>%zu %s</strong> of %zu %s. ", numbers->rounds,
+             numbers->rounds == 1 ? "round" : "rounds", numbers->repeats, numbers->repeats == 1 ? "repetition" : "repetitions each");
+    text_add(text, "<strong>All rounds were accepted.</strong></p>\n");
+    text_add(text, "<p class=\"condition\"><strong>%s</strong> %s</p>\n", condition_sentence, condition_reason);
+    text_add(text, "<p>The chance that a false result passes is at most <strong>%s</strong>.</p>\n", words);
+    if (is_for_trying(numbers->ring, numbers->rounds, words))
+        text_add(text, "<p class=\"condition\"><strong>For trying only:</strong> %s.</p>\n", words);
+}
+
+static void groups_row(struct text *text, const char *name, const uint8_t *digest) {
+    text_add(text, "<tr><th scope=\"row\">%s</th><td><code>", name);
+    text_add_groups(text, digest);
+    text_add(text, "</code></td></tr>\n");
+}
+
+static void page_names(const struct result *result, struct text *text) {
+    text_add(text,
+             "<p>The fingerprint names this election. Whoever checks it on another machine and sees the same fingerprint sees the same "
+             "election: ");
+    text_add(text, "read it to each other.</p>\n");
+    table_start(text, "What names this election", "What", "Digits", "");
+    groups_row(text, "Fingerprint", result->transcript->fingerprint);
+    groups_row(text, "Commitment", result->transcript->commitment);
+    groups_row(text, "Seed", election_seed(&result->transcript->election));
     text_add(text, "</tbody>\n</table>\n");
 }
 
 static void page_digests(const struct result *result, struct text *text) {
-    const struct election *election = result->election;
-    char name[32];
-    text_add(text, "<p>These numbers name the transcript. Whoever checks it on another machine sees the same ones.</p>\n");
-    table_start(text, "Digests (SHA3-256)", "Of", "Digest", "");
-    digest_row(text, "the whole session", result->name);
-    digest_row(text, "the sheet", election_sheet_digest(election));
-    digest_row(text, "the closing", election_closing_digest(election));
-    digest_row(text, "the claims", election_claim_digest(election));
-    digest_row(text, "(the seed itself)", election_seed(election));
-    for (size_t i = 0; i < election->numbers.rounds; i++) {
-        snprintf(name, sizeof name, "round %zu", i);
-        digest_row(text, name, election_round_digest(election, i));
+    struct result_digest digests[MOST_RESULT_DIGESTS];
+    size_t count = result_digests(result, digests);
+    table_start(text, "What the commitment covers (SHA3-256)", "Of", "Digest", "");
+    for (size_t i = 0; i < count; i++) {
+        text_add(text, "<tr><th scope=\"row\">%s</th><td><code>", digests[i].name);
+        text_add_hex(text, digests[i].digest, DIGEST);
+        text_add(text, "</code></td></tr>\n");
     }
     text_add(text, "</tbody>\n</table>\n");
 }
 
 void result_page(const struct result *result, struct text *text) {
-    const struct numbers *numbers = &result->election->numbers;
     text_add(text, "%s", head);
-    text_add(text, "<p>Turnout: <strong>%llu per thousand</strong> of those enrolled.</p>\n", (unsigned long long)result->turnout);
+    text_add(text, "<p>Turnout: <strong>%llu per thousand</strong> of those enrolled.</p>\n",
+             (unsigned long long)result->transcript->paper.turnout);
     page_votes(result, text);
     page_turnout(result, text);
-    text_add(text, "<h2>How it was checked</h2>\n<p>The count was shown in <strong>%zu %s</strong> of %zu %s. ", numbers->rounds,
-             numbers->rounds == 1 ? "round" : "rounds", numbers->repeats, numbers->repeats == 1 ? "repetition" : "repetitions each");
-    text_add(text, "<strong>All rounds were accepted.</strong></p>\n");
+    page_assurance(&result->transcript->election.numbers, text);
+    page_names(result, text);
     page_digests(result, text);
     text_add(text, "</main>\n</body>\n</html>\n");
 }

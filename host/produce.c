@@ -2,10 +2,11 @@
 #include "rounds.h"
 #include "say.h"
 
-/* Where the producer refuses. A ballot whose noise is too large was not made by the rules, and no round can be shown for it: it has to be withdrawn. */
+/* Where the producer refuses. A ballot whose noise is too large was not made by the rules, and no round can be shown for it: it has to be
+ * withdrawn. */
 static enum status refused(const struct batch *batch, uint64_t reply, size_t round) {
     batch_say_mark(batch, reply);
-    if (JDN_NUMBER(reply) == 15) say("add a withdrawal of this mark to log.txt, remove state.bin and run again");
+    if (JDN_NUMBER(reply) == 15) say("the ballots were closed with it: remove state.bin, withdraw this mark, and run again");
     return say_refused(reply, "producing round %zu", round);
 }
 
@@ -23,15 +24,16 @@ enum status first_produce(struct election *election, const struct key *key, cons
     enum status status = first_room(election, first);
     if (!status) status = material_make(&material, &election->numbers, key, batch->count, election->seeds + SEED * round);
     if (!status) {
-        uint64_t reply = jdn_produce_first(LENT(election->sheet), LENT_MATERIAL(material), LENT(batch->all), LENT(first->head), LENT(first->shares0),
-                                           LENT(first->shares1), LENT(first->claims), LENT(election->scratch));
+        uint64_t reply = jdn_produce_first(LENT(election->sheet), LENT_MATERIAL(material), LENT(batch->all), LENT(first->head),
+                                           LENT(first->shares0), LENT(first->shares1), LENT(first->claims), LENT(election->scratch));
         if (reply) status = refused(batch, reply, round);
     }
     material_free(&material);
     return status;
 }
 
-enum status second_produce(struct election *election, const struct key *key, const struct batch *batch, size_t round, struct second *second) {
+enum status second_produce(struct election *election, const struct key *key, const struct batch *batch, size_t round,
+                           struct second *second) {
     struct material material = {0};
     uint8_t drawn[1 + MOST_REPEATS]; /* the side, then the challenges */
     size_t repeats = election->numbers.repeats;

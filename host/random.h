@@ -22,8 +22,8 @@ enum purpose { FOR_SHEET = 1, FOR_KEY, FOR_BALLOT, FOR_ROUND, FOR_DRAW, FOR_VOTE
 /* A fresh seed of 32 bytes. */
 enum status origin_seed(const struct origin *origin, enum purpose purpose, uint32_t number, uint8_t *out);
 
-/* A stream of random numbers: SHA3-256 of the seed and a counter, block after block. A round needs megabytes of them twice, for its first and its
- * second message; so what is kept between the two is a seed, and not the numbers. */
+/* A stream of random numbers: SHA3-256 of the seed and a counter, block after block. A round needs megabytes of them twice, for its first
+ * and its second message; so what is kept between the two is a seed, and not the numbers. */
 struct source {
     uint8_t seed[SEED];
     uint64_t blocks;

@@ -5,118 +5,145 @@
 #include <stdlib.h>
 #include <string.h>
 
+#include "assurance.h"
 #include "say.h"
 
-/* Whether these are the claims that the session holds: the claim digest covers the closing digest and the claims. */
-static enum status claims_held(const struct election *election, const struct bytes *claims) {
-    struct bytes message = {0};
-    uint8_t digest[32];
-    enum status status = bytes_make(&message, 32 + claims->length);
-    if (status) return status;
-    memcpy(message.at, election_closing_digest(election), 32);
-    memcpy(message.at + 32, claims->at, claims->length);
-    jdn_digest(LENT(message), digest, sizeof digest);
-    bytes_free(&message);
-    if (!memcmp(digest, election_claim_digest(election), sizeof digest)) return DONE;
-    say("%s/claims.bin is not what was claimed", election->folder.name);
-    return REFUSED;
-}
+/* The most that a result of any form may have. */
+#define MOST_RESULT 1048576
 
 /* Adds the claims up: coefficient i of a ballot is a vote for list i. */
-static void add_votes(struct result *result, const struct bytes *claims) {
-    size_t ring = result->election->numbers.ring;
+static void add_votes(struct result *result) {
+    const struct bytes *claims = &result->transcript->claims;
+    size_t ring = result->transcript->election.numbers.ring;
     for (size_t i = 0; i < claims->length; i++) {
         size_t list = i % ring;
-        if (list < result->lists.count)
+        if (list < result->transcript->paper.lists.count)
             result->votes[list] += claims->at[i];
         else
             result->elsewhere += claims->at[i];
     }
 }
 
-static enum status read_turnout(struct result *result) {
-    const struct election *election = result->election;
-    uint64_t reply = jdn_turnout(election->image, JDN_IMAGE, election->reg, JDN_REGISTER, result->enrolled);
-    if (JDN_NUMBER(reply)) return say_refused(reply, "%s/enrolled.txt", election->folder.name);
-    result->turnout = JDN_VALUE(reply);
-    return DONE;
-}
-
-enum status result_make(const struct election *election, const struct bytes *claims, struct result *result) {
-    *result = (struct result){.election = election};
+enum status result_make(const struct transcript *transcript, struct result *result) {
+    const struct election *election = &transcript->election;
+    *result = (struct result){.transcript = transcript};
     result->counted = election_closed(election);
     result->withdrawn = election_used(election) - result->counted;
-    jdn_digest(election->image, JDN_IMAGE, result->name, sizeof result->name);
-    enum status status = DONE;
     if (election_phase(election) != ENDED_ACCEPTED) {
         say("%s: the session did not end accepted, and has no result", election->folder.name);
-        status = REFUSED;
+        return REFUSED;
     }
-    if (!status) status = claims_held(election, claims);
-    if (!status) status = lists_read(&election->folder, election->numbers.ring, &result->lists);
-    if (!status) status = enrolled_read(&election->folder, &result->enrolled);
-    if (!status) status = read_turnout(result);
-    if (status) return status;
-    result->votes = calloc(result->lists.count, sizeof *result->votes);
+    result->votes = calloc(transcript->paper.lists.count, sizeof *result->votes);
     if (!result->votes) return say_no_memory();
-    add_votes(result, claims);
+    add_votes(result);
     return DONE;
 }
 
 void result_free(struct result *result) {
-    lists_free(&result->lists);
     free(result->votes);
     result->votes = NULL;
 }
 
-static void digest_line(struct text *text, const char *name, const uint8_t *digest) {
-    text_add(text, "  %-10s ", name);
-    text_add_hex(text, digest, 32);
+size_t result_digests(const struct result *result, struct result_digest *digests) {
+    const struct election *election = &result->transcript->election;
+    const struct paper *paper = &result->transcript->paper;
+    const struct result_digest parts[] = {{"sheet", election_sheet_digest(election)},     {"lists", paper->lists.digest},
+                                          {"enrolment", paper->enrolment.digest},         {"log", election->log_digest},
+                                          {"closing", election_closing_digest(election)}, {"claims", election_claim_digest(election)}};
+    size_t count = sizeof parts / sizeof *parts;
+    memcpy(digests, parts, sizeof parts);
+    for (size_t i = 0; i < election->numbers.rounds; i++, count++) {
+        snprintf(digests[count].name, sizeof digests[count].name, "round %zu", i);
+        digests[count].digest = election_round_digest(election, i);
+    }
+    return count;
+}
+
+static void groups_line(struct text *text, const char *name, const uint8_t *digest) {
+    text_add(text, "%-11s ", name);
+    text_add_groups(text, digest);
     text_add(text, "\n");
 }
 
-static void text_digests(const struct result *result, struct text *text) {
-    const struct election *election = result->election;
-    char name[32];
-    text_add(text, "\nWhat names this transcript (SHA3-256; the seed is as it was drawn)\n");
-    digest_line(text, "session", result->name);
-    digest_line(text, "sheet", election_sheet_digest(election));
-    digest_line(text, "closing", election_closing_digest(election));
-    digest_line(text, "claims", election_claim_digest(election));
-    digest_line(text, "seed", election_seed(election));
-    for (size_t i = 0; i < election->numbers.rounds; i++) {
-        snprintf(name, sizeof name, "round %zu", i);
-        digest_line(text, name, election_round_digest(election, i));
+/* What names the election. */
+static void text_names(const struct result *result, struct text *text) {
+    struct result_digest digests[MOST_RESULT_DIGESTS];
+    size_t count = result_digests(result, digests);
+    text_add(text, "\nWhat names this election\n");
+    groups_line(text, "Fingerprint", result->transcript->fingerprint);
+    groups_line(text, "Commitment", result->transcript->commitment);
+    groups_line(text, "Seed", election_seed(&result->transcript->election));
+    text_add(text, "\nWhat the commitment covers (SHA3-256)\n");
+    for (size_t i = 0; i < count; i++) {
+        text_add(text, "  %-10s ", digests[i].name);
+        text_add_hex(text, digests[i].digest, DIGEST);
+        text_add(text, "\n");
     }
+}
+
+/* How the count was shown, and how far that holds. */
+static void text_assurance(const struct numbers *numbers, struct text *text) {
+    char words[WORDS_ROOM];
+    chance_in_words(numbers, words);
+    text_add(text, "\nRounds              %zu, of %zu repetitions each\n", numbers->rounds, numbers->repeats);
+    text_add(text, "All rounds accepted yes\n\nHow far this holds\n");
+    text_add(text, "  %s\n  %s\n", condition_sentence, condition_reason);
+    text_add(text, "  The chance that a false result passes is at most %s.\n", words);
+    if (is_for_trying(numbers->ring, numbers->rounds, words)) text_add(text, "  FOR TRYING ONLY: %s.\n", words);
 }
 
 void result_text(const struct result *result, struct text *text) {
-    const struct numbers *numbers = &result->election->numbers;
-    text_add(text, "Result of the election\n\n");
-    text_add(text, "Enrolled            %llu\n", (unsigned long long)result->enrolled);
+    const struct paper *paper = &result->transcript->paper;
+    text_add(text, RESULT_FORM "\nResult of the election\n\n");
+    text_add(text, "Enrolled            %llu\n", (unsigned long long)paper->enrolment.number);
     text_add(text, "Ballots counted     %zu\n", result->counted);
     text_add(text, "Ballots withdrawn   %zu\n", result->withdrawn);
-    text_add(text, "Turnout             %llu per thousand\n\nVotes\n", (unsigned long long)result->turnout);
-    for (size_t i = 0; i < result->lists.count; i++) text_add(text, "%7zu  %s\n", result->votes[i], result->lists.names[i]);
+    text_add(text, "Turnout             %llu per thousand\n\nVotes\n", (unsigned long long)paper->turnout);
+    for (size_t i = 0; i < paper->lists.count; i++) text_add(text, "%7zu  %s\n", result->votes[i], paper->lists.names[i]);
     if (result->elsewhere) text_add(text, "%7zu  marks for no list\n", result->elsewhere);
-    text_add(text, "\nRounds              %zu, of %zu repetitions each\n", numbers->rounds, numbers->repeats);
-    text_add(text, "All rounds accepted yes\n");
-    text_digests(result, text);
+    text_assurance(&result->transcript->election.numbers, text);
+    text_names(result, text);
+}
+
+/* One of the two files. */
+struct form {
+    const char *name;
+    void (*write)(const struct result *, struct text *);
+    const char *title;  /* what a file of this form begins with */
+    const char *other;  /* what one of any other form of this kind begins with */
+    const char *before; /* what one of the release before began with, which named no form */
+};
+
+static const struct form text_form = {RESULT_TEXT, result_text, RESULT_FORM "\n", RESULT_TITLE, "Result of the election\n"};
+static const struct form page_form = {RESULT_PAGE, result_page, PAGE_START RESULT_FORM " -->\n", PAGE_START RESULT_TITLE, PAGE_BEFORE};
+
+static bool begins(const struct bytes *file, const char *start) {
+    return file->length >= strlen(start) && !memcmp(file->at, start, strlen(start));
+}
+
+/* Compares a file with the text that it has to be, where it is of the same form. */
+static enum status compare(const struct folder *folder, const struct form *form, const struct bytes *file, const struct text *text) {
+    bool same = file->length == text->length && !memcmp(file->at, text->at, text->length);
+    bool other = !begins(file, form->title) && (begins(file, form->other) || begins(file, form->before));
+    if (other)
+        say("WARNING: %s/%s is of another form than `" RESULT_FORM "`, and was NOT COMPARED. What holds is printed here", folder->name,
+            form->name);
+    if (same || other) return DONE;
+    say("%s/%s is not the result of this transcript%s", folder->name, form->name,
+        form == &page_form ? "; without the page the rest can be checked" : "");
+    return REFUSED;
 }
 
 /* Writes one of the two, or compares the file with it. */
-static enum status each(const struct result *result, const char *name, void (*form)(const struct result *, struct text *), bool compare) {
-    const struct folder *folder = &result->election->folder;
+static enum status each(const struct result *result, const struct form *form, bool write) {
+    const struct folder *folder = &result->transcript->election.folder;
     struct text text = {0};
     struct bytes file = {0};
-    form(result, &text);
+    form->write(result, &text);
     enum status status = text.failed ? say_no_memory() : DONE;
-    if (!status && !compare) status = file_write(folder, name, FOR_ALL, text.at, text.length);
-    if (!status && compare) status = file_read(folder, name, ANY_LENGTH, text.length + 65536, &file);
-    if (!status && compare && (file.length != text.length || memcmp(file.at, text.at, text.length))) {
-        say("%s/%s is not the result of this transcript%s", folder->name, name, form == result_page ? "; without the page the rest can be checked" : "");
-        status = REFUSED;
-    }
+    if (!status && write) status = file_write(folder, form->name, FOR_ALL, text.at, text.length);
+    if (!status && !write) status = file_read(folder, form->name, ANY_LENGTH, MOST_RESULT, &file);
+    if (!status && !write) status = compare(folder, form, &file, &text);
     bytes_free(&file);
     text_free(&text);
     return status;
@@ -129,13 +156,13 @@ enum status result_print(const struct result *result) {
 }
 
 enum status result_write(const struct result *result) {
-    enum status status = each(result, RESULT_PAGE, result_page, false);
-    return status ? status : each(result, RESULT_TEXT, result_text, false);
+    enum status status = each(result, &page_form, true);
+    return status ? status : each(result, &text_form, true);
 }
 
 enum status result_compare(const struct result *result) {
     bool there = false;
-    enum status status = each(result, RESULT_TEXT, result_text, true);
-    if (!status) status = file_find(&result->election->folder, RESULT_PAGE, &there);
-    return status || !there ? status : each(result, RESULT_PAGE, result_page, true);
+    enum status status = each(result, &text_form, false);
+    if (!status) status = file_find(&result->transcript->election.folder, RESULT_PAGE, &there);
+    return status || !there ? status : each(result, &page_form, false);
 }

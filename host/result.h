@@ -1,24 +1,37 @@
-/* The result of an accepted session: turnout and votes, as a text and as a page. Both follow from what is published, byte for byte. */
+/* The result of an accepted transcript: turnout and votes, as a text and as a page. Both follow from what is published, byte for byte.
+ * They name their form, so that a release that writes another one knows that it cannot compare them. */
 #ifndef RESULT_H
 #define RESULT_H
-#include "election.h"
-#include "lists.h"
+#include "transcript.h"
 
 #define RESULT_TEXT "result.txt"
 #define RESULT_PAGE "result.html"
+/* The form, with its number: another one for every change of the text or the page. */
+#define RESULT_TITLE "jackdawnail result "
+#define RESULT_FORM RESULT_TITLE "2"
+/* What stands before the form in a page, and what a page of the release before, which named none, begins with. */
+#define PAGE_START "<!DOCTYPE html>\n<!-- "
+#define PAGE_BEFORE "<!DOCTYPE html>\n<html lang=\"en\">\n"
 
 struct result {
-    const struct election *election;
-    struct lists lists;
-    uint64_t enrolled, turnout; /* turnout per thousand */
+    const struct transcript *transcript;
     size_t counted, withdrawn;
-    size_t *votes;     /* of each list */
-    size_t elsewhere;  /* marks at coefficients that are no list's */
-    uint8_t name[32];  /* SHA3-256 of the session's image, which holds all other digests */
+    size_t *votes;    /* of each list */
+    size_t elsewhere; /* marks at coefficients that are no list's */
 };
 
-/* Works the result out from the claims of a session that ended accepted. The election has to outlive it. */
-enum status result_make(const struct election *election, const struct bytes *claims, struct result *result);
+/* A digest with its name, as both show them. */
+struct result_digest {
+    char name[32];
+    const uint8_t *digest;
+};
+/* Sheet, lists, enrolment, log, closing, claims, then the rounds. */
+#define MOST_RESULT_DIGESTS (6 + MOST_ROUNDS)
+/* Fills them in, in the order in which they are shown. Answers how many there are. */
+size_t result_digests(const struct result *result, struct result_digest *digests);
+
+/* Adds the claims of a transcript up that was checked and accepted. The transcript has to outlive it. */
+enum status result_make(const struct transcript *transcript, struct result *result);
 void result_free(struct result *result);
 
 /* The text, and the page (page.c). */
@@ -29,7 +42,8 @@ void result_page(const struct result *result, struct text *text);
 enum status result_print(const struct result *result);
 /* Writes both files. */
 enum status result_write(const struct result *result);
-/* Compares result.txt, and result.html where it is there, with what they have to be. */
+/* Compares result.txt, and result.html where it is there, with what they have to be. One of another form is not compared, and that is
+ * said. */
 enum status result_compare(const struct result *result);
 
 #endif

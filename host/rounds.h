@@ -15,10 +15,18 @@ struct second {
     struct bytes opening, answers;
 };
 
+#define CLAIMS_FILE "claims.bin"
+
+/* The files of a round: the parts of the first message, then those of the second. */
+enum round_part { HEAD, SHARES0, SHARES1, OPENING, ANSWERS, ROUND_PARTS };
+#define FIRST_PARTS OPENING
+void round_part_name(char *name, size_t room, size_t round, enum round_part part);
+
 /* Produces the first message of a round from its seed. */
 enum status first_produce(struct election *election, const struct key *key, const struct batch *batch, size_t round, struct first *first);
 /* Produces the second message for what was drawn. */
-enum status second_produce(struct election *election, const struct key *key, const struct batch *batch, size_t round, struct second *second);
+enum status second_produce(struct election *election, const struct key *key, const struct batch *batch, size_t round,
+                           struct second *second);
 
 /* A first message takes the place of all that stood in the round's folder. */
 enum status first_write(const struct election *election, size_t round, const struct first *first);
@@ -35,7 +43,7 @@ enum status claims_read(const struct election *election, struct bytes *claims);
 
 /* The steps of a session with the messages of a round. */
 enum status round_commit(struct election *election, size_t round, const struct first *first);
-enum status round_check(struct election *election, size_t round, const struct batch *batch, const struct bytes *claims, const struct first *first,
-                        const struct second *second);
+enum status round_check(struct election *election, size_t round, const struct batch *batch, const struct bytes *claims,
+                        const struct first *first, const struct second *second);
 
 #endif

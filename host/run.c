@@ -1,11 +1,14 @@
-/* A whole election, step by step. Each step is saved when it is taken, and what a step needs from disk was written before it; so that after a crash
- * the next run goes on from the last step that was saved. */
+/* A whole election, step by step. Each step is saved when it is taken, and what a step needs from disk was written before it; so that
+ * after a crash the next run goes on from the last step that was saved. */
 #include <string.h>
 
 #include "ballots.h"
 #include "commands.h"
-#include "election.h"
+#include "drawn.h"
+#include "fingerprint.h"
 #include "log.h"
+#include "noise.h"
+#include "paper.h"
 #include "result.h"
 #include "rounds.h"
 #include "say.h"
@@ -13,26 +16,24 @@
 /* What the counting side holds while it counts. */
 struct counting {
     struct election *election;
+    const struct draw *draw;
     const struct origin *origin;
-    struct key key;
+    struct ballots ballots;
+    struct paper paper;
+    struct key key; /* none where it is not needed, or not there while ballots are gathered */
     struct batch batch;
     struct bytes claims; /* none before they are claimed */
 };
-
-static enum status close_ballots(struct election *election) {
-    uint64_t reply = jdn_close(election->image, JDN_IMAGE, election->reg, JDN_REGISTER);
-    return reply ? say_refused(reply, "closing the ballots") : election_save(election);
-}
 
 /* The claims come with the first message of round 0, and are the same in every round. */
 static enum status take_claims(struct counting *counting, struct first *first) {
     struct election *election = counting->election;
     if (election_phase(election) == CLAIMED) {
         if (!memcmp(counting->claims.at, first->claims.at, first->claims.length)) return DONE;
-        say("%s/claims.bin is not what the key decrypts the ballots to", election->folder.name);
+        say("%s/" CLAIMS_FILE " is not what the key decrypts the ballots to", election->folder.name);
         return REFUSED;
     }
-    enum status status = file_write(&election->folder, "claims.bin", FOR_ALL, LENT(first->claims));
+    enum status status = file_write(&election->folder, CLAIMS_FILE, FOR_ALL, LENT(first->claims));
     if (status) return status;
     uint64_t reply = jdn_claim(election->image, JDN_IMAGE, LENT(first->claims));
     if (reply) return say_refused(reply, "the claims");
@@ -41,8 +42,8 @@ static enum status take_claims(struct counting *counting, struct first *first) {
     return DONE;
 }
 
-/* Produces, writes and commits the first message of the round that is due. Its seed is fresh, and is saved with the commitment and not before: a round
- * that a crash cut short is made anew from another seed. */
+/* Produces, writes and commits the first message of the round that is due. Its seed is fresh, and is saved with the commitment and not
+ * before: a round that a crash cut short is made anew from another seed. */
 static enum status commit_round(struct counting *counting) {
     struct election *election = counting->election;
     struct first first = {0};
@@ -63,48 +64,10 @@ static enum status commit_rounds(struct counting *counting) {
     enum status status = DONE;
     bool early = false;
     if (election_phase(election) > CLAIMED || election_committed(election) == election->numbers.rounds) return DONE;
-    status = file_find(&election->folder, "seed.bin", &early);
-    if (early) say("seed.bin is there before the first messages are: it convinces only those who know that nobody here had seen it");
+    status = file_find(&election->folder, SEED_FILE, &early);
+    if (early) say(SEED_FILE " is there before the first messages are: it convinces only those who know that nobody here had seen it");
     while (!status && election_committed(election) < election->numbers.rounds) status = commit_round(counting);
     progress_end();
-    return status;
-}
-
-/* Two answers to one first message give the key away. A session that is drawn once answers once; but an old state.bin that is put back could be drawn
- * anew. So nothing is drawn where second messages are there already. */
-static enum status not_answered(const struct election *election) {
-    for (size_t round = 0; round < election->numbers.rounds; round++) {
-        bool answered = false;
-        enum status status = round_answered(election, round, &answered);
-        if (status) return status;
-        if (!answered) continue;
-        say("%s: round %zu was answered before it is drawn. An old state.bin is never put back: that can give the key away. "
-            "To start anew, remove state.bin and seed.bin",
-            election->folder.name, round);
-        return REFUSED;
-    }
-    return DONE;
-}
-
-/* The seed from seed.bin; where the society gave none, one that is drawn here and written there first. */
-static enum status draw(struct counting *counting) {
-    struct election *election = counting->election;
-    struct bytes seed = {0};
-    uint8_t fresh[SEED];
-    bool there = false;
-    enum status status = not_answered(election);
-    if (!status) status = file_find(&election->folder, "seed.bin", &there);
-    if (!status && !there) {
-        say("there is no seed.bin: this machine draws the seed, which convinces nobody who does not trust it");
-        status = origin_seed(counting->origin, FOR_DRAW, 0, fresh);
-        if (!status) status = file_write(&election->folder, "seed.bin", FOR_ALL, fresh, sizeof fresh);
-    }
-    if (!status) status = file_read(&election->folder, "seed.bin", SEED, SEED, &seed);
-    if (!status) {
-        uint64_t reply = jdn_draw(election->image, JDN_IMAGE, LENT(seed));
-        status = reply ? say_refused(reply, "drawing the challenges") : election_save(election);
-    }
-    bytes_free(&seed);
     return status;
 }
 
@@ -135,55 +98,137 @@ static enum status answer_rounds(struct counting *counting) {
     return status;
 }
 
-static enum status write_result(struct counting *counting) {
+/* The result is made from the files, as a member's check has it, and not from what the state says: every round is checked again. */
+static enum status check_and_write(struct counting *counting, struct transcript *transcript) {
+    struct election *election = counting->election;
     struct result result = {0};
-    enum status status = result_make(counting->election, &counting->claims, &result);
+    uint8_t own[DIGEST];
+    enum status status = transcript_read(transcript, election->folder.name);
+    if (!status) status = transcript_check(transcript);
+    commitment_of(election, &counting->paper, own);
+    fingerprint_of(election, own, own);
+    if (!status && memcmp(own, transcript->fingerprint, DIGEST)) {
+        say("%s: state.bin is of another transcript than the files", election->folder.name);
+        status = REFUSED;
+    }
+    if (!status) status = result_make(transcript, &result);
     if (!status) status = result_write(&result);
     if (!status) status = result_print(&result);
     result_free(&result);
     return status;
 }
 
-/* What the society should have written down before it draws the seed: no claim and no first message can be changed after that. */
-static enum status print_committed(const struct election *election) {
-    struct text text = {0};
-    text_add(&text, "claims   ");
-    text_add_hex(&text, election_claim_digest(election), 32);
-    for (size_t i = 0; i < election->numbers.rounds; i++) {
-        text_add(&text, "\nround %-3zu", i);
-        text_add_hex(&text, election_round_digest(election, i), 32);
+static enum status write_result(struct counting *counting) {
+    const struct election *election = counting->election;
+    struct transcript transcript;
+    if (election_phase(election) != ENDED_ACCEPTED) {
+        say("%s: the session did not end accepted, and has no result", election->folder.name);
+        return REFUSED;
     }
-    text_add(&text, "\n");
+    enum status status = check_and_write(counting, &transcript);
+    if (status) say("%s: no result is written", election->folder.name);
+    transcript_end(&transcript);
+    return status;
+}
+
+/* What has to be public before the seed is drawn: no claim, no first message, no list and no enrolment can be changed after that. */
+static enum status print_committed(const struct counting *counting) {
+    const struct election *election = counting->election;
+    struct text text = {0};
+    uint8_t commitment[DIGEST];
+    commitment_of(election, &counting->paper, commitment);
+    text_add(&text, "Commitment  ");
+    text_add_groups(&text, commitment);
+    if (election_phase(election) == CLAIMED)
+        text_add(&text,
+                 "\n\nPublish this commitment now. When it is public, draw a seed of 64 hexadecimal digits before witnesses, and then:\n"
+                 "  election run %s --seed SEED\n",
+                 election->folder.name);
+    else
+        text_add(&text, "\n\nThe seed is drawn already: to publish this commitment now shows nothing.\n");
     return text_print(&text);
 }
 
-/* From the closed ballots to the goal. */
-static enum status count(struct counting *counting, const struct ballots *ballots, enum goal goal) {
+static enum status print_gathered(const struct election *election) {
+    struct text text = {0};
+    size_t standing = election_standing(election);
+    text_add(&text, "Ballots standing    %zu\nBallots withdrawn   %zu\n", standing, election_used(election) - standing);
+    return text_print(&text);
+}
+
+/* Reads and judges lists and enrolment. The lists are kept from the first time on; the enrolment from the closing on, or, in an election
+ * that the release before closed, from now on. */
+static enum status hold_paper(struct counting *counting) {
     struct election *election = counting->election;
-    enum status status = batch_make(election, ballots, &counting->batch);
-    if (!status && election_phase(election) != CLOSED) status = claims_read(election, &counting->claims);
-    if (!status && election_phase(election) < ENDED_REFUSED) status = key_read(election, &counting->key);
-    if (!status) status = commit_rounds(counting);
+    bool fresh = false, late = election_phase(election) != GATHERING;
+    enum status status = paper_read(election, &counting->paper);
+    if (!status) status = lists_keep(election, &counting->paper.lists, &fresh);
+    if (!status && late) status = enrolment_keep(election, &counting->paper.enrolment, &fresh);
+    if (!status && fresh && late)
+        say("the release before kept neither lists nor enrolment when the ballots closed: they are kept from now on");
+    return !status && fresh ? election_save(election) : status;
+}
+
+/* Looks at the noise of the ballots, where that is still to be done and the key is there: while ballots are only gathered it may be
+ * elsewhere. */
+static enum status look_over(struct counting *counting, enum goal goal) {
+    struct election *election = counting->election;
+    bool keyed = true;
+    enum status status = goal == GATHERED ? key_find(election, &keyed) : DONE;
+    if (!status && !keyed && election_phase(election) == GATHERING)
+        say("key/ is not here: the noise of the ballots is looked at where it is, before they are closed. All else was");
+    if (status || !keyed || election_phase(election) >= ENDED_REFUSED) return status;
+    status = key_read(election, &counting->key);
+    if (status || election_phase(election) != GATHERING) return status;
+    return noise_examine(election, &counting->ballots, &counting->key);
+}
+
+/* Takes the log, and looks at the ballots. Where a line is refused, the ballots of the lines before it are looked at all the same. */
+static enum status gather(struct counting *counting, enum goal goal) {
+    struct election *election = counting->election;
+    enum status status = hold_paper(counting);
+    if (!status) status = ballots_open(election, &counting->ballots);
     if (status) return status;
-    if (goal == COMMITTED) return print_committed(election);
-    if (election_phase(election) == CLAIMED) status = draw(counting);
+    status = log_take(election, &counting->ballots);
+    if (!status) status = ballots_name_unlogged(election, &counting->ballots);
+    enum status looked = look_over(counting, goal);
+    return status ? status : looked;
+}
+
+/* The closing and what is kept from it on are saved together. */
+static enum status close_ballots(struct counting *counting) {
+    bool fresh = false;
+    enum status status = batch_close(counting->election);
+    if (!status) status = enrolment_keep(counting->election, &counting->paper.enrolment, &fresh);
+    return status ? status : election_save(counting->election);
+}
+
+/* From the closed ballots to the goal. */
+static enum status count(struct counting *counting, enum goal goal) {
+    struct election *election = counting->election;
+    enum status status = batch_make(election, &counting->ballots, &counting->batch);
+    if (!status && election_phase(election) != CLOSED) status = claims_read(election, &counting->claims);
+    if (!status) status = commit_rounds(counting);
+    if (!status && goal == COMMITTED) return print_committed(counting);
+    if (!status && election_phase(election) == CLAIMED) status = draw_seed(election, counting->draw, counting->origin);
     if (!status) status = answer_rounds(counting);
     return status ? status : write_result(counting);
 }
 
-enum status run(const char *folder, enum goal goal, const struct origin *origin) {
+enum status run(const char *folder, enum goal goal, const struct draw *draw, const struct origin *origin) {
     struct election election;
-    struct ballots ballots = {0};
-    struct counting counting = {.election = &election, .origin = origin};
+    struct counting counting = {.election = &election, .draw = draw, .origin = origin};
     enum status status = election_resume(&election, folder);
-    if (!status) status = ballots_open(&election, &ballots);
-    if (!status) status = log_take(&election, &ballots);
-    if (!status && goal > GATHERED && election_phase(&election) == GATHERING) status = close_ballots(&election);
-    if (!status && goal > GATHERED) status = count(&counting, &ballots, goal);
+    if (!status) status = seed_may_be_named(&election, draw);
+    if (!status) status = gather(&counting, goal);
+    if (!status && goal == GATHERED) status = print_gathered(&election);
+    if (!status && goal > GATHERED && election_phase(&election) == GATHERING) status = close_ballots(&counting);
+    if (!status && goal > GATHERED) status = count(&counting, goal);
     bytes_free(&counting.claims);
     batch_free(&counting.batch);
     key_free(&counting.key);
-    ballots_close(&ballots);
+    paper_free(&counting.paper);
+    ballots_close(&counting.ballots);
     election_end(&election);
     return status;
 }

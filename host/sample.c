@@ -5,6 +5,7 @@
 #include "cast.h"
 #include "commands.h"
 #include "election.h"
+#include "lists.h"
 #include "log.h"
 #include "say.h"
 
@@ -18,19 +19,21 @@ static const char lists[] = "Jackdaw\nMagpie\nRook\nJay & Nutcracker\n";
 static enum status write_lists(const struct folder *folder, size_t ballots) {
     char enrolled[32];
     int length = snprintf(enrolled, sizeof enrolled, "%zu\n", 2 * ballots > ENROLLED ? 2 * ballots : ENROLLED);
-    enum status status = file_write_new(folder, "lists.txt", FOR_ALL, lists, strlen(lists));
-    return status ? status : file_write_new(folder, "enrolled.txt", FOR_ALL, enrolled, (size_t)length);
+    enum status status = file_write_new(folder, LISTS_FILE, FOR_ALL, lists, strlen(lists));
+    return status ? status : file_write_new(folder, ENROLLED_FILE, FOR_ALL, enrolled, (size_t)length);
 }
 
 /* One voter, who marks one list, or now and then two. */
 static enum status cast_one(struct election *election, uint32_t mark, struct source *votes, const struct origin *origin) {
-    struct bytes message = {0};
+    struct bytes message = {0}, ballot = {0};
     enum status status = bytes_make(&message, election->numbers.ring);
     if (status) return status;
     message.at[source_below(votes, LISTS)] = 1;
     if (source_below(votes, 4) == 0) message.at[source_below(votes, LISTS)] = 1;
-    status = cast(election, mark, &message, origin);
+    status = ballot_make(election, mark, &message, origin, &ballot);
+    if (!status) status = ballot_file(election, &ballot);
     bytes_free(&message);
+    bytes_free(&ballot);
     return status;
 }
 

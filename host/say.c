@@ -20,7 +20,7 @@ struct refusal {
 static const struct refusal refusals[] = {
     {1, NOWHERE, "something has the wrong length"},
     {2, NOWHERE, "the sheet does not have the form of ten lines, from ring= to k3="},
-    {3, NOWHERE, "a number of the sheet, or the number enrolled, is outside its range"},
+    {3, NOWHERE, "a number is outside its range"},
     {4, NOWHERE, "the modulus does not fit the ring (2N must divide q - 1), or leaves no room for noise and masks"},
     {5, NOWHERE, "a number is out of range: a coefficient, a vote, a ternary byte, or how many a list of the sheet has"},
     {6, NOWHERE, "the halves of the public key do not add up to the public key of the sheet"},
@@ -42,14 +42,25 @@ static const struct refusal refusals[] = {
     {36, NOWHERE, "no ballot stands"},
 };
 
-void say(const char *form, ...) {
-    va_list values;
+/* The longest line that is said; a longer one is cut off. */
+#define LINE_ROOM 8192
+
+/* Puts a line on standard error. What it quotes may come from somebody else's files: a control character in it, which a terminal would
+ * obey, is shown as a question mark. */
+static void put_line(char *line) {
+    for (char *at = line; *at; at++)
+        if ((unsigned char)*at < 32 || *at == 127) *at = '?';
     progress_end();
+    fprintf(stderr, "election: %s\n", line);
+}
+
+void say(const char *form, ...) {
+    char line[LINE_ROOM];
+    va_list values;
     va_start(values, form);
-    fputs("election: ", stderr);
-    vfprintf(stderr, form, values);
-    fputc('\n', stderr);
+    vsnprintf(line, sizeof line, form, values);
     va_end(values);
+    put_line(line);
 }
 
 static const struct refusal *find(unsigned number) {
@@ -60,16 +71,15 @@ static const struct refusal *find(unsigned number) {
 
 enum status say_refused(uint64_t reply, const char *what, ...) {
     const struct refusal *refusal = find(JDN_NUMBER(reply));
+    char line[LINE_ROOM], place[64] = "";
+    unsigned long long value = (unsigned long long)JDN_VALUE(reply);
     va_list values;
-    progress_end();
     va_start(values, what);
-    fputs("election: ", stderr);
-    vfprintf(stderr, what, values);
+    vsnprintf(line, sizeof line, what, values);
     va_end(values);
-    fprintf(stderr, ": refused %u: %s", JDN_NUMBER(reply), refusal ? refusal->sentence : "a number that no paper has");
-    if (refusal && refusal->place == REPETITION) fprintf(stderr, " (repetition %llu)", (unsigned long long)JDN_VALUE(reply));
-    if (refusal && refusal->place == BALLOT) fprintf(stderr, " (ballot %llu of the batch)", (unsigned long long)JDN_VALUE(reply));
-    fputc('\n', stderr);
+    if (refusal && refusal->place == REPETITION) snprintf(place, sizeof place, " (repetition %llu)", value);
+    if (refusal && refusal->place == BALLOT) snprintf(place, sizeof place, " (ballot %llu of the batch)", value);
+    say("%s: refused %u: %s%s", line, JDN_NUMBER(reply), refusal ? refusal->sentence : "a number that no paper has", place);
     return REFUSED;
 }
 

@@ -1,89 +1,135 @@
-/* Ballots: voting for lists, and withdrawing. */
+/* Voting for lists, and withdrawing. Both look at the state and at the whole log before they write, so that no line is added that would
+ * block the election. */
 #include <string.h>
 
 #include "ballots.h"
 #include "cast.h"
 #include "commands.h"
-#include "lists.h"
 #include "log.h"
+#include "paper.h"
 #include "say.h"
 
-/* The ciphertext of a message with fresh r, e', e'', behind the mark. */
-static enum status encrypt(struct election *election, const struct bytes *message, const uint8_t *seed, struct bytes *ballot) {
-    struct source source;
-    struct bytes noise = {0}; /* r, e', e'' */
-    size_t ring = election->numbers.ring;
-    enum status status = bytes_make(&noise, 3 * ring);
-    if (status) return status;
-    source_start(&source, seed);
-    source_ternary(&source, LENT(noise));
-    source_end(&source);
-    uint64_t reply = jdn_encrypt(LENT(election->sheet), noise.at, ring, noise.at + ring, ring, noise.at + 2 * ring, ring, LENT(*message),
-                                 ballot->at + 4, ballot->length - 4, LENT(election->scratch));
-    bytes_free(&noise);
-    return reply ? say_refused(reply, "making the ballot") : DONE;
-}
-
-enum status cast(struct election *election, uint32_t mark, const struct bytes *message, const struct origin *origin) {
-    char name[BALLOT_NAME_ROOM];
-    uint8_t seed[SEED];
-    struct bytes ballot = {0};
-    ballot_name(name, mark);
-    enum status status = bytes_make(&ballot, ballot_length(&election->numbers));
-    if (!status) status = origin_seed(origin, FOR_BALLOT, mark, seed);
-    if (!status) {
-        write32(ballot.at, mark);
-        status = encrypt(election, message, seed, &ballot);
-    }
-    explicit_bzero(seed, sizeof seed);
-    if (!status) status = folder_add(&election->folder, "ballots", FOR_ALL);
-    if (!status) status = file_write_new(&election->folder, name, FOR_ALL, LENT(ballot));
-    if (!status) status = log_add(&election->folder, "admit", mark);
-    bytes_free(&ballot);
-    return status;
+/* Nothing is admitted or withdrawn once the ballots are closed. */
+static enum status still_open(const struct election *election) {
+    if (election_phase(election) == GATHERING) return DONE;
+    say("%s: the ballots are closed: no ballot is taken and none is withdrawn any more", election->folder.name);
+    return REFUSED;
 }
 
 /* A one at the coefficient of each named list. */
-static enum status fill_message(const struct election *election, char *const *names, size_t count, struct bytes *message) {
-    struct lists lists = {0};
+static enum status fill_message(const struct election *election, const struct lists *lists, char *const *names, size_t count,
+                                struct bytes *message) {
     enum status status = bytes_make(message, election->numbers.ring);
-    if (!status) status = lists_read(&election->folder, election->numbers.ring, &lists);
     for (size_t i = 0; i < count && !status; i++) {
-        size_t place = lists_find(&lists, names[i]);
-        if (place < lists.count) {
+        size_t place = lists_find(lists, names[i]);
+        if (place < lists->count) {
             message->at[place] = 1;
         } else {
-            say("%s/lists.txt has no list with the name %s", election->folder.name, names[i]);
+            say("%s/%s has no list with the name %s", election->folder.name, LISTS_FILE, names[i]);
             status = REFUSED;
         }
     }
+    return status;
+}
+
+/* Whether the register that the whole log gives takes this ballot. */
+static enum status would_admit(struct election *after, const struct bytes *ballot) {
+    uint64_t reply = jdn_admit(after->image, JDN_IMAGE, after->reg, JDN_REGISTER, LENT(*ballot));
+    return reply ? say_refused(reply, "a vote with the mark %u", (unsigned)read32(ballot->at)) : DONE;
+}
+
+/* A ballot with this mark is there, and no line of the log admits it: the vote before this one stopped between its two writes, or another
+ * device left it. It is admitted as it is. It is not written over, since it may be the only copy of somebody's vote. */
+static enum status complete(const struct election *election, struct election *after, uint32_t mark, struct bytes *ballot) {
+    const struct ballots single = {0};
+    enum status status = ballots_take(election, &single, mark, ballot);
+    if (!status) status = would_admit(after, ballot);
+    if (!status) status = log_add(&election->folder, "admit", mark);
+    if (!status)
+        say("a ballot with the mark %u was there and was in no line of the log. It is admitted as it was made then: no other one is made",
+            (unsigned)mark);
+    return status;
+}
+
+/* What a vote is made from. */
+struct choice {
+    uint32_t mark;
+    char *const *names;
+    size_t count;
+    const struct origin *origin;
+};
+
+/* Makes the ballot; once all has been looked at, keeps the lists and files it. */
+static enum status make(struct election *election, struct election *after, const struct choice *choice, struct bytes *ballot) {
+    struct lists lists = {0};
+    struct bytes message = {0};
+    bool fresh = false;
+    enum status status = lists_read(&election->folder, election->numbers.ring, &lists);
+    if (!status) status = lists_keep(election, &lists, &fresh);
+    if (!status) status = fill_message(election, &lists, choice->names, choice->count, &message);
+    if (!status) status = ballot_make(election, choice->mark, &message, choice->origin, ballot);
+    if (!status) status = would_admit(after, ballot);
+    if (!status && fresh) status = election_save(election);
+    if (!status) status = ballot_file(election, ballot);
+    bytes_free(&message);
     lists_free(&lists);
     return status;
 }
 
-enum status vote(const char *folder, uint32_t mark, char *const *names, size_t count, const struct origin *origin) {
-    struct election election;
-    struct bytes message = {0};
+/* Where the ballots are single files. */
+static enum status takes_single(const struct election *election) {
     bool whole = false;
-    enum status status = election_start(&election, folder);
-    if (!status) status = folder_lock(&election.folder);
-    if (!status) status = file_find(&election.folder, "ballots.bin", &whole);
-    if (!status && whole) {
-        say("%s has its ballots in ballots.bin, and takes no single one", folder);
-        status = REFUSED;
-    }
-    if (!status) status = fill_message(&election, names, count, &message);
-    if (!status) status = cast(&election, mark, &message, origin);
-    bytes_free(&message);
+    enum status status = file_find(&election->folder, "ballots.bin", &whole);
+    if (status || !whole) return status;
+    say("%s has its ballots in ballots.bin, and takes no single one", election->folder.name);
+    return REFUSED;
+}
+
+/* What the voter keeps, to find the ballot again in what is published. */
+static enum status print_ballot(const struct bytes *ballot) {
+    struct text text = {0};
+    uint8_t digest[DIGEST];
+    jdn_digest(LENT(*ballot), digest, sizeof digest);
+    text_add(&text, "Mark     %u\nBallot   ", (unsigned)read32(ballot->at));
+    text_add_groups(&text, digest);
+    text_add(&text, "\n");
+    return text_print(&text);
+}
+
+enum status vote(const char *folder, uint32_t mark, char *const *names, size_t count, const struct origin *origin) {
+    struct election election, after = {0};
+    struct bytes ballot = {0};
+    const struct choice choice = {.mark = mark, .names = names, .count = count, .origin = origin};
+    char name[BALLOT_NAME_ROOM];
+    bool there = false;
+    ballot_name(name, mark);
+    enum status status = election_resume(&election, folder);
+    if (!status) status = still_open(&election);
+    if (!status) status = takes_single(&election);
+    if (!status) status = log_rehearse(&election, &after);
+    if (!status) status = file_find(&election.folder, name, &there);
+    if (!status && there && entry_find(&after, mark) == election_used(&after))
+        status = complete(&election, &after, mark, &ballot);
+    else if (!status)
+        status = make(&election, &after, &choice, &ballot);
+    if (!status) status = print_ballot(&ballot);
+    bytes_free(&ballot);
+    explicit_bzero(&after, sizeof after);
     election_end(&election);
     return status;
 }
 
-enum status withdraw(const char *name, uint32_t mark) {
-    struct folder folder;
-    enum status status = folder_open(&folder, name);
-    if (!status) status = folder_lock(&folder);
-    if (!status) status = log_add(&folder, "withdraw", mark);
-    folder_close(&folder);
+enum status withdraw(const char *folder, uint32_t mark) {
+    struct election election, after = {0};
+    enum status status = election_resume(&election, folder);
+    if (!status) status = still_open(&election);
+    if (!status) status = log_rehearse(&election, &after);
+    if (!status) {
+        uint64_t reply = jdn_withdraw(after.image, JDN_IMAGE, after.reg, JDN_REGISTER, mark);
+        if (reply) status = say_refused(reply, "a withdrawal of the mark %u", (unsigned)mark);
+    }
+    if (!status) status = log_add(&election.folder, "withdraw", mark);
+    explicit_bzero(&after, sizeof after);
+    election_end(&election);
     return status;
 }

@@ -41,14 +41,10 @@ said() { # TEXT
     succeed "it says '$1'" grep -qF -- "$1" "$room/said"
 }
 
-# What is published of an election: all but the key and the state.
+# What is published of an election, in a folder of its own.
 publish() { # FROM TO
-    local name
     rm -rf "$2"
-    mkdir -p "$2"
-    for name in sheet.txt lists.txt enrolled.txt log.txt ballots ballots.bin claims.bin rounds seed.bin result.txt result.html; do
-        if [ -e "$1/$name" ]; then cp -r "$1/$name" "$2"; fi
-    done
+    "$program" publish "$1" "$2" >"$room/answer" 2>&1 || tally 1 "publishing $1: $(cat "$room/answer")"
 }
 
 # A result without the digests, which differ from one transcript to the next.
@@ -79,4 +75,25 @@ number() { # VALUE WIDTH
 
 size() { # FILE
     stat -c %s "$1"
+}
+
+# SHA3-256 of standard input, in hexadecimal digits, by the program of digest.c.
+sha() {
+    "$room/digest" - | cut -d' ' -f1
+}
+
+# The bytes that hexadecimal digits name.
+bytes() { # DIGITS
+    # shellcheck disable=SC2059
+    printf "$(printf %s "$1" | sed 's/../\\x&/g')"
+}
+
+# Digits in groups of four, as they are read aloud.
+grouped() { # DIGITS
+    printf %s "$1" | sed 's/..../&-/g; s/-$//'
+}
+
+# A named line of a result: Fingerprint, Commitment or Seed.
+named() { # FOLDER NAME
+    sed -n "s/^$2 *\([0-9a-f-]*\)\$/\1/p" "$1/result.txt"
 }

@@ -11,6 +11,11 @@ cut_at() { # K COMMAND..
     ) 2>/dev/null
 }
 
+# The program with no cut, and no waiting for the real disk.
+unwaited() { # COMMAND..
+    LD_PRELOAD=$room/power_cut.so "$program" "$@"
+}
+
 # How many operations a command has.
 operations() { # COMMAND..
     POWER_COUNT=$room/count LD_PRELOAD=$room/power_cut.so "$program" "$@" >"$room/said" 2>&1 || return 1
@@ -19,12 +24,12 @@ operations() { # COMMAND..
 
 # A folder as it has to be in the end: with no half-written files, and none of what the cut took away.
 clean() { # FOLDER
-    find "$1" -depth \( -name '*.new' -o -name '*.kept' \) -exec rm -r {} +
+    [ ! -d "$1" ] || find "$1" -depth \( -name '*.new' -o -name '*.kept' \) -exec rm -r {} +
 }
 
 every_cut_of_a_run() {
     local folder=$room/cut count k
-    expect 0 "" "$program" sample "${unsafe[@]}" --ring 4 --ballots 2 "$room/cut_ready"
+    expect 0 "" unwaited sample "${unsafe[@]}" --ring 4 --ballots 2 "$room/cut_ready"
     cp -r "$room/cut_ready" "$room/cut_done"
     count=$(operations run "${unsafe[@]}" "$room/cut_done")
     succeed "a run has operations" test "$count" -gt 50
@@ -33,7 +38,7 @@ every_cut_of_a_run() {
         cp -r "$room/cut_ready" "$folder"
         cut_at "$k" run "${unsafe[@]}" "$folder"
         succeed "cut $k cuts" test $? -eq 137
-        expect 0 "All rounds accepted yes" "$program" run "${unsafe[@]}" "$folder"
+        expect 0 "All rounds accepted yes" unwaited run --draw-here "${unsafe[@]}" "$folder"
         clean "$folder"
         succeed "cut $k of $count" diff -r "$folder" "$room/cut_done"
     done
@@ -46,11 +51,12 @@ cuts_with_fresh_numbers() {
     for ((k = 1; k <= count; k += 2)); do
         rm -rf "$folder"
         cp -r "$room/cut_ready" "$folder"
-        cut_at "$k" run "$folder"
-        expect 0 "All rounds accepted yes" "$program" run "$folder"
+        cut_at "$k" run --draw-here "$folder"
+        expect 0 "All rounds accepted yes" unwaited run --draw-here "$folder"
         succeed "the votes after cut $k" diff <(votes "$folder") <(votes "$room/cut_done")
-        publish "$folder" "$room/other"
-        expect 0 "accepted" "$program" check "$room/other"
+        rm -rf "$room/other"
+        expect 0 "files are published" unwaited publish "$folder" "$room/other"
+        expect 0 "accepted" unwaited check "$room/other"
     done
 }
 
@@ -62,7 +68,7 @@ two_cuts() {
         cp -r "$room/cut_ready" "$folder"
         cut_at "$k" run "${unsafe[@]}" "$folder"
         cut_at $((1 + RANDOM % (count - k + 1))) run "${unsafe[@]}" "$folder"
-        expect 0 "All rounds accepted yes" "$program" run "${unsafe[@]}" "$folder"
+        expect 0 "All rounds accepted yes" unwaited run --draw-here "${unsafe[@]}" "$folder"
         clean "$folder"
         succeed "cuts at $k and later" diff -r "$folder" "$room/cut_done"
     done
@@ -85,27 +91,69 @@ done_is_on_disk() {
     succeed "its mark" test "$(byte_at "$folder/state.bin" $((16 + 4297 + 3 * 40)))" -eq 77
     succeed "its withdrawal in the register" test "$(byte_at "$folder/state.bin" $((16 + 4297 + 3 * 40 + 4)))" -eq 2
     cut_at 0 run "${unsafe[@]}" "$folder"
-    expect 0 "accepted" "$program" check "$folder"
+    expect 0 "accepted" unwaited check "$folder"
 }
 
-# A cut vote leaves no half of a ballot: the mark can be voted with anew, or its ballot is there and whole.
+# A cut vote leaves no half of a ballot, and a retry always completes it: the vote is counted once, whenever the cut came. Also the first
+# vote of an election, which has the lists kept.
 every_cut_of_a_vote() {
     local folder=$room/cut count k
     rm -rf "$folder"
     cp -r "$room/cut_ready" "$folder"
     count=$(operations vote "$folder" 77 Rook)
+    succeed "a first vote has operations" test "$count" -gt 10
     for ((k = 1; k <= count; k++)); do
         rm -rf "$folder"
         cp -r "$room/cut_ready" "$folder"
         cut_at "$k" vote "$folder" 77 Rook
-        if [ -e "$folder/ballots/77.ballot" ]; then
-            succeed "cut $k of a vote leaves a whole ballot" test "$(size "$folder/ballots/77.ballot")" -eq 68
-        else
-            expect 0 "" "$program" vote "$folder" 77 Rook
-        fi
-        grep -qx "admit 77" "$folder/log.txt" || echo "admit 77" >>"$folder/log.txt"
-        expect 0 "Ballots counted     3" "$program" run "$folder"
+        succeed "cut $k of a vote cuts" test $? -eq 137
+        [ ! -e "$folder/ballots/77.ballot" ] || succeed "cut $k leaves a whole ballot" test "$(size "$folder/ballots/77.ballot")" -eq 68
+        grep -qx "admit 77" "$folder/log.txt" || expect 0 "Mark     77" unwaited vote "$folder" 77 Rook
+        succeed "one line after cut $k" test "$(grep -cx "admit 77" "$folder/log.txt")" -eq 1
+        expect 0 "Ballots counted     3" unwaited run --draw-here "$folder"
     done
+}
+
+# What is kept of lists and enrolment is kept with the closing: after a cut either both hold, or neither does and the ballots are not
+# closed.
+every_cut_of_a_commit() {
+    local folder=$room/cut count k
+    rm -rf "$folder"
+    cp -r "$room/cut_ready" "$folder"
+    count=$(operations commit "$folder")
+    for ((k = 1; k <= count; k += 3)); do
+        rm -rf "$folder"
+        cp -r "$room/cut_ready" "$folder"
+        cut_at "$k" commit "$folder"
+        echo 41 >"$folder/enrolled.txt"
+        if [ -e "$folder/state.bin" ] && [ "$(byte_at "$folder/state.bin" 16)" -ne 0 ]; then
+            expect 1 "enrolled.txt was changed after the ballots were closed" unwaited commit "$folder"
+        else
+            expect 0 "Commitment" unwaited commit "$folder"
+        fi
+    done
+}
+
+# A cut publication holds no half of a file under its name and nothing that is not published, and the next one completes it.
+every_cut_of_a_publication() {
+    local folder=$room/cut_out count k
+    rm -rf "$folder"
+    count=$(operations publish "$room/cut_done" "$folder")
+    mv "$folder" "$room/cut_whole"
+    for ((k = 1; k <= count; k += 2)); do
+        rm -rf "$folder"
+        cut_at "$k" publish "$room/cut_done" "$folder"
+        succeed "cut $k of a publication cuts" test $? -eq 137
+        clean "$folder"
+        diff -r "$folder" "$room/cut_whole" 2>&1 | grep -v "^Only in $room/cut_whole\|No such file" >"$room/differences"
+        succeed "cut $k leaves whole files alone" test ! -s "$room/differences"
+        expect 0 "files are published" unwaited publish "$room/cut_done" "$folder"
+        succeed "cut $k of $count of a publication" diff -r "$folder" "$room/cut_whole"
+    done
+    rm -rf "$folder"
+    cut_at 0 publish "$room/cut_done" "$folder"
+    succeed "what is called published is on disk" diff -r "$folder" "$room/cut_whole"
+    echo "power cut in the $count operations of a publication"
 }
 
 crashes() {
@@ -118,4 +166,6 @@ crashes() {
     two_cuts
     done_is_on_disk
     every_cut_of_a_vote
+    every_cut_of_a_commit
+    every_cut_of_a_publication
 }

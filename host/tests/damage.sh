@@ -53,13 +53,14 @@ drop_line() { # FILE LINE
 
 missing_and_lengths() {
     local name
-    for name in sheet.txt log.txt lists.txt enrolled.txt claims.bin seed.bin result.txt ballots/1005.ballot rounds/000/head.bin rounds/000/shares0.bin \
-        rounds/001/shares1.bin rounds/000/opening.bin rounds/001/answers.bin; do
+    for name in sheet.txt log.txt lists.txt enrolled.txt claims.bin seed.bin result.txt ballots/1005.ballot rounds/000/head.bin \
+        rounds/000/shares0.bin rounds/001/shares1.bin rounds/000/opening.bin rounds/001/answers.bin; do
         damaged 3 "damaged/$name is missing" rm "$name"
     done
-    for name in claims.bin seed.bin ballots/1005.ballot rounds/000/head.bin rounds/000/shares0.bin rounds/001/shares1.bin rounds/000/opening.bin \
-        rounds/001/answers.bin; do
-        damaged 1 "damaged/$name: refused 1: it has $(($(size "$room/base/$name") + 1)) bytes where $(size "$room/base/$name") are due" longer "$name"
+    for name in claims.bin seed.bin ballots/1005.ballot rounds/000/head.bin rounds/000/shares0.bin rounds/001/shares1.bin \
+        rounds/000/opening.bin rounds/001/answers.bin; do
+        damaged 1 "damaged/$name: refused 1: it has $(($(size "$room/base/$name") + 1)) bytes where $(size "$room/base/$name") are due" \
+            longer "$name"
         damaged 1 "damaged/$name: refused 1: it has 7 bytes" truncate -s 7 "$name"
     done
     damaged 3 "seed.bin is no file" eval 'rm seed.bin; mkdir seed.bin'
@@ -71,8 +72,17 @@ sheets() {
     damaged 1 "sheet.txt: refused 1: something has the wrong length" truncate -s 0 sheet.txt
     damaged 1 "sheet.txt: refused 1: it has 262145 bytes" truncate -s 262145 sheet.txt
     damaged 1 "sheet.txt: refused 2: the sheet does not have the form" swap sheet.txt '^drown' drawn
-    damaged 1 "sheet.txt: refused 3: a number of the sheet" swap sheet.txt '^repeats=.*' repeats=1
+    damaged 1 "sheet.txt: refused 3: a number is outside its range" swap sheet.txt '^repeats=.*' repeats=1
+    said "sheet.txt: repeats 1 is outside its range: for so many rounds, a whole number from 3 to 256"
+    damaged 1 "sheet.txt: ring 4096 is outside its range: a power of two from 4 to 2048" swap sheet.txt '^ring=.*' ring=4096
+    damaged 1 "sheet.txt: ring 12 is no power of two" swap sheet.txt '^ring=.*' ring=12
+    damaged 1 "sheet.txt: modulus 2 is outside its range: a whole number from 3 to 72057594037927935" \
+        swap sheet.txt '^modulus=.*' modulus=2
+    damaged 1 "sheet.txt: drown 41 is outside its range: a whole number from 0 to 40" swap sheet.txt '^drown=.*' drown=41
+    damaged 1 "sheet.txt: rounds 129 is outside its range: a whole number from 1 to 128" swap sheet.txt '^rounds=.*' rounds=129
+    damaged 1 "sheet.txt: modulus 97 leaves no room for noise and masks with ring 16 and drown 40" swap sheet.txt '^modulus=.*' modulus=97
     damaged 1 "sheet.txt: refused 4: the modulus does not fit" swap sheet.txt '^modulus=.*' modulus=36028797018820611
+    said "sheet.txt: modulus 36028797018820611 does not fit ring 16: twice the ring, 32, has to divide the modulus less one"
     damaged 1 "sheet.txt: refused 5: a number is out of range" swap sheet.txt '^k3=' k3=1,
     damaged 1 "round 0: refused 6: the halves of the public key" swap sheet.txt '^b=[0-9]*' b=1
     damaged 1 "refused 1: it has" swap sheet.txt '^repeats=.*' repeats=4
@@ -80,11 +90,11 @@ sheets() {
 
 logs() {
     damaged 1 "log.txt, line 15 is not \`admit MARK\` or \`withdraw MARK\`" add_line log.txt "readmit 1002"
-    damaged 1 "log.txt, line 1 is not" swap log.txt '^admit 1001' 'admit  1001'
-    damaged 1 "log.txt, line 1 is not" swap log.txt '^admit 1001' 'admit 01001'
-    damaged 1 "log.txt, line 1 is not" swap log.txt '^admit 1001' 'admit 4294967296'
-    damaged 1 "log.txt, line 14 is not" truncate -s -1 log.txt
-    damaged 1 "log.txt, line 1 is not" swap log.txt '$' '\r'
+    damaged 1 "log.txt, line 1 has a mark that is no whole number from 0 to 4294967295" swap log.txt '^admit 1001' 'admit  1001'
+    damaged 1 "log.txt, line 1 has a mark that is no whole number from 0 to 4294967295" swap log.txt '^admit 1001' 'admit 01001'
+    damaged 1 "log.txt, line 1 has a mark that is no whole number from 0 to 4294967295" swap log.txt '^admit 1001' 'admit 4294967296'
+    damaged 1 "log.txt, line 14 has no line end" truncate -s -1 log.txt
+    damaged 1 "log.txt, line 1 has a mark that is no whole number" swap log.txt '$' '\r'
     damaged 1 "log.txt, line 15, admit 1004: refused 32: a ballot with this mark stands already" add_line log.txt "admit 1004"
     damaged 1 "log.txt, line 15, admit 1002: refused 33: the ballot with this mark was withdrawn" add_line log.txt "admit 1002"
     damaged 1 "log.txt, line 15, withdraw 1002: refused 33" add_line log.txt "withdraw 1002"
@@ -100,7 +110,8 @@ single_ballots() {
     damaged 1 "log.txt, line 5, admit 1004: refused 5: a number is out of range" poke $file $((4 + 7)) 255
     damaged 1 "round 0: refused 12: a mask is larger than the sheet allows (ballot 2 of the batch)" flip $file 4
     damaged 1 "ballot 2 of the batch has the mark 1004" flip $file 4
-    damaged 1 "round 0: refused 13: the claimed vote is not what the shares decrypt to (ballot 2 of the batch)" flip $file $((4 + polynomial))
+    damaged 1 "round 0: refused 13: the claimed vote is not what the shares decrypt to (ballot 2 of the batch)" \
+        flip $file $((4 + polynomial))
 }
 
 one_file_of_ballots() {
@@ -131,18 +142,22 @@ messages() {
     damaged 1 "round 0: refused 8: an opened commitment" flip $first $pair1
     damaged 1 "round 0: refused 11: the answer does not give the digests of the first message (repetition 1)" flip $first $pair0
     damaged 1 "round 0: refused 11: the answer does not give the digests of the first message (repetition 0)" flip $first $((digests + 32))
-    damaged 1 "round 0: refused 11: the answer does not give the digests of the first message (repetition 2)" flip $first $((digests + 2 * 96))
+    damaged 1 "round 0: refused 11: the answer does not give the digests of the first message (repetition 2)" \
+        flip $first $((digests + 2 * 96))
     # the digest that no answer opens: the round is accepted, but it is another transcript than the result names
     damaged 1 "result.txt is not the result of this transcript" flip $first $digests
     damaged 1 "round 0: refused 10: the answer does not hold as many of each of -1, 0 and 1 (repetition 0)" turn $answers 0
     damaged 1 "round 0: refused 11: the answer does not give the digests of the first message (repetition 0)" flip $answers $((42 * 16))
     damaged 1 "round 0: refused 9: the answer's permutation is no permutation (repetition 1)" flip $answers $answer2
-    damaged 1 "round 0: refused 11: the answer does not give the digests of the first message (repetition 1)" flip $answers $((answer2 + vector))
+    damaged 1 "round 0: refused 11: the answer does not give the digests of the first message (repetition 1)" \
+        flip $answers $((answer2 + vector))
     damaged 1 "round 0: refused 9: the answer's permutation is no permutation (repetition 2)" poke $answers $((answer3 + 3)) 1
-    damaged 1 "round 0: refused 11: the answer does not give the digests of the first message (repetition 2)" flip $answers $((answer3 + vector))
+    damaged 1 "round 0: refused 11: the answer does not give the digests of the first message (repetition 2)" \
+        flip $answers $((answer3 + vector))
     damaged 1 "round 0: refused 5" poke $answers $((answer3 + vector + coefficient - 1)) 255
     damaged 1 "round 0: refused 12: a mask is larger than the sheet allows (ballot 1 of the batch)" flip rounds/000/shares1.bin $polynomial
-    damaged 1 "round 0: refused 13: the claimed vote is not what the shares decrypt to (ballot 3 of the batch)" flip rounds/000/shares0.bin $((3 * polynomial))
+    damaged 1 "round 0: refused 13: the claimed vote is not what the shares decrypt to (ballot 3 of the batch)" \
+        flip rounds/000/shares0.bin $((3 * polynomial))
     # later rounds are worked through as the first is
     damaged 1 "round 1: refused 6" flip rounds/001/head.bin 0
     damaged 1 "round 1: refused 7" flip rounds/001/opening.bin 0
@@ -157,13 +172,15 @@ results() {
     damaged 1 "result.html is not the result of this transcript" swap result.html 'Rook' 'Crow'
     damaged 0 "accepted" rm result.html
     damaged 1 "result.txt is not the result of this transcript" swap lists.txt Rook Crow
-    damaged 1 "enrolled.txt: refused 3: a number of the sheet, or the number enrolled, is outside its range" swap enrolled.txt 40 0
-    damaged 1 "enrolled.txt: refused 3" swap enrolled.txt 40 1000001
+    damaged 1 "enrolled.txt: refused 3: a number is outside its range" swap enrolled.txt 40 0
+    said "enrolled.txt: 0 is outside its range: a whole number from 1 to 1000000"
+    damaged 1 "enrolled.txt: 1000001 is outside its range: a whole number from 1 to 1000000" swap enrolled.txt 40 1000001
+    damaged 1 "enrolled.txt, line 1 has no line end" truncate -s -1 enrolled.txt
     damaged 1 "enrolled.txt is not one decimal number on a line" swap enrolled.txt 40 forty
     damaged 1 "enrolled.txt is not one decimal number on a line" add_line enrolled.txt 1
-    damaged 1 "lists.txt, line 5 is empty or has control characters" add_line lists.txt ""
-    damaged 1 "lists.txt, line 5 has a name that stood before" add_line lists.txt Rook
-    damaged 1 "lists.txt, line 4 does not end" truncate -s -1 lists.txt
+    damaged 1 "lists.txt, line 5 is blank" add_line lists.txt ""
+    damaged 1 "lists.txt, line 5 looks like line 3" add_line lists.txt Rook
+    damaged 1 "lists.txt, line 4 has no line end" truncate -s -1 lists.txt
     damaged 1 "lists.txt, line 17 is one more than the ring has coefficients" eval 'seq 1 17 > lists.txt'
     damaged 1 "lists.txt: refused 1" truncate -s 0 lists.txt
 }

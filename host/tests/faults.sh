@@ -13,28 +13,80 @@ fault() { # STATUS TEXT AFTER COMMAND..
     shift 3
     readied base_ready "$after"
     (cd "$room/fault" && "$@")
-    expect "$due" "$text" "$program" run "${unsafe[@]}" "$room/fault"
+    expect "$due" "$text" "$program" run --draw-here "${unsafe[@]}" "$room/fault"
 }
 
 keys() {
     fault 3 "fault/key/s is missing" "" rm key/s
     fault 3 "fault/key/e is missing" "" rm key/e
     fault 1 "key/s: refused 1: it has 17 bytes where 16 are due" "" longer key/s
-    fault 1 "producing round 0: refused 5" "" poke key/e 3 3
-    fault 1 "producing round 0: refused 14: the secret key does not match" "" turn key/s 0
-    fault 1 "producing round 0: refused 14: the secret key does not match" commit turn key/e 15
+    fault 1 "fault/key: refused 5" "" poke key/e 3 3
+    fault 1 "fault/key: refused 14: the secret key does not match" "" turn key/s 0
+    succeed "nothing is closed without the key" test "$(byte_at "$room/fault/state.bin" 16)" -eq 0
+    fault 1 "fault/key: refused 14: the secret key does not match" commit turn key/e 15
 }
 
-# A ballot that decrypts to noise: it is named, and once it is withdrawn the election goes on.
+# Ballots that decrypt to noise are named before the ballots close, all of them at once; once they are withdrawn the election goes on.
 noisy() {
-    fault 1 "producing round 0: refused 15: the noise is larger than that of any honestly made ballot (ballot 3 of the batch)" "" poke ballots/1005.ballot $((4 + polynomial + 5)) 77
-    said "has the mark 1005"
-    said "add a withdrawal of this mark to log.txt, remove state.bin and run again"
+    fault 1 "the ballot with the mark 1005: refused 15: its noise is larger than that of any honestly made ballot" "" \
+        eval "poke ballots/1005.ballot $((4 + polynomial + 5)) 77; poke ballots/1009.ballot $((4 + 2 * polynomial - 3)) 77"
+    said "the ballot with the mark 1009: refused 15"
+    succeed "no other is named" test "$(grep -c 'refused 15' "$room/said")" -eq 2
+    succeed "nothing is closed" test "$(byte_at "$room/fault/state.bin" 16)" -eq 0
+    # they are named again for as long as they stand
+    expect 1 "the ballot with the mark 1005: refused 15" "$program" gather "$room/fault"
     expect 0 "" "$program" withdraw "$room/fault" 1005
-    expect 1 "log.txt has grown since the ballots were closed" "$program" run "$room/fault"
-    rm "$room/fault/state.bin"
-    expect 0 "Ballots counted     11" "$program" run "$room/fault"
+    expect 1 "the ballot with the mark 1009: refused 15" "$program" gather "$room/fault"
+    succeed "the one that is withdrawn is not named" test "$(grep -c 'mark 1005' "$room/said")" -eq 0
+    expect 0 "" "$program" withdraw "$room/fault" 1009
+    expect 0 "Ballots standing    10" "$program" gather "$room/fault"
+    expect 0 "Ballots counted     10" "$program" run --draw-here "$room/fault"
     expect 0 "accepted" "$program" check "$room/fault"
+}
+
+# The largest noise that the sheet allows is taken, and one more is not: u = 0, so that v is the noise, and its bound is
+# 2 (2 16 + 1) + 1 = 67 (document 01).
+noise_bound() {
+    local noise
+    for noise in 67 68 36028797018820542 36028797018820541; do
+        readied base_ready ""
+        { number 7 4; head -c $((polynomial + 8)) /dev/zero; number $noise 8; head -c $((polynomial - 16)) /dev/zero; } \
+            >"$room/fault/ballots/7.ballot"
+        echo "admit 7" >>"$room/fault/log.txt"
+        # q is 36028797018820609: q - 67 is as far from 0 as 67 is
+        case $noise in
+        67 | 36028797018820542) expect 0 "Ballots standing    13" "$program" gather "$room/fault" ;;
+        *) expect 1 "the ballot with the mark 7: refused 15" "$program" gather "$room/fault" ;;
+        esac
+    done
+}
+
+# What needs no key is found without it, all at once: lengths, marks and ranges. What needs it waits, and that is said.
+without_key() {
+    readied base_ready ""
+    rm -r "$room/fault/key"
+    expect 0 "key/ is not here: the noise of the ballots is looked at where it is, before they are closed" "$program" gather "$room/fault"
+    readied base_ready ""
+    rm -r "$room/fault/key"
+    poke "$room/fault/ballots/1004.ballot" $((4 + 7)) 255
+    longer "$room/fault/ballots/1006.ballot"
+    rm "$room/fault/ballots/1008.ballot"
+    flip "$room/fault/ballots/1010.ballot" 0
+    # a withdrawal of one of them is no fault of its own
+    echo "withdraw 1004" >>"$room/fault/log.txt"
+    expect 1 "log.txt, line 5, admit 1004: refused 5: a number is out of range" "$program" gather "$room/fault"
+    said "ballots/1006.ballot: refused 1: it has 261 bytes where 260 are due"
+    said "ballots/1008.ballot is missing"
+    said "ballots/1010.ballot has the mark 1011 inside"
+    said "key/ is not here"
+    succeed "nothing else is named" test "$(grep -c "" "$room/said")" -eq 5
+    succeed "the lines before are taken" test "$(byte_at "$room/fault/state.bin" $((16 + 73)))" -eq 3
+    # with the key, the noise of the lines before is found too
+    readied base_ready ""
+    poke "$room/fault/ballots/1001.ballot" $((4 + polynomial + 5)) 77
+    rm "$room/fault/ballots/1008.ballot"
+    expect 3 "ballots/1008.ballot is missing" "$program" gather "$room/fault"
+    said "the ballot with the mark 1001: refused 15"
 }
 
 states() {
@@ -52,30 +104,37 @@ states() {
 set_phase() { # PHASE
     poke state.bin 16 "$1"
     local kept=$(($(size state.bin) - 32)) digest
-    digest=$(head -c "$kept" state.bin | "$room/digest" - | cut -d' ' -f1)
+    digest=$(head -c "$kept" state.bin | sha)
     truncate -s "$kept" state.bin
-    printf "$(echo "$digest" | sed 's/../\\x&/g')" >>state.bin
+    bytes "$digest" >>state.bin
 }
 
 phases() {
-    gcc -O2 -Iinclude -o "$room/digest" host/digest.c "$archive" || tally 1 "building digest.c"
     fault 0 "All rounds accepted yes" commit set_phase 2
     fault 1 "state.bin: refused 31: this step is not due now, or the session is damaged" commit set_phase 6
     fault 1 "the session did not end accepted, and has no result" commit set_phase 4
+    # a state that says accepted, with no round answered, gives no result: not with no seed, and not with one
+    fault 3 "seed.bin is missing" commit set_phase 5
+    said "no result is written"
+    succeed "no result" test ! -e "$room/fault/result.txt" -a ! -e "$room/fault/result.html"
+    fault 3 "rounds/000/opening.bin is missing" commit eval 'set_phase 5; head -c 32 /dev/zero >seed.bin'
+    succeed "no result" test ! -e "$room/fault/result.txt" -a ! -e "$room/fault/result.html"
+    # and one that is not the session of the files, neither
+    fault 1 "state.bin is of another transcript than the files" run eval 'poke state.bin $((16 + 161)) 1; set_phase 5'
 }
 
 # An old state is not drawn again: not after all first messages, and not after some of them.
 rolled_back() {
     readied base_ready commit
     cp "$room/fault/state.bin" "$room/old_state.bin"
-    expect 0 "All rounds accepted yes" "$program" run "$room/fault"
+    expect 0 "All rounds accepted yes" "$program" run --draw-here "$room/fault"
     cp "$room/old_state.bin" "$room/fault/state.bin"
-    expect 1 "round 0 was answered before it is drawn" "$program" run "$room/fault"
+    expect 1 "round 0 was answered before it is drawn" "$program" run --draw-here "$room/fault"
     rm "$room/fault/seed.bin"
-    expect 1 "An old state.bin is never put back: that can give the key away" "$program" run "$room/fault"
+    expect 1 "An old state.bin is never put back: that can give the key away" "$program" run --draw-here "$room/fault"
     succeed "nothing is drawn" test ! -e "$room/fault/seed.bin"
     rm "$room/fault/state.bin"
-    expect 0 "All rounds accepted yes" "$program" run "$room/fault"
+    expect 0 "All rounds accepted yes" "$program" run --draw-here "$room/fault"
     expect 0 "accepted" "$program" check "$room/fault"
 }
 
@@ -84,15 +143,18 @@ held() {
     fault 1 "the ballot with the mark 1004 is not the one that was admitted" gather flip ballots/1004.ballot 4
     fault 1 "the ballot with the mark 1004 is not the one that was admitted" commit flip ballots/1004.ballot 200
     fault 3 "ballots/1004.ballot is missing" commit rm ballots/1004.ballot
-    fault 1 "round 0: refused 16: the sheet, the ballots, the claims or the first message are not those that the session holds by digest" commit flip claims.bin 0
+    fault 1 "round 0: refused 16: the sheet, the ballots, the claims or the first message are not those that the session holds" \
+        commit flip claims.bin 0
     fault 1 "round 1: refused 16" commit flip rounds/001/shares0.bin 0
     fault 3 "rounds/001/shares0.bin is missing" commit rm rounds/001/shares0.bin
     fault 1 "seed.bin: refused 1: it has 31 bytes where 32 are due" commit eval 'head -c 31 /dev/zero > seed.bin'
-    fault 1 "claims.bin is not what was claimed" run flip claims.bin 0
+    fault 1 "round 0: refused 13" run flip claims.bin 0
+    said "no result is written"
+    fault 3 "rounds/001/answers.bin is missing" run rm rounds/001/answers.bin
     fault 3 "lists.txt is missing" run rm lists.txt
     # what is damaged can be put right, and the election goes on
     cp "$room/base/lists.txt" "$room/fault"
-    expect 0 "All rounds accepted yes" "$program" run "$room/fault"
+    expect 0 "All rounds accepted yes" "$program" run --draw-here "$room/fault"
 }
 
 # A refused line of the log stops there; once it is put right the run goes on from the line before.
@@ -100,7 +162,7 @@ refused_lines() {
     fault 1 "log.txt, line 15, admit 1001: refused 32" "" add_line log.txt "admit 1001"
     succeed "nothing is closed" test "$(byte_at "$room/fault/state.bin" 16)" -eq 0
     sed -i '$d' "$room/fault/log.txt"
-    expect 0 "Ballots counted     12" "$program" run "$room/fault"
+    expect 0 "Ballots counted     12" "$program" run --draw-here "$room/fault"
     fault 1 "closing the ballots: refused 36: no ballot stands" "" truncate -s 0 log.txt
 }
 
@@ -109,42 +171,32 @@ disk() {
     readied base_ready gather
     cp "$room/fault/state.bin" "$room/state.bin"
     # a limit of 100 blocks of 1,024 bytes, less than a state; the signal that would end the program is ignored
-    (trap '' XFSZ && ulimit -f 100 && "$program" run "$room/fault") >"$room/said" 2>&1
+    (trap '' XFSZ && ulimit -f 100 && "$program" run --draw-here "$room/fault") >"$room/said" 2>&1
     succeed "status 3 where a file cannot be written" test $? -eq 3
     said "state.bin.new: File too large"
     succeed "the state as it was" cmp "$room/fault/state.bin" "$room/state.bin"
-    expect 0 "All rounds accepted yes" "$program" run "$room/fault"
+    expect 0 "All rounds accepted yes" "$program" run --draw-here "$room/fault"
 }
 
 locks() {
     readied base_ready ""
     exec 9<"$room/fault"
     succeed "the folder can be locked" flock -n 9
-    expect 3 "is in use by another command" "$program" run "$room/fault"
-    expect 3 "is in use by another command" "$program" vote "$room/fault" 5 Rook
+    expect 3 "is in use by another command" "$program" run --draw-here "$room/fault"
+    # a command waits some seconds for another one
+    (sleep 1 && exec 9<&-) &
     exec 9<&-
-    expect 0 "" "$program" vote "$room/fault" 5 Rook
-}
-
-commands() {
-    local words
-    for words in "" "run" "run a b" "check" "count x" "vote x" "vote x 4294967296" "vote x -1" "withdraw x 1 2" "sample --ring" "sample --ring x y" \
-        "sample --size 4 y" "sample --ballots 4096 y" "sample --ballots 0 y" "run --unsafe-test-seed 00 y"; do
-        expect 2 "usage: election" "$program" $words
-    done
-    expect 1 "sheet.txt is there already and is not written over" eval 'rm -r "$room/fault/key"; "$program" keygen "$room/fault"'
-    expect 1 "key/s is there already and is not written over" "$program" keygen "$room/base_ready"
-    expect 1 "the numbers for a new sheet: refused 3" "$program" keygen --ring 12 "$room/none"
-    expect 1 "the numbers for a new sheet: refused 3" "$program" keygen --rounds 129 "$room/none"
-    expect 1 "the numbers for a new sheet: refused 4" "$program" keygen --ring 4 --modulus 101 "$room/none"
-    expect 3 "the folder" "$program" run "$room/none"
-    succeed "no folder is made" test ! -e "$room/none"
+    expect 1 "" flock -n "$room/fault" true
+    expect 0 "Mark     5" "$program" vote "$room/fault" 5 Rook
+    wait
 }
 
 faults() {
     [ -d "$room/base" ] || damage_base
     keys
     noisy
+    noise_bound
+    without_key
     states
     phases
     rolled_back
@@ -152,5 +204,4 @@ faults() {
     refused_lines
     disk
     locks
-    commands
 }

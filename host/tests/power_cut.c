@@ -1,7 +1,8 @@
-/* A power cut, for tests: preloaded before the host program, it ends it just before its K-th operation on files (POWER_CUT=K), and takes back what was
- * not on disk by then: bytes that were written and not synced (half of the file is cut off), and names that were given in a folder that was not synced
- * since. With POWER_CUT=0 the cut comes at the end of the program, so that what the program called done has to be on disk. POWER_COUNT=FILE writes down
- * how many operations there were. */
+/* A power cut, for tests: preloaded before the host program, it ends it just before its K-th operation on files (POWER_CUT=K), and takes
+ * back what was not on disk by then: bytes that were written and not synced (half of the file is cut off), and names that were given in a
+ * folder that was not synced since. With POWER_CUT=0 the cut comes at the end of the program, so that what the program called done has to
+ * be on disk. POWER_COUNT=FILE writes down how many operations there were. What is on disk is decided here alone: the real disk is not
+ * waited for. */
 #include <dlfcn.h>
 #include <fcntl.h>
 #include <signal.h>
@@ -14,10 +15,10 @@
 #include <sys/syscall.h>
 #include <unistd.h>
 
-#define MOST 64
+#define MOST 256
 
-/* A name that was given to a file or a folder. What a rename puts it in the place of is kept, under a name of its own, until the folder around it,
- * `parent`, is synced. */
+/* A name that was given to a file or a folder. What a rename puts it in the place of is kept, under a name of its own, until the folder
+ * around it, `parent`, is synced. */
 struct given {
     int folder;
     ino_t parent;
@@ -106,7 +107,17 @@ int fsync(int handle) {
     for (int i = 0; i < dirty_count; i++)
         if (dirty[i] != handle) dirty[left++] = dirty[i];
     dirty_count = left;
-    return (int)syscall(SYS_fsync, handle);
+    return 0;
+}
+
+/* Everything is on disk after this. */
+int syncfs(int handle) {
+    (void)handle;
+    step();
+    for (int i = 0; i < name_count; i++)
+        if (names[i].replaced) syscall(SYS_unlinkat, names[i].folder, names[i].kept, 0);
+    name_count = dirty_count = 0;
+    return 0;
 }
 
 /* Before a name is given. */

@@ -18,9 +18,8 @@ use Rattle.sheet.specs.declared.Reading.the-variants.{Taken, Refused}
 use Rattle.sheet_numbers.specs.Usable.{Usable}
 use Rattle.sheet_numbers.proofs.Ranges.{usable}
 use Rattle.sheet.proofs.Taken.{onwards, order-first, taken}
-use Rattle.call.specs.Call.{coefficients, swept, Polynomial, Used}
+use Rattle.call.specs.Call.{coefficients, swept, Polynomial, Called}
 use Rattle.call.proofs.Sheets.{put-room, lent-public, lent-alike}
-use Rattle.call.proofs.Sweeping.{swept-used}
 
 -- what holds where the sheet was taken with the numbers k, and its polynomials were put into lent bytes: polynomial i is the part of them from 8N i on
 pub record Lent (text public : Bytes) (k : Numbers) : Type 0 where
@@ -61,21 +60,17 @@ module _ (text : Bytes) {public : Bytes} {r : Reading} {k : Numbers} (load : (r 
     alike = λ i from long l g h. lent-alike text k said d room i l _ (held-part i from long g h);
   }
 
--- ---- the promises of a call, from those of its part after the sheet
+-- ---- the order of a call, by what is said of its sheet
 
--- the sheet was taken: the rest of the order decides, and scratch is swept
-pub call-taken : {text public : Bytes} {k : Numbers} → Lent text public k → (tests : Numbers → List Test) (writes : Numbers → Bytes) (out : Bytes) {r : Reply} {x out' w w' w'' : Bytes}
-    → (r ≡ first (tests k)) × ((out' ≡ leaves r x out) × Used r w w') → x ≡ writes k → w'' ≡ swept r w'
-    → (r ≡ first (order text ++ tests (sheetOf text .numbers))) × ((out' ≡ leaves r (writes (sheetOf text .numbers)) out) × (w'' ≡ swept r w))
-call-taken {text} {public} {k} h tests writes out {r} {x} {out'} {w} {w'} made same zeroed =
-    let m = sym (h .numbers) in
-    let ts = tests (sheetOf text .numbers) in (
-      made .0 ∙ ap (λ (n : Numbers). first (tests n)) m ∙ sym (order-first text ts ∙ ap (λ (s : Reading). onwards s (first ts)) (h .said)),
-      (made .1 .0 ∙ ap (λ (s : Bytes). leaves r s out) (same ∙ ap writes m), zeroed ∙ swept-used r w w' (made .1 .1)),
-    )
+-- it is taken: the rest of the order decides
+pub order-taken : (text : Bytes) {k : Numbers} {r : Reply} (ts : List Test) → reading text ≡ Taken k → r ≡ first ts → r ≡ first (order text ++ ts)
+order-taken text ts said e = e ∙ sym (order-first text ts ∙ ap (λ (s : Reading). onwards s (first ts)) said)
 
--- the sheet was refused, and the call with it
-pub call-refused : (text : Bytes) (ts : List Test) (x w : Bytes) {out w' : Bytes} {s : Reading} {n : ℕ} → s ≡ reading text → s ≡ Refused n → w' ≡ swept (reply.Refused n 0) w
-    → (reply.Refused n 0 ≡ first (order text ++ ts)) × ((out ≡ leaves (reply.Refused n 0) x out) × (w' ≡ swept (reply.Refused n 0) w))
+-- it is refused, and the call with it
+pub order-refused : (text : Bytes) {s : Reading} {n : ℕ} (ts : List Test) → s ≡ reading text → s ≡ Refused n → reply.Refused n 0 ≡ first (order text ++ ts)
+order-refused text ts f e = sym (order-first text ts ∙ ap (λ (z : Reading). onwards z (first ts)) (sym f ∙ e))
+
+pub call-refused : (text : Bytes) {ts : List Test} {x w : Bytes} {out w' : Bytes} {s : Reading} {n : ℕ} → s ≡ reading text → s ≡ Refused n → w' ≡ swept (reply.Refused n 0) w
+    → Called (order text ++ ts) x (reply.Refused n 0) out out w w'
 unfolding leaves
-call-refused text ts x w f e zeroed = (sym (order-first text ts ∙ ap (λ (z : Reading). onwards z (first ts)) (sym f ∙ e)), (refl, zeroed))
+call-refused text {ts} f e zeroed = record { replied = order-refused text ts f e; written = refl; cleared = zeroed }

@@ -7,7 +7,7 @@ use Prim.Native.Nat.{ℕ, _*_, _≤_, _<_, _^_}
 use lib.Dec.{eqb}
 use lib.ListN.{length, getD}
 use Rattle.codec.specs.Bytes.{Bytes, part, zeros, same}
-use Rattle.codec.specs.Reply.{Test, test, numberOf, leaves}
+use Rattle.codec.specs.Reply.{Test, test, first, numberOf, leaves}
 use Rattle.codec.specs.declared.Reply.{Reply}
 use Rattle.codec.specs.Lists.{list, allBelow}
 use Rattle.ring.specs.Poly.{Poly, Below}
@@ -21,10 +21,17 @@ scratchLength = 1048576
 unfoldable pub swept : Reply → Bytes → Bytes
 swept r w = cond (eqb (numberOf r) 1 || eqb (numberOf r) 31) w (zeros (length w))
 
--- what the inner part of a call may do to scratch: anything but change its length if the call is taken, else nothing
-pub record Used (r : Reply) (w w' : Bytes) : Type 0 where
-  pub sized : length w' ≡ length w
-  pub kept : leaves r w w' ≡ w
+-- what a call with one output comes to once the sheet is taken: the reply is that of its tests, the output is written and scratch zeroed where it is taken, and a refusal leaves both
+pub record Worked (tests : List Test) (writes : Bytes) (reply : Reply) (out out' scratch scratch' : Bytes) : Type 0 where
+  pub replied : reply ≡ first tests
+  pub written : out' ≡ leaves reply writes out
+  pub cleared : scratch' ≡ leaves reply (zeros (length scratch)) scratch
+
+-- what it comes to over the sheet: scratch is zeroed unless the call is refused 1 or 31
+pub record Called (tests : List Test) (writes : Bytes) (reply : Reply) (out out' scratch scratch' : Bytes) : Type 0 where
+  pub replied : reply ≡ first tests
+  pub written : out' ≡ leaves reply writes out
+  pub cleared : scratch' ≡ swept reply scratch
 
 -- ---- tests of lent slices
 

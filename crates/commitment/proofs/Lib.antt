@@ -2,3 +2,5 @@ pub mod Additive
 pub mod Opening
 pub mod Steps
 pub mod Loading
+pub mod Sheets
+pub mod Cut

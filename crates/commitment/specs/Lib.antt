@@ -1,2 +1,3 @@
 pub mod Commitment
 pub mod Loaded
+pub mod Parameters

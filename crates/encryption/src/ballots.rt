@@ -1,22 +1,27 @@
-// Encryption and decryption once the sheet is taken: the tests of the lent slices, and then the work. What is made from secrets is left in scratch, which the caller sweeps.
+// Encryption and decryption once the sheet is taken: the tests of the lent slices, and then the work. Scratch is given back zeroed, or as it was where the call is refused.
 use codec::Reply;
 use scheme::written;
+use sheet_numbers::Numbers;
 ghost use mathlib.Core.Path.{_≡_};
 ghost use mathlib.Core.Bool.{true, _&&_};
 ghost use mathlib.Core.List.{[], _∷_};
-ghost use Prim.Native.Nat.{_*_, _≤_, _<_, _^_};
+ghost use Prim.Native.Nat.{_*_, _≤_};
 ghost use lib.ListN.{length};
-ghost use Rattle.codec.specs.Bytes.{part};
-ghost use Rattle.codec.specs.Reply.{first, leaves};
+ghost use Rattle.codec.specs.Bytes.{zeros};
+ghost use Rattle.codec.specs.Reply.{first};
+ghost use Rattle.codec.specs.Slices.{given, left};
 ghost use Rattle.codec.specs.Lists.{list, allBelow};
 ghost use Rattle.ring.specs.Poly.{Below};
 ghost use Rattle.ring.specs.Slots.{poly};
-ghost use Rattle.call.specs.Call.{scratchLength, bytesBelow, coefficients, Polynomial, Used};
+ghost use Rattle.sheet_numbers.specs.Usable.{Usable};
+ghost use Rattle.call.specs.Call.{scratchLength, bytesBelow, coefficients, Worked};
+ghost use Rattle.commitment.specs.Loaded.{Loaded};
+ghost use Rattle.commitment.specs.Parameters.{parameters};
 ghost use Rattle.scheme.specs.Calls.{encryptTests, encryptWrites, decryptTests, decryptWrites};
 
 // r, e' and e'' are ternary, and m is a message.
 fn encrypt_ranged(r: &[u8], e1: &[u8], e2: &[u8], m: &[u8], p: u64) -> bool
-    ensures { λ answer. ⌜ answer ≡ bytesBelow 3 (now (r .entry) ∷ now (e1 .entry) ∷ now (e2 .entry) ∷ []) && bytesBelow p (now (m .entry) ∷ []) ⌝ }
+    ensures { λ answer. ⌜ answer ≡ bytesBelow 3 (given r ∷ given e1 ∷ given e2 ∷ []) && bytesBelow p (given m ∷ []) ⌝ }
 {
     if !ring::is_ternary(r) {
         return false;
@@ -29,17 +34,18 @@ fn encrypt_ranged(r: &[u8], e1: &[u8], e2: &[u8], m: &[u8], p: u64) -> bool
 
 // What `encrypt` refuses, in order.
 fn encrypt_tests(
+    k: Numbers,
     r: &[u8],
     e1: &[u8],
     e2: &[u8],
     m: &[u8],
     ciphertext: &[u8],
     scratch: &[u8],
-    n: usize,
 ) -> Reply
-    requires { ⌜ n ≤ 2048 ⌝ }
-    ensures { λ reply. ⌜ reply ≡ first (encryptTests 2 n (now (r .entry)) (now (e1 .entry)) (now (e2 .entry)) (now (m .entry)) (now (ciphertext .entry)) (now (scratch .entry))) ⌝ }
+    requires { ⌜ k .ring ≤ 2048 ⌝ }
+    ensures { λ reply. ⌜ reply ≡ first (encryptTests k (given r) (given e1) (given e2) (given m) (given ciphertext) (given scratch)) ⌝ }
 {
+    let n = k.ring as usize;
     if !call::sized(
         [
             r.len(),
@@ -56,7 +62,8 @@ fn encrypt_tests(
             place: 0,
         };
     }
-    if !encrypt_ranged(r, e1, e2, m, 2) {
+    let p = sheet_numbers::plain(k);
+    if !encrypt_ranged(r, e1, e2, m, p) {
         return Reply::Refused {
             number: 5,
             place: 0,
@@ -67,27 +74,7 @@ fn encrypt_tests(
 
 // The work of `encrypt`, for slices that passed its tests.
 fn write_ciphertext(
-    a: &[u8],
-    b: &[u8],
-    r: &[u8],
-    e1: &[u8],
-    e2: &[u8],
-    m: &[u8],
-    ciphertext: &mut [u8],
-    scratch: &mut [u8],
-    n: usize,
-    q: u64,
-)
-    requires { ⌜ Polynomial n q (now a) × Polynomial n q (now b) × (length (now r) ≡ n) × (length (now e1) ≡ n) × (length (now e2) ≡ n) × (length (now m) ≡ n) × Below q n (coefficients (now m)) × (length (now ciphertext) ≡ 16 * n) × (length (now scratch) ≡ scratchLength) ⌝ }
-    ensures { λ _. ⌜ now (ciphertext .exit) ≡ encryptWrites 2 q n (poly (now (a .entry))) (poly (now (b .entry))) (now (r .entry)) (now (e1 .entry)) (now (e2 .entry)) (now (m .entry)) ⌝ }
-    ensures { λ _. ⌜ length (now (scratch .exit)) ≡ length (now (scratch .entry)) ⌝ }
-{
-    written::noisy(ciphertext, 0, scratch, a, r, e1, 2, n, q);
-    written::cipher_v(ciphertext, 8 * n, scratch, b, r, e2, m, 2, n, q);
-}
-
-// The ciphertext u, v, from the bytes that hold the sheet's polynomials, a at their head, then b: of an array only one part can be lent at a time, of a slice several.
-pub fn encrypt(
+    k: Numbers,
     public: &[u8],
     r: &[u8],
     e1: &[u8],
@@ -95,29 +82,51 @@ pub fn encrypt(
     m: &[u8],
     ciphertext: &mut [u8],
     scratch: &mut [u8],
-    n: usize,
-    q: u64,
-) -> Reply
-    requires { ⌜ (16 * n ≤ length (now public)) × Polynomial n q (part (now public) 0 (8 * n)) × Polynomial n q (part (now public) (8 * n) (8 * n)) ⌝ }
-    ensures { λ reply. ⌜ reply ≡ first (encryptTests 2 n (now (r .entry)) (now (e1 .entry)) (now (e2 .entry)) (now (m .entry)) (now (ciphertext .entry)) (now (scratch .entry))) ⌝ }
-    ensures { λ reply. ⌜ now (ciphertext .exit) ≡ leaves reply (encryptWrites 2 q n (poly (part (now (public .entry)) 0 (8 * n))) (poly (part (now (public .entry)) (8 * n) (8 * n))) (now (r .entry)) (now (e1 .entry)) (now (e2 .entry)) (now (m .entry))) (now (ciphertext .entry)) ⌝ }
-    ensures { λ reply. ⌜ Used reply (now (scratch .entry)) (now (scratch .exit)) ⌝ }
+)
+    requires { ⌜ Loaded k (now public) × (length (now r) ≡ k .ring) × (length (now e1) ≡ k .ring) × (length (now e2) ≡ k .ring)
+        × (length (now m) ≡ k .ring) × Below (k .modulus) (k .ring) (coefficients (now m))
+        × (length (now ciphertext) ≡ 16 * k .ring) × (length (now scratch) ≡ scratchLength) ⌝ }
+    ensures { λ _. ⌜ (left ciphertext ≡ encryptWrites (parameters k (given public)) (given r) (given e1) (given e2) (given m))
+        × (left scratch ≡ zeros (length (given scratch))) ⌝ }
 {
-    let reply = encrypt_tests(r, e1, e2, m, ciphertext, scratch, n);
+    let n = k.ring as usize;
+    let q = k.modulus;
+    let p = sheet_numbers::plain(k);
+    written::noisy(ciphertext, 0, scratch, &public[0..8 * n], r, e1, p, n, q);
+    written::cipher_v(
+        ciphertext,
+        8 * n,
+        scratch,
+        &public[8 * n..16 * n],
+        r,
+        e2,
+        m,
+        p,
+        n,
+        q,
+    );
+}
+
+// The ciphertext u, v.
+pub fn encrypt(
+    k: Numbers,
+    public: &[u8],
+    r: &[u8],
+    e1: &[u8],
+    e2: &[u8],
+    m: &[u8],
+    ciphertext: &mut [u8],
+    scratch: &mut [u8],
+) -> Reply
+    requires { ⌜ Loaded k (now public) ⌝ }
+    ensures { λ reply. ⌜ Worked (encryptTests k (given r) (given e1) (given e2) (given m) (given ciphertext) (given scratch))
+        (encryptWrites (parameters k (given public)) (given r) (given e1) (given e2) (given m)) reply
+        (given ciphertext) (left ciphertext) (given scratch) (left scratch) ⌝ }
+{
+    let reply = encrypt_tests(k, r, e1, e2, m, ciphertext, scratch);
     match reply {
         Reply::Taken => {
-            write_ciphertext(
-                &public[0..8 * n],
-                &public[8 * n..16 * n],
-                r,
-                e1,
-                e2,
-                m,
-                ciphertext,
-                scratch,
-                n,
-                q,
-            );
+            write_ciphertext(k, public, r, e1, e2, m, ciphertext, scratch);
         }
         Reply::Refused {
             number: _,
@@ -128,17 +137,11 @@ pub fn encrypt(
 }
 
 // What `decrypt` refuses, in order.
-fn decrypt_tests(
-    s: &[u8],
-    ciphertext: &[u8],
-    vote: &[u8],
-    scratch: &[u8],
-    n: usize,
-    q: u64,
-) -> Reply
-    requires { ⌜ n ≤ 2048 ⌝ }
-    ensures { λ reply. ⌜ reply ≡ first (decryptTests q n (now (s .entry)) (now (ciphertext .entry)) (now (vote .entry)) (now (scratch .entry))) ⌝ }
+fn decrypt_tests(k: Numbers, s: &[u8], ciphertext: &[u8], vote: &[u8], scratch: &[u8]) -> Reply
+    requires { ⌜ k .ring ≤ 2048 ⌝ }
+    ensures { λ reply. ⌜ reply ≡ first (decryptTests k (given s) (given ciphertext) (given vote) (given scratch)) ⌝ }
 {
+    let n = k.ring as usize;
     if !call::sized(
         [s.len(), ciphertext.len(), vote.len(), scratch.len(), 0, 0],
         [n, 16 * n, n, call::SCRATCH, 0, 0],
@@ -148,7 +151,7 @@ fn decrypt_tests(
             place: 0,
         };
     }
-    if !call::ternary_and_in_range(s, ciphertext, 2 * n, q) {
+    if !call::ternary_and_in_range(s, ciphertext, 2 * n, k.modulus) {
         return Reply::Refused {
             number: 5,
             place: 0,
@@ -158,40 +161,42 @@ fn decrypt_tests(
 }
 
 // The work of `decrypt`, for slices that passed its tests.
-fn write_vote(s: &[u8], ciphertext: &[u8], vote: &mut [u8], scratch: &mut [u8], n: usize, q: u64)
-    requires { ⌜ ((4 ≤ n) × (n ≤ 2048) × (3 ≤ q) × (q < 2 ^ 56)) × (length (now s) ≡ n) × (length (now ciphertext) ≡ 16 * n) × (allBelow q (list (2 * n) (poly (now ciphertext))) ≡ true) × (length (now vote) ≡ n) × (length (now scratch) ≡ scratchLength) ⌝ }
-    ensures { λ _. ⌜ now (vote .exit) ≡ decryptWrites 2 q n (now (s .entry)) (now (ciphertext .entry)) ⌝ }
-    ensures { λ _. ⌜ length (now (scratch .exit)) ≡ length (now (scratch .entry)) ⌝ }
+fn write_vote(k: Numbers, s: &[u8], ciphertext: &[u8], vote: &mut [u8], scratch: &mut [u8])
+    requires { ⌜ Usable k × (length (now s) ≡ k .ring) × (length (now ciphertext) ≡ 16 * k .ring)
+        × (allBelow (k .modulus) (list (2 * k .ring) (poly (now ciphertext))) ≡ true)
+        × (length (now vote) ≡ k .ring) × (length (now scratch) ≡ scratchLength) ⌝ }
+    ensures { λ _. ⌜ (left vote ≡ decryptWrites k (given s) (given ciphertext)) × (left scratch ≡ zeros (length (given scratch))) ⌝ }
 {
+    let n = k.ring as usize;
+    let p = sheet_numbers::plain(k);
     bgv::opened(
         scratch,
         s,
         &ciphertext[0..8 * n],
         &ciphertext[8 * n..16 * n],
         n,
-        q,
+        k.modulus,
     );
-    bgv::plain(scratch, vote, 2, n, q);
+    bgv::plain(scratch, vote, p, n, k.modulus);
+    codec::wipe(scratch);
 }
 
 // The vote, from the secret key.
 pub fn decrypt(
+    k: Numbers,
     s: &[u8],
     ciphertext: &[u8],
     vote: &mut [u8],
     scratch: &mut [u8],
-    n: usize,
-    q: u64,
 ) -> Reply
-    requires { ⌜ (4 ≤ n) × (n ≤ 2048) × (3 ≤ q) × (q < 2 ^ 56) ⌝ }
-    ensures { λ reply. ⌜ reply ≡ first (decryptTests q n (now (s .entry)) (now (ciphertext .entry)) (now (vote .entry)) (now (scratch .entry))) ⌝ }
-    ensures { λ reply. ⌜ now (vote .exit) ≡ leaves reply (decryptWrites 2 q n (now (s .entry)) (now (ciphertext .entry))) (now (vote .entry)) ⌝ }
-    ensures { λ reply. ⌜ Used reply (now (scratch .entry)) (now (scratch .exit)) ⌝ }
+    requires { ⌜ Usable k ⌝ }
+    ensures { λ reply. ⌜ Worked (decryptTests k (given s) (given ciphertext) (given vote) (given scratch))
+        (decryptWrites k (given s) (given ciphertext)) reply (given vote) (left vote) (given scratch) (left scratch) ⌝ }
 {
-    let reply = decrypt_tests(s, ciphertext, vote, scratch, n, q);
+    let reply = decrypt_tests(k, s, ciphertext, vote, scratch);
     match reply {
         Reply::Taken => {
-            write_vote(s, ciphertext, vote, scratch, n, q);
+            write_vote(k, s, ciphertext, vote, scratch);
         }
         Reply::Refused {
             number: _,

@@ -1,3 +1,4 @@
+pub mod Answers
 pub mod Images
 pub mod HostSteps
 pub mod HostClaims

@@ -3,18 +3,18 @@ pub mod round;
 pub mod steps;
 
 ghost use mathlib.Core.Path.{_≡_};
-ghost use Rattle.codec.specs.Reply.{packed, leaves};
-ghost use Rattle.call.specs.Call.{swept};
-ghost use Rattle.scheme.specs.Calls.{keygenWrites, encryptWrites, decryptWrites, splitWrites, shareWrites, reconstructWrites, commitmentWrites};
-ghost use Rattle.scheme_calls.specs.Replies.{ringOf, modulusOf, aOf, bOf, keysOfSheet, keygenReply, encryptReply, decryptReply, splitReply, shareReply, reconstructReply, commitmentReply};
+ghost use Rattle.codec.specs.Reply.{packed};
+ghost use Rattle.codec.specs.Slices.{given, left};
+ghost use Rattle.scheme_calls.specs.Orders.{keygenOrder, encryptOrder, decryptOrder, splitOrder, shareOrder, reconstructOrder, commitmentOrder};
+ghost use Rattle.scheme_calls.specs.Orders.{keyOf, ciphertextOf, voteOf, splitOf, shareOf, voteOfShares, pairOf};
 ghost use Rattle.sha3.specs.Digest.{digestReply, digestOut};
 ghost use Rattle.sheet_calls.specs.Calls.{describeReply, describeOut};
+ghost use Rattle.jackdawnail.specs.Answers.{Answered};
 
 // SHA3-256 of a message into 32 lent bytes.
 #[no_mangle]
 pub extern "C" fn jdn_digest(message: &[u8], out: &mut [u8]) -> u64
-    ensures reply { λ answer. ⌜ answer ≡ packed (digestReply (now (out .entry))) ⌝ }
-    ensures output { λ _. ⌜ now (out .exit) ≡ digestOut (now (message .entry)) (now (out .entry)) ⌝ }
+    ensures { λ answer. ⌜ (answer ≡ packed (digestReply (given out))) × (left out ≡ digestOut (given message) (given out)) ⌝ }
 {
     codec::pack(sha3::digest(message, out))
 }
@@ -22,8 +22,7 @@ pub extern "C" fn jdn_digest(message: &[u8], out: &mut [u8]) -> u64
 // Reads a sheet, and writes N, D, B and L into 32 lent bytes.
 #[no_mangle]
 pub extern "C" fn jdn_sheet(sheet: &[u8], out: &mut [u8]) -> u64
-    ensures reply { λ answer. ⌜ answer ≡ packed (describeReply (now (sheet .entry)) (now (out .entry))) ⌝ }
-    ensures output { λ _. ⌜ now (out .exit) ≡ describeOut (now (sheet .entry)) (now (out .entry)) ⌝ }
+    ensures { λ answer. ⌜ (answer ≡ packed (describeReply (given sheet) (given out))) × (left out ≡ describeOut (given sheet) (given out)) ⌝ }
 {
     codec::pack(sheet_calls::describe(sheet, out))
 }
@@ -37,9 +36,8 @@ pub extern "C" fn jdn_keygen(
     b: &mut [u8],
     scratch: &mut [u8],
 ) -> u64
-    ensures reply { λ answer. ⌜ answer ≡ packed (keygenReply (now (sheet .entry)) (now (s .entry)) (now (e .entry)) (now (b .entry)) (now (scratch .entry))) ⌝ }
-    ensures output { λ _. ⌜ now (b .exit) ≡ leaves (keygenReply (now (sheet .entry)) (now (s .entry)) (now (e .entry)) (now (b .entry)) (now (scratch .entry))) (keygenWrites 2 (modulusOf (now (sheet .entry))) (ringOf (now (sheet .entry))) (aOf (now (sheet .entry))) (now (s .entry)) (now (e .entry))) (now (b .entry)) ⌝ }
-    ensures swept { λ _. ⌜ now (scratch .exit) ≡ swept (keygenReply (now (sheet .entry)) (now (s .entry)) (now (e .entry)) (now (b .entry)) (now (scratch .entry))) (now (scratch .entry)) ⌝ }
+    ensures { λ answer. ⌜ Answered (keygenOrder (given sheet) (given s) (given e) (given b) (given scratch))
+              (keyOf (given sheet) (given s) (given e)) answer (given b) (left b) (given scratch) (left scratch) ⌝ }
 {
     codec::pack(scheme_calls::keygen(sheet, s, e, b, scratch))
 }
@@ -55,9 +53,8 @@ pub extern "C" fn jdn_encrypt(
     ciphertext: &mut [u8],
     scratch: &mut [u8],
 ) -> u64
-    ensures reply { λ answer. ⌜ answer ≡ packed (encryptReply (now (sheet .entry)) (now (r .entry)) (now (e1 .entry)) (now (e2 .entry)) (now (m .entry)) (now (ciphertext .entry)) (now (scratch .entry))) ⌝ }
-    ensures output { λ _. ⌜ now (ciphertext .exit) ≡ leaves (encryptReply (now (sheet .entry)) (now (r .entry)) (now (e1 .entry)) (now (e2 .entry)) (now (m .entry)) (now (ciphertext .entry)) (now (scratch .entry))) (encryptWrites 2 (modulusOf (now (sheet .entry))) (ringOf (now (sheet .entry))) (aOf (now (sheet .entry))) (bOf (now (sheet .entry))) (now (r .entry)) (now (e1 .entry)) (now (e2 .entry)) (now (m .entry))) (now (ciphertext .entry)) ⌝ }
-    ensures swept { λ _. ⌜ now (scratch .exit) ≡ swept (encryptReply (now (sheet .entry)) (now (r .entry)) (now (e1 .entry)) (now (e2 .entry)) (now (m .entry)) (now (ciphertext .entry)) (now (scratch .entry))) (now (scratch .entry)) ⌝ }
+    ensures { λ answer. ⌜ Answered (encryptOrder (given sheet) (given r) (given e1) (given e2) (given m) (given ciphertext) (given scratch))
+              (ciphertextOf (given sheet) (given r) (given e1) (given e2) (given m)) answer (given ciphertext) (left ciphertext) (given scratch) (left scratch) ⌝ }
 {
     codec::pack(scheme_calls::encrypt(sheet, r, e1, e2, m, ciphertext, scratch))
 }
@@ -71,9 +68,8 @@ pub extern "C" fn jdn_decrypt(
     vote: &mut [u8],
     scratch: &mut [u8],
 ) -> u64
-    ensures reply { λ answer. ⌜ answer ≡ packed (decryptReply (now (sheet .entry)) (now (s .entry)) (now (ciphertext .entry)) (now (vote .entry)) (now (scratch .entry))) ⌝ }
-    ensures output { λ _. ⌜ now (vote .exit) ≡ leaves (decryptReply (now (sheet .entry)) (now (s .entry)) (now (ciphertext .entry)) (now (vote .entry)) (now (scratch .entry))) (decryptWrites 2 (modulusOf (now (sheet .entry))) (ringOf (now (sheet .entry))) (now (s .entry)) (now (ciphertext .entry))) (now (vote .entry)) ⌝ }
-    ensures swept { λ _. ⌜ now (scratch .exit) ≡ swept (decryptReply (now (sheet .entry)) (now (s .entry)) (now (ciphertext .entry)) (now (vote .entry)) (now (scratch .entry))) (now (scratch .entry)) ⌝ }
+    ensures { λ answer. ⌜ Answered (decryptOrder (given sheet) (given s) (given ciphertext) (given vote) (given scratch))
+              (voteOf (given sheet) (given s) (given ciphertext)) answer (given vote) (left vote) (given scratch) (left scratch) ⌝ }
 {
     codec::pack(scheme_calls::decrypt(sheet, s, ciphertext, vote, scratch))
 }
@@ -89,9 +85,8 @@ pub extern "C" fn jdn_split(
     out: &mut [u8],
     scratch: &mut [u8],
 ) -> u64
-    ensures reply { λ answer. ⌜ answer ≡ packed (splitReply (now (sheet .entry)) (now (s .entry)) (now (e .entry)) (now (s0 .entry)) (now (e0 .entry)) (now (out .entry)) (now (scratch .entry))) ⌝ }
-    ensures output { λ _. ⌜ now (out .exit) ≡ leaves (splitReply (now (sheet .entry)) (now (s .entry)) (now (e .entry)) (now (s0 .entry)) (now (e0 .entry)) (now (out .entry)) (now (scratch .entry))) (splitWrites 2 (modulusOf (now (sheet .entry))) (ringOf (now (sheet .entry))) (aOf (now (sheet .entry))) (now (s .entry)) (now (e .entry)) (now (s0 .entry)) (now (e0 .entry))) (now (out .entry)) ⌝ }
-    ensures swept { λ _. ⌜ now (scratch .exit) ≡ swept (splitReply (now (sheet .entry)) (now (s .entry)) (now (e .entry)) (now (s0 .entry)) (now (e0 .entry)) (now (out .entry)) (now (scratch .entry))) (now (scratch .entry)) ⌝ }
+    ensures { λ answer. ⌜ Answered (splitOrder (given sheet) (given s) (given e) (given s0) (given e0) (given out) (given scratch))
+              (splitOf (given sheet) (given s) (given e) (given s0) (given e0)) answer (given out) (left out) (given scratch) (left scratch) ⌝ }
 {
     codec::pack(scheme_calls::split(sheet, s, e, s0, e0, out, scratch))
 }
@@ -106,9 +101,8 @@ pub extern "C" fn jdn_share(
     t: &mut [u8],
     scratch: &mut [u8],
 ) -> u64
-    ensures reply { λ answer. ⌜ answer ≡ packed (shareReply (now (sheet .entry)) (now («key_share» .entry)) (now (u .entry)) (now (mask .entry)) (now (t .entry)) (now (scratch .entry))) ⌝ }
-    ensures output { λ _. ⌜ now (t .exit) ≡ leaves (shareReply (now (sheet .entry)) (now («key_share» .entry)) (now (u .entry)) (now (mask .entry)) (now (t .entry)) (now (scratch .entry))) (shareWrites 2 (modulusOf (now (sheet .entry))) (ringOf (now (sheet .entry))) (now («key_share» .entry)) (now (u .entry)) (now (mask .entry))) (now (t .entry)) ⌝ }
-    ensures swept { λ _. ⌜ now (scratch .exit) ≡ swept (shareReply (now (sheet .entry)) (now («key_share» .entry)) (now (u .entry)) (now (mask .entry)) (now (t .entry)) (now (scratch .entry))) (now (scratch .entry)) ⌝ }
+    ensures { λ answer. ⌜ Answered (shareOrder (given sheet) (given «key_share») (given u) (given mask) (given t) (given scratch))
+              (shareOf (given sheet) (given «key_share») (given u) (given mask)) answer (given t) (left t) (given scratch) (left scratch) ⌝ }
 {
     codec::pack(scheme_calls::share(sheet, key_share, u, mask, t, scratch))
 }
@@ -123,9 +117,8 @@ pub extern "C" fn jdn_reconstruct(
     vote: &mut [u8],
     scratch: &mut [u8],
 ) -> u64
-    ensures reply { λ answer. ⌜ answer ≡ packed (reconstructReply (now (sheet .entry)) (now (v .entry)) (now (t0 .entry)) (now (t1 .entry)) (now (vote .entry)) (now (scratch .entry))) ⌝ }
-    ensures output { λ _. ⌜ now (vote .exit) ≡ leaves (reconstructReply (now (sheet .entry)) (now (v .entry)) (now (t0 .entry)) (now (t1 .entry)) (now (vote .entry)) (now (scratch .entry))) (reconstructWrites 2 (modulusOf (now (sheet .entry))) (ringOf (now (sheet .entry))) (now (v .entry)) (now (t0 .entry)) (now (t1 .entry))) (now (vote .entry)) ⌝ }
-    ensures swept { λ _. ⌜ now (scratch .exit) ≡ swept (reconstructReply (now (sheet .entry)) (now (v .entry)) (now (t0 .entry)) (now (t1 .entry)) (now (vote .entry)) (now (scratch .entry))) (now (scratch .entry)) ⌝ }
+    ensures { λ answer. ⌜ Answered (reconstructOrder (given sheet) (given v) (given t0) (given t1) (given vote) (given scratch))
+              (voteOfShares (given sheet) (given v) (given t0) (given t1)) answer (given vote) (left vote) (given scratch) (left scratch) ⌝ }
 {
     codec::pack(scheme_calls::reconstruct(sheet, v, t0, t1, vote, scratch))
 }
@@ -139,9 +132,8 @@ pub extern "C" fn jdn_commitment(
     pair: &mut [u8],
     scratch: &mut [u8],
 ) -> u64
-    ensures reply { λ answer. ⌜ answer ≡ packed (commitmentReply (now (sheet .entry)) (now (m .entry)) (now (r .entry)) (now (pair .entry)) (now (scratch .entry))) ⌝ }
-    ensures output { λ _. ⌜ now (pair .exit) ≡ leaves (commitmentReply (now (sheet .entry)) (now (m .entry)) (now (r .entry)) (now (pair .entry)) (now (scratch .entry))) (commitmentWrites (modulusOf (now (sheet .entry))) (ringOf (now (sheet .entry))) (keysOfSheet (now (sheet .entry))) (now (m .entry)) (now (r .entry))) (now (pair .entry)) ⌝ }
-    ensures swept { λ _. ⌜ now (scratch .exit) ≡ swept (commitmentReply (now (sheet .entry)) (now (m .entry)) (now (r .entry)) (now (pair .entry)) (now (scratch .entry))) (now (scratch .entry)) ⌝ }
+    ensures { λ answer. ⌜ Answered (commitmentOrder (given sheet) (given m) (given r) (given pair) (given scratch))
+              (pairOf (given sheet) (given m) (given r)) answer (given pair) (left pair) (given scratch) (left scratch) ⌝ }
 {
     codec::pack(scheme_calls::commitment(sheet, m, r, pair, scratch))
 }

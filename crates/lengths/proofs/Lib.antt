@@ -1,4 +1,3 @@
-pub mod Loaded
 pub mod OverSheet
 pub mod Swept
 pub mod Sizes

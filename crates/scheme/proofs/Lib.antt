@@ -1,3 +1,2 @@
-pub mod Outer
 pub mod Passed
 pub mod Places

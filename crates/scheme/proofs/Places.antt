@@ -5,12 +5,13 @@ use Prim.Native.Nat.{ℕ, _+_, _*_, _≤_}
 use native.Mathlib.Nat.{zero-add}
 use native.Mathlib.Omega.{arith}
 use lib.ListN.{length, length-append}
-use Rattle.codec.specs.Bytes.{Bytes, part, put}
+use Rattle.codec.specs.Bytes.{Bytes, part, put, zeros}
 use Rattle.codec.proofs.Laws.{put-whole, put-append}
 use Rattle.ring.specs.Slots.{coefficientBytes}
 use Rattle.ring.specs.Poly.{Poly, modulo}
 use Rattle.ring.proofs.Bridge.{length-encode}
 use Rattle.call.specs.Call.{Stands}
+use Rattle.call.proofs.Sweeping.{length-zeros}
 use Rattle.commitment.specs.Commitment.{Pair, pairBytes, PairStands}
 
 -- what stands at the head of scratch, written at a place
@@ -54,3 +55,7 @@ module _ (q n : ℕ) where
   pub pair-written : (c : Pair) (w w' d d1 d2 : Bytes) → PairStands q n c w w' → length d ≡ 16 * n → d1 ≡ put d 0 (part w' 0 (8 * n)) → d2 ≡ put d1 (8 * n) (part w' 49152 (8 * n)) → d2 ≡ pairBytes q n c
   unfolding pairBytes
   pair-written c w w' d d1 d2 h l e1 e2 = two-written (c .one) (c .two) d d1 d2 l (e1 ∙ ap (put d 0) (h .one)) (e2 ∙ ap (put d1 (8 * n)) (h .two))
+
+-- scratch that is zeroed again
+pub zeros-again : (n : ℕ) {w w' : Bytes} → w ≡ zeros n → w' ≡ zeros (length w) → w' ≡ zeros n
+zeros-again n {w} e f = f ∙ ap zeros (length-zeros {w = w} {n = n} e)

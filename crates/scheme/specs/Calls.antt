@@ -1,105 +1,112 @@
--- The calls of encryption, shares and commitment once the sheet is taken: what each refuses after the sheet's own order (document 01, "Refused because of the input"), and what it
--- writes where it is taken, with the sheet's numbers and polynomials as parameters. A ternary slice has n bytes and a polynomial 8n. Assumes nothing.
+-- The calls of encryption, shares and commitment once the sheet is taken: what each refuses after the sheet's own order (document 01, "Refused because of the input"), by the sheet's numbers k,
+-- and what it writes where it is taken, by the numbers or by all that the sheet gives. A ternary slice has N bytes and a polynomial 8N. Assumes nothing.
+use mathlib.Core.Path.{_≡_}
 use mathlib.Core.Bool.{not, _&&_}
 use mathlib.Core.List.{List, [], _∷_, _++_}
 use Prim.Native.Nat.{ℕ, _*_}
 use lib.ListN.{length}
-use Rattle.codec.specs.Bytes.{Bytes}
+use Rattle.codec.specs.Bytes.{Bytes, put, zeros}
 use Rattle.codec.specs.Reply.{Test, test}
 use Rattle.codec.specs.Lists.{list}
-use Rattle.ring.specs.Poly.{Poly}
 use Rattle.ring.specs.Slots.{coefficientBytes, poly, slot}
 use Rattle.ring.specs.Ternary.{ternary}
+use Rattle.sheet_numbers.specs.Plain.{plain, maskOf}
+use Rattle.sheet_numbers.specs.declared.Numbers.{Numbers}
 use Rattle.call.specs.Call.{scratchLength, lengthTest, bytesBelow, coefficientsBelow, coefficients}
 use Rattle.bgv.specs.Scheme.{within, key, cipher-u, cipher-v, decrypted, other, lentMask, share, reconstructed}
-use Rattle.commitment.specs.Commitment.{Keys, threeOf, committed, pairBytes}
+use Rattle.commitment.specs.Commitment.{threeOf, committed, pairBytes}
+use Rattle.commitment.specs.Parameters.{Parameters}
 
--- ---- key
+-- bytes are written at a place of an output, and scratch is given back zeroed
+pub record WrittenAt (at : ℕ) (bytes out out' scratch scratch' : Bytes) : Type 0 where
+  pub written : out' ≡ put out at bytes
+  pub cleared : scratch' ≡ zeros (length scratch)
 
-abbrev pub keygenTests : (n : ℕ) (s e b scratch : Bytes) → List Test
-keygenTests n s e b scratch =
-    lengthTest (length s ∷ length e ∷ length b ∷ length scratch ∷ []) (n ∷ n ∷ 8 * n ∷ scratchLength ∷ [])
-    ∷ test 5 0 (not (bytesBelow 3 (s ∷ e ∷ [])))
-    ∷ []
+-- ---- the tests, by the sheet's numbers
 
--- b
-unfoldable pub keygenWrites : (p q n : ℕ) (a : Poly) (s e : Bytes) → Bytes
-keygenWrites p q n a s e = coefficientBytes q n (key q n p a (ternary q s) (ternary q e))
+module _ (k : Numbers) where
+  abbrev pub keygenTests : (s e b scratch : Bytes) → List Test
+  keygenTests s e b scratch =
+      lengthTest (length s ∷ length e ∷ length b ∷ length scratch ∷ []) (k .ring ∷ k .ring ∷ 8 * k .ring ∷ scratchLength ∷ [])
+      ∷ test 5 0 (not (bytesBelow 3 (s ∷ e ∷ [])))
+      ∷ []
 
--- ---- encryption
+  abbrev pub encryptTests : (r e1 e2 m ciphertext scratch : Bytes) → List Test
+  encryptTests r e1 e2 m ciphertext scratch =
+      lengthTest (length r ∷ length e1 ∷ length e2 ∷ length m ∷ length ciphertext ∷ length scratch ∷ []) (k .ring ∷ k .ring ∷ k .ring ∷ k .ring ∷ 16 * k .ring ∷ scratchLength ∷ [])
+      ∷ test 5 0 (not (bytesBelow 3 (r ∷ e1 ∷ e2 ∷ []) && bytesBelow (plain k) (m ∷ [])))
+      ∷ []
 
-abbrev pub encryptTests : (p n : ℕ) (r e1 e2 m ciphertext scratch : Bytes) → List Test
-encryptTests p n r e1 e2 m ciphertext scratch =
-    lengthTest (length r ∷ length e1 ∷ length e2 ∷ length m ∷ length ciphertext ∷ length scratch ∷ []) (n ∷ n ∷ n ∷ n ∷ 16 * n ∷ scratchLength ∷ [])
-    ∷ test 5 0 (not (bytesBelow 3 (r ∷ e1 ∷ e2 ∷ []) && bytesBelow p (m ∷ [])))
-    ∷ []
+  abbrev pub decryptTests : (s ciphertext vote scratch : Bytes) → List Test
+  decryptTests s ciphertext vote scratch =
+      lengthTest (length s ∷ length ciphertext ∷ length vote ∷ length scratch ∷ []) (k .ring ∷ 16 * k .ring ∷ k .ring ∷ scratchLength ∷ [])
+      ∷ test 5 0 (not (bytesBelow 3 (s ∷ []) && coefficientsBelow (k .modulus) (2 * k .ring) (ciphertext ∷ [])))
+      ∷ []
 
--- u, v
-unfoldable pub encryptWrites : (p q n : ℕ) (a b : Poly) (r e1 e2 m : Bytes) → Bytes
-encryptWrites p q n a b r e1 e2 m =
-    coefficientBytes q n (cipher-u q n p a (ternary q r) (ternary q e1)) ++ coefficientBytes q n (cipher-v q n p b (ternary q r) (ternary q e2) (coefficients m))
+  abbrev pub splitTests : (s e s0 e0 out scratch : Bytes) → List Test
+  splitTests s e s0 e0 out scratch =
+      lengthTest (length s ∷ length e ∷ length s0 ∷ length e0 ∷ length out ∷ length scratch ∷ []) (k .ring ∷ k .ring ∷ 8 * k .ring ∷ 8 * k .ring ∷ 32 * k .ring ∷ scratchLength ∷ [])
+      ∷ test 5 0 (not (bytesBelow 3 (s ∷ e ∷ []) && coefficientsBelow (k .modulus) (k .ring) (s0 ∷ e0 ∷ [])))
+      ∷ []
 
--- ---- decryption
+  abbrev pub shareTests : (key-share u mask t scratch : Bytes) → List Test
+  shareTests key-share u mask t scratch =
+      lengthTest (length key-share ∷ length u ∷ length mask ∷ length t ∷ length scratch ∷ []) (8 * k .ring ∷ 8 * k .ring ∷ 8 * k .ring ∷ 8 * k .ring ∷ scratchLength ∷ [])
+      ∷ test 5 0 (not (coefficientsBelow (k .modulus) (k .ring) (key-share ∷ u ∷ [])))
+      ∷ test 12 0 (not (within (maskOf k) (k .ring) (lentMask mask)))
+      ∷ []
 
-abbrev pub decryptTests : (q n : ℕ) (s ciphertext vote scratch : Bytes) → List Test
-decryptTests q n s ciphertext vote scratch =
-    lengthTest (length s ∷ length ciphertext ∷ length vote ∷ length scratch ∷ []) (n ∷ 16 * n ∷ n ∷ scratchLength ∷ [])
-    ∷ test 5 0 (not (bytesBelow 3 (s ∷ []) && coefficientsBelow q (2 * n) (ciphertext ∷ [])))
-    ∷ []
+  abbrev pub reconstructTests : (v t0 t1 vote scratch : Bytes) → List Test
+  reconstructTests v t0 t1 vote scratch =
+      lengthTest (length v ∷ length t0 ∷ length t1 ∷ length vote ∷ length scratch ∷ []) (8 * k .ring ∷ 8 * k .ring ∷ 8 * k .ring ∷ k .ring ∷ scratchLength ∷ [])
+      ∷ test 5 0 (not (coefficientsBelow (k .modulus) (k .ring) (v ∷ t0 ∷ t1 ∷ [])))
+      ∷ []
 
--- the vote, one byte a coefficient
-unfoldable pub decryptWrites : (p q n : ℕ) (s ciphertext : Bytes) → Bytes
-decryptWrites p q n s ciphertext = list n (decrypted q n p (ternary q s) (slot ciphertext 0) (slot ciphertext (8 * n)))
+  -- r is r1, r2, r3 in 3N ternary bytes
+  abbrev pub commitmentTests : (m r pair scratch : Bytes) → List Test
+  commitmentTests m r pair scratch =
+      lengthTest (length m ∷ length r ∷ length pair ∷ length scratch ∷ []) (8 * k .ring ∷ 3 * k .ring ∷ 16 * k .ring ∷ scratchLength ∷ [])
+      ∷ test 5 0 (not (bytesBelow 3 (r ∷ []) && coefficientsBelow (k .modulus) (k .ring) (m ∷ [])))
+      ∷ []
 
--- ---- key split
+-- ---- what is written, by the sheet's numbers alone
 
-abbrev pub splitTests : (q n : ℕ) (s e s0 e0 out scratch : Bytes) → List Test
-splitTests q n s e s0 e0 out scratch =
-    lengthTest (length s ∷ length e ∷ length s0 ∷ length e0 ∷ length out ∷ length scratch ∷ []) (n ∷ n ∷ 8 * n ∷ 8 * n ∷ 32 * n ∷ scratchLength ∷ [])
-    ∷ test 5 0 (not (bytesBelow 3 (s ∷ e ∷ []) && coefficientsBelow q n (s0 ∷ e0 ∷ [])))
-    ∷ []
+module _ (k : Numbers) where
+  -- the vote, one byte a coefficient
+  unfoldable pub decryptWrites : (s ciphertext : Bytes) → Bytes
+  decryptWrites s ciphertext =
+      list (k .ring) (decrypted (k .modulus) (k .ring) (plain k) (ternary (k .modulus) s) (slot ciphertext 0) (slot ciphertext (8 * k .ring)))
 
--- s1, e1, b0, b1
-unfoldable pub splitWrites : (p q n : ℕ) (a : Poly) (s e s0 e0 : Bytes) → Bytes
-splitWrites p q n a s e s0 e0 =
-    coefficientBytes q n (other q (ternary q s) (poly s0))
-    ++ (coefficientBytes q n (other q (ternary q e) (poly e0))
-    ++ (coefficientBytes q n (key q n p a (poly s0) (poly e0))
-    ++ coefficientBytes q n (key q n p a (other q (ternary q s) (poly s0)) (other q (ternary q e) (poly e0)))))
+  -- t
+  unfoldable pub shareWrites : (key-share u mask : Bytes) → Bytes
+  shareWrites key-share u mask = coefficientBytes (k .modulus) (k .ring) (share (k .modulus) (k .ring) (plain k) (poly key-share) (poly u) (lentMask mask))
 
--- ---- decryption share
+  -- the vote of two shares
+  unfoldable pub reconstructWrites : (v t0 t1 : Bytes) → Bytes
+  reconstructWrites v t0 t1 = list (k .ring) (reconstructed (k .modulus) (plain k) (poly v) (poly t0) (poly t1))
 
-abbrev pub shareTests : (q n B : ℕ) (key-share u mask t scratch : Bytes) → List Test
-shareTests q n B key-share u mask t scratch =
-    lengthTest (length key-share ∷ length u ∷ length mask ∷ length t ∷ length scratch ∷ []) (8 * n ∷ 8 * n ∷ 8 * n ∷ 8 * n ∷ scratchLength ∷ [])
-    ∷ test 5 0 (not (coefficientsBelow q n (key-share ∷ u ∷ [])))
-    ∷ test 12 0 (not (within B n (lentMask mask)))
-    ∷ []
+-- ---- and by its polynomials too
 
--- t
-unfoldable pub shareWrites : (p q n : ℕ) (key-share u mask : Bytes) → Bytes
-shareWrites p q n key-share u mask = coefficientBytes q n (share q n p (poly key-share) (poly u) (lentMask mask))
+module _ (P : Parameters) where
+  open Parameters P using (q, N, p, a, b, k)
 
--- ---- reconstruction
+  -- b
+  unfoldable pub keygenWrites : (s e : Bytes) → Bytes
+  keygenWrites s e = coefficientBytes q N (key q N p a (ternary q s) (ternary q e))
 
-abbrev pub reconstructTests : (q n : ℕ) (v t0 t1 vote scratch : Bytes) → List Test
-reconstructTests q n v t0 t1 vote scratch =
-    lengthTest (length v ∷ length t0 ∷ length t1 ∷ length vote ∷ length scratch ∷ []) (8 * n ∷ 8 * n ∷ 8 * n ∷ n ∷ scratchLength ∷ [])
-    ∷ test 5 0 (not (coefficientsBelow q n (v ∷ t0 ∷ t1 ∷ [])))
-    ∷ []
+  -- u, v
+  unfoldable pub encryptWrites : (r e1 e2 m : Bytes) → Bytes
+  encryptWrites r e1 e2 m =
+      coefficientBytes q N (cipher-u q N p a (ternary q r) (ternary q e1)) ++ coefficientBytes q N (cipher-v q N p b (ternary q r) (ternary q e2) (coefficients m))
 
-unfoldable pub reconstructWrites : (p q n : ℕ) (v t0 t1 : Bytes) → Bytes
-reconstructWrites p q n v t0 t1 = list n (reconstructed q p (poly v) (poly t0) (poly t1))
+  -- s1, e1, b0, b1
+  unfoldable pub splitWrites : (s e s0 e0 : Bytes) → Bytes
+  splitWrites s e s0 e0 =
+      coefficientBytes q N (other q (ternary q s) (poly s0))
+      ++ (coefficientBytes q N (other q (ternary q e) (poly e0))
+      ++ (coefficientBytes q N (key q N p a (poly s0) (poly e0))
+      ++ coefficientBytes q N (key q N p a (other q (ternary q s) (poly s0)) (other q (ternary q e) (poly e0)))))
 
--- ---- commitment
-
--- r is r1, r2, r3 in 3n ternary bytes
-abbrev pub commitmentTests : (q n : ℕ) (m r pair scratch : Bytes) → List Test
-commitmentTests q n m r pair scratch =
-    lengthTest (length m ∷ length r ∷ length pair ∷ length scratch ∷ []) (8 * n ∷ 3 * n ∷ 16 * n ∷ scratchLength ∷ [])
-    ∷ test 5 0 (not (bytesBelow 3 (r ∷ []) && coefficientsBelow q n (m ∷ [])))
-    ∷ []
-
--- the pair, first half first
-unfoldable pub commitmentWrites : (q n : ℕ) (k : Keys) (m r : Bytes) → Bytes
-commitmentWrites q n k m r = pairBytes q n (committed q n k (threeOf q n r) (poly m))
+  -- the pair, first half first
+  unfoldable pub commitmentWrites : (m r : Bytes) → Bytes
+  commitmentWrites m r = pairBytes q N (committed q N k (threeOf q N r) (poly m))

@@ -1,28 +1,24 @@
-// Decryption shares and the vote of two once the sheet is taken: the tests of the lent slices, and then the work. What is made from secrets is left in scratch, which the caller sweeps.
+// Decryption shares and the vote of two once the sheet is taken: the tests of the lent slices, and then the work. Scratch is given back zeroed, or as it was where the call is refused.
 use crate::written;
 use codec::Reply;
+use sheet_numbers::Numbers;
 ghost use mathlib.Core.Path.{_≡_};
 ghost use mathlib.Core.List.{[], _∷_};
-ghost use Prim.Native.Nat.{_*_, _≤_, _<_, _^_};
+ghost use Prim.Native.Nat.{_*_, _≤_};
 ghost use lib.ListN.{length};
-ghost use Rattle.codec.specs.Reply.{first, leaves};
-ghost use Rattle.call.specs.Call.{scratchLength, coefficientsBelow, Polynomial, Used};
+ghost use Rattle.codec.specs.Bytes.{zeros};
+ghost use Rattle.codec.specs.Reply.{first};
+ghost use Rattle.codec.specs.Slices.{given, left};
+ghost use Rattle.sheet_numbers.specs.Usable.{Usable};
+ghost use Rattle.call.specs.Call.{scratchLength, coefficientsBelow, Polynomial, Worked};
 ghost use Rattle.scheme.specs.Calls.{shareTests, shareWrites, reconstructTests, reconstructWrites};
 
 // What `share` refuses, in order. A lent mask is bounded as it is lent.
-fn share_tests(
-    half: &[u8],
-    u: &[u8],
-    mask: &[u8],
-    t: &[u8],
-    scratch: &[u8],
-    n: usize,
-    q: u64,
-    bound: u64,
-) -> Reply
-    requires { ⌜ n ≤ 2048 ⌝ }
-    ensures { λ reply. ⌜ reply ≡ first (shareTests q n bound (now (half .entry)) (now (u .entry)) (now (mask .entry)) (now (t .entry)) (now (scratch .entry))) ⌝ }
+fn share_tests(k: Numbers, half: &[u8], u: &[u8], mask: &[u8], t: &[u8], scratch: &[u8]) -> Reply
+    requires { ⌜ Usable k ⌝ }
+    ensures { λ reply. ⌜ reply ≡ first (shareTests k (given half) (given u) (given mask) (given t) (given scratch)) ⌝ }
 {
+    let n = k.ring as usize;
     if !call::sized(
         [half.len(), u.len(), mask.len(), t.len(), scratch.len(), 0],
         [8 * n, 8 * n, 8 * n, 8 * n, call::SCRATCH, 0],
@@ -32,12 +28,13 @@ fn share_tests(
             place: 0,
         };
     }
-    if !call::both_in_range(half, u, n, q) {
+    if !call::both_in_range(half, u, n, k.modulus) {
         return Reply::Refused {
             number: 5,
             place: 0,
         };
     }
+    let bound = sheet_numbers::mask_bound(k);
     if !bgv::bounded(mask, bound, n) {
         return Reply::Refused {
             number: 12,
@@ -49,24 +46,22 @@ fn share_tests(
 
 // The decryption share t.
 pub fn share(
+    k: Numbers,
     half: &[u8],
     u: &[u8],
     mask: &[u8],
     t: &mut [u8],
     scratch: &mut [u8],
-    n: usize,
-    q: u64,
-    bound: u64,
 ) -> Reply
-    requires { ⌜ (4 ≤ n) × (n ≤ 2048) × (3 ≤ q) × (q < 2 ^ 56) ⌝ }
-    ensures { λ reply. ⌜ reply ≡ first (shareTests q n bound (now (half .entry)) (now (u .entry)) (now (mask .entry)) (now (t .entry)) (now (scratch .entry))) ⌝ }
-    ensures { λ reply. ⌜ now (t .exit) ≡ leaves reply (shareWrites 2 q n (now (half .entry)) (now (u .entry)) (now (mask .entry))) (now (t .entry)) ⌝ }
-    ensures { λ reply. ⌜ Used reply (now (scratch .entry)) (now (scratch .exit)) ⌝ }
+    requires { ⌜ Usable k ⌝ }
+    ensures { λ reply. ⌜ Worked (shareTests k (given half) (given u) (given mask) (given t) (given scratch))
+        (shareWrites k (given half) (given u) (given mask)) reply (given t) (left t) (given scratch) (left scratch) ⌝ }
 {
-    let reply = share_tests(half, u, mask, t, scratch, n, q, bound);
+    let reply = share_tests(k, half, u, mask, t, scratch);
     match reply {
         Reply::Taken => {
-            written::share(t, 0, scratch, half, u, mask, 2, n, q);
+            let p = sheet_numbers::plain(k);
+            written::share(t, 0, scratch, half, u, mask, p, k.ring as usize, k.modulus);
         }
         Reply::Refused {
             number: _,
@@ -79,7 +74,7 @@ pub fn share(
 // v, t0 and t1 are in range.
 fn reconstruct_ranged(v: &[u8], t0: &[u8], t1: &[u8], n: usize, q: u64) -> bool
     requires { ⌜ (length (now v) ≡ 8 * n) × (length (now t0) ≡ 8 * n) × (length (now t1) ≡ 8 * n) ⌝ }
-    ensures { λ r. ⌜ r ≡ coefficientsBelow q n (now (v .entry) ∷ now (t0 .entry) ∷ now (t1 .entry) ∷ []) ⌝ }
+    ensures { λ r. ⌜ r ≡ coefficientsBelow q n (given v ∷ given t0 ∷ given t1 ∷ []) ⌝ }
 {
     if ring::in_range(v, q) {
         call::both_in_range(t0, t1, n, q)
@@ -90,17 +85,17 @@ fn reconstruct_ranged(v: &[u8], t0: &[u8], t1: &[u8], n: usize, q: u64) -> bool
 
 // What `reconstruct` refuses, in order.
 fn reconstruct_tests(
+    k: Numbers,
     v: &[u8],
     t0: &[u8],
     t1: &[u8],
     vote: &[u8],
     scratch: &[u8],
-    n: usize,
-    q: u64,
 ) -> Reply
-    requires { ⌜ n ≤ 2048 ⌝ }
-    ensures { λ reply. ⌜ reply ≡ first (reconstructTests q n (now (v .entry)) (now (t0 .entry)) (now (t1 .entry)) (now (vote .entry)) (now (scratch .entry))) ⌝ }
+    requires { ⌜ Usable k ⌝ }
+    ensures { λ reply. ⌜ reply ≡ first (reconstructTests k (given v) (given t0) (given t1) (given vote) (given scratch)) ⌝ }
 {
+    let n = k.ring as usize;
     if !call::sized(
         [v.len(), t0.len(), t1.len(), vote.len(), scratch.len(), 0],
         [8 * n, 8 * n, 8 * n, n, call::SCRATCH, 0],
@@ -110,7 +105,7 @@ fn reconstruct_tests(
             place: 0,
         };
     }
-    if !reconstruct_ranged(v, t0, t1, n, q) {
+    if !reconstruct_ranged(v, t0, t1, n, k.modulus) {
         return Reply::Refused {
             number: 5,
             place: 0,
@@ -120,42 +115,35 @@ fn reconstruct_tests(
 }
 
 // The work of `reconstruct`, for slices that passed its tests.
-fn write_rebuilt(
-    v: &[u8],
-    t0: &[u8],
-    t1: &[u8],
-    vote: &mut [u8],
-    scratch: &mut [u8],
-    n: usize,
-    q: u64,
-)
-    requires { ⌜ Polynomial n q (now v) × Polynomial n q (now t0) × Polynomial n q (now t1) × (length (now vote) ≡ n) × (length (now scratch) ≡ scratchLength) ⌝ }
-    ensures { λ _. ⌜ now (vote .exit) ≡ reconstructWrites 2 q n (now (v .entry)) (now (t0 .entry)) (now (t1 .entry)) ⌝ }
-    ensures { λ _. ⌜ length (now (scratch .exit)) ≡ length (now (scratch .entry)) ⌝ }
+fn write_rebuilt(k: Numbers, v: &[u8], t0: &[u8], t1: &[u8], vote: &mut [u8], scratch: &mut [u8])
+    requires { ⌜ Usable k × Polynomial (k .ring) (k .modulus) (now v) × Polynomial (k .ring) (k .modulus) (now t0)
+        × Polynomial (k .ring) (k .modulus) (now t1) × (length (now vote) ≡ k .ring) × (length (now scratch) ≡ scratchLength) ⌝ }
+    ensures { λ _. ⌜ (left vote ≡ reconstructWrites k (given v) (given t0) (given t1)) × (left scratch ≡ zeros (length (given scratch))) ⌝ }
 {
-    bgv::rebuilt(scratch, v, t0, t1, n, q);
-    bgv::plain(scratch, vote, 2, n, q);
+    let n = k.ring as usize;
+    let p = sheet_numbers::plain(k);
+    bgv::rebuilt(scratch, v, t0, t1, n, k.modulus);
+    bgv::plain(scratch, vote, p, n, k.modulus);
+    codec::wipe(scratch);
 }
 
 // The vote, from two shares.
 pub fn reconstruct(
+    k: Numbers,
     v: &[u8],
     t0: &[u8],
     t1: &[u8],
     vote: &mut [u8],
     scratch: &mut [u8],
-    n: usize,
-    q: u64,
 ) -> Reply
-    requires { ⌜ (4 ≤ n) × (n ≤ 2048) × (3 ≤ q) × (q < 2 ^ 56) ⌝ }
-    ensures { λ reply. ⌜ reply ≡ first (reconstructTests q n (now (v .entry)) (now (t0 .entry)) (now (t1 .entry)) (now (vote .entry)) (now (scratch .entry))) ⌝ }
-    ensures { λ reply. ⌜ now (vote .exit) ≡ leaves reply (reconstructWrites 2 q n (now (v .entry)) (now (t0 .entry)) (now (t1 .entry))) (now (vote .entry)) ⌝ }
-    ensures { λ reply. ⌜ Used reply (now (scratch .entry)) (now (scratch .exit)) ⌝ }
+    requires { ⌜ Usable k ⌝ }
+    ensures { λ reply. ⌜ Worked (reconstructTests k (given v) (given t0) (given t1) (given vote) (given scratch))
+        (reconstructWrites k (given v) (given t0) (given t1)) reply (given vote) (left vote) (given scratch) (left scratch) ⌝ }
 {
-    let reply = reconstruct_tests(v, t0, t1, vote, scratch, n, q);
+    let reply = reconstruct_tests(k, v, t0, t1, vote, scratch);
     match reply {
         Reply::Taken => {
-            write_rebuilt(v, t0, t1, vote, scratch, n, q);
+            write_rebuilt(k, v, t0, t1, vote, scratch);
         }
         Reply::Refused {
             number: _,

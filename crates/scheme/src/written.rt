@@ -1,14 +1,15 @@
-// A polynomial that is worked out in scratch and written out at a place of an output. What is made from secrets is left in scratch.
+// A polynomial that is worked out in scratch and written out at a place of an output. Scratch is given back zeroed.
 ghost use mathlib.Core.Path.{_≡_};
 ghost use Prim.Native.Nat.{_+_, _*_, _≤_, _<_};
 ghost use lib.ListN.{length};
-ghost use Rattle.codec.specs.Bytes.{put};
+ghost use Rattle.codec.specs.Slices.{given, left};
 ghost use Rattle.ring.specs.Poly.{Below};
 ghost use Rattle.ring.specs.Slots.{coefficientBytes, poly};
 ghost use Rattle.ring.specs.Ternary.{ternary};
 ghost use Rattle.call.specs.Call.{scratchLength, coefficients, Polynomial};
 ghost use Rattle.bgv.specs.Scheme as scheme;
 ghost use Rattle.bgv.specs.Scheme.{lentMask};
+ghost use Rattle.scheme.specs.Calls.{WrittenAt};
 
 // a x + p y, for ternary bytes x and y: a key b, or u of a ciphertext.
 pub fn noisy(
@@ -23,11 +24,11 @@ pub fn noisy(
     q: u64,
 )
     requires { ⌜ Polynomial n q (now a) × (length (now scratch) ≡ scratchLength) × (length (now x) ≡ n) × (length (now y) ≡ n) × (at + 8 * n ≤ length (now out)) × (p < q) ⌝ }
-    ensures { λ _. ⌜ now (out .exit) ≡ put (now (out .entry)) at (coefficientBytes q n (scheme.noisy q n p (poly (now (a .entry))) (ternary q (now (x .entry))) (ternary q (now (y .entry))))) ⌝ }
-    ensures { λ _. ⌜ length (now (scratch .exit)) ≡ length (now (scratch .entry)) ⌝ }
+    ensures { λ _. ⌜ WrittenAt at (coefficientBytes q n (scheme.noisy q n p (poly (given a)) (ternary q (given x)) (ternary q (given y)))) (given out) (left out) (given scratch) (left scratch) ⌝ }
 {
     bgv::noisy(scratch, a, x, y, p, n, q);
     call::write_out(out, at, scratch, 0, n);
+    codec::wipe(scratch);
 }
 
 // v of a ciphertext: b r + p e'' + m.
@@ -44,12 +45,12 @@ pub fn cipher_v(
     q: u64,
 )
     requires { ⌜ Polynomial n q (now b) × (length (now scratch) ≡ scratchLength) × (length (now r) ≡ n) × (length (now e2) ≡ n) × (length (now m) ≡ n) × Below q n (coefficients (now m)) × (at + 8 * n ≤ length (now out)) × (p < q) ⌝ }
-    ensures { λ _. ⌜ now (out .exit) ≡ put (now (out .entry)) at (coefficientBytes q n (scheme.cipher-v q n p (poly (now (b .entry))) (ternary q (now (r .entry))) (ternary q (now (e2 .entry))) (coefficients (now (m .entry))))) ⌝ }
-    ensures { λ _. ⌜ length (now (scratch .exit)) ≡ length (now (scratch .entry)) ⌝ }
+    ensures { λ _. ⌜ WrittenAt at (coefficientBytes q n (scheme.cipher-v q n p (poly (given b)) (ternary q (given r)) (ternary q (given e2)) (coefficients (given m)))) (given out) (left out) (given scratch) (left scratch) ⌝ }
 {
     bgv::noisy(scratch, b, r, e2, p, n, q);
     bgv::add_message(scratch, m, n, q);
     call::write_out(out, at, scratch, 0, n);
+    codec::wipe(scratch);
 }
 
 // x - x0, for ternary bytes x and a lent polynomial x0: the other half of s or of e.
@@ -63,11 +64,11 @@ pub fn difference(
     q: u64,
 )
     requires { ⌜ Polynomial n q (now x0) × (length (now scratch) ≡ scratchLength) × (length (now x) ≡ n) × (at + 8 * n ≤ length (now out)) ⌝ }
-    ensures { λ _. ⌜ now (out .exit) ≡ put (now (out .entry)) at (coefficientBytes q n (scheme.other q (ternary q (now (x .entry))) (poly (now (x0 .entry))))) ⌝ }
-    ensures { λ _. ⌜ length (now (scratch .exit)) ≡ length (now (scratch .entry)) ⌝ }
+    ensures { λ _. ⌜ WrittenAt at (coefficientBytes q n (scheme.other q (ternary q (given x)) (poly (given x0)))) (given out) (left out) (given scratch) (left scratch) ⌝ }
 {
     bgv::difference(scratch, 0, x, x0, n, q);
     call::write_out(out, at, scratch, 0, n);
+    codec::wipe(scratch);
 }
 
 // a x0 + p y0, for lent polynomials: the key of the half that was lent.
@@ -83,11 +84,11 @@ pub fn lent_key(
     q: u64,
 )
     requires { ⌜ Polynomial n q (now a) × Polynomial n q (now x0) × Polynomial n q (now y0) × (length (now scratch) ≡ scratchLength) × (at + 8 * n ≤ length (now out)) × (p < q) ⌝ }
-    ensures { λ _. ⌜ now (out .exit) ≡ put (now (out .entry)) at (coefficientBytes q n (scheme.key q n p (poly (now (a .entry))) (poly (now (x0 .entry))) (poly (now (y0 .entry))))) ⌝ }
-    ensures { λ _. ⌜ length (now (scratch .exit)) ≡ length (now (scratch .entry)) ⌝ }
+    ensures { λ _. ⌜ WrittenAt at (coefficientBytes q n (scheme.key q n p (poly (given a)) (poly (given x0)) (poly (given y0)))) (given out) (left out) (given scratch) (left scratch) ⌝ }
 {
     bgv::noisy_lent(scratch, a, x0, y0, p, n, q);
     call::write_out(out, at, scratch, 0, n);
+    codec::wipe(scratch);
 }
 
 // a (x - x0) + p (y - y0): the key of the other half.
@@ -105,11 +106,11 @@ pub fn other_key(
     q: u64,
 )
     requires { ⌜ Polynomial n q (now a) × Polynomial n q (now x0) × Polynomial n q (now y0) × (length (now scratch) ≡ scratchLength) × (length (now x) ≡ n) × (length (now y) ≡ n) × (at + 8 * n ≤ length (now out)) × (p < q) ⌝ }
-    ensures { λ _. ⌜ now (out .exit) ≡ put (now (out .entry)) at (coefficientBytes q n (scheme.key q n p (poly (now (a .entry))) (scheme.other q (ternary q (now (x .entry))) (poly (now (x0 .entry)))) (scheme.other q (ternary q (now (y .entry))) (poly (now (y0 .entry)))))) ⌝ }
-    ensures { λ _. ⌜ length (now (scratch .exit)) ≡ length (now (scratch .entry)) ⌝ }
+    ensures { λ _. ⌜ WrittenAt at (coefficientBytes q n (scheme.key q n p (poly (given a)) (scheme.other q (ternary q (given x)) (poly (given x0))) (scheme.other q (ternary q (given y)) (poly (given y0))))) (given out) (left out) (given scratch) (left scratch) ⌝ }
 {
     bgv::noisy_difference(scratch, a, x, x0, y, y0, p, n, q);
     call::write_out(out, at, scratch, 0, n);
+    codec::wipe(scratch);
 }
 
 // A decryption share: s_i u + p E, for a lent mask E.
@@ -125,9 +126,9 @@ pub fn share(
     q: u64,
 )
     requires { ⌜ Polynomial n q (now half) × Polynomial n q (now u) × (length (now mask) ≡ 8 * n) × (length (now scratch) ≡ scratchLength) × (at + 8 * n ≤ length (now out)) × (p < q) ⌝ }
-    ensures { λ _. ⌜ now (out .exit) ≡ put (now (out .entry)) at (coefficientBytes q n (scheme.share q n p (poly (now (half .entry))) (poly (now (u .entry))) (lentMask (now (mask .entry))))) ⌝ }
-    ensures { λ _. ⌜ length (now (scratch .exit)) ≡ length (now (scratch .entry)) ⌝ }
+    ensures { λ _. ⌜ WrittenAt at (coefficientBytes q n (scheme.share q n p (poly (given half)) (poly (given u)) (lentMask (given mask)))) (given out) (left out) (given scratch) (left scratch) ⌝ }
 {
     bgv::share(scratch, half, u, mask, p, n, q);
     call::write_out(out, at, scratch, 0, n);
+    codec::wipe(scratch);
 }

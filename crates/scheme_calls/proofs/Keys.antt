@@ -1,60 +1,32 @@
--- The sheet's k1, k2, k3 in a part of the bytes that its polynomials were put into. Assumes nothing.
-use mathlib.Core.Path.{_≡_, refl, sym, ap, subst, _∙_}
-use Prim.Native.Nat.{ℕ, _+_, _*_, _≤_}
-use native.Mathlib.Omega.{arith}
-use lib.ListN.{take, drop}
-use Rattle.codec.specs.Bytes.{Bytes, part}
-use Rattle.codec.proofs.Laws.{length-part, part-part}
-use Rattle.modular.proofs.Congruence.{same-eq}
-use Rattle.ring.specs.Poly.{Poly, Alike}
-use Rattle.ring.specs.Slots.{poly, slot}
-use Rattle.ring.proofs.Polynomials.{_so_}
-use Rattle.ring.proofs.Bridge.{poly-part}
+-- What the calls are given of a sheet that is taken, and the promises of a call from those of its part after the sheet. Assumes nothing.
+use mathlib.Core.Path.{_≡_, sym, ap, _∙_}
+use mathlib.Core.List.{List, _++_}
+use lib.ListN.{replicate}
+use Rattle.codec.specs.Bytes.{Bytes}
+use Rattle.codec.specs.Reply.{Test, first, leaves}
+use Rattle.codec.specs.declared.Reply.{Reply}
+use Rattle.sheet.specs.Reader.{sheetOf}
+use Rattle.sheet.specs.Sheet.{order, reading, loaded}
+use Rattle.sheet.specs.declared.Reading.{Reading}
+use Rattle.sheet.specs.declared.Reading.the-variants.{Taken}
 use Rattle.sheet_numbers.specs.declared.Numbers.{Numbers}
-use Rattle.call.specs.Call.{Polynomial}
-use Rattle.call.proofs.Lent.{Lent}
-use Rattle.commitment.specs.Commitment.{keysOf, PublicKeys}
-use Rattle.commitment.specs.Loaded.{Loaded}
-use Rattle.scheme.specs.Calls.{commitmentWrites}
-use Rattle.scheme.proofs.Outer.{commitment-writes}
-use Rattle.scheme_calls.specs.Replies.{keysOfSheet}
+use Rattle.call.specs.Call.{swept, Worked, Called}
+use Rattle.call.proofs.Lent.{lent, order-taken}
+use Rattle.call.proofs.Sweeping.{swept-worked}
+use Rattle.commitment.specs.Parameters.{Parameters, parameters, parametersOf}
+pub use Rattle.commitment.proofs.Sheets.{lent-keys, sheet-loaded, parameters-are}
 
-module _ {text public : Bytes} {k : Numbers} (h : Lent text public k) (from long : ℕ) (starts : from ≡ 16 * k .ring) (ends : long ≡ 24 * k .ring) where
-  abbrev n : ℕ
-  n = k .ring
-
-  abbrev keys : Bytes
-  keys = take long (drop from public)
-
-  -- a polynomial of them is one of the sheet's
-  third : (at : ℕ) → at + 8 * n ≤ 24 * n → part keys at (8 * n) ≡ take (8 * n) (drop (from + at) public)
-  third at l = part-part public from long at (8 * n) (omega arith)
-
-  pub lent-keys : PublicKeys n (k .modulus) keys
-  lent-keys = record {
-    sized = length-part public from long (omega (arith, h .sized, h .ranged .ring-high)) ∙ ends;
-    one = subst (Polynomial n (k .modulus)) (sym (third 0 (omega arith))) (h .polynomial 2 (from + 0) (8 * n) (omega arith) (omega arith) refl);
-    two = subst (Polynomial n (k .modulus)) (sym (third (8 * n) (omega arith))) (h .polynomial 3 (from + 8 * n) (8 * n) (omega arith) (omega arith) refl);
-    three = subst (Polynomial n (k .modulus)) (sym (third (16 * n) (omega arith))) (h .polynomial 4 (from + 16 * n) (8 * n) (omega arith) (omega arith) refl);
-  }
-
-  reads : (at : ℕ) (f : Poly) → at + 8 * n ≤ 24 * n → Alike (k .modulus) n (poly (take (8 * n) (drop (from + at) public))) f → Alike (k .modulus) n (slot keys at) f
-  reads at f l e = record { at = λ j b. same-eq (sym (poly-part keys at n j b) ∙ ap (λ (s : Bytes). poly s j) (third at l)) } so e
-
-  pub keys-written : (m r : Bytes) → commitmentWrites (k .modulus) n (keysOf n keys) m r ≡ commitmentWrites (k .modulus) n (keysOfSheet text) m r
-  keys-written = commitment-writes (k .modulus) n
-      (reads 0 _ (omega arith) (h .alike 2 (from + 0) (8 * n) (omega arith) (omega arith) refl))
-      (reads (8 * n) _ (omega arith) (h .alike 3 (from + 8 * n) (8 * n) (omega arith) (omega arith) refl))
-      (reads (16 * n) _ (omega arith) (h .alike 4 (from + 16 * n) (8 * n) (omega arith) (omega arith) refl))
-
--- all that is known of the bytes that the polynomials of a taken sheet were put into
-pub sheet-loaded : {text public : Bytes} {k : Numbers} → Lent text public k → Loaded k public
-sheet-loaded {text} {public} {k} h =
-    let n = k .ring in
-    record {
-      numbers = h .ranged;
-      a = h .polynomial 0 0 (8 * n) (omega arith) (omega arith) refl;
-      b = h .polynomial 1 (8 * n) (8 * n) (omega arith) (omega arith) refl;
-      keys = lent-keys h (16 * n) (24 * n) refl refl;
-      sized = omega (arith, h .sized, h .ranged .ring-high);
-    }
+-- the sheet was taken: the rest of the order decides, and scratch is swept
+module _ (text : Bytes) {public : Bytes} {s : Reading} {k : Numbers} (load : (s ≡ reading text) × (public ≡ loaded text (replicate 81920 0))) (e : s ≡ Taken k) where
+  pub call-taken : (tests : Numbers → List Test) (writes : Numbers → Parameters → Bytes) {r : Reply} {out out' w w' w'' : Bytes}
+      → Worked (tests k) (writes k (parameters k public)) r out out' w w' → w'' ≡ swept r w'
+      → Called (order text ++ tests (sheetOf text .numbers)) (writes (sheetOf text .numbers) (parametersOf text)) r out out' w w''
+  call-taken tests writes {r} {out} {out'} {w} {w'} made zeroed =
+      let h = lent text load e in
+      let m = sym (h .numbers) in
+      let ts = tests (sheetOf text .numbers) in
+      record {
+        replied = order-taken text ts (h .said) (made .replied ∙ ap (λ (n : Numbers). first (tests n)) m);
+        written = made .written ∙ ap (λ (P : Parameters). leaves r (writes k P) out) (parameters-are text load e) ∙ ap (λ (n : Numbers). leaves r (writes n (parametersOf text)) out) m;
+        cleared = zeroed ∙ swept-worked r w w' (made .cleared);
+      }

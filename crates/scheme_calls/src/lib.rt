@@ -1,23 +1,19 @@
-// The calls of encryption, decryption, the key split, decryption shares (document 000, sections 5.3 and 6.1) and commitment (5.4) over the sheet and lent bytes. p is 2.
-ghost use mathlib.Core.Path.{_≡_};
-ghost use Rattle.codec.specs.Reply.{leaves};
-ghost use Rattle.call.specs.Call.{swept};
-ghost use Rattle.scheme.specs.Calls.{keygenWrites, encryptWrites, decryptWrites, splitWrites, shareWrites, reconstructWrites, commitmentWrites};
-ghost use Rattle.scheme_calls.specs.Replies.{ringOf, modulusOf, aOf, bOf, keysOfSheet, keygenReply, encryptReply, decryptReply, splitReply, shareReply, reconstructReply, commitmentReply};
+// The calls of encryption, decryption, the key split, decryption shares (document 000, sections 5.3 and 6.1) and commitment (5.4) over the sheet and lent bytes.
+ghost use Rattle.codec.specs.Slices.{given, left};
+ghost use Rattle.call.specs.Call.{Called};
+ghost use Rattle.scheme_calls.specs.Orders.{keygenOrder, encryptOrder, decryptOrder, splitOrder, shareOrder, reconstructOrder, commitmentOrder};
+ghost use Rattle.scheme_calls.specs.Orders.{keyOf, ciphertextOf, voteOf, splitOf, shareOf, voteOfShares, pairOf};
 
 // Writes the key b = a s + p e.
 pub fn keygen(sheet: &[u8], s: &[u8], e: &[u8], b: &mut [u8], scratch: &mut [u8]) -> codec::Reply
-    ensures { λ reply. ⌜ reply ≡ keygenReply (now (sheet .entry)) (now (s .entry)) (now (e .entry)) (now (b .entry)) (now (scratch .entry)) ⌝ }
-    ensures { λ reply. ⌜ now (b .exit) ≡ leaves reply (keygenWrites 2 (modulusOf (now (sheet .entry))) (ringOf (now (sheet .entry))) (aOf (now (sheet .entry))) (now (s .entry)) (now (e .entry))) (now (b .entry)) ⌝ }
-    ensures { λ reply. ⌜ now (scratch .exit) ≡ swept reply (now (scratch .entry)) ⌝ }
+    ensures { λ reply. ⌜ Called (keygenOrder (given sheet) (given s) (given e) (given b) (given scratch)) (keyOf (given sheet) (given s) (given e)) reply
+        (given b) (left b) (given scratch) (left scratch) ⌝ }
 {
     let mut public = [0u8; 81920];
     let reading = sheet::load(sheet, &mut public);
     match reading {
         sheet::Reading::Taken(k) => {
-            let n = k.ring as usize;
-            let q = k.modulus;
-            let reply = keys::keygen(&public[0..8 * n], s, e, b, scratch, n, q);
+            let reply = keys::keygen(k, &public, s, e, b, scratch);
             call::sweep(reply, scratch);
             reply
         }
@@ -39,17 +35,14 @@ pub fn encrypt(
     ciphertext: &mut [u8],
     scratch: &mut [u8],
 ) -> codec::Reply
-    ensures { λ reply. ⌜ reply ≡ encryptReply (now (sheet .entry)) (now (r .entry)) (now (e1 .entry)) (now (e2 .entry)) (now (m .entry)) (now (ciphertext .entry)) (now (scratch .entry)) ⌝ }
-    ensures { λ reply. ⌜ now (ciphertext .exit) ≡ leaves reply (encryptWrites 2 (modulusOf (now (sheet .entry))) (ringOf (now (sheet .entry))) (aOf (now (sheet .entry))) (bOf (now (sheet .entry))) (now (r .entry)) (now (e1 .entry)) (now (e2 .entry)) (now (m .entry))) (now (ciphertext .entry)) ⌝ }
-    ensures { λ reply. ⌜ now (scratch .exit) ≡ swept reply (now (scratch .entry)) ⌝ }
+    ensures { λ reply. ⌜ Called (encryptOrder (given sheet) (given r) (given e1) (given e2) (given m) (given ciphertext) (given scratch)) (ciphertextOf (given sheet) (given r) (given e1) (given e2) (given m)) reply
+        (given ciphertext) (left ciphertext) (given scratch) (left scratch) ⌝ }
 {
     let mut public = [0u8; 81920];
     let reading = sheet::load(sheet, &mut public);
     match reading {
         sheet::Reading::Taken(k) => {
-            let n = k.ring as usize;
-            let q = k.modulus;
-            let reply = encryption::encrypt(&public, r, e1, e2, m, ciphertext, scratch, n, q);
+            let reply = encryption::encrypt(k, &public, r, e1, e2, m, ciphertext, scratch);
             call::sweep(reply, scratch);
             reply
         }
@@ -69,17 +62,14 @@ pub fn decrypt(
     vote: &mut [u8],
     scratch: &mut [u8],
 ) -> codec::Reply
-    ensures { λ reply. ⌜ reply ≡ decryptReply (now (sheet .entry)) (now (s .entry)) (now (ciphertext .entry)) (now (vote .entry)) (now (scratch .entry)) ⌝ }
-    ensures { λ reply. ⌜ now (vote .exit) ≡ leaves reply (decryptWrites 2 (modulusOf (now (sheet .entry))) (ringOf (now (sheet .entry))) (now (s .entry)) (now (ciphertext .entry))) (now (vote .entry)) ⌝ }
-    ensures { λ reply. ⌜ now (scratch .exit) ≡ swept reply (now (scratch .entry)) ⌝ }
+    ensures { λ reply. ⌜ Called (decryptOrder (given sheet) (given s) (given ciphertext) (given vote) (given scratch)) (voteOf (given sheet) (given s) (given ciphertext)) reply
+        (given vote) (left vote) (given scratch) (left scratch) ⌝ }
 {
     let mut public = [0u8; 81920];
     let reading = sheet::load(sheet, &mut public);
     match reading {
         sheet::Reading::Taken(k) => {
-            let n = k.ring as usize;
-            let q = k.modulus;
-            let reply = encryption::decrypt(s, ciphertext, vote, scratch, n, q);
+            let reply = encryption::decrypt(k, s, ciphertext, vote, scratch);
             call::sweep(reply, scratch);
             reply
         }
@@ -101,17 +91,14 @@ pub fn split(
     out: &mut [u8],
     scratch: &mut [u8],
 ) -> codec::Reply
-    ensures { λ reply. ⌜ reply ≡ splitReply (now (sheet .entry)) (now (s .entry)) (now (e .entry)) (now (s0 .entry)) (now (e0 .entry)) (now (out .entry)) (now (scratch .entry)) ⌝ }
-    ensures { λ reply. ⌜ now (out .exit) ≡ leaves reply (splitWrites 2 (modulusOf (now (sheet .entry))) (ringOf (now (sheet .entry))) (aOf (now (sheet .entry))) (now (s .entry)) (now (e .entry)) (now (s0 .entry)) (now (e0 .entry))) (now (out .entry)) ⌝ }
-    ensures { λ reply. ⌜ now (scratch .exit) ≡ swept reply (now (scratch .entry)) ⌝ }
+    ensures { λ reply. ⌜ Called (splitOrder (given sheet) (given s) (given e) (given s0) (given e0) (given out) (given scratch)) (splitOf (given sheet) (given s) (given e) (given s0) (given e0)) reply
+        (given out) (left out) (given scratch) (left scratch) ⌝ }
 {
     let mut public = [0u8; 81920];
     let reading = sheet::load(sheet, &mut public);
     match reading {
         sheet::Reading::Taken(k) => {
-            let n = k.ring as usize;
-            let q = k.modulus;
-            let reply = keys::split(&public[0..8 * n], s, e, s0, e0, out, scratch, n, q);
+            let reply = keys::split(k, &public, s, e, s0, e0, out, scratch);
             call::sweep(reply, scratch);
             reply
         }
@@ -132,18 +119,14 @@ pub fn share(
     t: &mut [u8],
     scratch: &mut [u8],
 ) -> codec::Reply
-    ensures { λ reply. ⌜ reply ≡ shareReply (now (sheet .entry)) (now (half .entry)) (now (u .entry)) (now (mask .entry)) (now (t .entry)) (now (scratch .entry)) ⌝ }
-    ensures { λ reply. ⌜ now (t .exit) ≡ leaves reply (shareWrites 2 (modulusOf (now (sheet .entry))) (ringOf (now (sheet .entry))) (now (half .entry)) (now (u .entry)) (now (mask .entry))) (now (t .entry)) ⌝ }
-    ensures { λ reply. ⌜ now (scratch .exit) ≡ swept reply (now (scratch .entry)) ⌝ }
+    ensures { λ reply. ⌜ Called (shareOrder (given sheet) (given half) (given u) (given mask) (given t) (given scratch)) (shareOf (given sheet) (given half) (given u) (given mask)) reply
+        (given t) (left t) (given scratch) (left scratch) ⌝ }
 {
     let mut public = [0u8; 81920];
     let reading = sheet::load(sheet, &mut public);
     match reading {
         sheet::Reading::Taken(k) => {
-            let n = k.ring as usize;
-            let q = k.modulus;
-            let bound = sheet_numbers::mask_bound(k);
-            let reply = scheme::share(half, u, mask, t, scratch, n, q, bound);
+            let reply = scheme::share(k, half, u, mask, t, scratch);
             call::sweep(reply, scratch);
             reply
         }
@@ -164,17 +147,14 @@ pub fn reconstruct(
     vote: &mut [u8],
     scratch: &mut [u8],
 ) -> codec::Reply
-    ensures { λ reply. ⌜ reply ≡ reconstructReply (now (sheet .entry)) (now (v .entry)) (now (t0 .entry)) (now (t1 .entry)) (now (vote .entry)) (now (scratch .entry)) ⌝ }
-    ensures { λ reply. ⌜ now (vote .exit) ≡ leaves reply (reconstructWrites 2 (modulusOf (now (sheet .entry))) (ringOf (now (sheet .entry))) (now (v .entry)) (now (t0 .entry)) (now (t1 .entry))) (now (vote .entry)) ⌝ }
-    ensures { λ reply. ⌜ now (scratch .exit) ≡ swept reply (now (scratch .entry)) ⌝ }
+    ensures { λ reply. ⌜ Called (reconstructOrder (given sheet) (given v) (given t0) (given t1) (given vote) (given scratch)) (voteOfShares (given sheet) (given v) (given t0) (given t1)) reply
+        (given vote) (left vote) (given scratch) (left scratch) ⌝ }
 {
     let mut public = [0u8; 81920];
     let reading = sheet::load(sheet, &mut public);
     match reading {
         sheet::Reading::Taken(k) => {
-            let n = k.ring as usize;
-            let q = k.modulus;
-            let reply = scheme::reconstruct(v, t0, t1, vote, scratch, n, q);
+            let reply = scheme::reconstruct(k, v, t0, t1, vote, scratch);
             call::sweep(reply, scratch);
             reply
         }
@@ -194,17 +174,14 @@ pub fn commitment(
     pair: &mut [u8],
     scratch: &mut [u8],
 ) -> codec::Reply
-    ensures { λ reply. ⌜ reply ≡ commitmentReply (now (sheet .entry)) (now (m .entry)) (now (r .entry)) (now (pair .entry)) (now (scratch .entry)) ⌝ }
-    ensures { λ reply. ⌜ now (pair .exit) ≡ leaves reply (commitmentWrites (modulusOf (now (sheet .entry))) (ringOf (now (sheet .entry))) (keysOfSheet (now (sheet .entry))) (now (m .entry)) (now (r .entry))) (now (pair .entry)) ⌝ }
-    ensures { λ reply. ⌜ now (scratch .exit) ≡ swept reply (now (scratch .entry)) ⌝ }
+    ensures { λ reply. ⌜ Called (commitmentOrder (given sheet) (given m) (given r) (given pair) (given scratch)) (pairOf (given sheet) (given m) (given r)) reply
+        (given pair) (left pair) (given scratch) (left scratch) ⌝ }
 {
     let mut public = [0u8; 81920];
     let reading = sheet::load(sheet, &mut public);
     match reading {
         sheet::Reading::Taken(k) => {
-            let n = k.ring as usize;
-            let q = k.modulus;
-            let reply = commitments::commitment(&public[16 * n..40 * n], m, r, pair, scratch, n, q);
+            let reply = commitments::commitment(k, &public, m, r, pair, scratch);
             call::sweep(reply, scratch);
             reply
         }

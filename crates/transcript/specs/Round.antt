@@ -9,25 +9,14 @@ use lib.ListN.{length, getD}
 use Rattle.codec.specs.Bytes.{Bytes, part, same}
 use Rattle.codec.specs.Reply.{Test, test}
 use Rattle.codec.specs.Lists.{list, allBelow, all}
-use Rattle.ring.specs.Poly.{Poly, plus}
+use Rattle.ring.specs.Poly.{plus}
 use Rattle.ring.specs.Slots.{coefficientBytes, poly}
 use Rattle.bgv.specs.Scheme.{key, worked, within, reconstructed}
-use Rattle.commitment.specs.Commitment.{Keys, threeOf, opens}
+use Rattle.commitment.specs.Commitment.{threeOf, opens}
 use Rattle.vector.specs.Vector.{vector}
 use Rattle.stern.specs.Shortness.{inRange, answerTests}
+pub use Rattle.commitment.specs.Parameters.{Parameters}
 use Rattle.transcript.specs.Layout.{Opening, each, ballotLength, uAt, vAt, ballotsBelow, shareAt, claimAt, headLength, keyAt, pairsOf, pairAt, digestsAt, openingOf, answersLength, answerAt}
-
--- what a sheet gives: modulus, ring size, plaintext modulus, mask bound, noise bound, repetitions, and its polynomials
-pub record Parameters : Type 0 where
-  pub q : ℕ
-  pub N : ℕ
-  pub p : ℕ
-  pub B : ℕ
-  pub D : ℕ
-  pub repeats : ℕ
-  pub a : Poly
-  pub b : Poly
-  pub k : Keys
 
 -- what is lent to a check of one round
 pub record Round : Type 0 where

@@ -18,7 +18,7 @@ unfolding same
 returns c =
     let a = c .before .before .before .before .before .before .args in
     let xs : List ℕ = length (a .s .now) ∷ length (a .e .now) ∷ length (a .b .now) ∷ length (a .scratch .now) ∷ [] in
-    let ys : List ℕ = a .n ∷ a .n ∷ 8 * a .n ∷ 1048576 ∷ [] in
+    let ys : List ℕ = a .k .ring ∷ a .k .ring ∷ 8 * a .k .ring ∷ 1048576 ∷ [] in
     wrong-length xs ys (test 5 0 (not (bytesBelow 3 (a .s .now ∷ a .e .now ∷ []))) ∷ []) (sym (c .before .sized .ensures) ∙ not-true (c .before .sized .result) (c .if1 .taken))
 
 returns-2 : tie.Need-returns-2
@@ -26,7 +26,7 @@ unfolding same
 returns-2 c =
     let a = c .before .before .before .before .before .before .before .before .args in
     let xs : List ℕ = length (a .s .now) ∷ length (a .e .now) ∷ length (a .b .now) ∷ length (a .scratch .now) ∷ [] in
-    let ys : List ℕ = a .n ∷ a .n ∷ 8 * a .n ∷ 1048576 ∷ [] in
+    let ys : List ℕ = a .k .ring ∷ a .k .ring ∷ 8 * a .k .ring ∷ 1048576 ∷ [] in
     out-of-range xs ys (bytesBelow 3 (a .s .now ∷ a .e .now ∷ [])) [] (sym (c .before .before .before .sized .ensures) ∙ not-false (c .before .before .before .sized .result) (c .before .before .if1 .left)) (sym (c .before .both-ternary .ensures) ∙ not-true (c .before .both-ternary .result) (c .if2 .taken))
 
 returns-3 : tie.Need-returns-3
@@ -34,7 +34,7 @@ unfolding first same
 returns-3 c =
     let a = c .before .before .before .before .before .before .before .before .args in
     let xs : List ℕ = length (a .s .now) ∷ length (a .e .now) ∷ length (a .b .now) ∷ length (a .scratch .now) ∷ [] in
-    let ys : List ℕ = a .n ∷ a .n ∷ 8 * a .n ∷ 1048576 ∷ [] in
+    let ys : List ℕ = a .k .ring ∷ a .k .ring ∷ 8 * a .k .ring ∷ 1048576 ∷ [] in
     in-order xs ys (bytesBelow 3 (a .s .now ∷ a .e .now ∷ [])) [] (sym (c .before .before .before .sized .ensures) ∙ not-false (c .before .before .before .sized .result) (c .before .before .if1 .left)) (sym (c .before .both-ternary .ensures) ∙ not-false (c .before .both-ternary .result) (c .if2 .left))
 
 pub keygen-tests-spec : {M : Type 1} → statement M

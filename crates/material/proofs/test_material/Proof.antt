@@ -1,7 +1,7 @@
 -- `test_material` meets its contract. Assumes nothing.
-use mathlib.Core.Path.{ap, _∙_}
+use mathlib.Core.Path.{_∙_}
 use borrow.Author.Needs.{needs}
-use lib.ListN.{length, length-replicate}
+use Rattle.call.proofs.Sweeping.{length-zeros}
 use Rattle.transcript.specs.Producer.{Material, materialOf}
 use Rattle.transcript.specs.Round.{Parameters}
 use Rattle.transcript.specs.Sheets.{parameters}
@@ -24,7 +24,7 @@ test-each-requires c κs =
     let z = s .pre .3 in
     let t = c .before .before .before .before .before .before .before .before .before .test-secret .ensures in (
       s .pre .0 .numbers,
-      ap length (c .before .before .before .before .before .wipe .ensures) ∙ length-replicate _ 0 ∙ t .1 ∙ s .pre .1,
+      length-zeros (c .before .before .before .before .before .wipe .ensures) ∙ t .1 ∙ s .pre .1,
       s .pre .2,
       z .secrets,
       z .masks0,

@@ -1,27 +1,21 @@
 -- `decrypt` meets its contract. Assumes nothing.
-use mathlib.Core.Path.{refl}
 use borrow.Author.Needs.{needs}
-use Rattle.call.proofs.Lent.{lent, call-taken, call-refused}
+use Rattle.call.proofs.Lent.{lent, call-refused}
 use Rattle.scheme.specs.Calls.{decryptTests, decryptWrites}
-use Rattle.scheme_calls.specs.Replies.{decryptReply}
+use Rattle.scheme_calls.proofs.Keys.{call-taken}
 use Rattle.scheme_calls.proofs.decrypt.Statement.{statement}
 use Rattle.scheme_calls.proofs.decrypt.Tie as tie
 
 decrypt-requires : tie.Need-decrypt-requires
-decrypt-requires c κs =
-    let r = lent (c .before .before .before .before .before .before .before .before .before .before .before .before .args .sheet .now) (c .before .before .before .before .before .load .ensures) (c .before .before .before .reading .given .1) .ranged in
-    (r .ring-low, r .ring-high, r .modulus-low, r .modulus-high)
+decrypt-requires c κs = lent (c .before .before .before .before .before .before .before .before .before .before .before .before .args .sheet .now) (c .before .before .before .before .before .load .ensures) (c .before .before .before .reading .given .1) .ranged
 
 returns : tie.Need-returns
-unfolding decryptReply
 returns c =
     let a = c .before .before .before .before .before .before .before .before .before .before .before .before .before .before .before .before .before .before .before .before .before .args in
-    let h = lent (c .before .before .before .before .before .before .before .before .before .before .before .before .before .before .before .before .before .before .before .before .before .args .sheet .now) (c .before .before .before .before .before .before .before .before .before .before .before .before .before .before .load .ensures) (c .before .before .before .before .before .before .before .before .before .before .before .before .reading .given .1) in
-    call-taken h (λ k. decryptTests (k .modulus) (k .ring) (a .s .now) (a .ciphertext .now) (a .vote .now) (a .scratch .now)) (λ k. decryptWrites 2 (k .modulus) (k .ring) (a .s .now) (a .ciphertext .now)) (a .vote .now) (c .before .before .before .before .before .before .before .before .decrypt .ensures) refl (c .before .before .sweep .ensures)
+    call-taken (a .sheet .now) (c .before .before .before .before .before .before .before .before .before .before .before .before .before .before .load .ensures) (c .before .before .before .before .before .before .before .before .before .before .before .before .reading .given .1) (λ k. decryptTests k (a .s .now) (a .ciphertext .now) (a .vote .now) (a .scratch .now)) (λ k P. decryptWrites k (a .s .now) (a .ciphertext .now)) (c .before .before .before .before .before .before .before .before .decrypt .ensures) (c .before .before .sweep .ensures)
 
 returns-2 : tie.Need-returns-2
-unfolding decryptReply
-returns-2 c = call-refused (c .before .before .before .before .before .before .before .before .before .before .before .before .before .before .args .sheet .now) _ _ _ (c .before .before .before .before .before .before .before .load .ensures .0) (c .before .before .before .before .before .reading2 .given .1) (c .before .before .sweep2 .ensures)
+returns-2 c = call-refused (c .before .before .before .before .before .before .before .before .before .before .before .before .before .before .args .sheet .now) (c .before .before .before .before .before .before .before .load .ensures .0) (c .before .before .before .before .before .reading2 .given .1) (c .before .before .sweep2 .ensures)
 
 pub decrypt-spec : {M : Type 1} → statement M
 decrypt-spec = tie.close (tie.spec (λ c κs. search needs) (λ c. search needs) decrypt-requires (λ c κs. search needs) (λ c. search needs) (λ c κs. search needs) (λ c. search needs) (λ c. search needs) returns (λ c. search needs) returns-2)

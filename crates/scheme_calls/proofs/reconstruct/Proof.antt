@@ -1,27 +1,21 @@
 -- `reconstruct` meets its contract. Assumes nothing.
-use mathlib.Core.Path.{refl}
 use borrow.Author.Needs.{needs}
-use Rattle.call.proofs.Lent.{lent, call-taken, call-refused}
+use Rattle.call.proofs.Lent.{lent, call-refused}
 use Rattle.scheme.specs.Calls.{reconstructTests, reconstructWrites}
-use Rattle.scheme_calls.specs.Replies.{reconstructReply}
+use Rattle.scheme_calls.proofs.Keys.{call-taken}
 use Rattle.scheme_calls.proofs.reconstruct.Statement.{statement}
 use Rattle.scheme_calls.proofs.reconstruct.Tie as tie
 
 reconstruct-requires : tie.Need-reconstruct-requires
-reconstruct-requires c κs =
-    let r = lent (c .before .before .before .before .before .before .before .before .before .before .before .before .before .args .sheet .now) (c .before .before .before .before .before .load .ensures) (c .before .before .before .reading .given .1) .ranged in
-    (r .ring-low, r .ring-high, r .modulus-low, r .modulus-high)
+reconstruct-requires c κs = lent (c .before .before .before .before .before .before .before .before .before .before .before .before .before .args .sheet .now) (c .before .before .before .before .before .load .ensures) (c .before .before .before .reading .given .1) .ranged
 
 returns : tie.Need-returns
-unfolding reconstructReply
 returns c =
     let a = c .before .before .before .before .before .before .before .before .before .before .before .before .before .before .before .before .before .before .before .before .before .before .args in
-    let h = lent (c .before .before .before .before .before .before .before .before .before .before .before .before .before .before .before .before .before .before .before .before .before .before .args .sheet .now) (c .before .before .before .before .before .before .before .before .before .before .before .before .before .before .load .ensures) (c .before .before .before .before .before .before .before .before .before .before .before .before .reading .given .1) in
-    call-taken h (λ k. reconstructTests (k .modulus) (k .ring) (a .v .now) (a .t0 .now) (a .t1 .now) (a .vote .now) (a .scratch .now)) (λ k. reconstructWrites 2 (k .modulus) (k .ring) (a .v .now) (a .t0 .now) (a .t1 .now)) (a .vote .now) (c .before .before .before .before .before .before .before .before .reconstruct .ensures) refl (c .before .before .sweep .ensures)
+    call-taken (a .sheet .now) (c .before .before .before .before .before .before .before .before .before .before .before .before .before .before .load .ensures) (c .before .before .before .before .before .before .before .before .before .before .before .before .reading .given .1) (λ k. reconstructTests k (a .v .now) (a .t0 .now) (a .t1 .now) (a .vote .now) (a .scratch .now)) (λ k P. reconstructWrites k (a .v .now) (a .t0 .now) (a .t1 .now)) (c .before .before .before .before .before .before .before .before .reconstruct .ensures) (c .before .before .sweep .ensures)
 
 returns-2 : tie.Need-returns-2
-unfolding reconstructReply
-returns-2 c = call-refused (c .before .before .before .before .before .before .before .before .before .before .before .before .before .before .before .args .sheet .now) _ _ _ (c .before .before .before .before .before .before .before .load .ensures .0) (c .before .before .before .before .before .reading2 .given .1) (c .before .before .sweep2 .ensures)
+returns-2 c = call-refused (c .before .before .before .before .before .before .before .before .before .before .before .before .before .before .before .args .sheet .now) (c .before .before .before .before .before .before .before .load .ensures .0) (c .before .before .before .before .before .reading2 .given .1) (c .before .before .sweep2 .ensures)
 
 pub reconstruct-spec : {M : Type 1} → statement M
 reconstruct-spec = tie.close (tie.spec (λ c κs. search needs) (λ c. search needs) reconstruct-requires (λ c κs. search needs) (λ c. search needs) (λ c κs. search needs) (λ c. search needs) (λ c. search needs) returns (λ c. search needs) returns-2)

@@ -3,8 +3,8 @@ use mathlib.Core.Path.{ap, _∙_}
 use Prim.Native.Nat.{_+_, _-_, _*_}
 use native.Mathlib.Omega.{arith}
 use borrow.Author.Needs.{needs}
-use lib.ListN.{length, length-replicate}
 use Rattle.codec.specs.Bytes.{put}
+use Rattle.call.proofs.Sweeping.{length-zeros}
 use Rattle.commitment.specs.Commitment.{keysOf}
 use Rattle.stern.specs.Argument.{Drawn}
 use Rattle.stern.specs.Shortness.{honestDigests}
@@ -31,7 +31,7 @@ returns c =
       w .ensures .0
           ∙ ap (λ (x : Drawn). put (a .out .now) (a .at) (honestDigests (a .q) (a .n) (keysOf (a .n) (a .k .now)) (a .secrets .now) x))
           (drawn-lent (a .q) (a .n) (a .secrets .now) (a .vectors .now) (a .permutations .now) (a .salts .now) r t s (r + 336 * a .n - r) (t + 168 * a .n - t) (s + 96 - s) (omega arith) (omega arith) (omega arith)),
-      ap length (w .ensures .1) ∙ length-replicate (length (a .work .now)) 0,
+      length-zeros (w .ensures .1),
     )
 
 pub digests-at-spec : {M : Type 1} → statement M

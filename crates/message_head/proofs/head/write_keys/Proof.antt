@@ -4,6 +4,7 @@ use Prim.Native.Nat.{_-_, _*_}
 use native.Mathlib.Omega.{arith}
 use borrow.Author.Needs.{needs}
 use Rattle.call.specs.Call.{Polynomial}
+use Rattle.call.proofs.Sweeping.{length-zeros}
 use Rattle.stern.proofs.Answered.{lent-length}
 use Rattle.transcript.proofs.Cut.{a-cut}
 use Rattle.message_head.proofs.HeadParts.{keys-written}
@@ -26,7 +27,7 @@ other-key-requires c κs =
       subst (Polynomial n (a .k .modulus)) (sym (a-cut (a .k) (a .public .now))) (p .0 .a),
       p .1,
       p .2,
-      l .ensures .1 ∙ p .4,
+      length-zeros (l .ensures .cleared) ∙ p .4,
       lent-length s 0 (n - 0) n (omega arith) (omega (arith, p .3)),
       lent-length s n (2 * n - n) n (omega arith) (omega (arith, p .3)),
       omega (arith, p .5, l .kept .0),
@@ -39,7 +40,7 @@ returns c =
     let l = c .before .before .before .before .before .before .before .before .before .before .before .before .before .before .lent-key in
     let o = c .before .before .before .before .other-key in
     let m = c .before .before .before .before .before .before .before .before .before .before .before .before .before .before .before .before .before .before .plain in
-    (keys-written (a .k) (a .public .now) (a .secrets .now) (a .s0 .now) (a .e0 .now) (m .result) (a .head .now) (l .last .0) (o .last .0) (m .ensures) (c .before .before .before .before .before .before .before .before .before .before .before .before .before .before .before .before .before .before .before .before .before .before .before .before .before .pre .5) (l .ensures .0) (o .ensures .0), o .ensures .1 ∙ l .ensures .1)
+    (keys-written (a .k) (a .public .now) (a .secrets .now) (a .s0 .now) (a .e0 .now) (m .result) (a .head .now) (l .last .0) (o .last .0) (m .ensures) (c .before .before .before .before .before .before .before .before .before .before .before .before .before .before .before .before .before .before .before .before .before .before .before .before .before .pre .5) (l .ensures .written) (o .ensures .written), length-zeros (o .ensures .cleared) ∙ length-zeros (l .ensures .cleared))
 
 pub write-keys-spec : {M : Type 1} → statement M
 write-keys-spec = tie.close (tie.spec (λ c κs. search needs) (λ c. search needs) (λ c. search needs) (λ c. search needs) (λ c. search needs) lent-key-requires (λ c. search needs) (λ c. search needs) (λ c. search needs) (λ c. search needs) (λ c. search needs) (λ c. search needs) (λ c. search needs) (λ c. search needs) (λ c. search needs) (λ c. search needs) (λ c. search needs) (λ c. search needs) other-key-requires (λ c. search needs) (λ c. search needs) returns)

@@ -1,0 +1,41 @@
+-- What a sheet gives to the calls that are lent it (document 01, "Ring and scheme" and "Sheet"). Assumes nothing.
+use Prim.Native.Nat.{ℕ}
+use Rattle.codec.specs.Bytes.{Bytes}
+use Rattle.ring.specs.Poly.{Poly}
+use Rattle.ring.specs.Slots.{poly}
+use Rattle.sheet.specs.Reader.{sheetOf}
+use Rattle.sheet.specs.Sheet.{polynomials}
+use Rattle.sheet_numbers.specs.Plain.{plain, noiseOf, maskOf}
+use Rattle.sheet_numbers.specs.declared.Numbers.{Numbers}
+use Rattle.commitment.specs.Commitment.{Keys, keysOf}
+use Rattle.commitment.specs.Loaded.{aOf, bOf, keyBytes}
+
+-- modulus, ring size, plaintext modulus, mask bound, noise bound, repetitions, and its polynomials
+pub record Parameters : Type 0 where
+  pub q : ℕ
+  pub N : ℕ
+  pub p : ℕ
+  pub B : ℕ
+  pub D : ℕ
+  pub repeats : ℕ
+  pub a : Poly
+  pub b : Poly
+  pub k : Keys
+
+-- from its numbers and the bytes that its polynomials were put into
+abbrev pub parameters : (k : Numbers) (public : Bytes) → Parameters
+parameters k public = record {
+  q = k .modulus;
+  N = k .ring;
+  p = plain k;
+  B = maskOf k;
+  D = noiseOf k;
+  repeats = k .repeats;
+  a = poly (aOf k public);
+  b = poly (bOf k public);
+  k = keysOf (k .ring) (keyBytes k public);
+}
+
+-- those of a sheet's text
+abbrev pub parametersOf : (text : Bytes) → Parameters
+parametersOf text = parameters (sheetOf text .numbers) (polynomials text)

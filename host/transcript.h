@@ -1,0 +1,23 @@
+/* A transcript, gone through as a member does on another machine: the session is built anew from the published files, and nothing that the
+ * counting side says of itself is taken over. */
+#ifndef TRANSCRIPT_H
+#define TRANSCRIPT_H
+#include "ballots.h"
+#include "election.h"
+#include "paper.h"
+
+struct transcript {
+    struct election election;
+    struct ballots ballots;
+    struct paper paper;
+    struct bytes claims;
+    uint8_t commitment[DIGEST], fingerprint[DIGEST];
+};
+
+/* Reads the files of a folder and takes the session from the log to the draw: after this commitment and fingerprint are known. */
+enum status transcript_read(struct transcript *transcript, const char *folder);
+/* Checks every round: DONE only where the session ends accepted. */
+enum status transcript_check(struct transcript *transcript);
+void transcript_end(struct transcript *transcript);
+
+#endif
