@@ -1,19 +1,21 @@
-// What the producer writes for a repetition, from the unknowns x in ternary bytes, the mask vector r, the permutation p and three salts: the digests, and the answer to
-// a challenge.
+// What the producer writes for a repetition, from the unknowns x in ternary bytes, the mask vector r, the permutation p and three salts:
+// the digests, and the answer to a challenge.
 use stern::digests::equations_digest;
 use stern::digests::gathered_digest;
 use stern::digests::masked_digest;
 ghost use mathlib.Core.Path.{_≡_};
 ghost use Prim.Native.Nat.{_+_, _*_, _≤_, _<_, _^_};
 ghost use lib.ListN.{length};
-ghost use Rattle.codec.specs.Bytes.{put};
+ghost use Rattle.codec.specs.Bytes.{put, zeros};
+ghost use Rattle.codec.specs.Slices.{given, left};
 ghost use Rattle.call.specs.Call.{scratchLength};
 ghost use Rattle.commitment.specs.Commitment.{keysOf, PublicKeys};
 ghost use Rattle.vector.specs.Vector.{vector};
 ghost use Rattle.stern.specs.Argument.{answer1, answer2, answer3};
-ghost use Rattle.stern.specs.Shortness.{Material, drawnOf, answerLength, honestDigests, honestAnswer, answer1Bytes, answer2Bytes, answer3Bytes};
+ghost use Rattle.stern.specs.Shortness.{Material, drawnOf, answerLength, honestDigests, honestAnswer};
+ghost use Rattle.stern.specs.Shortness.{answer1Bytes, answer2Bytes, answer3Bytes};
 
-// The three digests, 96 bytes at a place of an output.
+// The three digests, 96 bytes at a place of an output. Scratch is given back zeroed.
 pub fn write_digests(
     out: &mut [u8],
     at: usize,
@@ -26,9 +28,11 @@ pub fn write_digests(
     n: usize,
     q: u64,
 )
-    requires { ⌜ PublicKeys n q (now k) × (length (now work) ≡ scratchLength) × (at + 96 ≤ length (now out)) × Material q n (now x) (now r) (now p) (now salts) ⌝ }
-    ensures { λ _. ⌜ now (out .exit) ≡ put (now (out .entry)) at (honestDigests q n (keysOf n (now (k .entry))) (now (x .entry)) (drawnOf (now (p .entry)) (now (r .entry)) (now (salts .entry)))) ⌝ }
-    ensures { λ _. ⌜ length (now (work .exit)) ≡ length (now (work .entry)) ⌝ }
+    requires { ⌜ PublicKeys n q (now k) × (length (now work) ≡ scratchLength) × (at + 96 ≤ length (now out))
+        × Material q n (now x) (now r) (now p) (now salts) ⌝ }
+    ensures { λ _. let drawn = drawnOf (given p) (given r) (given salts) in
+        ⌜ (left out ≡ put (given out) at (honestDigests q n (keysOf n (given k)) (given x) drawn))
+        × (left work ≡ zeros (length (given work))) ⌝ }
 {
     let second = at + 32;
     let third = at + 64;
@@ -38,12 +42,13 @@ pub fn write_digests(
     codec::copy(out, second, &two);
     let three = masked_digest(work, p, x, r, &salts[64..96], n, q);
     codec::copy(out, third, &three);
+    codec::wipe(work);
 }
 
 // Answer 1: P(extended), P(R), salts 2 and 3.
 pub fn write_answer1(out: &mut [u8], x: &[u8], r: &[u8], p: &[u8], salts: &[u8], n: usize, q: u64)
     requires { ⌜ (n ≤ 2048) × (length (now out) ≡ 378 * n + 64) × Material q n (now x) (now r) (now p) (now salts) ⌝ }
-    ensures { λ _. ⌜ now (out .exit) ≡ answer1Bytes (answer1 (14 * n) (now (x .entry)) (drawnOf (now (p .entry)) (now (r .entry)) (now (salts .entry)))) ⌝ }
+    ensures { λ _. let drawn = drawnOf (given p) (given r) (given salts) in ⌜ left out ≡ answer1Bytes (answer1 (14 * n) (given x) drawn) ⌝ }
 {
     let minus = 14 * n - ring::count_of(x, 2);
     let zeros = 14 * n - ring::count_of(x, 0);
@@ -54,8 +59,10 @@ pub fn write_answer1(out: &mut [u8], x: &[u8], r: &[u8], p: &[u8], salts: &[u8],
 
 // Answer 2: P, extended + R, salts 1 and 3.
 pub fn write_answer2(out: &mut [u8], x: &[u8], r: &[u8], p: &[u8], salts: &[u8], n: usize, q: u64)
-    requires { ⌜ (n ≤ 2048) × (3 ≤ q) × (q < 2 ^ 56) × (length (now out) ≡ 504 * n + 64) × Material q n (now x) (now r) (now p) (now salts) ⌝ }
-    ensures { λ _. ⌜ now (out .exit) ≡ answer2Bytes (answer2 q (14 * n) (now (x .entry)) (drawnOf (now (p .entry)) (now (r .entry)) (now (salts .entry)))) ⌝ }
+    requires { ⌜ (n ≤ 2048) × (3 ≤ q) × (q < 2 ^ 56) × (length (now out) ≡ 504 * n + 64)
+        × Material q n (now x) (now r) (now p) (now salts) ⌝ }
+    ensures { λ _. let drawn = drawnOf (given p) (given r) (given salts) in
+        ⌜ left out ≡ answer2Bytes (answer2 q (14 * n) (given x) drawn) ⌝ }
 {
     let minus = 14 * n - ring::count_of(x, 2);
     let zeros = 14 * n - ring::count_of(x, 0);
@@ -67,8 +74,9 @@ pub fn write_answer2(out: &mut [u8], x: &[u8], r: &[u8], p: &[u8], salts: &[u8],
 
 // Answer 3: P, R, salts 1 and 2.
 pub fn write_answer3(out: &mut [u8], r: &[u8], p: &[u8], salts: &[u8], n: usize)
-    requires { ⌜ (n ≤ 2048) × (length (now out) ≡ 504 * n + 64) × (length (now r) ≡ 336 * n) × (length (now p) ≡ 168 * n) × (length (now salts) ≡ 96) ⌝ }
-    ensures { λ _. ⌜ now (out .exit) ≡ answer3Bytes (answer3 (drawnOf (now (p .entry)) (now (r .entry)) (now (salts .entry)))) ⌝ }
+    requires { ⌜ (n ≤ 2048) × (length (now out) ≡ 504 * n + 64) × (length (now r) ≡ 336 * n) × (length (now p) ≡ 168 * n)
+        × (length (now salts) ≡ 96) ⌝ }
+    ensures { λ _. ⌜ left out ≡ answer3Bytes (answer3 (drawnOf (given p) (given r) (given salts))) ⌝ }
 {
     codec::copy(out, 0, p);
     codec::copy(out, 168 * n, r);
@@ -86,8 +94,9 @@ pub fn write_answer(
     n: usize,
     q: u64,
 )
-    requires { ⌜ (n ≤ 2048) × (3 ≤ q) × (q < 2 ^ 56) × (length (now out) ≡ answerLength n challenge) × Material q n (now x) (now r) (now p) (now salts) ⌝ }
-    ensures { λ _. ⌜ now (out .exit) ≡ honestAnswer q n (now (x .entry)) (drawnOf (now (p .entry)) (now (r .entry)) (now (salts .entry))) challenge ⌝ }
+    requires { ⌜ (n ≤ 2048) × (3 ≤ q) × (q < 2 ^ 56) × (length (now out) ≡ answerLength n challenge)
+        × Material q n (now x) (now r) (now p) (now salts) ⌝ }
+    ensures { λ _. ⌜ left out ≡ honestAnswer q n (given x) (drawnOf (given p) (given r) (given salts)) challenge ⌝ }
 {
     if challenge == 1 {
         write_answer1(out, x, r, p, salts, n, q);

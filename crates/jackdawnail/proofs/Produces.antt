@@ -17,8 +17,8 @@ use Rattle.transcript.specs.Round.{Parameters}
 use Rattle.transcript.specs.Producer.{Material, askedRanged, producerTests}
 use Rattle.transcript.proofs.Many.{append-none, none-append}
 use Rattle.transcript.proofs.Passed.{producer-exactly, second-exactly}
-use Rattle.transcript.specs.Writes.{firstRoom}
-use Rattle.lengths.specs.Calls.{secondRoom, lengthsTest, materialSized, firstSized, secondSized, firstTests, secondTests}
+use Rattle.transcript.specs.Writes.{firstRoom, secondRoom}
+use Rattle.lengths.specs.Calls.{lengthsTest, materialSized, firstSized, secondSized, firstTests, secondTests}
 use Rattle.lengths.specs.Sheets.{parametersOf, ballotsIn}
 use Rattle.lengths.proofs.Sizes.{material-exactly, first-sizes, first-sized, second-sizes, second-sized}
 use Rattle.round_calls.specs.Replies.{firstReply, secondReply}
@@ -57,14 +57,14 @@ module _ (text : Bytes) (x : Material) where
 
   module _ (head shares0 shares1 claims scratch : Bytes) where
     abbrev room : Bool
-    room = firstSized (P .N) (P .repeats) m head shares0 shares1 claims scratch
+    room = firstSized (P .N) (P .repeats) m (firstRoom head shares0 shares1 claims scratch)
 
-    pub first-exactly : (firstReply text x (firstRoom head shares0 shares1 claims scratch) ≡ Taken) ↔ WritesFirst text x head shares0 shares1 claims scratch
+    pub first-exactly : (firstReply text x (firstRoom (firstRoom head shares0 shares1 claims scratch)) ≡ Taken) ↔ WritesFirst text x head shares0 shares1 claims scratch
     unfolding firstReply firstTests
     first-exactly = (
       λ e.
           let c = call-none text m material room (producerTests P m x true) (taken-exactly _ .0 e) in
-          let z = first-sizes (P .N) (P .repeats) m head shares0 shares1 claims scratch (c .3) in
+          let z = first-sizes (P .N) (P .repeats) m (firstRoom head shares0 shares1 claims scratch) (c .3) in
           record {
             sheet = c .0;
             few = c .1;
@@ -79,7 +79,7 @@ module _ (text : Bytes) (x : Material) where
       λ w.
           taken-exactly _ .1
           (none-call text m material room (producerTests P m x true) (w .sheet) (w .few) (material-exactly P m x .1 (w .sized))
-          (first-sized (P .N) (P .repeats) m head shares0 shares1 claims scratch (w .head-size) (w .shares0-size) (w .shares1-size) (w .claims-size) (w .scratch-size))
+          (first-sized (P .N) (P .repeats) m (firstRoom head shares0 shares1 claims scratch) (w .head-size) (w .shares0-size) (w .shares1-size) (w .claims-size) (w .scratch-size))
           (producer-exactly P m x (positive (w .sheet)) (fits (w .sheet)) .1 (w .suitable))),
     )
 

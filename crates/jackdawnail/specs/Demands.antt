@@ -21,8 +21,7 @@ use Rattle.transcript.specs.Suitable.{Suitable}
 use Rattle.transcript.specs.Extractor.{Openings, extractRoom, Lent, extractTests, kind, extracted, Found, Hashed, Lowest, Output}
 use Rattle.transcript.specs.Refuses.{openingTests, repetitionTests, OpensLent, AnswersLent, lentRound, Lending, ChecksTake, ChecksRefuse}
 use Rattle.lengths.specs.Sheets.{parametersOf, ballotsIn}
-use Rattle.transcript.specs.Writes.{firstRoom}
-use Rattle.lengths.specs.Calls.{secondRoom}
+use Rattle.transcript.specs.Writes.{firstRoom, secondRoom}
 use Rattle.round_calls.specs.Replies.{firstReply, secondReply}
 use Rattle.verification_calls.specs.Replies.{extractReply}
 use Rattle.checking.specs.Check.{Inputs, drawnRound}

@@ -4,8 +4,8 @@ ghost use lib.ListN.{length};
 ghost use Rattle.codec.specs.Slices.{given};
 ghost use Rattle.codec.specs.Reply.{packed};
 ghost use Rattle.transcript.specs.RoundSlices.{openingsIn, extractIn, extractOut};
+ghost use Rattle.transcript.specs.Lent.{materialIn, firstIn, firstOut, secondIn, secondOut};
 ghost use Rattle.verification.specs.Extraction.{answered};
-ghost use Rattle.rounds.specs.Lent.{materialIn, firstIn, firstOut, secondIn, secondOut};
 ghost use Rattle.round_calls.specs.Replies.{firstReply, FirstCalled, secondReply, SecondCalled};
 ghost use Rattle.verification_calls.specs.Replies.{extractFound, ExtractCalled};
 ghost use Rattle.opened_share.specs.Opened.{openedReply};
@@ -29,7 +29,9 @@ pub extern "C" fn jdn_produce_first(
     claims: &mut [u8],
     scratch: &mut [u8],
 ) -> u64
-    ensures { λ answer. let x = materialIn secrets s0 e0 masks0 masks1 vectors permutations salts ballots in let before = firstIn head shares0 shares1 claims scratch in let after = firstOut head shares0 shares1 claims scratch in let reply = firstReply (now (sheet .entry)) x before in ⌜ (answer ≡ packed reply) × FirstCalled (now (sheet .entry)) x before reply after ⌝ }
+    ensures { λ answer. let x = materialIn secrets s0 e0 masks0 masks1 vectors permutations salts ballots in
+        let before = firstIn head shares0 shares1 claims scratch in let after = firstOut head shares0 shares1 claims scratch in
+        let reply = firstReply (given sheet) x before in ⌜ (answer ≡ packed reply) × FirstCalled (given sheet) x before reply after ⌝ }
 {
     codec::pack(round_calls::produce_first(
         sheet,
@@ -69,7 +71,10 @@ pub extern "C" fn jdn_produce_second(
     answers: &mut [u8],
     scratch: &mut [u8],
 ) -> u64
-    ensures { λ answer. let x = materialIn secrets s0 e0 masks0 masks1 vectors permutations salts ballots in let before = secondIn opening answers scratch in let after = secondOut opening answers scratch in let reply = secondReply (now (sheet .entry)) x side (now (challenges .entry)) before in ⌜ (answer ≡ packed reply) × SecondCalled (now (sheet .entry)) x side (now (challenges .entry)) before reply after ⌝ }
+    ensures { λ answer. let x = materialIn secrets s0 e0 masks0 masks1 vectors permutations salts ballots in
+        let before = secondIn opening answers scratch in let after = secondOut opening answers scratch in
+        let reply = secondReply (given sheet) x side (given challenges) before in
+        ⌜ (answer ≡ packed reply) × SecondCalled (given sheet) x side (given challenges) before reply after ⌝ }
 {
     codec::pack(round_calls::produce_second(
         sheet,

@@ -20,6 +20,7 @@ use Rattle.stern.specs.Shortness.{answerLength}
 use Rattle.transcript.specs.Layout.{ballotLength, headLength, answersLength}
 use Rattle.transcript.specs.Round.{Parameters, Round, Lengths}
 use Rattle.transcript.specs.Producer.{Material, Sized}
+use Rattle.transcript.specs.Writes.{FirstRoom}
 use Rattle.transcript.proofs.Tests.{equal-same}
 use Rattle.lengths.specs.Calls.{lengthsTest, materialSized, firstSized, secondSized, messageSized, openingsSized}
 
@@ -95,18 +96,22 @@ material-exactly P m x = (
 )
 
 -- what the first call writes
-pub first-sizes : (N repeats m : ℕ) (head shares0 shares1 claims scratch : Bytes) → firstSized N repeats m head shares0 shares1 claims scratch ≡ true
-    → (length head ≡ headLength N repeats) × (length shares0 ≡ 8 * N * m) × (length shares1 ≡ 8 * N * m) × (length claims ≡ N * m) × (length scratch ≡ scratchLength)
-unfolding firstSized
-first-sizes N repeats m head shares0 shares1 claims scratch e =
-    let xs : List ℕ = length head ∷ length shares0 ∷ length shares1 ∷ length claims ∷ length scratch ∷ [] in
-    let ys : List ℕ = headLength N repeats ∷ 8 * N * m ∷ 8 * N * m ∷ N * m ∷ scratchLength ∷ [] in
-    (length-at xs ys 0 e, length-at xs ys 1 e, length-at xs ys 2 e, length-at xs ys 3 e, length-at xs ys 4 e)
+module _ (N repeats m : ℕ) (r : FirstRoom) where
+  abbrev room : List ℕ
+  room = length (r .head) ∷ length (r .shares0) ∷ length (r .shares1) ∷ length (r .claims) ∷ length (r .scratch) ∷ []
 
-pub first-sized : (N repeats m : ℕ) (head shares0 shares1 claims scratch : Bytes) → length head ≡ headLength N repeats → length shares0 ≡ 8 * N * m → length shares1 ≡ 8 * N * m
-    → length claims ≡ N * m → length scratch ≡ scratchLength → firstSized N repeats m head shares0 shares1 claims scratch ≡ true
-unfolding firstSized
-first-sized N repeats m head shares0 shares1 claims scratch a b c d e = equal-same (cc (a, b, c, d, e))
+  abbrev room-wanted : List ℕ
+  room-wanted = headLength N repeats ∷ 8 * N * m ∷ 8 * N * m ∷ N * m ∷ scratchLength ∷ []
+
+  pub first-sizes : firstSized N repeats m r ≡ true
+      → (length (r .head) ≡ headLength N repeats) × (length (r .shares0) ≡ 8 * N * m) × (length (r .shares1) ≡ 8 * N * m) × (length (r .claims) ≡ N * m) × (length (r .scratch) ≡ scratchLength)
+  unfolding firstSized
+  first-sizes e = (length-at room room-wanted 0 e, length-at room room-wanted 1 e, length-at room room-wanted 2 e, length-at room room-wanted 3 e, length-at room room-wanted 4 e)
+
+  pub first-sized : length (r .head) ≡ headLength N repeats → length (r .shares0) ≡ 8 * N * m → length (r .shares1) ≡ 8 * N * m → length (r .claims) ≡ N * m
+      → length (r .scratch) ≡ scratchLength → firstSized N repeats m r ≡ true
+  unfolding firstSized
+  first-sized a b c d e = equal-same (cc (a, b, c, d, e))
 
 -- what the second call is given and writes
 pub second-sizes : (N repeats : ℕ) (challenges opening answers scratch : Bytes) → secondSized N repeats challenges opening answers scratch ≡ true

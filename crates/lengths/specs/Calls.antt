@@ -12,18 +12,8 @@ use Rattle.stern.specs.Shortness.{answerLength}
 use Rattle.transcript.specs.Layout.{ballotLength, headLength, answersLength}
 use Rattle.transcript.specs.Round.{Parameters}
 use Rattle.transcript.specs.Producer.{Material, askedRanged, producerTests}
-use Rattle.transcript.specs.Writes.{FirstRoom}
+use Rattle.transcript.specs.Writes.{FirstRoom, SecondRoom}
 use Rattle.transcript.specs.Extractor.{Openings, ExtractRoom, extractTests}
-
--- the room for an opening and answers, and scratch
-pub record SecondRoom : Type 0 where
-  pub opening : Bytes
-  pub answers : Bytes
-  pub scratch : Bytes
-
--- the same from the slices one by one
-abbrev pub secondRoom : (opening answers scratch : Bytes) → SecondRoom
-secondRoom opening answers scratch = record { opening = opening; answers = answers; scratch = scratch }
 
 -- how many ballots stand in a slice, if they are whole
 abbrev pub countOf : ℕ → Bytes → ℕ
@@ -44,9 +34,9 @@ module _ (N repeats : ℕ) where
       && same (length (x .vectors) ∷ length (x .permutations) ∷ length (x .salts) ∷ []) (336 * N * repeats ∷ 168 * N * repeats ∷ 96 * repeats ∷ [])
 
   -- what the first call writes, and scratch
-  unfoldable pub firstSized : (m : ℕ) → (head shares0 shares1 claims scratch : Bytes) → Bool
-  firstSized m head shares0 shares1 claims scratch =
-      same (length head ∷ length shares0 ∷ length shares1 ∷ length claims ∷ length scratch ∷ [])
+  unfoldable pub firstSized : (m : ℕ) → FirstRoom → Bool
+  firstSized m r =
+      same (length (r .head) ∷ length (r .shares0) ∷ length (r .shares1) ∷ length (r .claims) ∷ length (r .scratch) ∷ [])
       (headLength N repeats ∷ 8 * N * m ∷ 8 * N * m ∷ N * m ∷ scratchLength ∷ [])
 
   -- challenges, an opening, the answers, and scratch
@@ -75,7 +65,7 @@ module _ (P : Parameters) where
   unfoldable pub firstTests : Material → FirstRoom → List Test
   firstTests x r =
       let m = countOf N (x .ballots) in
-      lengthsTest m (materialSized N repeats m x && firstSized N repeats m (r .head) (r .shares0) (r .shares1) (r .claims) (r .scratch)) ∷ producerTests P m x true
+      lengthsTest m (materialSized N repeats m x && firstSized N repeats m r) ∷ producerTests P m x true
 
   -- its second call
   unfoldable pub secondTests : Material → (side : ℕ) (challenges : Bytes) → SecondRoom → List Test

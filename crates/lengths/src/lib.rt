@@ -1,11 +1,15 @@
-// Whether the slices that are lent to the calls of a round have their lengths: specs/Calls.antt. The producer, the check and the extractor share them.
+// Whether the slices that are lent to the calls of a round have their lengths: specs/Calls.antt. The producer, the check and the
+// extractor share them.
 use codec::Reply;
+use sheet_numbers::Numbers;
 ghost use mathlib.Core.Path.{_≡_};
 ghost use Prim.Native.Nat.{_+_, _*_, _/_, _≤_};
 ghost use lib.ListN.{length};
 ghost use Rattle.codec.specs.declared.Reply.the-variants.{Refused};
 ghost use Rattle.transcript.specs.Layout.{answersLength};
-ghost use Rattle.transcript.specs.Producer.{materialOf};
+ghost use Rattle.codec.specs.Slices.{given};
+ghost use Rattle.transcript.specs.Lent.{materialIn, firstIn};
+ghost use Rattle.sheet_numbers.specs.Usable.{Usable};
 ghost use Rattle.lengths.specs.Calls.{countOf, materialSized, firstSized, secondSized, messageSized, openingsSized};
 
 // 1: a slice of wrong length.
@@ -29,13 +33,14 @@ fn times(a: usize, b: usize) -> usize
 // How many ballots stand in a slice.
 pub fn count_of(ballots: &[u8], n: usize) -> usize
     requires { ⌜ n ≤ 2048 ⌝ }
-    ensures { λ r. ⌜ r ≡ countOf n (now (ballots .entry)) ⌝ }
+    ensures { λ r. ⌜ r ≡ countOf n (given ballots) ⌝ }
 {
     ballots.len() / (4 + 16 * n)
 }
 
 // The material of the producer.
 pub fn material_sized(
+    k: Numbers,
     secrets: &[u8],
     s0: &[u8],
     e0: &[u8],
@@ -46,12 +51,13 @@ pub fn material_sized(
     salts: &[u8],
     ballots: &[u8],
     count: usize,
-    repeats: usize,
-    n: usize,
 ) -> bool
-    requires { ⌜ (n ≤ 2048) × (count ≤ 4096) × (repeats ≤ 256) ⌝ }
-    ensures { λ r. ⌜ r ≡ materialSized n repeats count (materialOf (now (secrets .entry)) (now (s0 .entry)) (now (e0 .entry)) (now (masks0 .entry)) (now (masks1 .entry)) (now (vectors .entry)) (now (permutations .entry)) (now (salts .entry)) (now (ballots .entry))) ⌝ }
+    requires { ⌜ Usable k × (count ≤ 4096) ⌝ }
+    ensures { λ r. let x = materialIn secrets s0 e0 masks0 masks1 vectors permutations salts ballots in
+        ⌜ r ≡ materialSized (k .ring) (k .repeats) count x ⌝ }
 {
+    let n = k.ring as usize;
+    let repeats = k.repeats as usize;
     let share = times(8 * n, count);
     if !call::sized(
         [
@@ -81,18 +87,19 @@ pub fn material_sized(
 
 // What the producer's first call writes, and scratch.
 pub fn first_sized(
+    k: Numbers,
     head: &[u8],
     shares0: &[u8],
     shares1: &[u8],
     claims: &[u8],
     scratch: &[u8],
     count: usize,
-    repeats: usize,
-    n: usize,
 ) -> bool
-    requires { ⌜ (n ≤ 2048) × (count ≤ 4096) × (repeats ≤ 256) ⌝ }
-    ensures { λ r. ⌜ r ≡ firstSized n repeats count (now (head .entry)) (now (shares0 .entry)) (now (shares1 .entry)) (now (claims .entry)) (now (scratch .entry)) ⌝ }
+    requires { ⌜ Usable k × (count ≤ 4096) ⌝ }
+    ensures { λ r. ⌜ r ≡ firstSized (k .ring) (k .repeats) count (firstIn head shares0 shares1 claims scratch) ⌝ }
 {
+    let n = k.ring as usize;
+    let repeats = k.repeats as usize;
     let share = times(8 * n, count);
     call::sized(
         [
@@ -117,7 +124,7 @@ pub fn first_sized(
 // The length of the answers to challenges, end to end.
 fn answers_length(challenges: &[u8], n: usize) -> usize
     requires { ⌜ (n ≤ 2048) × (length (now challenges) ≤ 256) ⌝ }
-    ensures { λ r. ⌜ r ≡ answersLength n (now (challenges .entry)) ⌝ }
+    ensures { λ r. ⌜ r ≡ answersLength n (given challenges) ⌝ }
 {
     let mut i = 0;
     let mut sum = 0;
@@ -138,7 +145,7 @@ pub fn second_sized(
     n: usize,
 ) -> bool
     requires { ⌜ (n ≤ 2048) × (repeats ≤ 256) ⌝ }
-    ensures { λ r. ⌜ r ≡ secondSized n repeats (now (challenges .entry)) (now (opening .entry)) (now (answers .entry)) (now (scratch .entry)) ⌝ }
+    ensures { λ r. ⌜ r ≡ secondSized n repeats (given challenges) (given opening) (given answers) (given scratch) ⌝ }
 {
     if challenges.len() != repeats {
         return false;
@@ -162,7 +169,7 @@ pub fn message_sized(
     n: usize,
 ) -> bool
     requires { ⌜ (n ≤ 2048) × (count ≤ 4096) × (repeats ≤ 256) ⌝ }
-    ensures { λ r. ⌜ r ≡ messageSized n repeats count (now (head .entry)) (now (shares0 .entry)) (now (shares1 .entry)) (now (ballots .entry)) (now (claims .entry)) ⌝ }
+    ensures { λ r. ⌜ r ≡ messageSized n repeats count (given head) (given shares0) (given shares1) (given ballots) (given claims) ⌝ }
 {
     let share = times(8 * n, count);
     call::sized(
@@ -197,7 +204,8 @@ pub fn openings_sized(
     n: usize,
 ) -> bool
     requires { ⌜ n ≤ 2048 ⌝ }
-    ensures { λ r. ⌜ r ≡ openingsSized n (now (opening0 .entry)) (now (opening1 .entry)) (now (answer1 .entry)) (now (answer2 .entry)) (now (answer3 .entry)) (now (out .entry)) (now (scratch .entry)) ⌝ }
+    ensures { λ r. ⌜ r ≡ openingsSized n (given opening0) (given opening1) (given answer1) (given answer2) (given answer3)
+        (given out) (given scratch) ⌝ }
 {
     if !call::sized(
         [

@@ -1,4 +1,4 @@
+pub mod Cuts
 pub mod Quiet
 pub mod Sequence
-pub mod Unread
-pub mod Usable
+pub mod Passed

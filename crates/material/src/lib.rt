@@ -1,4 +1,5 @@
-// The tests of what the producer of a round is lent (document 01, the producer's order after the lengths: 5, 14, 12, 9, 15).
+// The tests of what the producer of a round is lent (document 01, the producer's order after the lengths: 5, 14, 12, 9, 15), in the
+// stretches of crates/transcript/specs/Producer.antt.
 mod keys;
 mod masks;
 mod noise;
@@ -10,35 +11,40 @@ use sheet_numbers::Numbers;
 ghost use mathlib.Core.Path.{_≡_};
 ghost use mathlib.Core.Bool.{true};
 ghost use mathlib.Core.List.{_++_};
-ghost use Prim.Native.Nat.{_*_, _≤_, _<_, _^_};
+ghost use Prim.Native.Nat.{_*_, _≤_};
 ghost use lib.ListN.{length};
+ghost use Rattle.codec.specs.Bytes.{zeros};
 ghost use Rattle.codec.specs.Reply.{first, leaves};
-ghost use Rattle.sheet_numbers.specs.Plain.{noiseOf};
-ghost use Rattle.call.specs.Call.{scratchLength, Polynomial};
+ghost use Rattle.sheet_numbers.specs.Plain.{noiseOf, maskOf};
+ghost use Rattle.call.specs.Call.{scratchLength};
 ghost use Rattle.commitment.specs.Loaded.{Loaded};
-ghost use Rattle.transcript.specs.Layout.{ballotLength};
+ghost use Rattle.transcript.specs.Layout.{ballotLength, ballotsBelow};
+ghost use Rattle.codec.specs.Slices.{given, left};
+ghost use Rattle.transcript.specs.Lent.{materialNow, materialIn};
+ghost use Rattle.transcript.specs.Producer.{Sized, secretTests, maskTests, permutationTests, noiseTests};
 ghost use Rattle.transcript.specs.Sheets.{parameters};
-ghost use Rattle.material.specs.Lent.{lent, Lengths, MaterialTested};
-ghost use Rattle.material.specs.Parts.{ballotsBelow, secretTests, maskTests, permutationTests, noiseTests};
+ghost use Rattle.sheet_numbers.specs.Usable.{Usable};
+ghost use Rattle.material.specs.Tested.{MaterialTested};
 
 // 5, then 14.
 fn test_secret(
     work: &mut [u8],
-    asked: bool,
-    a: &[u8],
-    b: &[u8],
+    k: Numbers,
+    public: &[u8],
     secrets: &[u8],
     s0: &[u8],
     e0: &[u8],
     vectors: &[u8],
     ballots: &[u8],
     count: usize,
-    n: usize,
-    q: u64,
+    asked: bool,
 ) -> Reply
-    requires { ⌜ Polynomial n q (now a) × Polynomial n q (now b) × (length (now work) ≡ scratchLength) × (count ≤ 4096) × (length (now secrets) ≡ 14 * n) × (length (now s0) ≡ 8 * n) × (length (now e0) ≡ 8 * n) × (length (now ballots) ≡ ballotLength n * count) ⌝ }
-    ensures { λ reply. ⌜ reply ≡ first (secretTests q n 2 count asked (now (a .entry)) (now (b .entry)) (now (secrets .entry)) (now (s0 .entry)) (now (e0 .entry)) (now (vectors .entry)) (now (ballots .entry))) ⌝ }
-    ensures { λ _. ⌜ length (now (work .exit)) ≡ length (now (work .entry)) ⌝ }
+    requires { ⌜ Loaded k (now public) × (length (now work) ≡ scratchLength) × (count ≤ 4096) × (length (now secrets) ≡ 14 * k .ring)
+        × (length (now s0) ≡ 8 * k .ring) × (length (now e0) ≡ 8 * k .ring)
+        × (length (now ballots) ≡ ballotLength (k .ring) * count) ⌝ }
+    ensures { λ reply. let P = parameters k (given public) in
+        ⌜ (reply ≡ first (secretTests P count asked (given secrets) (given s0) (given e0) (given vectors) (given ballots)))
+        × (length (left work) ≡ length (given work)) ⌝ }
 {
     if !asked {
         return Reply::Refused {
@@ -46,13 +52,13 @@ fn test_secret(
             place: 0,
         };
     }
-    if !ranges::in_range(secrets, s0, e0, vectors, ballots, count, n, q) {
+    if !ranges::in_range(k, secrets, s0, e0, vectors, ballots, count) {
         return Reply::Refused {
             number: 5,
             place: 0,
         };
     }
-    if !keys::matches(work, a, b, secrets, n, q) {
+    if !keys::matches(work, k, public, secrets) {
         return Reply::Refused {
             number: 14,
             place: 0,
@@ -73,31 +79,32 @@ fn decided(one: Reply, other: Reply) -> Reply
 
 // 12 by ballot, then 9 by repetition, then 15 by ballot. All three are worked out, and the first that refuses decides.
 fn test_each(
-    k: Numbers,
     work: &mut [u8],
+    k: Numbers,
     secrets: &[u8],
     masks0: &[u8],
     masks1: &[u8],
     permutations: &[u8],
     ballots: &[u8],
     count: usize,
-    repeats: usize,
-    bound: u64,
-    n: usize,
-    q: u64,
 ) -> Reply
-    requires { ⌜ (4 ≤ n) × (n ≤ 2048) × (3 ≤ q) × (q < 2 ^ 56) × (count ≤ 4096) × (repeats ≤ 256) × (length (now work) ≡ scratchLength) × (length (now secrets) ≡ 14 * n) × (length (now masks0) ≡ 8 * n * count) × (length (now masks1) ≡ 8 * n * count) × (length (now permutations) ≡ 168 * n * repeats) × (length (now ballots) ≡ ballotLength n * count) × (ballotsBelow q n count (now ballots) ≡ true) × (k .ring ≤ 2048) ⌝ }
-    ensures { λ reply. ⌜ reply ≡ first (maskTests n bound count (now (masks0 .entry)) (now (masks1 .entry)) ++ (permutationTests n repeats (now (permutations .entry)) ++ noiseTests q n (noiseOf k) count (now (secrets .entry)) (now (ballots .entry)))) ⌝ }
-    ensures { λ _. ⌜ length (now (work .exit)) ≡ length (now (work .entry)) ⌝ }
+    requires { ⌜ Usable k × (length (now work) ≡ scratchLength) × (count ≤ 4096) × (length (now secrets) ≡ 14 * k .ring)
+        × (length (now masks0) ≡ 8 * k .ring * count) × (length (now masks1) ≡ 8 * k .ring * count)
+        × (length (now permutations) ≡ 168 * k .ring * k .repeats) × (length (now ballots) ≡ ballotLength (k .ring) * count)
+        × (ballotsBelow (k .modulus) (k .ring) count (now ballots) ≡ true) ⌝ }
+    ensures { λ reply. let masks = maskTests (k .ring) (maskOf k) count (given masks0) (given masks1) in
+        let noise = noiseTests (k .modulus) (k .ring) (noiseOf k) count (given secrets) (given ballots) in
+        ⌜ (reply ≡ first (masks ++ (permutationTests (k .ring) (k .repeats) (given permutations) ++ noise)))
+        × (left work ≡ zeros (length (given work))) ⌝ }
 {
-    let limit = sheet_numbers::noise_bound(k);
-    let masked = masks::test_masks(masks0, masks1, count, bound, n);
-    let permuting = permutations::test_permutations(work, permutations, repeats, n);
-    let quiet = noise::test_noise(work, secrets, ballots, count, limit, n, q);
+    let masked = masks::test_masks(k, masks0, masks1, count);
+    let permuting = permutations::test_permutations(work, k, permutations);
+    let quiet = noise::test_noise(work, k, secrets, ballots, count);
+    codec::wipe(work);
     decided(masked, decided(permuting, quiet))
 }
 
-// The whole order. `asked` says whether what a call is given beside the material is in range.
+// The whole order. `asked` says whether what a call is given beside the material is in range. The salts are not read.
 pub fn test_material(
     k: Numbers,
     public: &[u8],
@@ -108,49 +115,45 @@ pub fn test_material(
     masks1: &[u8],
     vectors: &[u8],
     permutations: &[u8],
+    salts: &[u8],
     ballots: &[u8],
     count: usize,
     asked: bool,
     scratch: &mut [u8],
 ) -> Reply
-    requires { let x = lent (now secrets) (now s0) (now e0) (now masks0) (now masks1) (now vectors) (now permutations) (now ballots) in ⌜ Loaded k (now public) × (count ≤ 4096) × (length (now scratch) ≡ scratchLength) × Lengths (k .ring) count (k .repeats) x ⌝ }
-    ensures { λ reply. let x = lent (now (secrets .entry)) (now (s0 .entry)) (now (e0 .entry)) (now (masks0 .entry)) (now (masks1 .entry)) (now (vectors .entry)) (now (permutations .entry)) (now (ballots .entry)) in ⌜ MaterialTested (parameters k (now (public .entry))) count x asked reply (now (scratch .entry)) (now (scratch .exit)) ⌝ }
+    requires { let x = materialNow secrets s0 e0 masks0 masks1 vectors permutations salts ballots in
+        ⌜ Loaded k (now public) × (length (now scratch) ≡ scratchLength) × (count ≤ 4096)
+        × Sized (parameters k (now public)) count x ⌝ }
+    ensures { λ reply. let x = materialIn secrets s0 e0 masks0 masks1 vectors permutations salts ballots in
+        ⌜ MaterialTested (parameters k (given public)) count x asked reply (given scratch) (left scratch) ⌝ }
 {
-    let n = k.ring as usize;
-    let reply = test_secret(
+    let secret = test_secret(
         scratch,
-        asked,
-        &public[0..8 * n],
-        &public[8 * n..16 * n],
+        k,
+        public,
         secrets,
         s0,
         e0,
         vectors,
         ballots,
         count,
-        n,
-        k.modulus,
+        asked,
     );
-    match reply {
+    codec::wipe(scratch);
+    match secret {
         Reply::Taken => {}
         Reply::Refused { number, place } => {
             return Reply::Refused { number, place };
         }
     }
-    let bound = sheet_numbers::mask_bound(k);
-    let repeats = k.repeats as usize;
     test_each(
-        k,
         scratch,
+        k,
         secrets,
         masks0,
         masks1,
         permutations,
         ballots,
         count,
-        repeats,
-        bound,
-        n,
-        k.modulus,
     )
 }

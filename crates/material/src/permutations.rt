@@ -1,18 +1,23 @@
 // 9: each P is a permutation, the lowest repetition first.
 use codec::Reply;
+use sheet_numbers::Numbers;
 ghost use mathlib.Core.Path.{_≡_};
-ghost use Prim.Native.Nat.{_*_, _≤_};
+ghost use Prim.Native.Nat.{_*_};
 ghost use lib.ListN.{length};
 ghost use Rattle.codec.specs.Reply.{first};
 ghost use Rattle.call.specs.Call.{scratchLength};
-ghost use Rattle.material.specs.Parts.{permutationTests};
+ghost use Rattle.codec.specs.Slices.{given, left};
+ghost use Rattle.transcript.specs.Producer.{permutationTests};
+ghost use Rattle.sheet_numbers.specs.Usable.{Usable};
 
 // The permutation of every repetition, in order.
-pub fn test_permutations(work: &mut [u8], permutations: &[u8], repeats: usize, n: usize) -> Reply
-    requires { ⌜ (n ≤ 2048) × (repeats ≤ 256) × (length (now work) ≡ scratchLength) × (length (now permutations) ≡ 168 * n * repeats) ⌝ }
-    ensures { λ reply. ⌜ reply ≡ first (permutationTests n repeats (now (permutations .entry))) ⌝ }
-    ensures { λ _. ⌜ length (now (work .exit)) ≡ length (now (work .entry)) ⌝ }
+pub fn test_permutations(work: &mut [u8], k: Numbers, permutations: &[u8]) -> Reply
+    requires { ⌜ Usable k × (length (now work) ≡ scratchLength) × (length (now permutations) ≡ 168 * k .ring * k .repeats) ⌝ }
+    ensures { λ reply. ⌜ (reply ≡ first (permutationTests (k .ring) (k .repeats) (given permutations)))
+        × (length (left work) ≡ length (given work)) ⌝ }
 {
+    let n = k.ring as usize;
+    let repeats = k.repeats as usize;
     let mut i = 0;
     let mut at = 0;
     while i < repeats {

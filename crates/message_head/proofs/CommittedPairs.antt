@@ -1,7 +1,7 @@
 -- The committed pairs: the other half stands where the message is put, and a pair is written out by halves. Assumes nothing.
 use mathlib.Core.Path.{_≡_, ap, ap₂, _∙_}
-use mathlib.Core.List.{[], _++_, append-assoc}
-use Prim.Native.Nat.{ℕ, _+_, _*_, _^_, _≤_, _<_}
+use mathlib.Core.List.{_++_, append-assoc}
+use Prim.Native.Nat.{ℕ, _+_, _-_, _*_, _^_, _≤_, _<_}
 use native.Mathlib.Omega.{arith}
 use lib.ListN.{length, take, drop, length-append}
 use Rattle.codec.specs.Bytes.{Bytes, part, put}
@@ -15,13 +15,15 @@ use Rattle.ring.proofs.Polynomials.{alike-refl}
 use Rattle.call.specs.Call.{Polynomial}
 use Rattle.call.proofs.Loads.{Loaded, ternary-load, loaded-asks, subtracted}
 use Rattle.bgv.specs.Scheme.{other}
+use Rattle.sheet_numbers.specs.declared.Numbers.{Numbers}
+use Rattle.commitment.specs.Loaded.{keyBytes}
 use Rattle.commitment.specs.Commitment.{Keys, Pair, keysOf, threeOf, threeAt, committed, pairBytes, PairStands, withThree}
 use Rattle.commitment.proofs.Additive.{second-alike}
 use Rattle.commitment.proofs.Loading.{pair-asks, pair-made}
 use Rattle.commitment.proofs.Opening.{poly-modulo}
 use Rattle.stern.proofs.Honest.{length-pairBytes}
-use Rattle.transcript.specs.Method.{parameters}
-use Rattle.transcript.specs.Producer.{producedPairs, materialOf}
+use Rattle.transcript.specs.Producer.{sIn, eIn, hidesSIn, hidesEIn, pairOf, pairsBytes}
+use Rattle.transcript.proofs.Cut.{keys-cut}
 use Rattle.transcript.proofs.Written.{octets-encode, coefficients-written}
 use Rattle.message_head.proofs.Joining.{cut}
 
@@ -121,21 +123,25 @@ module _ (q n : ℕ) (k : Keys) where
         ∙ ap (λ (s : Bytes). bothPairs (part secrets (r-at + 3 * n * 0) (3 * n)) (part secrets (r-at + 3 * n * 1) (3 * n)) s x0) (cut secrets x-at x-long n ex)
 
 -- the pairs of s0, s1 and then of e0, e1
-pub four-pairs : (q n : ℕ) (k secrets s0 e0 d d1 d2 s t : Bytes) → 80 * n ≤ length d → d1 ≡ put d (16 * n) s → d2 ≡ put d1 (48 * n) t
-    → s ≡ bothPairs q n (keysOf n k) (part secrets (2 * n + 3 * n * 0) (3 * n)) (part secrets (2 * n + 3 * n * 1) (3 * n)) (part secrets 0 n) s0
-    → t ≡ bothPairs q n (keysOf n k) (part secrets (8 * n + 3 * n * 0) (3 * n)) (part secrets (8 * n + 3 * n * 1) (3 * n)) (part secrets n n) e0
-    → d2 ≡ put d (16 * n) (producedPairs (parameters 2 n q 0 0 [] [] k) 0 (materialOf secrets s0 e0 [] [] [] [] [] []))
-unfolding producedPairs
+pub four-pairs : (q n : ℕ) (k : Keys) (secrets s0 e0 d d1 d2 s t : Bytes) → 80 * n ≤ length d → d1 ≡ put d (16 * n) s → d2 ≡ put d1 (48 * n) t
+    → s ≡ bothPairs q n k (hidesSIn n secrets 0) (hidesSIn n secrets 1) (sIn n secrets) s0
+    → t ≡ bothPairs q n k (hidesEIn n secrets 0) (hidesEIn n secrets 1) (eIn n secrets) e0
+    → d2 ≡ put d (16 * n) (pairsBytes q n secrets s0 e0 k)
+unfolding pairsBytes
 four-pairs q n k secrets s0 e0 d d1 d2 s t fits e1 e2 es et =
-    let ls : length s ≡ 32 * n = ap length es ∙ length-bothPairs q n (keysOf n k) _ _ _ _ in
-    let lt : length t ≡ 32 * n = ap length et ∙ length-bothPairs q n (keysOf n k) _ _ _ _ in
+    let ls : length s ≡ 32 * n = ap length es ∙ length-bothPairs q n k _ _ _ _ in
+    let lt : length t ≡ 32 * n = ap length et ∙ length-bothPairs q n k _ _ _ _ in
     written-behind d d1 d2 s t (16 * n) (48 * n) (omega arith) (omega arith) e1 e2
     ∙ ap₂ (λ (x y : Bytes). put d (16 * n) (x ++ y)) es et
     ∙ ap (put d (16 * n))
-    (append-assoc (pairBytes q n (committed q n (keysOf n k) (threeOf q n (part secrets (2 * n + 3 * n * 0) (3 * n))) (poly s0)))
-    (pairBytes q n (committed q n (keysOf n k) (threeOf q n (part secrets (2 * n + 3 * n * 1) (3 * n))) (other q (ternary q (part secrets 0 n)) (poly s0))))
-    (bothPairs q n (keysOf n k) (part secrets (8 * n + 3 * n * 0) (3 * n)) (part secrets (8 * n + 3 * n * 1) (3 * n)) (part secrets n n) e0))
+    (append-assoc (pairOf q n k (hidesSIn n secrets 0) (poly s0)) (pairOf q n k (hidesSIn n secrets 1) (other q (ternary q (sIn n secrets)) (poly s0)))
+    (bothPairs q n k (hidesEIn n secrets 0) (hidesEIn n secrets 1) (eIn n secrets) e0))
 
-pub length-pairs : (q n : ℕ) (k secrets s0 e0 : Bytes) → length (producedPairs (parameters 2 n q 0 0 [] [] k) 0 (materialOf secrets s0 e0 [] [] [] [] [] [])) ≡ 64 * n
-unfolding producedPairs
+-- with the sheet's keys as they are lent
+pub pairs-loaded : (k : Numbers) (s secrets s0 e0 d d' : Bytes) → d' ≡ put d (16 * k .ring) (pairsBytes (k .modulus) (k .ring) secrets s0 e0 (keysOf (k .ring) (take (40 * k .ring - 16 * k .ring) (drop (16 * k .ring) s))))
+    → d' ≡ put d (16 * k .ring) (pairsBytes (k .modulus) (k .ring) secrets s0 e0 (keysOf (k .ring) (keyBytes k s)))
+pairs-loaded k s secrets s0 e0 d d' e = e ∙ ap (λ (b : Bytes). put d (16 * k .ring) (pairsBytes (k .modulus) (k .ring) secrets s0 e0 (keysOf (k .ring) b))) (keys-cut k s)
+
+pub length-pairs : (q n : ℕ) (k : Keys) (secrets s0 e0 : Bytes) → length (pairsBytes q n secrets s0 e0 k) ≡ 64 * n
+unfolding pairsBytes
 length-pairs q n k secrets s0 e0 = simp (length-append, length-pairBytes) (omega arith)

@@ -18,7 +18,8 @@ use Rattle.transcript.specs.Layout.{joined, headLength}
 use Rattle.transcript.proofs.Many.{stretch, length-joined}
 use Rattle.transcript.proofs.Produced.{length-digests}
 use Rattle.transcript.proofs.Written.{coefficients-vector, coefficients-part}
-use Rattle.message_head.specs.Method.{drawnFor, Drawings}
+use Rattle.transcript.specs.Producer.{drawnIn}
+use Rattle.message_head.specs.Method.{Drawings}
 use Rattle.message_head.proofs.Joining.{Filled, filled-first, filled-more}
 
 -- ---- lent with lengths that are differences of places
@@ -86,17 +87,17 @@ module _ (n repeats : ℕ) where
         permutes = rw (at .p) (d .permuting i h);
       }
 
-      pub drawn-is : drawnOf (part permutations p-at (168 * n)) (part vectors r-at (336 * n)) (part salts s-at 96) ≡ drawnFor n vectors permutations salts i
+      pub drawn-is : drawnOf (part permutations p-at (168 * n)) (part vectors r-at (336 * n)) (part salts s-at 96) ≡ drawnIn n vectors permutations salts i
       drawn-is = rw (at .r, at .p, at .s)
 
 -- ---- the digests, end to end
 
 module _ (q n repeats : ℕ) (k : Keys) (secrets vectors permutations salts : Bytes) where
   abbrev pub digestsOf : ℕ → Bytes
-  digestsOf i = honestDigests q n k secrets (drawnFor n vectors permutations salts i)
+  digestsOf i = honestDigests q n k secrets (drawnIn n vectors permutations salts i)
 
   digests-sized : (i : ℕ) → length (digestsOf i) ≡ 96
-  digests-sized i = length-digests (first (setting q n k []) secrets (drawnFor n vectors permutations salts i)) (length-sha3 _) (length-sha3 _) (length-sha3 _)
+  digests-sized i = length-digests (first (setting q n k []) secrets (drawnIn n vectors permutations salts i)) (length-sha3 _) (length-sha3 _) (length-sha3 _)
 
   pub length-digestsOf : (i : ℕ) → length (joined i digestsOf) ≡ 96 * i
   length-digestsOf i = length-joined 96 digestsOf i (λ j l. digests-sized j)

@@ -1,4 +1,5 @@
 // The digests of every repetition, end to end.
+use sheet_numbers::Numbers;
 ghost use mathlib.Core.Path.{_≡_};
 ghost use Prim.Native.Nat.{_+_, _*_, _≤_};
 ghost use lib.ListN.{length};
@@ -6,8 +7,11 @@ ghost use Rattle.codec.specs.Bytes.{part, put};
 ghost use Rattle.call.specs.Call.{scratchLength};
 ghost use Rattle.commitment.specs.Commitment.{keysOf, PublicKeys};
 ghost use Rattle.stern.specs.Shortness.{Material, drawnOf, honestDigests};
-ghost use Rattle.transcript.specs.Layout.{joined, headLength};
-ghost use Rattle.message_head.specs.Method.{drawnFor, Drawings};
+ghost use Rattle.commitment.specs.Loaded.{keyBytes, Loaded};
+ghost use Rattle.transcript.specs.Layout.{headLength};
+ghost use Rattle.codec.specs.Slices.{given, left};
+ghost use Rattle.transcript.specs.Producer.{digestsBytes};
+ghost use Rattle.message_head.specs.Method.{Drawings};
 
 // One repetition, at places of what was drawn.
 fn digests_at(
@@ -25,10 +29,15 @@ fn digests_at(
     n: usize,
     q: u64,
 )
-    requires { ⌜ PublicKeys n q (now k) × (length (now work) ≡ scratchLength) × (at + 96 ≤ length (now out)) × (vector + 336 * n ≤ length (now vectors)) × (permutation + 168 * n ≤ length (now permutations)) × (salt + 96 ≤ length (now salts)) ⌝ }
-    requires { ⌜ Material q n (now secrets) (part (now vectors) vector (336 * n)) (part (now permutations) permutation (168 * n)) (part (now salts) salt 96) ⌝ }
-    ensures { λ _. ⌜ now (out .exit) ≡ put (now (out .entry)) at (honestDigests q n (keysOf n (now (k .entry))) (now (secrets .entry)) (drawnOf (part (now (permutations .entry)) permutation (168 * n)) (part (now (vectors .entry)) vector (336 * n)) (part (now (salts .entry)) salt 96))) ⌝ }
-    ensures { λ _. ⌜ length (now (work .exit)) ≡ length (now (work .entry)) ⌝ }
+    requires { ⌜ PublicKeys n q (now k) × (length (now work) ≡ scratchLength) × (at + 96 ≤ length (now out))
+        × (vector + 336 * n ≤ length (now vectors))
+        × (permutation + 168 * n ≤ length (now permutations)) × (salt + 96 ≤ length (now salts))
+        × Material q n (now secrets) (part (now vectors) vector (336 * n)) (part (now permutations) permutation (168 * n))
+        (part (now salts) salt 96) ⌝ }
+    ensures { λ _. let drawn = drawnOf (part (given permutations) permutation (168 * n)) (part (given vectors) vector (336 * n))
+        (part (given salts) salt 96) in
+        ⌜ (left out ≡ put (given out) at (honestDigests q n (keysOf n (given k)) (given secrets) drawn))
+        × (length (left work) ≡ length (given work)) ⌝ }
 {
     answer_writing::write_digests(
         out,
@@ -46,21 +55,26 @@ fn digests_at(
 
 // Every repetition, behind the keys and the pairs in the head of the first message.
 pub fn write_digests(
-    head: &mut [u8],
-    work: &mut [u8],
-    k: &[u8],
+    k: Numbers,
+    public: &[u8],
     secrets: &[u8],
     vectors: &[u8],
     permutations: &[u8],
     salts: &[u8],
-    repeats: usize,
-    n: usize,
-    q: u64,
+    head: &mut [u8],
+    work: &mut [u8],
 )
-    requires { ⌜ PublicKeys n q (now k) × (length (now work) ≡ scratchLength) × (repeats ≤ 256) × (length (now head) ≡ headLength n repeats) × Drawings q n repeats (now secrets) (now vectors) (now permutations) (now salts) ⌝ }
-    ensures { λ _. ⌜ now (head .exit) ≡ put (now (head .entry)) (80 * n) (joined repeats (λ i. honestDigests q n (keysOf n (now (k .entry))) (now (secrets .entry)) (drawnFor n (now (vectors .entry)) (now (permutations .entry)) (now (salts .entry)) i))) ⌝ }
-    ensures { λ _. ⌜ length (now (work .exit)) ≡ length (now (work .entry)) ⌝ }
+    requires { ⌜ Loaded k (now public) × (length (now work) ≡ scratchLength) × (length (now head) ≡ headLength (k .ring) (k .repeats))
+        × Drawings (k .modulus) (k .ring) (k .repeats) (now secrets) (now vectors) (now permutations) (now salts) ⌝ }
+    ensures { λ _. let digests = digestsBytes (k .modulus) (k .ring) (k .repeats) (given secrets) (given vectors) (given permutations)
+        (given salts) in
+        ⌜ (left head ≡ put (given head) (80 * k .ring) (digests (keysOf (k .ring) (keyBytes k (given public)))))
+        × (length (left work) ≡ length (given work)) ⌝ }
 {
+    let n = k.ring as usize;
+    let q = k.modulus;
+    let repeats = k.repeats as usize;
+    let keys = &public[16 * n..40 * n];
     let mut i = 0;
     let mut at = 80 * n;
     let mut vector = 0;
@@ -71,7 +85,7 @@ pub fn write_digests(
             head,
             at,
             work,
-            k,
+            keys,
             secrets,
             vectors,
             vector,

@@ -1,6 +1,7 @@
 // The committed pairs of s0, s1, e0, e1. What is made from secrets is left in scratch.
+use sheet_numbers::Numbers;
 ghost use mathlib.Core.Path.{_≡_};
-ghost use mathlib.Core.List.{[], _++_};
+ghost use mathlib.Core.List.{_++_};
 ghost use Prim.Native.Nat.{_+_, _*_, _≤_};
 ghost use lib.ListN.{length};
 ghost use Rattle.codec.specs.Bytes.{part, put};
@@ -9,13 +10,14 @@ ghost use Rattle.ring.specs.Ternary.{ternary};
 ghost use Rattle.call.specs.Call.{scratchLength, Polynomial};
 ghost use Rattle.bgv.specs.Scheme.{other};
 ghost use Rattle.commitment.specs.Commitment.{keysOf, threeOf, committed, pairBytes, PublicKeys, PairStands};
-ghost use Rattle.transcript.specs.Method.{parameters};
-ghost use Rattle.transcript.specs.Producer.{producedPairs, materialOf};
+ghost use Rattle.commitment.specs.Loaded.{keyBytes, Loaded};
+ghost use Rattle.codec.specs.Slices.{given, left};
+ghost use Rattle.transcript.specs.Producer.{pairOf, pairsBytes};
 
 // Writes the pair that stands in scratch out: its first half at the head, its second where the message stood.
 fn write_halves(out: &mut [u8], at: usize, work: &[u8], n: usize)
     requires { ⌜ (n ≤ 2048) × (at + 16 * n ≤ length (now out)) × (length (now work) ≡ scratchLength) ⌝ }
-    ensures { λ _. ⌜ now (out .exit) ≡ put (now (out .entry)) at (part (now (work .entry)) 0 (8 * n) ++ part (now (work .entry)) 49152 (8 * n)) ⌝ }
+    ensures { λ _. ⌜ left out ≡ put (given out) at (part (given work) 0 (8 * n) ++ part (given work) 49152 (8 * n)) ⌝ }
 {
     call::write_out(out, at, work, 0, n);
     call::write_out(out, at + 8 * n, work, commitment::MESSAGE, n);
@@ -32,9 +34,10 @@ fn lent_pair(
     n: usize,
     q: u64,
 )
-    requires { ⌜ PublicKeys n q (now k) × Polynomial n q (now x0) × (length (now r) ≡ 3 * n) × (length (now work) ≡ scratchLength) × (at + 16 * n ≤ length (now out)) ⌝ }
-    ensures { λ _. ⌜ now (out .exit) ≡ put (now (out .entry)) at (pairBytes q n (committed q n (keysOf n (now (k .entry))) (threeOf q n (now (r .entry))) (poly (now (x0 .entry))))) ⌝ }
-    ensures { λ _. ⌜ length (now (work .exit)) ≡ length (now (work .entry)) ⌝ }
+    requires { ⌜ PublicKeys n q (now k) × Polynomial n q (now x0) × (length (now r) ≡ 3 * n) × (length (now work) ≡ scratchLength)
+        × (at + 16 * n ≤ length (now out)) ⌝ }
+    ensures { λ _. ⌜ (left out ≡ put (given out) at (pairOf q n (keysOf n (given k)) (given r) (poly (given x0))))
+        × (length (left work) ≡ length (given work)) ⌝ }
 {
     commitment::pair(work, k, x0, r, n, q);
     write_halves(out, at, work, n);
@@ -42,8 +45,11 @@ fn lent_pair(
 
 // The pair of x - x0, the other half, stands in scratch, for ternary bytes x.
 fn pair_difference(work: &mut [u8], k: &[u8], x: &[u8], x0: &[u8], r: &[u8], n: usize, q: u64)
-    requires { ⌜ PublicKeys n q (now k) × Polynomial n q (now x0) × (length (now x) ≡ n) × (length (now r) ≡ 3 * n) × (length (now work) ≡ scratchLength) ⌝ }
-    ensures { λ _. ⌜ PairStands q n (committed q n (keysOf n (now (k .entry))) (threeOf q n (now (r .entry))) (other q (ternary q (now (x .entry))) (poly (now (x0 .entry))))) (now (work .entry)) (now (work .exit)) ⌝ }
+    requires { ⌜ PublicKeys n q (now k) × Polynomial n q (now x0) × (length (now x) ≡ n) × (length (now r) ≡ 3 * n)
+        × (length (now work) ≡ scratchLength) ⌝ }
+    ensures { λ _. let half = other q (ternary q (given x)) (poly (given x0)) in
+        let made = committed q n (keysOf n (given k)) (threeOf q n (given r)) half in
+        ⌜ PairStands q n made (given work) (left work) ⌝ }
 {
     commitment::load_three(work, r, n, q);
     ring::load_ternary(work, commitment::MESSAGE, x, q);
@@ -63,9 +69,11 @@ fn other_pair(
     n: usize,
     q: u64,
 )
-    requires { ⌜ PublicKeys n q (now k) × Polynomial n q (now x0) × (length (now x) ≡ n) × (length (now r) ≡ 3 * n) × (length (now work) ≡ scratchLength) × (at + 16 * n ≤ length (now out)) ⌝ }
-    ensures { λ _. ⌜ now (out .exit) ≡ put (now (out .entry)) at (pairBytes q n (committed q n (keysOf n (now (k .entry))) (threeOf q n (now (r .entry))) (other q (ternary q (now (x .entry))) (poly (now (x0 .entry)))))) ⌝ }
-    ensures { λ _. ⌜ length (now (work .exit)) ≡ length (now (work .entry)) ⌝ }
+    requires { ⌜ PublicKeys n q (now k) × Polynomial n q (now x0) × (length (now x) ≡ n) × (length (now r) ≡ 3 * n)
+        × (length (now work) ≡ scratchLength) × (at + 16 * n ≤ length (now out)) ⌝ }
+    ensures { λ _. let half = other q (ternary q (given x)) (poly (given x0)) in
+        ⌜ (left out ≡ put (given out) at (pairOf q n (keysOf n (given k)) (given r) half))
+        × (length (left work) ≡ length (given work)) ⌝ }
 {
     pair_difference(work, k, x, x0, r, n, q);
     write_halves(out, at, work, n);
@@ -83,9 +91,12 @@ fn both_pairs(
     n: usize,
     q: u64,
 )
-    requires { ⌜ PublicKeys n q (now k) × Polynomial n q (now x0) × (length (now x) ≡ n) × (length (now r) ≡ 6 * n) × (length (now work) ≡ scratchLength) × (at + 32 * n ≤ length (now out)) ⌝ }
-    ensures { λ _. ⌜ now (out .exit) ≡ put (now (out .entry)) at (pairBytes q n (committed q n (keysOf n (now (k .entry))) (threeOf q n (part (now (r .entry)) 0 (3 * n))) (poly (now (x0 .entry)))) ++ pairBytes q n (committed q n (keysOf n (now (k .entry))) (threeOf q n (part (now (r .entry)) (3 * n) (3 * n))) (other q (ternary q (now (x .entry))) (poly (now (x0 .entry)))))) ⌝ }
-    ensures { λ _. ⌜ length (now (work .exit)) ≡ length (now (work .entry)) ⌝ }
+    requires { ⌜ PublicKeys n q (now k) × Polynomial n q (now x0) × (length (now x) ≡ n) × (length (now r) ≡ 6 * n)
+        × (length (now work) ≡ scratchLength) × (at + 32 * n ≤ length (now out)) ⌝ }
+    ensures { λ _. let one = pairOf q n (keysOf n (given k)) (part (given r) 0 (3 * n)) (poly (given x0)) in
+        let half = other q (ternary q (given x)) (poly (given x0)) in
+        let two = pairOf q n (keysOf n (given k)) (part (given r) (3 * n) (3 * n)) half in
+        ⌜ (left out ≡ put (given out) at (one ++ two)) × (length (left work) ≡ length (given work)) ⌝ }
 {
     let second = at + 16 * n;
     lent_pair(out, at, work, k, x0, &r[0..3 * n], n, q);
@@ -94,24 +105,27 @@ fn both_pairs(
 
 // The committed pairs of s0, s1, e0, e1 where they stand in the head of the first message.
 pub fn write_pairs(
-    head: &mut [u8],
-    work: &mut [u8],
-    k: &[u8],
+    k: Numbers,
+    public: &[u8],
     secrets: &[u8],
     s0: &[u8],
     e0: &[u8],
-    n: usize,
-    q: u64,
+    head: &mut [u8],
+    work: &mut [u8],
 )
-    requires { ⌜ PublicKeys n q (now k) × Polynomial n q (now s0) × Polynomial n q (now e0) × (length (now secrets) ≡ 14 * n) × (length (now work) ≡ scratchLength) × (80 * n ≤ length (now head)) ⌝ }
-    ensures { λ _. ⌜ now (head .exit) ≡ put (now (head .entry)) (16 * n) (producedPairs (parameters 2 n q 0 0 [] [] (now (k .entry))) 0 (materialOf (now (secrets .entry)) (now (s0 .entry)) (now (e0 .entry)) [] [] [] [] [] [])) ⌝ }
-    ensures { λ _. ⌜ length (now (work .exit)) ≡ length (now (work .entry)) ⌝ }
+    requires { ⌜ Loaded k (now public) × Polynomial (k .ring) (k .modulus) (now s0) × Polynomial (k .ring) (k .modulus) (now e0)
+        × (length (now secrets) ≡ 14 * k .ring) × (length (now work) ≡ scratchLength) × (80 * k .ring ≤ length (now head)) ⌝ }
+    ensures { λ _. let keys = keysOf (k .ring) (keyBytes k (given public)) in
+        let pairs = pairsBytes (k .modulus) (k .ring) (given secrets) (given s0) (given e0) keys in
+        ⌜ (left head ≡ put (given head) (16 * k .ring) pairs) × (length (left work) ≡ length (given work)) ⌝ }
 {
+    let n = k.ring as usize;
+    let q = k.modulus;
     both_pairs(
         head,
         16 * n,
         work,
-        k,
+        &public[16 * n..40 * n],
         &secrets[0..n],
         s0,
         &secrets[2 * n..8 * n],
@@ -122,7 +136,7 @@ pub fn write_pairs(
         head,
         48 * n,
         work,
-        k,
+        &public[16 * n..40 * n],
         &secrets[n..2 * n],
         e0,
         &secrets[8 * n..14 * n],

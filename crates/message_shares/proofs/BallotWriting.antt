@@ -1,6 +1,5 @@
 -- The loop over ballots: where ballot j, its masks, its shares and its claim stand, and what is written before it. Assumes nothing.
 use mathlib.Core.Path.{_≡_, sym, ap, _∙_}
-use mathlib.Core.List.{[]}
 use Prim.Native.Nat.{ℕ, _+_, _*_, _≤_, _<_}
 use native.Mathlib.Nat.{mul-zero, mul-add, mul-one, mul-le-mul}
 use native.Mathlib.Omega.{arith}
@@ -14,16 +13,15 @@ use Rattle.ring.specs.Ternary.{ternary}
 use Rattle.ring.proofs.Bridge.{length-encode}
 use Rattle.bgv.specs.Scheme.{decrypted, other, lentMask, share}
 use Rattle.transcript.specs.Layout.{joined, ballotLength, uAt, vAt}
-use Rattle.transcript.specs.Method.{parameters}
-use Rattle.transcript.specs.Producer.{producedShares, producedClaims, materialOf}
+use Rattle.transcript.specs.Producer.{sharesBytes, claimsBytes}
 use Rattle.transcript.proofs.Many.{stretch, length-joined}
 use Rattle.message_shares.specs.Method.{Masked}
 use Rattle.message_head.proofs.Joining.{Filled, filled-first, filled-more, filled-all}
 
-module _ (q n count : ℕ) (secrets s0 masks0 masks1 ballots : Bytes) where
+module _ (q n p count : ℕ) (secrets s0 masks0 masks1 ballots : Bytes) where
   -- what is written for ballot j: its shares, the half and the masks given, and its claim
   abbrev shareOf : Poly → Bytes → ℕ → Bytes
-  shareOf half masks j = coefficientBytes q n (share q n 2 half (uAt n ballots j) (lentMask (part masks (8 * n * j) (8 * n))))
+  shareOf half masks j = coefficientBytes q n (share q n p half (uAt n ballots j) (lentMask (part masks (8 * n * j) (8 * n))))
 
   abbrev lent-half : Poly
   lent-half = poly s0
@@ -32,7 +30,7 @@ module _ (q n count : ℕ) (secrets s0 masks0 masks1 ballots : Bytes) where
   other-half = other q (ternary q (part secrets 0 n)) (poly s0)
 
   abbrev claimOf : ℕ → Bytes
-  claimOf j = list n (decrypted q n 2 (ternary q (part secrets 0 n)) (uAt n ballots j) (vAt n ballots j))
+  claimOf j = list n (decrypted q n p (ternary q (part secrets 0 n)) (uAt n ballots j) (vAt n ballots j))
 
   share-sized : (half : Poly) (masks : Bytes) (j : ℕ) → length (shareOf half masks j) ≡ 8 * n
   share-sized half masks j = length-encode n _
@@ -97,18 +95,18 @@ module _ (q n count : ℕ) (secrets s0 masks0 masks1 ballots : Bytes) where
       )
 
       -- at these places stand ballot j and its masks
-      share-there : (half : Poly) (masks : Bytes) → coefficientBytes q n (share q n 2 half (slot ballots (at + 4)) (lentMask (part masks sent (8 * n)))) ≡ shareOf half masks j
+      share-there : (half : Poly) (masks : Bytes) → coefficientBytes q n (share q n p half (slot ballots (at + 4)) (lentMask (part masks sent (8 * n)))) ≡ shareOf half masks j
       share-there half masks =
-          ap (λ (i : ℕ). coefficientBytes q n (share q n 2 half (slot ballots (i + 4)) (lentMask (part masks sent (8 * n))))) (r .ballot)
-          ∙ ap (λ (i : ℕ). coefficientBytes q n (share q n 2 half (uAt n ballots j) (lentMask (part masks i (8 * n))))) sent-place
+          ap (λ (i : ℕ). coefficientBytes q n (share q n p half (slot ballots (i + 4)) (lentMask (part masks sent (8 * n))))) (r .ballot)
+          ∙ ap (λ (i : ℕ). coefficientBytes q n (share q n p half (uAt n ballots j) (lentMask (part masks i (8 * n))))) sent-place
 
-      claim-there : list n (decrypted q n 2 (ternary q (part secrets 0 n)) (slot ballots (at + 4)) (slot ballots (at + 4 + 8 * n))) ≡ claimOf j
-      claim-there = ap (λ (i : ℕ). list n (decrypted q n 2 (ternary q (part secrets 0 n)) (slot ballots (i + 4)) (slot ballots (i + 4 + 8 * n)))) (r .ballot)
+      claim-there : list n (decrypted q n p (ternary q (part secrets 0 n)) (slot ballots (at + 4)) (slot ballots (at + 4 + 8 * n))) ≡ claimOf j
+      claim-there = ap (λ (i : ℕ). list n (decrypted q n p (ternary q (part secrets 0 n)) (slot ballots (i + 4)) (slot ballots (i + 4 + 8 * n)))) (r .ballot)
 
       pub sent-more : (shares0' shares1' claims' w' : Bytes) → length shares0' ≡ length shares0 → length shares1' ≡ length shares1 → length claims' ≡ length claims → length w' ≡ length w
-          → shares0' ≡ put shares0 sent (coefficientBytes q n (share q n 2 (poly s0) (slot ballots (at + 4)) (lentMask (part masks0 sent (8 * n)))))
-          → shares1' ≡ put shares1 sent (coefficientBytes q n (share q n 2 (other q (ternary q (part secrets 0 n)) (poly s0)) (slot ballots (at + 4)) (lentMask (part masks1 sent (8 * n)))))
-          → claims' ≡ put claims claim (list n (decrypted q n 2 (ternary q (part secrets 0 n)) (slot ballots (at + 4)) (slot ballots (at + 4 + 8 * n))))
+          → shares0' ≡ put shares0 sent (coefficientBytes q n (share q n p (poly s0) (slot ballots (at + 4)) (lentMask (part masks0 sent (8 * n)))))
+          → shares1' ≡ put shares1 sent (coefficientBytes q n (share q n p (other q (ternary q (part secrets 0 n)) (poly s0)) (slot ballots (at + 4)) (lentMask (part masks1 sent (8 * n)))))
+          → claims' ≡ put claims claim (list n (decrypted q n p (ternary q (part secrets 0 n)) (slot ballots (at + 4)) (slot ballots (at + 4 + 8 * n))))
           → Sent shares0₀ shares1₀ claims₀ (j + 1) (at + (4 + 16 * n)) (claim + n) (sent + 8 * n) shares0' shares1' claims' w'
       sent-more shares0' shares1' claims' w' k0 k1 kc kw e0 e1 ec =
           let a = places-asks in
@@ -130,10 +128,7 @@ module _ (q n count : ℕ) (secrets s0 masks0 masks1 ballots : Bytes) where
       done : j ≡ count
       done = omega (arith, r .within)
 
-      pub sent-all : (shares0 ≡ producedShares (parameters 2 n q 0 0 [] [] []) count (materialOf secrets s0 [] masks0 masks1 [] [] [] ballots) 0)
-          × (shares1 ≡ producedShares (parameters 2 n q 0 0 [] [] []) count (materialOf secrets s0 [] masks0 masks1 [] [] [] ballots) 1)
-          × (claims ≡ producedClaims (parameters 2 n q 0 0 [] [] []) count (materialOf secrets s0 [] masks0 masks1 [] [] [] ballots))
-      unfolding producedShares producedClaims
+      pub sent-all : (shares0 ≡ sharesBytes q n p count secrets s0 masks0 ballots 0) × (shares1 ≡ sharesBytes q n p count secrets s0 masks1 ballots 1) × (claims ≡ claimsBytes q n p count secrets ballots)
       sent-all = (
         filled-all (shareOf lent-half masks0) shares0₀ shares0 j sent count (r .lent) done (shares-long lent-half masks0 count ∙ sym l0),
         filled-all (shareOf other-half masks1) shares1₀ shares1 j sent count (r .others) done (shares-long other-half masks1 count ∙ sym l1),

@@ -43,7 +43,7 @@ module _ (q n p : ℕ) (s s0 u : Poly) where
 
 -- ---- one ballot, from lent parts of the strings: what is written is of its u, v and masks where they stand
 
-module _ (q n at sent claim : ℕ) (secrets s0 masks0 masks1 ballots : Bytes) (fits : at + 4 + 16 * n ≤ length ballots) where
+module _ (q n p at sent claim : ℕ) (secrets s0 masks0 masks1 ballots : Bytes) (fits : at + 4 + 16 * n ≤ length ballots) where
   alike-u : Alike q n (poly (take (at + 4 + 8 * n - (at + 4)) (drop (at + 4) ballots))) (slot ballots (at + 4))
   alike-u = lent-alike n q ballots (at + 4) (at + 4 + 8 * n - (at + 4)) (omega arith) (omega arith)
 
@@ -51,28 +51,28 @@ module _ (q n at sent claim : ℕ) (secrets s0 masks0 masks1 ballots : Bytes) (f
   alike-v = lent-alike n q ballots (at + 4 + 8 * n) (at + 4 + 16 * n - (at + 4 + 8 * n)) (omega arith) (omega arith)
 
   share-placed : (half : Poly) (masks : Bytes)
-      → coefficientBytes q n (share q n 2 half (poly (take (at + 4 + 8 * n - (at + 4)) (drop (at + 4) ballots))) (lentMask (take (sent + 8 * n - sent) (drop sent masks))))
-      ≡ coefficientBytes q n (share q n 2 half (slot ballots (at + 4)) (lentMask (part masks sent (8 * n))))
+      → coefficientBytes q n (share q n p half (poly (take (at + 4 + 8 * n - (at + 4)) (drop (at + 4) ballots))) (lentMask (take (sent + 8 * n - sent) (drop sent masks))))
+      ≡ coefficientBytes q n (share q n p half (slot ballots (at + 4)) (lentMask (part masks sent (8 * n))))
   share-placed half masks =
-      ap (λ (b : Bytes). coefficientBytes q n (share q n 2 half (poly (take (at + 4 + 8 * n - (at + 4)) (drop (at + 4) ballots))) (lentMask b))) (cut masks sent (sent + 8 * n - sent) (8 * n) (omega arith))
-      ∙ encode-alike (noisy-alike q n 2 alike-refl alike-u alike-refl)
+      ap (λ (b : Bytes). coefficientBytes q n (share q n p half (poly (take (at + 4 + 8 * n - (at + 4)) (drop (at + 4) ballots))) (lentMask b))) (cut masks sent (sent + 8 * n - sent) (8 * n) (omega arith))
+      ∙ encode-alike (noisy-alike q n p alike-refl alike-u alike-refl)
 
   secret : take (n - 0) (drop 0 secrets) ≡ part secrets 0 n
   secret = cut secrets 0 (n - 0) n (omega arith)
 
   pub ballot-placed : (shares0 shares1 claims : Bytes) {shares0' shares1' claims' : Bytes}
-      → shares0' ≡ put shares0 sent (coefficientBytes q n (share q n 2 (poly s0) (poly (take (at + 4 + 8 * n - (at + 4)) (drop (at + 4) ballots))) (lentMask (take (sent + 8 * n - sent) (drop sent masks0)))))
-      → shares1' ≡ put shares1 sent (coefficientBytes q n (share q n 2 (other q (ternary q (take (n - 0) (drop 0 secrets))) (poly s0)) (poly (take (at + 4 + 8 * n - (at + 4)) (drop (at + 4) ballots))) (lentMask (take (sent + 8 * n - sent) (drop sent masks1)))))
-      → claims' ≡ put claims claim (list n (decrypted q n 2 (ternary q (take (n - 0) (drop 0 secrets))) (poly (take (at + 4 + 8 * n - (at + 4)) (drop (at + 4) ballots))) (poly (take (at + 4 + 16 * n - (at + 4 + 8 * n)) (drop (at + 4 + 8 * n) ballots)))))
-      → (shares0' ≡ put shares0 sent (coefficientBytes q n (share q n 2 (poly s0) (slot ballots (at + 4)) (lentMask (part masks0 sent (8 * n))))))
-      × (shares1' ≡ put shares1 sent (coefficientBytes q n (share q n 2 (other q (ternary q (part secrets 0 n)) (poly s0)) (slot ballots (at + 4)) (lentMask (part masks1 sent (8 * n))))))
-      × (claims' ≡ put claims claim (list n (decrypted q n 2 (ternary q (part secrets 0 n)) (slot ballots (at + 4)) (slot ballots (at + 4 + 8 * n)))))
+      → shares0' ≡ put shares0 sent (coefficientBytes q n (share q n p (poly s0) (poly (take (at + 4 + 8 * n - (at + 4)) (drop (at + 4) ballots))) (lentMask (take (sent + 8 * n - sent) (drop sent masks0)))))
+      → shares1' ≡ put shares1 sent (coefficientBytes q n (share q n p (other q (ternary q (take (n - 0) (drop 0 secrets))) (poly s0)) (poly (take (at + 4 + 8 * n - (at + 4)) (drop (at + 4) ballots))) (lentMask (take (sent + 8 * n - sent) (drop sent masks1)))))
+      → claims' ≡ put claims claim (list n (decrypted q n p (ternary q (take (n - 0) (drop 0 secrets))) (poly (take (at + 4 + 8 * n - (at + 4)) (drop (at + 4) ballots))) (poly (take (at + 4 + 16 * n - (at + 4 + 8 * n)) (drop (at + 4 + 8 * n) ballots)))))
+      → (shares0' ≡ put shares0 sent (coefficientBytes q n (share q n p (poly s0) (slot ballots (at + 4)) (lentMask (part masks0 sent (8 * n))))))
+      × (shares1' ≡ put shares1 sent (coefficientBytes q n (share q n p (other q (ternary q (part secrets 0 n)) (poly s0)) (slot ballots (at + 4)) (lentMask (part masks1 sent (8 * n))))))
+      × (claims' ≡ put claims claim (list n (decrypted q n p (ternary q (part secrets 0 n)) (slot ballots (at + 4)) (slot ballots (at + 4 + 8 * n)))))
   ballot-placed shares0 shares1 claims e0 e1 e2 = (
     e0 ∙ ap (put shares0 sent) (share-placed (poly s0) masks0),
     e1
         ∙ ap (put shares1 sent) (share-placed (other q (ternary q (take (n - 0) (drop 0 secrets))) (poly s0)) masks1
-        ∙ ap (λ (b : Bytes). coefficientBytes q n (share q n 2 (other q (ternary q b) (poly s0)) (slot ballots (at + 4)) (lentMask (part masks1 sent (8 * n))))) secret),
+        ∙ ap (λ (b : Bytes). coefficientBytes q n (share q n p (other q (ternary q b) (poly s0)) (slot ballots (at + 4)) (lentMask (part masks1 sent (8 * n))))) secret),
     e2
-        ∙ ap (put claims claim) (ap (λ (b : Bytes). list n (decrypted q n 2 (ternary q b) (poly (take (at + 4 + 8 * n - (at + 4)) (drop (at + 4) ballots))) (poly (take (at + 4 + 16 * n - (at + 4 + 8 * n)) (drop (at + 4 + 8 * n) ballots))))) secret
-        ∙ plain-alike 2 (opened-alike q n (ternary q (part secrets 0 n)) alike-u alike-v)),
+        ∙ ap (put claims claim) (ap (λ (b : Bytes). list n (decrypted q n p (ternary q b) (poly (take (at + 4 + 8 * n - (at + 4)) (drop (at + 4) ballots))) (poly (take (at + 4 + 16 * n - (at + 4 + 8 * n)) (drop (at + 4 + 8 * n) ballots))))) secret
+        ∙ plain-alike p (opened-alike q n (ternary q (part secrets 0 n)) alike-u alike-v)),
   )

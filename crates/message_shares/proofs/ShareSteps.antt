@@ -81,9 +81,9 @@ module _ (q n : ℕ) (high : n ≤ 2048) (some : 3 ≤ q) (few : q < 2 ^ 56) (w 
       let lf = length-encode n f in
       ap (λ (s : Bytes). part s 0 m) e ∙ part-put-before v at (encode n f) 0 m (omega arith) (omega arith)
 
-  -- ---- 2 E is added to what stands in a slot
+  -- ---- p E is added to what stands in a slot
 
-  module _ (w1 mask : Bytes) (from : ℕ) (fits : from + 8 * n ≤ 49152) (below : Below q n (slot w from)) (e1 : w1 ≡ put w 49152 (encode n (fromSigned q mask))) where
+  module _ (p : ℕ) (w1 mask : Bytes) (from : ℕ) (fits : from + 8 * n ≤ 49152) (below : Below q n (slot w from)) (e1 : w1 ≡ put w 49152 (encode n (fromSigned q mask))) where
     abbrev E : Poly
     E = residues q (lentMask mask)
 
@@ -103,15 +103,15 @@ module _ (q n : ℕ) (high : n ≤ 2048) (some : 3 ≤ q) (few : q < 2 ^ 56) (w 
     pub scale-asks : (49152 + 8 * n ≤ length w1) × Below q n (slot w1 49152)
     scale-asks = loaded-asks q n high some few 49152 E w w1 long (omega arith) mask-there
 
-    module _ (w2 : Bytes) (e2 : w2 ≡ store q n w1 49152 (scale 2 (slot w1 49152))) where
+    module _ (w2 : Bytes) (e2 : w2 ≡ store q n w1 49152 (scale p (slot w1 49152))) where
       long2 : length w2 ≡ 1048576
-      long2 = stored-length q n above few w1 w2 49152 (omega (arith, long1)) (scale 2 (slot w1 49152)) e2 ∙ long1
+      long2 = stored-length q n above few w1 w2 49152 (omega (arith, long1)) (scale p (slot w1 49152)) e2 ∙ long1
 
       x2 : Holds q n from (slot w from) w2
-      x2 = stored-other q n above few w1 w2 49152 (omega (arith, long1)) (scale 2 (slot w1 49152)) e2 (inl fits) x1
+      x2 = stored-other q n above few w1 w2 49152 (omega (arith, long1)) (scale p (slot w1 49152)) e2 (inl fits) x1
 
-      y2 : Holds q n 49152 (scale 2 (slot w1 49152)) w2
-      y2 = stored q n above few w1 w2 49152 (omega (arith, long1)) (scale 2 (slot w1 49152)) e2
+      y2 : Holds q n 49152 (scale p (slot w1 49152)) w2
+      y2 = stored q n above few w1 w2 49152 (omega (arith, long1)) (scale p (slot w1 49152)) e2
 
       pub add-asks : Slots n from 49152 w2 × Below q n (slot w2 from) × Below q n (slot w2 49152)
       add-asks = (record { one = omega (arith, long2); other = omega (arith, long2); apart = inr fits }, holds-below above x2, holds-below above y2)
@@ -120,13 +120,13 @@ module _ (q n : ℕ) (high : n ≤ 2048) (some : 3 ≤ q) (few : q < 2 ^ 56) (w 
         pub masked-length : length w3 ≡ 1048576
         masked-length = stored-length q n above few w2 w3 from (omega (arith, long2)) (plus (slot w2 from) (slot w2 49152)) e3 ∙ long2
 
-        pub masked : part w3 from (8 * n) ≡ encode n (modulo q (plus (slot w from) (scale 2 E)))
+        pub masked : part w3 from (8 * n) ≡ encode n (modulo q (plus (slot w from) (scale p E)))
         unfolding store
         masked =
             let f = plus (slot w2 from) (slot w2 49152) in
             let l = length-encode n (modulo q f) in
             ap (λ (s : Bytes). part s from (8 * n)) e3 ∙ ap (part (put w2 from (encode n (modulo q f))) from) (sym l) ∙ part-put w2 from (encode n (modulo q f)) (omega (arith, long2))
-            ∙ encode-alike (alike-plus (holds-alike x2) (holds-alike y2 so alike-scale 2 (holds-alike (mask-there .holds))))
+            ∙ encode-alike (alike-plus (holds-alike x2) (holds-alike y2 so alike-scale p (holds-alike (mask-there .holds))))
 
         pub masked-keeps : part w3 0 from ≡ part w 0 from
         unfolding store

@@ -1,19 +1,18 @@
 // The shares of both sides and the claims of all ballots, each end to end.
 use crate::shares::write_ballot;
+use sheet_numbers::Numbers;
 ghost use mathlib.Core.Path.{_≡_};
-ghost use mathlib.Core.List.{[]};
 ghost use Prim.Native.Nat.{_+_, _*_, _≤_};
 ghost use lib.ListN.{length};
-ghost use Rattle.codec.specs.Bytes.{part, put};
-ghost use Rattle.codec.specs.Lists.{list};
+ghost use Rattle.codec.specs.Bytes.{part};
 ghost use Rattle.ring.specs.Poly.{Below};
-ghost use Rattle.ring.specs.Slots.{coefficientBytes, poly, slot};
+ghost use Rattle.ring.specs.Slots.{poly, slot};
 ghost use Rattle.ring.specs.Ternary.{ternary};
 ghost use Rattle.call.specs.Call.{scratchLength, Polynomial};
-ghost use Rattle.bgv.specs.Scheme.{decrypted, other, lentMask, share};
-ghost use Rattle.transcript.specs.Method.{parameters};
-ghost use Rattle.transcript.specs.Producer.{producedShares, producedClaims, materialOf};
-ghost use Rattle.message_shares.specs.Method.{Masked};
+ghost use Rattle.codec.specs.Slices.{given};
+ghost use Rattle.transcript.specs.Producer.{sIn};
+ghost use Rattle.sheet_numbers.specs.Usable.{Usable};
+ghost use Rattle.message_shares.specs.Method.{Masked, roomNow, roomIn, roomOut, Fits, BallotWritten, BallotsWritten};
 
 // One ballot where it stands, with its masks at the place of its shares.
 fn ballot_at(
@@ -23,22 +22,25 @@ fn ballot_at(
     claims: &mut [u8],
     claim: usize,
     work: &mut [u8],
+    k: Numbers,
     secrets: &[u8],
     s0: &[u8],
     masks0: &[u8],
     masks1: &[u8],
     ballots: &[u8],
     at: usize,
-    n: usize,
-    q: u64,
 )
-    requires { ⌜ Polynomial n q (now s0) × (length (now secrets) ≡ 14 * n) × (length (now work) ≡ scratchLength) × (at + 4 + 16 * n ≤ length (now ballots)) × Below q (2 * n) (slot (now ballots) (at + 4)) ⌝ }
-    requires { ⌜ (sent + 8 * n ≤ length (now masks0)) × (sent + 8 * n ≤ length (now masks1)) × (sent + 8 * n ≤ length (now shares0)) × (sent + 8 * n ≤ length (now shares1)) × (claim + n ≤ length (now claims)) ⌝ }
-    ensures { λ _. ⌜ now (shares0 .exit) ≡ put (now (shares0 .entry)) sent (coefficientBytes q n (share q n 2 (poly (now (s0 .entry))) (slot (now (ballots .entry)) (at + 4)) (lentMask (part (now (masks0 .entry)) sent (8 * n))))) ⌝ }
-    ensures { λ _. ⌜ now (shares1 .exit) ≡ put (now (shares1 .entry)) sent (coefficientBytes q n (share q n 2 (other q (ternary q (part (now (secrets .entry)) 0 n)) (poly (now (s0 .entry)))) (slot (now (ballots .entry)) (at + 4)) (lentMask (part (now (masks1 .entry)) sent (8 * n))))) ⌝ }
-    ensures { λ _. ⌜ now (claims .exit) ≡ put (now (claims .entry)) claim (list n (decrypted q n 2 (ternary q (part (now (secrets .entry)) 0 n)) (slot (now (ballots .entry)) (at + 4)) (slot (now (ballots .entry)) (at + 4 + 8 * n)))) ⌝ }
-    ensures { λ _. ⌜ length (now (work .exit)) ≡ length (now (work .entry)) ⌝ }
+    requires { ⌜ Usable k × Polynomial (k .ring) (k .modulus) (now s0) × (length (now secrets) ≡ 14 * k .ring)
+        × (at + 4 + 16 * k .ring ≤ length (now ballots)) × Below (k .modulus) (2 * k .ring) (slot (now ballots) (at + 4))
+        × (sent + 8 * k .ring ≤ length (now masks0)) × (sent + 8 * k .ring ≤ length (now masks1))
+        × Fits (k .ring) sent claim (roomNow shares0 shares1 claims work) ⌝ }
+    ensures { λ _. let s = ternary (k .modulus) (sIn (k .ring) (given secrets)) in
+        let u = slot (given ballots) (at + 4) in let v = slot (given ballots) (at + 4 + 8 * k .ring) in
+        let mask0 = part (given masks0) sent (8 * k .ring) in let mask1 = part (given masks1) sent (8 * k .ring) in
+        let before = roomIn shares0 shares1 claims work in let after = roomOut shares0 shares1 claims work in
+        ⌜ BallotWritten k s (poly (given s0)) u v mask0 mask1 sent claim before after ⌝ }
 {
+    let n = k.ring as usize;
     let end = sent + 8 * n;
     write_ballot(
         shares0,
@@ -47,38 +49,38 @@ fn ballot_at(
         claims,
         claim,
         work,
+        k,
         &secrets[0..n],
         s0,
         &ballots[at + 4..at + 4 + 8 * n],
         &ballots[at + 4 + 8 * n..at + 4 + 16 * n],
         &masks0[sent..end],
         &masks1[sent..end],
-        n,
-        q,
     );
 }
 
-// Every ballot, in order.
+// Every ballot, in order. Scratch is given back zeroed.
 pub fn write_ballots(
     shares0: &mut [u8],
     shares1: &mut [u8],
     claims: &mut [u8],
     work: &mut [u8],
+    k: Numbers,
     secrets: &[u8],
     s0: &[u8],
     masks0: &[u8],
     masks1: &[u8],
     ballots: &[u8],
     count: usize,
-    n: usize,
-    q: u64,
 )
-    requires { ⌜ Polynomial n q (now s0) × (length (now secrets) ≡ 14 * n) × (length (now work) ≡ scratchLength) × (count ≤ 4096) × Masked q n count (now ballots) (now masks0) (now masks1) × (length (now shares0) ≡ 8 * n * count) × (length (now shares1) ≡ 8 * n * count) × (length (now claims) ≡ n * count) ⌝ }
-    ensures { λ _. ⌜ now (shares0 .exit) ≡ producedShares (parameters 2 n q 0 0 [] [] []) count (materialOf (now (secrets .entry)) (now (s0 .entry)) [] (now (masks0 .entry)) (now (masks1 .entry)) [] [] [] (now (ballots .entry))) 0 ⌝ }
-    ensures { λ _. ⌜ now (shares1 .exit) ≡ producedShares (parameters 2 n q 0 0 [] [] []) count (materialOf (now (secrets .entry)) (now (s0 .entry)) [] (now (masks0 .entry)) (now (masks1 .entry)) [] [] [] (now (ballots .entry))) 1 ⌝ }
-    ensures { λ _. ⌜ now (claims .exit) ≡ producedClaims (parameters 2 n q 0 0 [] [] []) count (materialOf (now (secrets .entry)) (now (s0 .entry)) [] (now (masks0 .entry)) (now (masks1 .entry)) [] [] [] (now (ballots .entry))) ⌝ }
-    ensures { λ _. ⌜ length (now (work .exit)) ≡ length (now (work .entry)) ⌝ }
+    requires { ⌜ Usable k × Polynomial (k .ring) (k .modulus) (now s0) × (length (now secrets) ≡ 14 * k .ring) × (count ≤ 4096)
+        × Masked (k .modulus) (k .ring) count (now ballots) (now masks0) (now masks1) × (length (now shares0) ≡ 8 * k .ring * count)
+        × (length (now shares1) ≡ 8 * k .ring * count) × (length (now claims) ≡ k .ring * count)
+        × (length (now work) ≡ scratchLength) ⌝ }
+    ensures { λ _. let before = roomIn shares0 shares1 claims work in let after = roomOut shares0 shares1 claims work in
+        ⌜ BallotsWritten k count (given secrets) (given s0) (given masks0) (given masks1) (given ballots) before after ⌝ }
 {
+    let n = k.ring as usize;
     let mut j = 0;
     let mut at = 0;
     let mut claim = 0;
@@ -91,18 +93,18 @@ pub fn write_ballots(
             claims,
             claim,
             work,
+            k,
             secrets,
             s0,
             masks0,
             masks1,
             ballots,
             at,
-            n,
-            q,
         );
         j += 1;
         at += 4 + 16 * n;
         claim += n;
         sent += 8 * n;
     }
+    codec::wipe(work);
 }

@@ -1,4 +1,6 @@
-// The decryption shares and the claim of one ballot. s u and s0 u are made once each, and s1 u is their difference. What is made from secrets is left in scratch.
+// The decryption shares and the claim of one ballot. s u and s0 u are made once each, and s1 u is their difference. What is made from
+// secrets is left in scratch.
+use sheet_numbers::Numbers;
 ghost use mathlib.Core.Path.{_≡_};
 ghost use Prim.Native.Nat.{_+_, _*_, _≤_, _<_, _^_};
 ghost use lib.ListN.{length};
@@ -8,8 +10,10 @@ ghost use Rattle.ring.specs.Poly.{plus, minus, scale, mul, Below};
 ghost use Rattle.ring.specs.Slots.{coefficientBytes, poly, slot};
 ghost use Rattle.ring.specs.Ternary.{ternary};
 ghost use Rattle.call.specs.Call.{scratchLength, Polynomial};
-ghost use Rattle.bgv.specs.Scheme.{residues, plain, decrypted, other, lentMask, share};
-ghost use Rattle.message_shares.specs.Method.{TwoStand};
+ghost use Rattle.bgv.specs.Scheme.{residues, plain, lentMask};
+ghost use Rattle.codec.specs.Slices.{given, left};
+ghost use Rattle.sheet_numbers.specs.Usable.{Usable};
+ghost use Rattle.message_shares.specs.Method.{roomNow, roomIn, roomOut, Fits, BallotWritten, TwoStand};
 
 // Where s0 u stands, and then t0.
 const LENT: usize = 16384;
@@ -26,7 +30,8 @@ const ROOM: usize = 65536;
 // s u at 0 and s0 u behind it, for ternary bytes s.
 fn products(work: &mut [u8], s: &[u8], s0: &[u8], u: &[u8], n: usize, q: u64)
     requires { ⌜ Polynomial n q (now s0) × Polynomial n q (now u) × (length (now s) ≡ n) × (length (now work) ≡ scratchLength) ⌝ }
-    ensures { λ _. ⌜ TwoStand q n (mul q n (ternary q (now (s .entry))) (poly (now (u .entry)))) (mul q n (poly (now (s0 .entry))) (poly (now (u .entry)))) (now (work .entry)) (now (work .exit)) ⌝ }
+    ensures { λ _. let u = poly (given u) in
+        ⌜ TwoStand q n (mul q n (ternary q (given s)) u) (mul q n (poly (given s0)) u) (given work) (left work) ⌝ }
 {
     ring::load_ternary(work, 0, s, q);
     codec::copy(work, LENT, s0);
@@ -34,22 +39,25 @@ fn products(work: &mut [u8], s: &[u8], s0: &[u8], u: &[u8], n: usize, q: u64)
     product::multiply(work, LENT, ROOM, u, n, q);
 }
 
-// Adds 2 E to what stands in a slot, for a lent mask E, and writes the sum out. The slots before it are kept.
+// Adds p E to what stands in a slot, for a lent mask E, and writes the sum out. The slots before it are kept.
 fn write_masked(
     out: &mut [u8],
     at: usize,
     work: &mut [u8],
     from: usize,
     mask: &[u8],
+    p: u64,
     n: usize,
     q: u64,
 )
-    requires { ⌜ (n ≤ 2048) × (3 ≤ q) × (q < 2 ^ 56) × (length (now mask) ≡ 8 * n) × (length (now work) ≡ scratchLength) × (from + 8 * n ≤ 49152) × Below q n (slot (now work) from) × (at + 8 * n ≤ length (now out)) ⌝ }
-    ensures { λ _. ⌜ now (out .exit) ≡ put (now (out .entry)) at (coefficientBytes q n (plus (slot (now (work .entry)) from) (scale 2 (residues q (lentMask (now (mask .entry))))))) ⌝ }
-    ensures { λ _. ⌜ (length (now (work .exit)) ≡ length (now (work .entry))) × (part (now (work .exit)) 0 from ≡ part (now (work .entry)) 0 from) ⌝ }
+    requires { ⌜ (n ≤ 2048) × (3 ≤ q) × (q < 2 ^ 56) × (length (now mask) ≡ 8 * n) × (length (now work) ≡ scratchLength)
+        × (from + 8 * n ≤ 49152) × Below q n (slot (now work) from) × (at + 8 * n ≤ length (now out)) × (p < q) ⌝ }
+    ensures { λ _. let sum = plus (slot (given work) from) (scale p (residues q (lentMask (given mask)))) in
+        ⌜ (left out ≡ put (given out) at (coefficientBytes q n sum)) × (length (left work) ≡ length (given work))
+        × (part (left work) 0 from ≡ part (given work) 0 from) ⌝ }
 {
     ring::load_signed(work, MASK, mask, n, q);
-    ring::scale_slot(work, MASK, 2, n, q);
+    ring::scale_slot(work, MASK, p, n, q);
     ring::add_slot(work, from, MASK, n, q);
     call::write_out(out, at, work, from, n);
 }
@@ -62,29 +70,35 @@ fn write_shares(
     work: &mut [u8],
     mask0: &[u8],
     mask1: &[u8],
+    p: u64,
     n: usize,
     q: u64,
 )
-    requires { ⌜ (n ≤ 2048) × (3 ≤ q) × (q < 2 ^ 56) × (length (now mask0) ≡ 8 * n) × (length (now mask1) ≡ 8 * n) × (length (now work) ≡ scratchLength) × Below q n (slot (now work) 0) × Below q n (slot (now work) 16384) × (at + 8 * n ≤ length (now shares0)) × (at + 8 * n ≤ length (now shares1)) ⌝ }
-    ensures { λ _. ⌜ now (shares0 .exit) ≡ put (now (shares0 .entry)) at (coefficientBytes q n (plus (slot (now (work .entry)) 16384) (scale 2 (residues q (lentMask (now (mask0 .entry))))))) ⌝ }
-    ensures { λ _. ⌜ now (shares1 .exit) ≡ put (now (shares1 .entry)) at (coefficientBytes q n (plus (minus q (slot (now (work .entry)) 0) (slot (now (work .entry)) 16384)) (scale 2 (residues q (lentMask (now (mask1 .entry))))))) ⌝ }
-    ensures { λ _. ⌜ (length (now (work .exit)) ≡ length (now (work .entry))) × (part (now (work .exit)) 0 16384 ≡ part (now (work .entry)) 0 16384) ⌝ }
+    requires { ⌜ (n ≤ 2048) × (3 ≤ q) × (q < 2 ^ 56) × (length (now mask0) ≡ 8 * n) × (length (now mask1) ≡ 8 * n)
+        × (length (now work) ≡ scratchLength) × Below q n (slot (now work) 0) × Below q n (slot (now work) 16384)
+        × (at + 8 * n ≤ length (now shares0)) × (at + 8 * n ≤ length (now shares1)) × (p < q) ⌝ }
+    ensures { λ _. let t0 = plus (slot (given work) 16384) (scale p (residues q (lentMask (given mask0)))) in
+        let t1 = plus (minus q (slot (given work) 0) (slot (given work) 16384)) (scale p (residues q (lentMask (given mask1)))) in
+        ⌜ (left shares0 ≡ put (given shares0) at (coefficientBytes q n t0))
+        × (left shares1 ≡ put (given shares1) at (coefficientBytes q n t1))
+        × (length (left work) ≡ length (given work)) × (part (left work) 0 16384 ≡ part (given work) 0 16384) ⌝ }
 {
     ring::copy_slot(work, OTHER, 0, n);
     ring::subtract_slot(work, OTHER, LENT, n, q);
-    write_masked(shares1, at, work, OTHER, mask1, n, q);
-    write_masked(shares0, at, work, LENT, mask0, n, q);
+    write_masked(shares1, at, work, OTHER, mask1, p, n, q);
+    write_masked(shares0, at, work, LENT, mask0, p, n, q);
 }
 
-// The claim, v - s u centred, by 2, from s u at 0.
-fn write_claim(claims: &mut [u8], at: usize, work: &mut [u8], v: &[u8], n: usize, q: u64)
-    requires { ⌜ Polynomial n q (now v) × (length (now work) ≡ scratchLength) × Below q n (slot (now work) 0) × (at + n ≤ length (now claims)) ⌝ }
-    ensures { λ _. ⌜ now (claims .exit) ≡ put (now (claims .entry)) at (list n (plain q 2 (minus q (poly (now (v .entry))) (slot (now (work .entry)) 0)))) ⌝ }
-    ensures { λ _. ⌜ length (now (work .exit)) ≡ length (now (work .entry)) ⌝ }
+// The claim, v - s u centred, by p, from s u at 0.
+fn write_claim(claims: &mut [u8], at: usize, work: &mut [u8], v: &[u8], p: u64, n: usize, q: u64)
+    requires { ⌜ Polynomial n q (now v) × (length (now work) ≡ scratchLength) × Below q n (slot (now work) 0)
+        × (at + n ≤ length (now claims)) × (0 < p) × (p ≤ 251) ⌝ }
+    ensures { λ _. let vote = list n (plain q p (minus q (poly (given v)) (slot (given work) 0))) in
+        ⌜ (left claims ≡ put (given claims) at vote) × (length (left work) ≡ length (given work)) ⌝ }
 {
     ring::scale_slot(work, 0, q - 1, n, q);
     ring::add(work, 0, v, n, q);
-    bgv::plain(work, &mut claims[at..at + n], 2, n, q);
+    bgv::plain(work, &mut claims[at..at + n], p, n, q);
 }
 
 // The shares of both sides and the claim of one ballot, at places of their slices.
@@ -95,22 +109,25 @@ pub fn write_ballot(
     claims: &mut [u8],
     claim: usize,
     work: &mut [u8],
+    k: Numbers,
     s: &[u8],
     s0: &[u8],
     u: &[u8],
     v: &[u8],
     mask0: &[u8],
     mask1: &[u8],
-    n: usize,
-    q: u64,
 )
-    requires { ⌜ Polynomial n q (now s0) × Polynomial n q (now u) × Polynomial n q (now v) × (length (now s) ≡ n) × (length (now mask0) ≡ 8 * n) × (length (now mask1) ≡ 8 * n) × (length (now work) ≡ scratchLength) × (at + 8 * n ≤ length (now shares0)) × (at + 8 * n ≤ length (now shares1)) × (claim + n ≤ length (now claims)) ⌝ }
-    ensures { λ _. ⌜ now (shares0 .exit) ≡ put (now (shares0 .entry)) at (coefficientBytes q n (share q n 2 (poly (now (s0 .entry))) (poly (now (u .entry))) (lentMask (now (mask0 .entry))))) ⌝ }
-    ensures { λ _. ⌜ now (shares1 .exit) ≡ put (now (shares1 .entry)) at (coefficientBytes q n (share q n 2 (other q (ternary q (now (s .entry))) (poly (now (s0 .entry)))) (poly (now (u .entry))) (lentMask (now (mask1 .entry))))) ⌝ }
-    ensures { λ _. ⌜ now (claims .exit) ≡ put (now (claims .entry)) claim (list n (decrypted q n 2 (ternary q (now (s .entry))) (poly (now (u .entry))) (poly (now (v .entry))))) ⌝ }
-    ensures { λ _. ⌜ length (now (work .exit)) ≡ length (now (work .entry)) ⌝ }
+    requires { ⌜ Usable k × Polynomial (k .ring) (k .modulus) (now s0) × Polynomial (k .ring) (k .modulus) (now u)
+        × Polynomial (k .ring) (k .modulus) (now v) × (length (now s) ≡ k .ring) × (length (now mask0) ≡ 8 * k .ring)
+        × (length (now mask1) ≡ 8 * k .ring) × Fits (k .ring) at claim (roomNow shares0 shares1 claims work) ⌝ }
+    ensures { λ _. let before = roomIn shares0 shares1 claims work in let after = roomOut shares0 shares1 claims work in
+        let s = ternary (k .modulus) (given s) in
+        ⌜ BallotWritten k s (poly (given s0)) (poly (given u)) (poly (given v)) (given mask0) (given mask1) at claim before after ⌝ }
 {
+    let n = k.ring as usize;
+    let p = sheet_numbers::plain(k);
+    let q = k.modulus;
     products(work, s, s0, u, n, q);
-    write_shares(shares0, shares1, at, work, mask0, mask1, n, q);
-    write_claim(claims, claim, work, v, n, q);
+    write_shares(shares0, shares1, at, work, mask0, mask1, p, n, q);
+    write_claim(claims, claim, work, v, p, n, q);
 }

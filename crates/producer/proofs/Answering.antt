@@ -1,6 +1,5 @@
 -- The loop over repetitions: what is answered before repetition i, and where its answer stands. Assumes nothing.
 use mathlib.Core.Path.{_≡_, refl, sym, ap, _∙_}
-use mathlib.Core.List.{[]}
 use Prim.Native.Nat.{ℕ, suc, _+_, _*_, _≤_, _<_}
 use native.Mathlib.Omega.{arith}
 use lib.ListN.{length, take, getD}
@@ -9,16 +8,15 @@ use Rattle.codec.specs.Bytes.{Bytes, part, put}
 use Rattle.stern.specs.Argument.{Drawn}
 use Rattle.stern.specs.Shortness.{drawnOf, answerLength, honestAnswer}
 use Rattle.transcript.specs.Layout.{joined, answersLength}
-use Rattle.transcript.specs.Method.{parameters}
-use Rattle.transcript.specs.Producer.{producedAnswers, materialOf}
+use Rattle.transcript.specs.Producer.{drawnIn, answersBytes}
 use Rattle.transcript.proofs.Answers.{answersLength-more, prefix-le, length-answers, length-honestAnswer}
-use Rattle.message_head.specs.Method.{drawnFor, Drawings}
+use Rattle.message_head.specs.Method.{Drawings}
 use Rattle.message_head.proofs.Drawing.{Placed, placed-first, placed-more, material, drawn-is}
 use Rattle.message_head.proofs.Joining.{Filled, filled-first, filled-more, filled-all}
 
 module _ (q n repeats : ℕ) (secrets vectors permutations salts challenges : Bytes) where
   abbrev answerOf : ℕ → Bytes
-  answerOf i = honestAnswer q n secrets (drawnFor n vectors permutations salts i) (getD challenges i 0)
+  answerOf i = honestAnswer q n secrets (drawnIn n vectors permutations salts i) (getD challenges i 0)
 
   pub record Answering (answers₀ : Bytes) (i at r-at p-at s-at : ℕ) (answers : Bytes) : Type 0 where
     pub placed : Placed n repeats i r-at p-at s-at
@@ -53,8 +51,7 @@ module _ (q n repeats : ℕ) (secrets vectors permutations salts challenges : By
         }
 
       pub answering-all : (i at r-at p-at s-at : ℕ) (answers : Bytes) → Answering answers₀ i at r-at p-at s-at answers → repeats ≤ i
-          → answers ≡ producedAnswers (parameters 2 n q 0 repeats [] [] []) 0 (materialOf secrets [] [] [] [] vectors permutations salts []) challenges
-      unfolding producedAnswers
+          → answers ≡ answersBytes q n repeats secrets vectors permutations salts challenges
       answering-all i at r-at p-at s-at answers r h =
           filled-all answerOf answers₀ answers i at repeats (r .written) (omega (arith, r .placed .within))
           (answers-long repeats (omega arith) ∙ ap (answersLength n) (take-all repeats challenges (omega arith)) ∙ sym room)

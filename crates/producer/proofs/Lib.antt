@@ -1,3 +1,3 @@
 pub mod Answering
 pub mod OpeningParts
-pub mod Restated
+pub mod Produced

@@ -1,6 +1,6 @@
 -- The opening, from the parts that are written one behind the other. Assumes nothing.
 use mathlib.Core.Path.{_≡_, refl, ap₂, _∙_}
-use mathlib.Core.List.{[], _++_, append-assoc}
+use mathlib.Core.List.{_++_, append-assoc}
 use Prim.Native.Nat.{ℕ, _+_, _*_, _<_}
 use native.Mathlib.Omega.{arith}
 use lib.ListN.{length, length-append}
@@ -10,8 +10,7 @@ use Rattle.ring.specs.Poly.{Poly}
 use Rattle.ring.specs.Slots.{coefficientBytes, poly}
 use Rattle.ring.specs.Ternary.{ternary}
 use Rattle.bgv.specs.Scheme.{other}
-use Rattle.transcript.specs.Method.{parameters}
-use Rattle.transcript.specs.Producer.{producedOpening, materialOf}
+use Rattle.transcript.specs.Producer.{openingBytes}
 use Rattle.transcript.proofs.Many.{stretch}
 use Rattle.message_head.proofs.HeadParts.{length-two}
 use Rattle.message_head.proofs.Joining.{two-whole}
@@ -32,12 +31,10 @@ opening-whole q n f g secrets d d1 d2 s-at e-at i l ls h es ee e1 e2 =
 module _ (q n : ℕ) (secrets s0 e0 : Bytes) (side : ℕ) where
   -- as the definition says it by sides
   pub opening-lent : side ≡ 0 → coefficientBytes q n (poly s0) ++ (coefficientBytes q n (poly e0) ++ (part secrets (2 * n + 3 * n * 0) (3 * n) ++ part secrets (8 * n + 3 * n * 0) (3 * n)))
-      ≡ producedOpening (parameters 2 n q 0 0 [] [] []) 0 (materialOf secrets s0 e0 [] [] [] [] [] []) side
-  unfolding producedOpening
+      ≡ openingBytes q n secrets s0 e0 side
   opening-lent e = rw e refl
 
   pub opening-other : side ≡ 1
       → coefficientBytes q n (other q (ternary q (part secrets 0 n)) (poly s0)) ++ (coefficientBytes q n (other q (ternary q (part secrets n n)) (poly e0)) ++ (part secrets (2 * n + 3 * n * 1) (3 * n) ++ part secrets (8 * n + 3 * n * 1) (3 * n)))
-      ≡ producedOpening (parameters 2 n q 0 0 [] [] []) 0 (materialOf secrets s0 e0 [] [] [] [] [] []) side
-  unfolding producedOpening
+      ≡ openingBytes q n secrets s0 e0 side
   opening-other e = rw e refl

@@ -1,16 +1,23 @@
--- What the writing of a first message asks for: material that passed all tests, and room of right lengths. Assumes nothing.
+-- What the writing of a first message, and of an opening with answers, asks for: material that passed all tests, and room of right lengths. Assumes nothing.
 use mathlib.Core.Path.{_≡_}
-use Prim.Native.Nat.{ℕ, _*_, _≤_}
+use Prim.Native.Nat.{ℕ, _*_, _≤_, _<_}
 use lib.ListN.{length}
+use Rattle.codec.specs.Bytes.{Bytes}
 use Rattle.sheet_numbers.specs.declared.Numbers.{Numbers}
+use Rattle.sheet_numbers.specs.Usable.{Usable}
 use Rattle.call.specs.Call.{scratchLength, Polynomial}
-use Rattle.transcript.specs.Layout.{headLength}
+use Rattle.transcript.specs.Layout.{headLength, answersLength}
 use Rattle.transcript.specs.Producer.{Material}
-use Rattle.transcript.specs.Writes.{FirstRoom}
+use Rattle.transcript.specs.Writes.{FirstRoom, SecondRoom}
+use Rattle.lengths.specs.Calls.{countOf}
 use Rattle.message_head.specs.Method.{Drawings}
 use Rattle.message_shares.specs.Method.{Masked}
 
-module _ (k : Numbers) (m : ℕ) (x : Material) (room : FirstRoom) where
+module _ (k : Numbers) (x : Material) (room : FirstRoom) where
+  -- how many ballots are lent
+  abbrev m : ℕ
+  m = countOf (k .ring) (x .ballots)
+
   pub record FirstReady : Type 0 where
     pub few : m ≤ 4096
     pub s0 : Polynomial (k .ring) (k .modulus) (x .s0)
@@ -21,4 +28,16 @@ module _ (k : Numbers) (m : ℕ) (x : Material) (room : FirstRoom) where
     pub shares0 : length (room .shares0) ≡ 8 * k .ring * m
     pub shares1 : length (room .shares1) ≡ 8 * k .ring * m
     pub claims : length (room .claims) ≡ k .ring * m
+    pub scratch : length (room .scratch) ≡ scratchLength
+
+module _ (k : Numbers) (secrets s0 e0 vectors permutations salts : Bytes) (side : ℕ) (challenges : Bytes) (room : SecondRoom) where
+  pub record SecondReady : Type 0 where
+    pub numbers : Usable k
+    pub half-s : Polynomial (k .ring) (k .modulus) s0
+    pub half-e : Polynomial (k .ring) (k .modulus) e0
+    pub drawings : Drawings (k .modulus) (k .ring) (k .repeats) secrets vectors permutations salts
+    pub sided : side < 2
+    pub asked : length challenges ≡ k .repeats
+    pub opening : length (room .opening) ≡ 22 * k .ring
+    pub answers : length (room .answers) ≡ answersLength (k .ring) challenges
     pub scratch : length (room .scratch) ≡ scratchLength

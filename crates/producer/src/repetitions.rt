@@ -1,13 +1,14 @@
 // The answers to challenges, each repetition's in its own stretch of the lent buffer, end to end.
+use sheet_numbers::Numbers;
 ghost use mathlib.Core.Path.{_≡_};
-ghost use mathlib.Core.List.{[]};
 ghost use Prim.Native.Nat.{_+_, _*_, _≤_, _<_, _^_};
 ghost use lib.ListN.{length};
 ghost use Rattle.codec.specs.Bytes.{part, put};
+ghost use Rattle.codec.specs.Slices.{given, left};
+ghost use Rattle.sheet_numbers.specs.Usable.{Usable};
 ghost use Rattle.stern.specs.Shortness.{Material, drawnOf, answerLength, honestAnswer};
 ghost use Rattle.transcript.specs.Layout.{answersLength};
-ghost use Rattle.transcript.specs.Method.{parameters};
-ghost use Rattle.transcript.specs.Producer.{producedAnswers, materialOf};
+ghost use Rattle.transcript.specs.Producer.{answersBytes};
 ghost use Rattle.message_head.specs.Method.{Drawings};
 
 // One repetition, at places of what was drawn: its stretch of the buffer is lent on.
@@ -26,9 +27,14 @@ fn answer_at(
     n: usize,
     q: u64,
 )
-    requires { ⌜ (n ≤ 2048) × (3 ≤ q) × (q < 2 ^ 56) × (size ≡ answerLength n challenge) × (at + size ≤ length (now answers)) × (vector + 336 * n ≤ length (now vectors)) × (permutation + 168 * n ≤ length (now permutations)) × (salt + 96 ≤ length (now salts)) ⌝ }
-    requires { ⌜ Material q n (now secrets) (part (now vectors) vector (336 * n)) (part (now permutations) permutation (168 * n)) (part (now salts) salt 96) ⌝ }
-    ensures { λ _. ⌜ now (answers .exit) ≡ put (now (answers .entry)) at (honestAnswer q n (now (secrets .entry)) (drawnOf (part (now (permutations .entry)) permutation (168 * n)) (part (now (vectors .entry)) vector (336 * n)) (part (now (salts .entry)) salt 96)) challenge) ⌝ }
+    requires { ⌜ (n ≤ 2048) × (3 ≤ q) × (q < 2 ^ 56) × (size ≡ answerLength n challenge) × (at + size ≤ length (now answers))
+        × (vector + 336 * n ≤ length (now vectors)) × (permutation + 168 * n ≤ length (now permutations))
+        × (salt + 96 ≤ length (now salts))
+        × Material q n (now secrets) (part (now vectors) vector (336 * n)) (part (now permutations) permutation (168 * n))
+        (part (now salts) salt 96) ⌝ }
+    ensures { λ _. let drawn = drawnOf (part (given permutations) permutation (168 * n)) (part (given vectors) vector (336 * n))
+        (part (given salts) salt 96) in
+        ⌜ left answers ≡ put (given answers) at (honestAnswer q n (given secrets) drawn challenge) ⌝ }
 {
     answer_writing::write_answer(
         &mut answers[at..at + size],
@@ -45,18 +51,22 @@ fn answer_at(
 // Every repetition, in order.
 pub fn write_answers(
     answers: &mut [u8],
+    k: Numbers,
     challenges: &[u8],
     secrets: &[u8],
     vectors: &[u8],
     permutations: &[u8],
     salts: &[u8],
-    repeats: usize,
-    n: usize,
-    q: u64,
 )
-    requires { ⌜ (n ≤ 2048) × (3 ≤ q) × (q < 2 ^ 56) × (repeats ≤ 256) × Drawings q n repeats (now secrets) (now vectors) (now permutations) (now salts) × (length (now challenges) ≡ repeats) × (length (now answers) ≡ answersLength n (now challenges)) ⌝ }
-    ensures { λ _. ⌜ now (answers .exit) ≡ producedAnswers (parameters 2 n q 0 repeats [] [] []) 0 (materialOf (now (secrets .entry)) [] [] [] [] (now (vectors .entry)) (now (permutations .entry)) (now (salts .entry)) []) (now (challenges .entry)) ⌝ }
+    requires { ⌜ Usable k × Drawings (k .modulus) (k .ring) (k .repeats) (now secrets) (now vectors) (now permutations) (now salts)
+        × (length (now challenges) ≡ k .repeats) × (length (now answers) ≡ answersLength (k .ring) (now challenges)) ⌝ }
+    ensures { λ _. let drawn = answersBytes (k .modulus) (k .ring) (k .repeats) (given secrets) (given vectors) (given permutations)
+        (given salts) in
+        ⌜ left answers ≡ drawn (given challenges) ⌝ }
 {
+    let n = k.ring as usize;
+    let q = k.modulus;
+    let repeats = k.repeats as usize;
     let mut i = 0;
     let mut at = 0;
     let mut vector = 0;

@@ -15,8 +15,7 @@ use Rattle.call.proofs.Lent.{lent}
 use Rattle.transcript.specs.Round.{Parameters}
 use Rattle.transcript.specs.Sheets.{parameters}
 use Rattle.transcript.specs.Producer.{Material}
-use Rattle.transcript.specs.Writes.{FirstRoom, firstRoom}
-use Rattle.lengths.specs.Calls.{SecondRoom, secondRoom}
+use Rattle.transcript.specs.Writes.{FirstRoom, firstRoom, SecondRoom, secondRoom}
 use Rattle.lengths.proofs.OverSheet.{parameters-are, over, refused-over}
 use Rattle.rounds.specs.First.{FirstWritten}
 use Rattle.rounds.specs.Second.{SecondWritten}
@@ -25,21 +24,18 @@ use Rattle.round_calls.specs.Replies.{firstReply, FirstCalled, secondRep
 -- ---- the sheet is taken
 
 module _ (text : Bytes) {public : Bytes} {s : Reading} {k : Numbers} (load : (s ≡ reading text) × (public ≡ loaded text (replicate 81920 0))) (e : s ≡ Taken k) (x : Material) where
-  pub first-over : (before : FirstRoom) {after : FirstRoom} {r : Reply} {w : Bytes} → FirstWritten (parameters k public) x before r after → w ≡ swept r (after .scratch)
-      → FirstCalled text x before r (firstRoom (after .head) (after .shares0) (after .shares1) (after .claims) w)
+  pub first-over : (before : FirstRoom) {after : FirstRoom} {r : Reply} → FirstWritten (parameters k public) x before r after → FirstCalled text x before r after
   unfolding firstReply
-  first-over before {after} {r} f z =
+  first-over before {after} {r} f =
       let g = subst (λ (P : Parameters). FirstWritten P x before r after) (parameters-are text load e) f in
-      let l = g .left in
-      record { replied = over text _ (lent text load e .said) (g .replied); left = record { head = l .head; shares0 = l .shares0; shares1 = l .shares1; claims = l .claims }; cleared = z ∙ g .cleared }
+      record { replied = over text _ (lent text load e .said) (g .replied); left = g .left; cleared = g .cleared }
 
-  pub second-over : (side : ℕ) (challenges : Bytes) (before : SecondRoom) {after : SecondRoom} {r : Reply} {w : Bytes} → SecondWritten (parameters k public) x side challenges before r after → w ≡ swept r (after .scratch)
-      → SecondCalled text x side challenges before r (secondRoom (after .opening) (after .answers) w)
+  pub second-over : (side : ℕ) (challenges : Bytes) (before : SecondRoom) {after : SecondRoom} {r : Reply} → SecondWritten (parameters k public) x side challenges before r after
+      → SecondCalled text x side challenges before r after
   unfolding secondReply
-  second-over side challenges before {after} {r} f z =
+  second-over side challenges before {after} {r} f =
       let g = subst (λ (P : Parameters). SecondWritten P x side challenges before r after) (parameters-are text load e) f in
-      let l = g .left in
-      record { replied = over text _ (lent text load e .said) (g .replied); left = record { opening = l .opening; answers = l .answers }; cleared = z ∙ g .cleared }
+      record { replied = over text _ (lent text load e .said) (g .replied); left = g .left; cleared = g .cleared }
 
 -- ---- it is refused
 

@@ -9,8 +9,8 @@ use Rattle.codec.specs.declared.Reply.{Reply}
 use Rattle.sheet.specs.Sheet.{order}
 use Rattle.call.specs.Call.{swept}
 use Rattle.transcript.specs.Producer.{Material}
-use Rattle.transcript.specs.Writes.{FirstRoom}
-use Rattle.lengths.specs.Calls.{SecondRoom, firstTests, secondTests}
+use Rattle.transcript.specs.Writes.{FirstRoom, SecondRoom}
+use Rattle.lengths.specs.Calls.{firstTests, secondTests}
 use Rattle.lengths.specs.Sheets.{parametersOf}
 use Rattle.rounds.specs.First.{FirstLeft}
 use Rattle.rounds.specs.Second.{SecondLeft}

@@ -1,5 +1,6 @@
-// The producer's two calls over the sheet and lent bytes (document 01, "One round"). p is 2.
-ghost use Rattle.rounds.specs.Lent.{materialIn, firstIn, firstOut, secondIn, secondOut};
+// The producer's two calls over the sheet and lent bytes (document 01, "One round").
+ghost use Rattle.codec.specs.Slices.{given};
+ghost use Rattle.transcript.specs.Lent.{materialIn, firstIn, firstOut, secondIn, secondOut};
 ghost use Rattle.round_calls.specs.Replies.{FirstCalled, SecondCalled};
 
 // Writes the first message and the claims.
@@ -20,13 +21,15 @@ pub fn produce_first(
     claims: &mut [u8],
     scratch: &mut [u8],
 ) -> codec::Reply
-    ensures { λ reply. let x = materialIn secrets s0 e0 masks0 masks1 vectors permutations salts ballots in let before = firstIn head shares0 shares1 claims scratch in let after = firstOut head shares0 shares1 claims scratch in ⌜ FirstCalled (now (sheet .entry)) x before reply after ⌝ }
+    ensures { λ reply. let x = materialIn secrets s0 e0 masks0 masks1 vectors permutations salts ballots in
+        let before = firstIn head shares0 shares1 claims scratch in let after = firstOut head shares0 shares1 claims scratch in
+        ⌜ FirstCalled (given sheet) x before reply after ⌝ }
 {
     let mut public = [0u8; 81920];
     let reading = sheet::load(sheet, &mut public);
     match reading {
         sheet::Reading::Taken(k) => {
-            let reply = rounds::producing::produce_first(
+            rounds::producing::produce_first(
                 k,
                 &public,
                 secrets,
@@ -43,9 +46,7 @@ pub fn produce_first(
                 shares1,
                 claims,
                 scratch,
-            );
-            call::sweep(reply, scratch);
-            reply
+            )
         }
         sheet::Reading::Refused { number } => {
             let reply = codec::Reply::Refused { number, place: 0 };
@@ -73,13 +74,15 @@ pub fn produce_second(
     answers: &mut [u8],
     scratch: &mut [u8],
 ) -> codec::Reply
-    ensures { λ reply. let x = materialIn secrets s0 e0 masks0 masks1 vectors permutations salts ballots in let before = secondIn opening answers scratch in let after = secondOut opening answers scratch in ⌜ SecondCalled (now (sheet .entry)) x side (now (challenges .entry)) before reply after ⌝ }
+    ensures { λ reply. let x = materialIn secrets s0 e0 masks0 masks1 vectors permutations salts ballots in
+        let before = secondIn opening answers scratch in let after = secondOut opening answers scratch in
+        ⌜ SecondCalled (given sheet) x side (given challenges) before reply after ⌝ }
 {
     let mut public = [0u8; 81920];
     let reading = sheet::load(sheet, &mut public);
     match reading {
         sheet::Reading::Taken(k) => {
-            let reply = rounds::producing::produce_second(
+            rounds::producing::produce_second(
                 k,
                 &public,
                 secrets,
@@ -96,9 +99,7 @@ pub fn produce_second(
                 opening,
                 answers,
                 scratch,
-            );
-            call::sweep(reply, scratch);
-            reply
+            )
         }
         sheet::Reading::Refused { number } => {
             let reply = codec::Reply::Refused { number, place: 0 };

@@ -23,4 +23,4 @@ module _ (P : Parameters) (x : Material) (before : FirstRoom) (reply : Reply) (a
   pub record FirstWritten : Type 0 where
     pub replied : reply ≡ first (firstTests P x before)
     pub left : FirstLeft
-    pub cleared : swept reply (after .scratch) ≡ swept reply (before .scratch)
+    pub cleared : after .scratch ≡ swept reply (before .scratch)

@@ -1,4 +1,3 @@
-pub mod Lent
 pub mod Tested
 pub mod First
 pub mod Second

@@ -7,7 +7,8 @@ use Rattle.codec.specs.declared.Reply.{Reply}
 use Rattle.call.specs.Call.{swept}
 use Rattle.transcript.specs.Round.{Parameters}
 use Rattle.transcript.specs.Producer.{Material, producedOpening, producedAnswers}
-use Rattle.lengths.specs.Calls.{SecondRoom, countOf, secondTests}
+use Rattle.transcript.specs.Writes.{SecondRoom}
+use Rattle.lengths.specs.Calls.{countOf, secondTests}
 
 module _ (P : Parameters) (x : Material) (side : ℕ) (challenges : Bytes) (before : SecondRoom) (reply : Reply) (after : SecondRoom) where
   abbrev m : ℕ
@@ -21,4 +22,4 @@ module _ (P : Parameters) (x : Material) (side : ℕ) (challenges : Bytes) (befo
   pub record SecondWritten : Type 0 where
     pub replied : reply ≡ first (secondTests P x side challenges before)
     pub left : SecondLeft
-    pub cleared : swept reply (after .scratch) ≡ swept reply (before .scratch)
+    pub cleared : after .scratch ≡ swept reply (before .scratch)

@@ -7,10 +7,11 @@ use lengths::material_sized;
 use lengths::refused;
 use lengths::second_sized;
 use sheet_numbers::Numbers;
+ghost use Rattle.codec.specs.Slices.{given, left};
 ghost use Rattle.commitment.specs.Loaded.{Loaded};
 ghost use Rattle.transcript.specs.Sheets.{parameters};
 ghost use Rattle.lengths.specs.Calls.{firstTests, secondTests};
-ghost use Rattle.rounds.specs.Lent.{materialIn, firstIn, secondIn};
+ghost use Rattle.transcript.specs.Lent.{materialIn, firstIn, secondIn};
 ghost use Rattle.rounds.specs.Tested.{Tested};
 
 // What the first call refuses: 1, and then what the material is refused for.
@@ -33,15 +34,16 @@ pub fn first_tests(
     scratch: &mut [u8],
 ) -> Reply
     requires { ⌜ Loaded k (now public) ⌝ }
-    ensures { λ reply. let x = materialIn secrets s0 e0 masks0 masks1 vectors permutations salts ballots in let room = firstIn head shares0 shares1 claims scratch in ⌜ Tested (firstTests (parameters k (now (public .entry))) x room) reply (now (scratch .entry)) (now (scratch .exit)) ⌝ }
+    ensures { λ reply. let x = materialIn secrets s0 e0 masks0 masks1 vectors permutations salts ballots in
+        let room = firstIn head shares0 shares1 claims scratch in
+        ⌜ Tested (firstTests (parameters k (given public)) x room) reply (given scratch) (left scratch) ⌝ }
 {
-    let n = k.ring as usize;
-    let repeats = k.repeats as usize;
-    let count = count_of(ballots, n);
+    let count = count_of(ballots, k.ring as usize);
     if count > 4096 {
         return refused();
     }
     if !material_sized(
+        k,
         secrets,
         s0,
         e0,
@@ -52,12 +54,10 @@ pub fn first_tests(
         salts,
         ballots,
         count,
-        repeats,
-        n,
     ) {
         return refused();
     }
-    if !first_sized(head, shares0, shares1, claims, scratch, count, repeats, n) {
+    if !first_sized(k, head, shares0, shares1, claims, scratch, count) {
         return refused();
     }
     material::test_material(
@@ -70,6 +70,7 @@ pub fn first_tests(
         masks1,
         vectors,
         permutations,
+        salts,
         ballots,
         count,
         true,
@@ -97,7 +98,9 @@ pub fn second_tests(
     scratch: &mut [u8],
 ) -> Reply
     requires { ⌜ Loaded k (now public) ⌝ }
-    ensures { λ reply. let x = materialIn secrets s0 e0 masks0 masks1 vectors permutations salts ballots in let room = secondIn opening answers scratch in ⌜ Tested (secondTests (parameters k (now (public .entry))) x side (now (challenges .entry)) room) reply (now (scratch .entry)) (now (scratch .exit)) ⌝ }
+    ensures { λ reply. let x = materialIn secrets s0 e0 masks0 masks1 vectors permutations salts ballots in
+        let tests = secondTests (parameters k (given public)) x side (given challenges) (secondIn opening answers scratch) in
+        ⌜ Tested tests reply (given scratch) (left scratch) ⌝ }
 {
     let n = k.ring as usize;
     let repeats = k.repeats as usize;
@@ -106,6 +109,7 @@ pub fn second_tests(
         return refused();
     }
     if !material_sized(
+        k,
         secrets,
         s0,
         e0,
@@ -116,8 +120,6 @@ pub fn second_tests(
         salts,
         ballots,
         count,
-        repeats,
-        n,
     ) {
         return refused();
     }
@@ -135,6 +137,7 @@ pub fn second_tests(
         masks1,
         vectors,
         permutations,
+        salts,
         ballots,
         count,
         asked,

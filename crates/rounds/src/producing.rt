@@ -2,11 +2,11 @@
 use crate::orders::first_tests;
 use crate::orders::second_tests;
 use codec::Reply;
-use lengths::count_of;
 use sheet_numbers::Numbers;
+ghost use Rattle.codec.specs.Slices.{given};
 ghost use Rattle.commitment.specs.Loaded.{Loaded};
 ghost use Rattle.transcript.specs.Sheets.{parameters};
-ghost use Rattle.rounds.specs.Lent.{materialIn, firstIn, firstOut, secondIn, secondOut};
+ghost use Rattle.transcript.specs.Lent.{materialIn, firstIn, firstOut, secondIn, secondOut};
 ghost use Rattle.rounds.specs.First.{FirstWritten};
 ghost use Rattle.rounds.specs.Second.{SecondWritten};
 
@@ -30,7 +30,9 @@ pub fn produce_first(
     scratch: &mut [u8],
 ) -> Reply
     requires { ⌜ Loaded k (now public) ⌝ }
-    ensures { λ reply. let x = materialIn secrets s0 e0 masks0 masks1 vectors permutations salts ballots in let before = firstIn head shares0 shares1 claims scratch in let after = firstOut head shares0 shares1 claims scratch in ⌜ FirstWritten (parameters k (now (public .entry))) x before reply after ⌝ }
+    ensures { λ reply. let x = materialIn secrets s0 e0 masks0 masks1 vectors permutations salts ballots in
+        let before = firstIn head shares0 shares1 claims scratch in let after = firstOut head shares0 shares1 claims scratch in
+        ⌜ FirstWritten (parameters k (given public)) x before reply after ⌝ }
 {
     let reply = first_tests(
         k,
@@ -52,7 +54,6 @@ pub fn produce_first(
     );
     match reply {
         Reply::Taken => {
-            let count = count_of(ballots, k.ring as usize);
             producer::write_first(
                 k,
                 public,
@@ -65,7 +66,6 @@ pub fn produce_first(
                 permutations,
                 salts,
                 ballots,
-                count,
                 head,
                 shares0,
                 shares1,
@@ -101,7 +101,9 @@ pub fn produce_second(
     scratch: &mut [u8],
 ) -> Reply
     requires { ⌜ Loaded k (now public) ⌝ }
-    ensures { λ reply. let x = materialIn secrets s0 e0 masks0 masks1 vectors permutations salts ballots in let before = secondIn opening answers scratch in let after = secondOut opening answers scratch in ⌜ SecondWritten (parameters k (now (public .entry))) x side (now (challenges .entry)) before reply after ⌝ }
+    ensures { λ reply. let x = materialIn secrets s0 e0 masks0 masks1 vectors permutations salts ballots in
+        let before = secondIn opening answers scratch in let after = secondOut opening answers scratch in
+        ⌜ SecondWritten (parameters k (given public)) x side (given challenges) before reply after ⌝ }
 {
     let reply = second_tests(
         k,
@@ -124,7 +126,7 @@ pub fn produce_second(
     match reply {
         Reply::Taken => {
             producer::write_second(
-                scratch,
+                k,
                 secrets,
                 s0,
                 e0,
@@ -135,9 +137,7 @@ pub fn produce_second(
                 challenges,
                 opening,
                 answers,
-                k.repeats as usize,
-                k.ring as usize,
-                k.modulus,
+                scratch,
             );
         }
         Reply::Refused {

@@ -31,7 +31,7 @@ use Rattle.stern.specs.Claims.{Split}
 use Rattle.stern.proofs.Honest.{honest-range, honest-none}
 use Rattle.transcript.specs.Layout.{Opening, each, uAt, vAt, shareAt, claimAt, pairsOf, pairAt, digestsAt, openingOf, answerAt}
 use Rattle.transcript.specs.Round.{Parameters, Round, challengeAt, sharesOf, openingRanged, headRanged, answersRanged, ranged, splits, opensKey, opensPairs, maskTest, claimTest, roundTests}
-use Rattle.transcript.specs.Producer.{Material, Sized, secret-s, secret-e, half-s, half-e, hides-s, hides-e, maskAt, permutationAt, drawnAt, pairBytesOf, producerTests, producedPairs, producedHead, producedShares, producedClaims, producedOpening, producedAnswers, producedRound}
+use Rattle.transcript.specs.Producer.{Material, Sized, secret-s, secret-e, half-s, half-e, hides-s, hides-e, maskAt, permutationAt, drawnAt, pairBytesOf, producerTests, pairsBytes, producedPairs, producedHead, producedShares, producedClaims, producedOpening, producedAnswers, producedRound}
 use Rattle.transcript.specs.Suitable.{Suitable}
 use Rattle.transcript.proofs.Many.{none-append, each-none, stretch}
 use Rattle.transcript.proofs.Written.{Coefficients, below-append, below-joined, below-part, ranged-first, coefficients-written, coefficients-append, coefficients-joined, coefficients-vector, coefficients-part}
@@ -72,7 +72,7 @@ module _ (P : Parameters) (m : ℕ) (x : Material) where
     pair-below c = coefficients-append (coefficientBytes q N (c .one)) (coefficientBytes q N (c .two)) (written-below (c .one)) (written-below (c .two))
 
     pairs-below : Coefficients q ((N + N) + ((N + N) + ((N + N) + (N + N)))) (producedPairs P m x)
-    unfolding producedPairs
+    unfolding pairsBytes
     pairs-below =
         coefficients-append _ _ (pair-below _) (coefficients-append _ _ (pair-below _) (coefficients-append _ _ (pair-below _) (pair-below _)))
 
@@ -141,7 +141,7 @@ module _ (P : Parameters) (m : ℕ) (x : Material) where
         below = secrets-below;
         adds-s = halves (secret-s P m x) (poly (x .s0)) positive;
         adds-e = halves (secret-e P m x) (poly (x .e0)) positive;
-        pairs = pairs-written P m x ∙ (unfold producedPairs in
+        pairs = pairs-written P m x ∙ (unfold pairsBytes in
             ap₂ _++_ (at (2 * N + 3 * N * 0) (2 * N) (half-s P m x 0) (omega arith))
             (ap₂ _++_ (at (2 * N + 3 * N * 1) (5 * N) (half-s P m x 1) (omega arith))
             (ap₂ _++_ (at (8 * N + 3 * N * 0) (8 * N) (half-e P m x 0) (omega arith)) (at (8 * N + 3 * N * 1) (11 * N) (half-e P m x 1) (omega arith)))));

@@ -58,8 +58,11 @@ module _ (P : Parameters) (m : ℕ) (x : Material) where
 
   -- ---- 5
 
-  ranges-say : materialRanged P m x ≡ true → (EachBelow 3 (x .secrets) × Below q N (poly (x .s0)) × Below q N (poly (x .e0)) × EachBelow q (vector (x .vectors)) × BallotsRanged P m (x .ballots))
-  unfolding materialRanged
+  abbrev in-range : Bool
+  in-range = materialRanged q N m (x .secrets) (x .s0) (x .e0) (x .vectors) (x .ballots)
+
+  ranges-say : in-range ≡ true → (EachBelow 3 (x .secrets) × Below q N (poly (x .s0)) × Below q N (poly (x .e0)) × EachBelow q (vector (x .vectors)) × BallotsRanged P m (x .ballots))
+  unfolding ballotsRanged
   ranges-say e =
       let r = both (allBelow 3 (x .secrets)) _ e in
       let s = both (allBelow q (list N (poly (x .s0)))) _ (r .1) in
@@ -72,8 +75,8 @@ module _ (P : Parameters) (m : ℕ) (x : Material) where
         ballots-exactly P m (x .ballots) .0 (u .1),
       )
 
-  ranges-hold : Suitable P m x → materialRanged P m x ≡ true
-  unfolding materialRanged
+  ranges-hold : Suitable P m x → in-range ≡ true
+  unfolding ballotsRanged
   ranges-hold f =
       ap₂ _&&_ (each-exactly 3 (x .secrets) .1 (f .ternary))
       (ap₂ _&&_ (below-complete q N (poly (x .s0)) (f .s0))
@@ -88,7 +91,7 @@ module _ (P : Parameters) (m : ℕ) (x : Material) where
     suits none =
         let r = append-none (each m mask-test) _ (none .1 .1) in
         let s = append-none (each repeats permutation-test) (each m noise-test) (r .1) in
-        let range = ranges-say (not-false (materialRanged P m x) (none .0)) in
+        let range = ranges-say (not-false in-range (none .0)) in
         record {
           ternary = range .0;
           s0 = range .1;
@@ -140,7 +143,7 @@ module _ (P : Parameters) (m : ℕ) (x : Material) where
 
       asked-first : (asked : Bool) → None (producerTests P m x asked) → (asked ≡ true) × None (producerTests P m x true)
       unfolding producerTests
-      asked-first asked none = let r = both asked (materialRanged P m x) (not-false _ (none .0)) in (r .0, (ap not (r .1), none .1))
+      asked-first asked none = let r = both asked in-range (not-false _ (none .0)) in (r .0, (ap not (r .1), none .1))
 
       pub second-exactly : None (producerTests P m x (askedRanged P m x side challenges)) ↔ (Asked P m x side challenges × Suitable P m x)
       second-exactly = (

@@ -21,7 +21,7 @@ use Rattle.stern.proofs.Layouts.{four-read}
 use Rattle.stern.proofs.Honest.{length-pairBytes, slot-alike}
 use Rattle.transcript.specs.Layout.{joined, headLength, uAt, vAt, shareAt, claimAt, keyAt, pairsOf, pairAt, digestsAt, openingOf, answersLength, answerAt}
 use Rattle.transcript.specs.Round.{Parameters}
-use Rattle.transcript.specs.Producer.{Material, Sized, secret-s, half-s, half-e, hides-s, hides-e, maskAt, permutationAt, drawnAt, pairBytesOf, producedPairs, producedHead, producedShares, producedClaims, producedOpening, producedAnswers}
+use Rattle.transcript.specs.Producer.{Material, Sized, secret-s, half-s, half-e, hides-s, hides-e, maskAt, permutationAt, drawnAt, pairBytesOf, pairsBytes, producedPairs, producedHead, producedShares, producedClaims, producedOpening, producedAnswers}
 use Rattle.transcript.proofs.Many.{stretch, length-joined, joined-at}
 use Rattle.transcript.proofs.Written.{octets-encode, octets-joined}
 use Rattle.transcript.proofs.Answers.{length-answers, answers-at, length-honestAnswer}
@@ -51,7 +51,7 @@ module _ (P : Parameters) (m : ℕ) (x : Material) where
   pair-e side = pairBytesOf P m x (hides-e P m x side) (half-e P m x side)
 
   pairs-sized : length (producedPairs P m x) ≡ 64 * N
-  unfolding producedPairs
+  unfolding pairsBytes
   pairs-sized = simp (length-append, length-pairBytes) (omega arith)
 
   head-read : (part (producedHead P m x) 0 (8 * N) ≡ coefficientBytes q N (keyOf 0)) × (part (producedHead P m x) (8 * N) (8 * N) ≡ coefficientBytes q N (keyOf 1))
@@ -76,7 +76,7 @@ module _ (P : Parameters) (m : ℕ) (x : Material) where
 
   pairs-read : (part (producedPairs P m x) 0 (16 * N) ≡ pair-s 0) × (part (producedPairs P m x) (16 * N) (16 * N) ≡ pair-s 1)
       × (part (producedPairs P m x) (32 * N) (16 * N) ≡ pair-e 0) × (part (producedPairs P m x) (48 * N) (16 * N) ≡ pair-e 1)
-  unfolding producedPairs
+  unfolding pairsBytes
   pairs-read =
       four-read (16 * N) (16 * N) (16 * N) (16 * N) (32 * N) (48 * N) (omega arith) (omega arith) (pair-s 0) (pair-s 1) (pair-e 0) (pair-e 1)
       (length-pairBytes q N _) (length-pairBytes q N _) (length-pairBytes q N _) (length-pairBytes q N _)
@@ -107,7 +107,7 @@ module _ (P : Parameters) (m : ℕ) (x : Material) where
   octets-pair c = octets-append (coefficientBytes q N (c .one)) (coefficientBytes q N (c .two)) (octets-encode N _) (octets-encode N _)
 
   octets-pairs : Octets (producedPairs P m x)
-  unfolding producedPairs
+  unfolding pairsBytes
   octets-pairs =
       octets-append (pair-s 0) (pair-s 1 ++ (pair-e 0 ++ pair-e 1)) (octets-pair _)
       (octets-append (pair-s 1) (pair-e 0 ++ pair-e 1) (octets-pair _) (octets-append (pair-e 0) (pair-e 1) (octets-pair _) (octets-pair _)))

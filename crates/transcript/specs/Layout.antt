@@ -1,9 +1,11 @@
 -- Where the parts of a round stand (document 01, "Layouts"), with N as a parameter. Numbers count from 0. Assumes nothing.
+use mathlib.Core.Bool.{Bool}
 use mathlib.Core.List.{List, [], _∷_, _++_}
 use Prim.Native.Nat.{ℕ, zero, suc, _+_, _*_}
 use lib.ListN.{getD, take}
 use Rattle.codec.specs.Bytes.{Bytes, part}
 use Rattle.codec.specs.Reply.{Test}
+use Rattle.codec.specs.Lists.{list, allBelow, all}
 use Rattle.ring.specs.Poly.{Poly}
 use Rattle.ring.specs.Slots.{slot}
 use Rattle.stern.specs.Shortness.{answerLength}
@@ -30,6 +32,10 @@ uAt N ballots j = slot ballots (ballotLength N * j + 4)
 
 abbrev pub vAt : ℕ → Bytes → ℕ → Poly
 vAt N ballots j = slot ballots (ballotLength N * j + 4 + 8 * N)
+
+-- u and v of m ballots are below q
+abbrev pub ballotsBelow : (q N m : ℕ) (ballots : Bytes) → Bool
+ballotsBelow q N m ballots = all m (λ j. allBelow q (list (2 * N) (uAt N ballots j)))
 
 -- a side's share of ballot j, and its claim
 abbrev pub shareAt : ℕ → Bytes → ℕ → Poly

@@ -5,6 +5,7 @@ pub mod Method
 pub mod Sheets
 pub mod Producer
 pub mod Writes
+pub mod Lent
 pub mod Suitable
 pub mod Extractor
 pub mod Refuses

@@ -13,13 +13,13 @@ use Rattle.ring.specs.Poly.{Poly}
 use Rattle.ring.specs.Slots.{coefficientBytes, poly}
 use Rattle.ring.specs.Ternary.{ternary}
 use Rattle.bgv.specs.Scheme.{centred, key, opened, decrypted, other, share, lentMask, within}
-use Rattle.commitment.specs.Commitment.{threeOf, committed, pairBytes}
+use Rattle.commitment.specs.Commitment.{Keys, threeOf, committed, pairBytes}
 use Rattle.vector.specs.Vector.{vector}
 use Rattle.vector.specs.Permutation.{entries, permutes}
 use Rattle.stern.specs.Argument.{Drawn}
 use Rattle.stern.specs.Shortness.{drawnOf, honestDigests, honestAnswer}
-use Rattle.transcript.specs.Layout.{each, joined, ballotLength, uAt, vAt}
-use Rattle.transcript.specs.Round.{Parameters, Round, isChallenge, ballotsRanged}
+use Rattle.transcript.specs.Layout.{each, joined, ballotLength, uAt, vAt, ballotsBelow}
+use Rattle.transcript.specs.Round.{Parameters, Round, isChallenge}
 
 -- what both calls are lent: s, e and the three r of s0, of s1, of e0, of e1 in ternary bytes; s0, e0; E of both sides; every R, P and salt; the ballots
 pub record Material : Type 0 where
@@ -47,30 +47,142 @@ materialOf secrets s0 e0 masks0 masks1 vectors permutations salts ballots = reco
   ballots = ballots;
 }
 
+-- ---- what stands in the material, each part over the slices that it is read from
+
+-- the half of a secret by side, from its ternary bytes and its half 0
+abbrev pub halfOf : (q : ℕ) (secret half : Bytes) → ℕ → Poly
+halfOf q secret half zero = poly half
+halfOf q secret half (suc i) = other q (ternary q secret) (poly half)
+
+module _ (N : ℕ) where
+  -- s and e, in ternary bytes
+  abbrev pub sIn : (secrets : Bytes) → Bytes
+  sIn secrets = part secrets 0 N
+
+  abbrev pub eIn : (secrets : Bytes) → Bytes
+  eIn secrets = part secrets N N
+
+  -- the three r of s_i and of e_i, in ternary bytes
+  abbrev pub hidesSIn : (secrets : Bytes) → ℕ → Bytes
+  hidesSIn secrets i = part secrets (2 * N + 3 * N * i) (3 * N)
+
+  abbrev pub hidesEIn : (secrets : Bytes) → ℕ → Bytes
+  hidesEIn secrets i = part secrets (8 * N + 3 * N * i) (3 * N)
+
+  -- E of one side for ballot j
+  abbrev pub maskIn : (masks : Bytes) → ℕ → Bytes
+  maskIn masks j = part masks (8 * N * j) (8 * N)
+
+  -- what is drawn for repetition i
+  abbrev pub permutationIn : (permutations : Bytes) → ℕ → Bytes
+  permutationIn permutations i = part permutations (168 * N * i) (168 * N)
+
+  abbrev pub drawnIn : (vectors permutations salts : Bytes) → ℕ → Drawn
+  drawnIn vectors permutations salts i = drawnOf (permutationIn permutations i) (part vectors (336 * N * i) (336 * N)) (part salts (96 * i) 96)
+
+-- ---- the order after the lengths, 5, 14, 12, 9, 15, in stretches over what they read
+
+-- 5: ternary bytes, and coefficients below q
+abbrev pub materialRanged : (q N m : ℕ) (secrets s0 e0 vectors ballots : Bytes) → Bool
+materialRanged q N m secrets s0 e0 vectors ballots =
+    allBelow 3 secrets
+    && (allBelow q (list N (poly s0))
+    && (allBelow q (list N (poly e0))
+    && (allBelow q (vector vectors)
+    && ballotsBelow q N m ballots)))
+
+-- 14: a s + p e is b
+abbrev pub keyMatches : (P : Parameters) (secrets : Bytes) → Bool
+keyMatches P secrets =
+    same (coefficientBytes (P .q) (P .N) (key (P .q) (P .N) (P .p) (P .a) (ternary (P .q) (sIn (P .N) secrets)) (ternary (P .q) (eIn (P .N) secrets)))) (coefficientBytes (P .q) (P .N) (P .b))
+
+-- 5 and 14. `asked` says whether what a call is given beside the material is in range; the first call is given nothing
+abbrev pub secretTests : (P : Parameters) (m : ℕ) (asked : Bool) (secrets s0 e0 vectors ballots : Bytes) → List Test
+secretTests P m asked secrets s0 e0 vectors ballots =
+    test 5 0 (not (asked && materialRanged (P .q) (P .N) m secrets s0 e0 vectors ballots)) ∷ test 14 0 (not (keyMatches P secrets)) ∷ []
+
+-- 12: every E is at most B in size, by ballot
+abbrev pub maskTests : (N B m : ℕ) (masks0 masks1 : Bytes) → List Test
+maskTests N B m masks0 masks1 = each m (λ j. test 12 j (not (within B N (lentMask (maskIn N masks0 j)) && within B N (lentMask (maskIn N masks1 j)))) ∷ [])
+
+-- 9: every P is a permutation, by repetition
+abbrev pub permutationTests : (N repeats : ℕ) (permutations : Bytes) → List Test
+permutationTests N repeats permutations = each repeats (λ i. test 9 i (not (permutes (42 * N) (entries (permutationIn N permutations i)))) ∷ [])
+
+-- 15: the noise, v - s u centred, is at most D in size, by ballot
+abbrev pub noiseTests : (q N D m : ℕ) (secrets ballots : Bytes) → List Test
+noiseTests q N D m secrets ballots =
+    each m (λ j. test 15 j (not (within D N (centred q (opened q N (ternary q (sIn N secrets)) (uAt N ballots j) (vAt N ballots j))))) ∷ [])
+
+-- ---- what is written, each part over the slices that it is made from
+
+-- a committed pair, with its three r in ternary bytes
+abbrev pub pairOf : (q N : ℕ) (k : Keys) (hides : Bytes) → Poly → Bytes
+pairOf q N k hides f = pairBytes q N (committed q N k (threeOf q N hides) f)
+
+module _ (q N : ℕ) (secrets s0 e0 : Bytes) where
+  -- the opening of a side
+  abbrev pub openingBytes : ℕ → Bytes
+  openingBytes side =
+      coefficientBytes q N (halfOf q (sIn N secrets) s0 side) ++ (coefficientBytes q N (halfOf q (eIn N secrets) e0 side) ++ (hidesSIn N secrets side ++ hidesEIn N secrets side))
+
+  -- the committed pairs of s0, s1, e0, e1
+  unfoldable pub pairsBytes : (k : Keys) → Bytes
+  pairsBytes k =
+      pairOf q N k (hidesSIn N secrets 0) (halfOf q (sIn N secrets) s0 0)
+      ++ (pairOf q N k (hidesSIn N secrets 1) (halfOf q (sIn N secrets) s0 1)
+      ++ (pairOf q N k (hidesEIn N secrets 0) (halfOf q (eIn N secrets) e0 0)
+      ++ pairOf q N k (hidesEIn N secrets 1) (halfOf q (eIn N secrets) e0 1)))
+
+  -- b_i
+  abbrev pub keyBytesOf : (p : ℕ) (a : Poly) → ℕ → Bytes
+  keyBytesOf p a side = coefficientBytes q N (key q N p a (halfOf q (sIn N secrets) s0 side) (halfOf q (eIn N secrets) e0 side))
+
+-- by repetition: the digests, and the answers to challenges
+module _ (q N repeats : ℕ) (secrets vectors permutations salts : Bytes) where
+  abbrev pub digestsBytes : (k : Keys) → Bytes
+  digestsBytes k = joined repeats (λ i. honestDigests q N k secrets (drawnIn N vectors permutations salts i))
+
+  abbrev pub answersBytes : (challenges : Bytes) → Bytes
+  answersBytes challenges = joined repeats (λ i. honestAnswer q N secrets (drawnIn N vectors permutations salts i) (getD challenges i 0))
+
+-- the whole head
+abbrev pub headBytes : (P : Parameters) (secrets s0 e0 vectors permutations salts : Bytes) → Bytes
+headBytes P secrets s0 e0 vectors permutations salts =
+    let b : ℕ → Bytes = keyBytesOf (P .q) (P .N) secrets s0 e0 (P .p) (P .a) in
+    b 0 ++ (b 1 ++ (pairsBytes (P .q) (P .N) secrets s0 e0 (P .k) ++ digestsBytes (P .q) (P .N) (P .repeats) secrets vectors permutations salts (P .k)))
+
+-- by ballot: the shares of a side, and the decrypted votes
+module _ (q N p m : ℕ) (secrets : Bytes) where
+  abbrev pub sharesBytes : (s0 masks ballots : Bytes) → ℕ → Bytes
+  sharesBytes s0 masks ballots side = joined m (λ j. coefficientBytes q N (share q N p (halfOf q (sIn N secrets) s0 side) (uAt N ballots j) (lentMask (maskIn N masks j))))
+
+  abbrev pub claimsBytes : (ballots : Bytes) → Bytes
+  claimsBytes ballots = joined m (λ j. list N (decrypted q N p (ternary q (sIn N secrets)) (uAt N ballots j) (vAt N ballots j)))
+
+-- ---- the same of the whole material, for the parameters of a sheet and m ballots
+
 module _ (P : Parameters) (m : ℕ) (x : Material) where
   open Parameters P using (q, N, p, B, D, repeats, a, b, k)
 
   -- the secret, and its halves by side
   abbrev pub secret-s : Poly
-  secret-s = ternary q (part (x .secrets) 0 N)
+  secret-s = ternary q (sIn N (x .secrets))
 
   abbrev pub secret-e : Poly
-  secret-e = ternary q (part (x .secrets) N N)
+  secret-e = ternary q (eIn N (x .secrets))
 
   abbrev pub half-s : ℕ → Poly
-  half-s zero = poly (x .s0)
-  half-s (suc i) = other q secret-s (poly (x .s0))
+  half-s = halfOf q (sIn N (x .secrets)) (x .s0)
 
   abbrev pub half-e : ℕ → Poly
-  half-e zero = poly (x .e0)
-  half-e (suc i) = other q secret-e (poly (x .e0))
+  half-e = halfOf q (eIn N (x .secrets)) (x .e0)
 
-  -- the three r of s_i and of e_i, in ternary bytes
   abbrev pub hides-s : ℕ → Bytes
-  hides-s i = part (x .secrets) (2 * N + 3 * N * i) (3 * N)
+  hides-s = hidesSIn N (x .secrets)
 
   abbrev pub hides-e : ℕ → Bytes
-  hides-e i = part (x .secrets) (8 * N + 3 * N * i) (3 * N)
+  hides-e = hidesEIn N (x .secrets)
 
   -- E of a side for ballot j
   abbrev pub masksOf : ℕ → Bytes
@@ -78,14 +190,14 @@ module _ (P : Parameters) (m : ℕ) (x : Material) where
   masksOf (suc i) = x .masks1
 
   abbrev pub maskAt : (side j : ℕ) → Bytes
-  maskAt side j = part (masksOf side) (8 * N * j) (8 * N)
+  maskAt side j = maskIn N (masksOf side) j
 
   -- what is drawn for repetition i
   abbrev pub permutationAt : ℕ → Bytes
-  permutationAt i = part (x .permutations) (168 * N * i) (168 * N)
+  permutationAt = permutationIn N (x .permutations)
 
   abbrev pub drawnAt : ℕ → Drawn
-  drawnAt i = drawnOf (permutationAt i) (part (x .vectors) (336 * N * i) (336 * N)) (part (x .salts) (96 * i) 96)
+  drawnAt = drawnIn N (x .vectors) (x .permutations) (x .salts)
 
   -- the lengths, which refusal 1 asks for
   pub record Sized : Type 0 where
@@ -99,59 +211,44 @@ module _ (P : Parameters) (m : ℕ) (x : Material) where
     pub salts : length (x .salts) ≡ 96 * repeats
     pub ballots : length (x .ballots) ≡ ballotLength N * m
 
-  -- ---- the order after the lengths: 5, 14, 12, 9, 15
-
-  unfoldable pub materialRanged : Bool
-  materialRanged =
-      allBelow 3 (x .secrets)
-      && (allBelow q (list N (poly (x .s0)))
-      && (allBelow q (list N (poly (x .e0)))
-      && (allBelow q (vector (x .vectors))
-      && ballotsRanged P m (x .ballots))))
+  -- ---- the order after the lengths
 
   -- the side and the challenges that the second call is given
   unfoldable pub askedRanged : (side : ℕ) (challenges : Bytes) → Bool
   askedRanged side challenges = ltb side 2 && all repeats (λ i. isChallenge (getD challenges i 0))
 
-  -- `asked` says whether what a call is given beside the material is in range; the first call is given nothing
   unfoldable pub producerTests : (asked : Bool) → List Test
   producerTests asked =
-      test 5 0 (not (asked && materialRanged))
-      ∷ test 14 0 (not (same (coefficientBytes q N (key q N p a secret-s secret-e)) (coefficientBytes q N b)))
-      ∷ (each m (λ j. test 12 j (not (within B N (lentMask (maskAt 0 j)) && within B N (lentMask (maskAt 1 j)))) ∷ [])
-      ++ (each repeats (λ i. test 9 i (not (permutes (42 * N) (entries (permutationAt i)))) ∷ [])
-      ++ each m (λ j. test 15 j (not (within D N (centred q (opened q N secret-s (uAt N (x .ballots) j) (vAt N (x .ballots) j))))) ∷ [])))
+      secretTests P m asked (x .secrets) (x .s0) (x .e0) (x .vectors) (x .ballots)
+      ++ (maskTests N B m (x .masks0) (x .masks1)
+      ++ (permutationTests N repeats (x .permutations)
+      ++ noiseTests q N D m (x .secrets) (x .ballots)))
 
   -- ---- the first call: the first message and the claims
 
   abbrev pub pairBytesOf : (hides : Bytes) → Poly → Bytes
-  pairBytesOf hides f = pairBytes q N (committed q N k (threeOf q N hides) f)
+  pairBytesOf = pairOf q N k
 
-  unfoldable pub producedPairs : Bytes
-  producedPairs =
-      pairBytesOf (hides-s 0) (half-s 0) ++ (pairBytesOf (hides-s 1) (half-s 1) ++ (pairBytesOf (hides-e 0) (half-e 0) ++ pairBytesOf (hides-e 1) (half-e 1)))
+  abbrev pub producedPairs : Bytes
+  producedPairs = pairsBytes q N (x .secrets) (x .s0) (x .e0) k
 
   unfoldable pub producedHead : Bytes
-  producedHead =
-      coefficientBytes q N (key q N p a (half-s 0) (half-e 0))
-      ++ (coefficientBytes q N (key q N p a (half-s 1) (half-e 1))
-      ++ (producedPairs
-      ++ joined repeats (λ i. honestDigests q N k (x .secrets) (drawnAt i))))
+  producedHead = headBytes P (x .secrets) (x .s0) (x .e0) (x .vectors) (x .permutations) (x .salts)
 
   unfoldable pub producedShares : ℕ → Bytes
-  producedShares side = joined m (λ j. coefficientBytes q N (share q N p (half-s side) (uAt N (x .ballots) j) (lentMask (maskAt side j))))
+  producedShares side = sharesBytes q N p m (x .secrets) (x .s0) (masksOf side) (x .ballots) side
 
   -- the decrypted votes
   unfoldable pub producedClaims : Bytes
-  producedClaims = joined m (λ j. list N (decrypted q N p secret-s (uAt N (x .ballots) j) (vAt N (x .ballots) j)))
+  producedClaims = claimsBytes q N p m (x .secrets) (x .ballots)
 
   -- ---- the second call: the opening of a side, and the answers to challenges
 
   unfoldable pub producedOpening : ℕ → Bytes
-  producedOpening side = coefficientBytes q N (half-s side) ++ (coefficientBytes q N (half-e side) ++ (hides-s side ++ hides-e side))
+  producedOpening = openingBytes q N (x .secrets) (x .s0) (x .e0)
 
   unfoldable pub producedAnswers : Bytes → Bytes
-  producedAnswers challenges = joined repeats (λ i. honestAnswer q N (x .secrets) (drawnAt i) (getD challenges i 0))
+  producedAnswers = answersBytes q N repeats (x .secrets) (x .vectors) (x .permutations) (x .salts)
 
   -- the round as a check is lent it
   abbrev pub producedRound : (side : ℕ) (challenges : Bytes) → Round

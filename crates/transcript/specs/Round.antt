@@ -16,7 +16,7 @@ use Rattle.commitment.specs.Commitment.{threeOf, opens}
 use Rattle.vector.specs.Vector.{vector}
 use Rattle.stern.specs.Shortness.{inRange, answerTests}
 pub use Rattle.commitment.specs.Parameters.{Parameters}
-use Rattle.transcript.specs.Layout.{Opening, each, ballotLength, uAt, vAt, shareAt, claimAt, headLength, keyAt, pairsOf, pairAt, digestsAt, openingOf, answersLength, answerAt}
+use Rattle.transcript.specs.Layout.{Opening, each, ballotLength, uAt, vAt, ballotsBelow, shareAt, claimAt, headLength, keyAt, pairsOf, pairAt, digestsAt, openingOf, answersLength, answerAt}
 
 -- what is lent to a check of one round
 pub record Round : Type 0 where
@@ -140,7 +140,7 @@ module _ (P : Parameters) (m : ℕ) where
   -- ---- 5: every coefficient, claim, ternary byte, side and challenge is in its range
 
   unfoldable pub ballotsRanged : Bytes → Bool
-  ballotsRanged ballots = all m (λ j. allBelow q (list (2 * N) (uAt N ballots j)))
+  ballotsRanged = ballotsBelow q N m
 
   unfoldable pub ranged : Round → Bool
   ranged r =

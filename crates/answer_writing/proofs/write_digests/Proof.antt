@@ -4,7 +4,7 @@ use Prim.Native.Nat.{ℕ, _+_, _*_}
 use native.Mathlib.Omega.{arith}
 use borrow.Author.Needs.{needs}
 use lib.ListN.{length}
-use Rattle.codec.specs.Bytes.{put}
+use Rattle.codec.specs.Bytes.{put, zeros}
 use Rattle.codec.proofs.Laws.{length-part}
 use Rattle.sha3.proofs.Squeezing.{length-sha3}
 use Rattle.vector.specs.Permutation.{entries}
@@ -48,12 +48,12 @@ copy-requires-3 c κs =
 
 returns : tie.Need-returns
 returns c =
-    let a = c .before .before .before .before .before .before .before .before .before .before .before .before .before .before .before .before .before .before .before .before .before .before .before .before .before .before .before .before .before .before .before .before .before .before .before .before .before .args in
-    let p = c .before .before .before .before .before .before .before .before .before .before .before .before .before .before .before .before .before .before .before .before .before .before .before .before .before .before .before .before .before .before .before .before .before .before .before .before .before .pre in (
-      three-at (a .out .now) (c .before .before .before .before .before .before .before .before .before .before .before .before .before .before .before .before .before .before .before .before .before .before .copy .last .0) (c .before .before .before .before .before .before .before .before .before .before .before .before .copy2 .last .0) _ _ _ _ (a .at) (p .2) (length-sha3 _) (length-sha3 _) (length-sha3 _)
-          (c .before .before .before .before .before .before .before .before .before .before .before .before .before .before .before .before .before .before .before .before .before .before .copy .ensures ∙ ap (put (a .out .now) (a .at)) (c .before .before .before .before .before .before .before .before .before .before .before .before .before .before .before .before .before .before .before .before .before .before .before .before .before .before .before .equations-digest .ensures .0)) (c .before .before .before .before .before .before .before .before .before .before .before .before .copy2 .ensures ∙ ap (put (c .before .before .before .before .before .before .before .before .before .before .before .before .before .before .before .before .before .before .before .before .before .before .copy .last .0) (a .at + 32)) (c .before .before .before .before .before .before .before .before .before .before .before .before .before .before .before .before .before .gathered-digest .ensures .0)) (c .before .before .copy3 .ensures ∙ ap (put (c .before .before .before .before .before .before .before .before .before .before .before .before .copy2 .last .0) (a .at + 64)) (c .before .before .before .before .before .before .before .masked-digest .ensures .0)),
-      c .before .before .before .before .before .before .before .masked-digest .ensures .1 ∙ c .before .before .before .before .before .before .before .before .before .before .before .before .before .before .before .before .before .gathered-digest .ensures .1 ∙ c .before .before .before .before .before .before .before .before .before .before .before .before .before .before .before .before .before .before .before .before .before .before .before .before .before .before .before .equations-digest .ensures .1,
+    let a = c .before .before .before .before .before .before .before .before .before .before .before .before .before .before .before .before .before .before .before .before .before .before .before .before .before .before .before .before .before .before .before .before .before .before .before .before .before .before .before .before .before .args in
+    let p = c .before .before .before .before .before .before .before .before .before .before .before .before .before .before .before .before .before .before .before .before .before .before .before .before .before .before .before .before .before .before .before .before .before .before .before .before .before .before .before .before .before .pre in (
+      three-at (a .out .now) (c .before .before .before .before .before .before .before .before .before .before .before .before .before .before .before .before .before .before .before .before .before .before .before .before .before .before .copy .last .0) (c .before .before .before .before .before .before .before .before .before .before .before .before .before .before .before .before .copy2 .last .0) _ _ _ _ (a .at) (p .2) (length-sha3 _) (length-sha3 _) (length-sha3 _)
+          (c .before .before .before .before .before .before .before .before .before .before .before .before .before .before .before .before .before .before .before .before .before .before .before .before .before .before .copy .ensures ∙ ap (put (a .out .now) (a .at)) (c .before .before .before .before .before .before .before .before .before .before .before .before .before .before .before .before .before .before .before .before .before .before .before .before .before .before .before .before .before .before .before .equations-digest .ensures .0)) (c .before .before .before .before .before .before .before .before .before .before .before .before .before .before .before .before .copy2 .ensures ∙ ap (put (c .before .before .before .before .before .before .before .before .before .before .before .before .before .before .before .before .before .before .before .before .before .before .before .before .before .before .copy .last .0) (a .at + 32)) (c .before .before .before .before .before .before .before .before .before .before .before .before .before .before .before .before .before .before .before .before .before .gathered-digest .ensures .0)) (c .before .before .before .before .before .before .copy3 .ensures ∙ ap (put (c .before .before .before .before .before .before .before .before .before .before .before .before .before .before .before .before .copy2 .last .0) (a .at + 64)) (c .before .before .before .before .before .before .before .before .before .before .before .masked-digest .ensures .0)),
+      c .before .before .wipe .ensures ∙ ap zeros (c .before .before .before .before .before .before .before .before .before .before .before .masked-digest .ensures .1 ∙ c .before .before .before .before .before .before .before .before .before .before .before .before .before .before .before .before .before .before .before .before .before .gathered-digest .ensures .1 ∙ c .before .before .before .before .before .before .before .before .before .before .before .before .before .before .before .before .before .before .before .before .before .before .before .before .before .before .before .before .before .before .before .equations-digest .ensures .1),
     )
 
 pub write-digests-spec : {M : Type 1} → statement M
-write-digests-spec = tie.close (tie.spec (λ c. omega arith) (λ c. omega arith) (λ c. omega arith) (λ c. omega arith) (λ c. omega arith) equations-digest-requires (λ c. omega arith) (λ c κs. search needs) (λ c. omega arith) (λ c. omega arith) (λ c. omega arith) gathered-digest-requires (λ c. omega arith) (λ c κs. search needs) (λ c. omega arith) (λ c. omega arith) part-masked-digest-end masked-digest-requires (λ c. omega arith) copy-requires-3 (λ c. c .before .out3 .given ∙ c .before .before .before .before .before .before .before .before .before .before .before .out2 .given ∙ c .before .before .before .before .before .before .before .before .before .before .before .before .before .before .before .before .before .before .before .before .before .out .given) (λ c. c .before .before .before .before .before .before .work3 .given ∙ c .before .before .before .before .before .before .before .before .before .before .before .before .before .before .before .before .work2 .given ∙ c .before .before .before .before .before .before .before .before .before .before .before .before .before .before .before .before .before .before .before .before .before .before .before .before .before .before .work .given) returns)
+write-digests-spec = tie.close (tie.spec (λ c. omega arith) (λ c. omega arith) (λ c. omega arith) (λ c. omega arith) (λ c. omega arith) equations-digest-requires (λ c. omega arith) (λ c κs. search needs) (λ c. omega arith) (λ c. omega arith) (λ c. omega arith) gathered-digest-requires (λ c. omega arith) (λ c κs. search needs) (λ c. omega arith) (λ c. omega arith) part-masked-digest-end masked-digest-requires (λ c. omega arith) copy-requires-3 (λ c κs. search needs) (λ c. c .before .before .before .before .before .out3 .given ∙ c .before .before .before .before .before .before .before .before .before .before .before .before .before .before .before .out2 .given ∙ c .before .before .before .before .before .before .before .before .before .before .before .before .before .before .before .before .before .before .before .before .before .before .before .before .before .out .given) (λ c. c .before .work4 .given ∙ c .before .before .before .before .before .before .before .before .before .before .work3 .given ∙ c .before .before .before .before .before .before .before .before .before .before .before .before .before .before .before .before .before .before .before .before .work2 .given ∙ c .before .before .before .before .before .before .before .before .before .before .before .before .before .before .before .before .before .before .before .before .before .before .before .before .before .before .before .before .before .before .work .given) returns)

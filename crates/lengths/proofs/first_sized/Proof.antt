@@ -14,7 +14,7 @@ unfolding same firstSized
 returns c =
     let a = c .before .before .before .before .before .before .before .before .args in
     c .sized .ensures
-    ∙ ap₂ (λ (x y : ℕ). same (length (a .head .now) ∷ length (a .shares0 .now) ∷ length (a .shares1 .now) ∷ length (a .claims .now) ∷ length (a .scratch .now) ∷ []) ((80 * a .n + 96 * a .repeats) ∷ x ∷ x ∷ y ∷ 1048576 ∷ [])) (c .before .before .times .ensures) (c .before .times2 .ensures)
+    ∙ ap₂ (λ (x y : ℕ). same (length (a .head .now) ∷ length (a .shares0 .now) ∷ length (a .shares1 .now) ∷ length (a .claims .now) ∷ length (a .scratch .now) ∷ []) ((80 * a .k .ring + 96 * a .k .repeats) ∷ x ∷ x ∷ y ∷ 1048576 ∷ [])) (c .before .before .times .ensures) (c .before .times2 .ensures)
 
 pub first-sized-spec : {M : Type 1} → statement M
 first-sized-spec = tie.close (tie.spec (λ c. search needs) (λ c κs. search needs) (λ c. search needs) (λ c. search needs) (λ c. search needs) (λ c κs. search needs) (λ c κs. search needs) returns)

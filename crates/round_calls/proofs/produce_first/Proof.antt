@@ -22,10 +22,10 @@ produce-first-requires : tie.Need-produce-first-requires
 produce-first-requires c κs = sheet-loaded (lent (c .before .before .before .before .before .before .before .before .before .before .before .before .before .before .before .before .before .before .before .before .before .before .before .before .before .before .args .sheet .now) (c .before .before .before .before .before .before .before .before .before .load .ensures) (c .before .before .before .before .before .before .before .reading .given .1))
 
 returns : tie.Need-returns
-returns c = let s = c .before .before .before .before .before .before .before .before .before .before .before .before .before .before .before .before .before .before .before .before .before .before .before .before .before .before .before .before .before .before .before .before .before .before .before .before .before .before .before .before .before in first-over (s .args .sheet .now) (c .before .before .before .before .before .before .before .before .before .before .before .before .before .before .before .before .before .before .before .before .before .before .before .before .load .ensures) (c .before .before .before .before .before .before .before .before .before .before .before .before .before .before .before .before .before .before .before .before .before .before .reading .given .1) (x s) (room s) (c .before .before .before .before .before .before .before .before .before .before .before .before .before .before .produce-first .ensures) (c .before .before .sweep .ensures)
+returns c = let s = c .before .before .before .before .before .before .before .before .before .before .before .before .before .before .before .before .before .before .before .before .before .before .before .before .before .before .before .before .before .before .before .before .before .before .before .before .before in first-over (s .args .sheet .now) (c .before .before .before .before .before .before .before .before .before .before .before .before .before .before .before .before .before .before .before .before .load .ensures) (c .before .before .before .before .before .before .before .before .before .before .before .before .before .before .before .before .before .before .reading .given .1) (x s) (room s) (c .before .before .before .before .before .before .before .before .before .before .produce-first .ensures)
 
 returns-2 : tie.Need-returns-2
-returns-2 c = let s = c .before .before .before .before .before .before .before .before .before .before .before .before .before .before .before .before .before .before .before .before .before .before .before .before in first-unread (s .args .sheet .now) (c .before .before .before .before .before .before .before .load .ensures .0) (c .before .before .before .before .before .reading2 .given .1) (x s) (room s) (c .before .before .sweep2 .ensures)
+returns-2 c = let s = c .before .before .before .before .before .before .before .before .before .before .before .before .before .before .before .before .before .before .before .before .before .before .before .before in first-unread (s .args .sheet .now) (c .before .before .before .before .before .before .before .load .ensures .0) (c .before .before .before .before .before .reading2 .given .1) (x s) (room s) (c .before .before .sweep .ensures)
 
 pub produce-first-spec : {M : Type 1} → statement M
-produce-first-spec = tie.close (tie.spec (λ c κs. search needs) (λ c. search needs) slice-aggregate-produce-first produce-first-requires (λ c κs. search needs) (λ c. search needs) (λ c κs. search needs) (λ c. search needs) (λ c. search needs) (λ c. search needs) (λ c. search needs) (λ c. search needs) returns (λ c. search needs) returns-2)
+produce-first-spec = tie.close (tie.spec (λ c κs. search needs) (λ c. search needs) slice-aggregate-produce-first produce-first-requires (λ c. search needs) (λ c κs. search needs) (λ c. search needs) (λ c. search needs) (λ c. search needs) (λ c. search needs) (λ c. search needs) returns (λ c. search needs) returns-2)

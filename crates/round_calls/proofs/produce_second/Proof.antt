@@ -4,7 +4,7 @@ use borrow.Author.Needs.{needs}
 use Rattle.call.proofs.Lent.{lent}
 use Rattle.scheme_calls.proofs.Keys.{sheet-loaded}
 use Rattle.transcript.specs.Producer.{Material, materialOf}
-use Rattle.lengths.specs.Calls.{SecondRoom, secondRoom}
+use Rattle.transcript.specs.Writes.{SecondRoom, secondRoom}
 use Rattle.round_calls.proofs.Promises.{second-over, second-unread}
 use Rattle.round_calls.proofs.produce_second.Statement.{statement}
 use Rattle.round_calls.proofs.produce_second.Tie as tie
@@ -22,10 +22,10 @@ produce-second-requires : tie.Need-produce-second-requires
 produce-second-requires c κs = sheet-loaded (lent (c .before .before .before .before .before .before .before .before .before .before .before .before .before .before .before .before .before .before .before .before .before .before .before .args .sheet .now) (c .before .before .before .before .before .before .before .load .ensures) (c .before .before .before .before .before .reading .given .1))
 
 returns : tie.Need-returns
-returns c = let s = c .before .before .before .before .before .before .before .before .before .before .before .before .before .before .before .before .before .before .before .before .before .before .before .before .before .before .before .before .before .before .before .before .before .before in second-over (s .args .sheet .now) (c .before .before .before .before .before .before .before .before .before .before .before .before .before .before .before .before .before .before .load .ensures) (c .before .before .before .before .before .before .before .before .before .before .before .before .before .before .before .before .reading .given .1) (x s) (s .args .side) (s .args .challenges .now) (room s) (c .before .before .before .before .before .before .before .before .before .before .produce-second .ensures) (c .before .before .sweep .ensures)
+returns c = let s = c .before .before .before .before .before .before .before .before .before .before .before .before .before .before .before .before .before .before .before .before .before .before .before .before .before .before .before .before .before .before in second-over (s .args .sheet .now) (c .before .before .before .before .before .before .before .before .before .before .before .before .before .before .load .ensures) (c .before .before .before .before .before .before .before .before .before .before .before .before .reading .given .1) (x s) (s .args .side) (s .args .challenges .now) (room s) (c .before .before .before .before .before .before .produce-second .ensures)
 
 returns-2 : tie.Need-returns-2
-returns-2 c = let s = c .before .before .before .before .before .before .before .before .before .before .before .before .before .before .before .before .before .before .before .before .before .before .before in second-unread (s .args .sheet .now) (c .before .before .before .before .before .before .before .load .ensures .0) (c .before .before .before .before .before .reading2 .given .1) (x s) (s .args .side) (s .args .challenges .now) (room s) (c .before .before .sweep2 .ensures)
+returns-2 c = let s = c .before .before .before .before .before .before .before .before .before .before .before .before .before .before .before .before .before .before .before .before .before .before .before in second-unread (s .args .sheet .now) (c .before .before .before .before .before .before .before .load .ensures .0) (c .before .before .before .before .before .reading2 .given .1) (x s) (s .args .side) (s .args .challenges .now) (room s) (c .before .before .sweep .ensures)
 
 pub produce-second-spec : {M : Type 1} → statement M
-produce-second-spec = tie.close (tie.spec (λ c κs. search needs) (λ c. search needs) slice-aggregate-produce-second produce-second-requires (λ c κs. search needs) (λ c. search needs) (λ c κs. search needs) (λ c. search needs) (λ c. search needs) (λ c. search needs) returns (λ c. search needs) returns-2)
+produce-second-spec = tie.close (tie.spec (λ c κs. search needs) (λ c. search needs) slice-aggregate-produce-second produce-second-requires (λ c. search needs) (λ c κs. search needs) (λ c. search needs) (λ c. search needs) (λ c. search needs) returns (λ c. search needs) returns-2)

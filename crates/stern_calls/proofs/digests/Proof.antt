@@ -1,7 +1,8 @@
 -- `digests` meets its contract. Assumes nothing.
-use mathlib.Core.Path.{sym, _∙_}
+use mathlib.Core.Path.{sym, ap, _∙_}
 use native.Mathlib.Omega.{arith}
 use borrow.Author.Needs.{needs}
+use lib.ListN.{length, length-replicate}
 use Rattle.codec.proofs.Laws.{put-whole}
 use Rattle.call.proofs.Sweeping.{leaves-taken, leaves-refused}
 use Rattle.commitment.specs.Commitment.{keysOf}
@@ -27,7 +28,7 @@ returns c =
       c .before .before .before .before .before .before .before .before .before .before .before .digests-tests .ensures .0,
       (
         c .before .before .before .before .write-digests .ensures .0 ∙ put-whole (a .out .now) (honestDigests (a .q) (a .n) k (a .x .now) d) (digests-length (a .q) (a .n) k (a .x .now) d ∙ sym (h .1 .output)) ∙ leaves-taken (c .before .before .before .before .before .before .before .before .before .before .before .digests-tests .result) _ taken,
-        used-taken _ _ _ (c .before .before .before .before .write-digests .ensures .1 ∙ c .before .before .before .before .before .before .before .before .before .before .before .digests-tests .ensures .1 .1) taken,
+        used-taken _ _ _ (ap length (c .before .before .before .before .write-digests .ensures .1) ∙ length-replicate _ 0 ∙ c .before .before .before .before .before .before .before .before .before .before .before .digests-tests .ensures .1 .1) taken,
       ),
     )
 

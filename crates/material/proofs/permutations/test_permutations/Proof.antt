@@ -14,28 +14,29 @@ use Rattle.material.proofs.permutations.test_permutations.Statement.{st
 use Rattle.material.proofs.permutations.test_permutations.Tie as tie
 
 abbrev Inv-loop : tie.InvT-loop
-Inv-loop work₀ permutations repeats n i₀ at₀ work i at =
+Inv-loop work₀ permutations n repeats i₀ at₀ work i at =
     (length work ≡ length work₀) × Walked (λ j. permutes (42 * n) (entries (part permutations (168 * n * j) (168 * n)))) (168 * n) repeats i at
 
 abbrev μ-loop : tie.MeasureT-loop
-μ-loop work₀ permutations repeats n i₀ at₀ work i at = repeats - i
+μ-loop work₀ permutations n repeats i₀ at₀ work i at = repeats - i
 
 loop-holds : tie.Need-loop-holds Inv-loop μ-loop
 loop-holds c = (refl, walked-first)
 
 add-end : tie.Need-add-end Inv-loop μ-loop
-add-end c = omega (arith, walked-ends (c .before .loop .inv .1) (omega arith), c .before .before .before .before .pre .3)
+add-end c = let n = c .before .before .before .before .args .k .ring in let h : c .before .loop .at + 168 * n ≤ 168 * n * c .before .before .before .before .args .k .repeats = walked-ends (c .before .loop .inv .1) (omega arith) in omega (arith, c .before .before .before .before .pre .2)
 
 part-is-permutation-end : tie.Need-part-is-permutation-end Inv-loop μ-loop
-part-is-permutation-end c = omega (arith, walked-ends (c .before .loop .inv .1) (omega arith), c .before .before .before .before .pre .3)
+part-is-permutation-end c = let n = c .before .before .before .before .args .k .ring in let h : c .before .loop .at + 168 * n ≤ 168 * n * c .before .before .before .before .args .k .repeats = walked-ends (c .before .loop .inv .1) (omega arith) in omega (arith, c .before .before .before .before .pre .2)
 
 is-permutation-requires : tie.Need-is-permutation-requires Inv-loop μ-loop
 is-permutation-requires c κs =
     let a = c .before .before .before .before .before .before .args in
+    let n = a .k .ring in
     let l = c .before .before .before .loop in
-    let h = walked-ends (l .inv .1) (omega arith) in (
-      omega (arith, lent-length (a .permutations .now) (l .at) (l .at + 168 * a .n - l .at) (168 * a .n) (omega arith) (omega (arith, c .before .before .before .before .before .before .pre .3))),
-      omega (arith, l .inv .0, c .before .before .before .before .before .before .pre .2),
+    let h : l .at + 168 * n ≤ 168 * n * a .k .repeats = walked-ends (l .inv .1) (omega arith) in (
+      omega (arith, lent-length (a .permutations .now) (l .at) (l .at + 168 * n - l .at) (168 * n) (omega arith) (omega (arith, c .before .before .before .before .before .before .pre .2))),
+      omega (arith, l .inv .0, c .before .before .before .before .before .before .pre .1, c .before .before .before .before .before .before .pre .0 .ring-high),
     )
 
 -- the marks are made in scratch, and its length is kept
@@ -47,9 +48,9 @@ returns c =
     let a = c .before .before .before .before .before .before .before .before .before .before .args in
     let l = c .before .before .before .before .before .before .before .loop in
     let b = c .before .before .before .is-permutation in
-    let e : l .at + 168 * a .n - l .at ≡ 168 * a .n = omega arith in (
-      walked-refused (l .inv .1) 9 (omega arith) (sym (b .ensures .0 ∙ ap₂ (λ (x y : ℕ). permutes (42 * a .n) (entries (part (a .permutations .now) x y))) (l .inv .1 .place) e) ∙ not-true (b .result) (c .if1 .taken)),
-      kept (a .n) (l .work) _ (omega (arith, l .inv .0, c .before .before .before .before .before .before .before .before .before .before .pre .2)) (b .ensures .1) ∙ l .inv .0,
+    let e : l .at + 168 * a .k .ring - l .at ≡ 168 * a .k .ring = omega arith in (
+      walked-refused (l .inv .1) 9 (omega arith) (sym (b .ensures .0 ∙ ap₂ (λ (x y : ℕ). permutes (42 * a .k .ring) (entries (part (a .permutations .now) x y))) (l .inv .1 .place) e) ∙ not-true (b .result) (c .if1 .taken)),
+      kept (a .k .ring) (l .work) _ (omega (arith, l .inv .0, c .before .before .before .before .before .before .before .before .before .before .pre .1, c .before .before .before .before .before .before .before .before .before .before .pre .0 .ring-high)) (b .ensures .1) ∙ l .inv .0,
     )
 
 loop-again : tie.Need-loop-again Inv-loop μ-loop
@@ -57,9 +58,9 @@ loop-again c =
     let a = c .before .before .before .before .before .before .before .before .before .before .args in
     let l = c .before .before .before .before .before .before .before .loop in
     let b = c .before .before .before .is-permutation in
-    let e : l .at + 168 * a .n - l .at ≡ 168 * a .n = omega arith in (
-      kept (a .n) (l .work) _ (omega (arith, l .inv .0, c .before .before .before .before .before .before .before .before .before .before .pre .2)) (b .ensures .1) ∙ l .inv .0,
-      walked-more (l .inv .1) _ (omega arith) (omega arith) (sym (b .ensures .0 ∙ ap₂ (λ (x y : ℕ). permutes (42 * a .n) (entries (part (a .permutations .now) x y))) (l .inv .1 .place) e) ∙ not-false (b .result) (c .if1 .left)),
+    let e : l .at + 168 * a .k .ring - l .at ≡ 168 * a .k .ring = omega arith in (
+      kept (a .k .ring) (l .work) _ (omega (arith, l .inv .0, c .before .before .before .before .before .before .before .before .before .before .pre .1, c .before .before .before .before .before .before .before .before .before .before .pre .0 .ring-high)) (b .ensures .1) ∙ l .inv .0,
+      walked-more (l .inv .1) _ (omega arith) (omega arith) (sym (b .ensures .0 ∙ ap₂ (λ (x y : ℕ). permutes (42 * a .k .ring) (entries (part (a .permutations .now) x y))) (l .inv .1 .place) e) ∙ not-false (b .result) (c .if1 .left)),
     )
 
 returns-2 : tie.Need-returns-2 Inv-loop μ-loop

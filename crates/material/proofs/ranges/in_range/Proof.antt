@@ -13,14 +13,14 @@ returns c = fails _ _ (c .before .is-ternary .ensures) (not-true (c .before .is-
 returns-2 : tie.Need-returns-2
 returns-2 c =
     let a = c .before .before .before .before .before .before .before .before .before .args in
-    let x = whole-range (a .q) (a .n) (a .s0 .now) (c .before .before .before .before .before .before .before .before .before .pre .2) (c .before .in-range .ensures) in
+    let x = whole-range (a .k .modulus) (a .k .ring) (a .s0 .now) (c .before .before .before .before .before .before .before .before .before .pre .2) (c .before .in-range .ensures) in
     goes-on _ _ (c .before .before .before .is-ternary .ensures) (not-false (c .before .before .before .is-ternary .result) (c .before .before .if1 .left)) (fails _ _ x (not-true (c .before .in-range .result) (c .if2 .taken)))
 
 returns-3 : tie.Need-returns-3
 returns-3 c =
     let a = c .before .before .before .before .before .before .before .before .before .before .before .args in
-    let x = whole-range (a .q) (a .n) (a .s0 .now) (c .before .before .before .before .before .before .before .before .before .before .before .pre .2) (c .before .before .before .in-range .ensures) in
-    let y = whole-range (a .q) (a .n) (a .e0 .now) (c .before .before .before .before .before .before .before .before .before .before .before .pre .3) (c .before .in-range2 .ensures) in
+    let x = whole-range (a .k .modulus) (a .k .ring) (a .s0 .now) (c .before .before .before .before .before .before .before .before .before .before .before .pre .2) (c .before .before .before .in-range .ensures) in
+    let y = whole-range (a .k .modulus) (a .k .ring) (a .e0 .now) (c .before .before .before .before .before .before .before .before .before .before .before .pre .3) (c .before .in-range2 .ensures) in
     goes-on _ _ (c .before .before .before .before .before .is-ternary .ensures) (not-false (c .before .before .before .before .before .is-ternary .result) (c .before .before .before .before .if1 .left))
     (goes-on _ _ x (not-false (c .before .before .before .in-range .result) (c .before .before .if2 .left)) (fails _ _ y (not-true (c .before .in-range2 .result) (c .if3 .taken))))
 
@@ -28,8 +28,8 @@ returns-4 : tie.Need-returns-4
 unfolding vector
 returns-4 c =
     let a = c .before .before .before .before .before .before .before .before .before .before .before .before .before .args in
-    let x = whole-range (a .q) (a .n) (a .s0 .now) (c .before .before .before .before .before .before .before .before .before .before .before .before .before .pre .2) (c .before .before .before .before .before .in-range .ensures) in
-    let y = whole-range (a .q) (a .n) (a .e0 .now) (c .before .before .before .before .before .before .before .before .before .before .before .before .before .pre .3) (c .before .before .before .in-range2 .ensures) in
+    let x = whole-range (a .k .modulus) (a .k .ring) (a .s0 .now) (c .before .before .before .before .before .before .before .before .before .before .before .before .before .pre .2) (c .before .before .before .before .before .in-range .ensures) in
+    let y = whole-range (a .k .modulus) (a .k .ring) (a .e0 .now) (c .before .before .before .before .before .before .before .before .before .before .before .before .before .pre .3) (c .before .before .before .in-range2 .ensures) in
     goes-on _ _ (c .before .before .before .before .before .before .before .is-ternary .ensures) (not-false (c .before .before .before .before .before .before .before .is-ternary .result) (c .before .before .before .before .before .before .if1 .left))
     (goes-on _ _ x (not-false (c .before .before .before .before .before .in-range .result) (c .before .before .before .before .if2 .left))
     (goes-on _ _ y (not-false (c .before .before .before .in-range2 .result) (c .before .before .if3 .left)) (fails _ _ (c .before .in-range3 .ensures) (not-true (c .before .in-range3 .result) (c .if4 .taken)))))
@@ -38,8 +38,8 @@ returns-5 : tie.Need-returns-5
 unfolding vector
 returns-5 c =
     let a = c .before .before .before .before .before .before .before .before .before .before .before .before .before .before .args in
-    let x = whole-range (a .q) (a .n) (a .s0 .now) (c .before .before .before .before .before .before .before .before .before .before .before .before .before .before .pre .2) (c .before .before .before .before .before .before .in-range .ensures) in
-    let y = whole-range (a .q) (a .n) (a .e0 .now) (c .before .before .before .before .before .before .before .before .before .before .before .before .before .before .pre .3) (c .before .before .before .before .in-range2 .ensures) in
+    let x = whole-range (a .k .modulus) (a .k .ring) (a .s0 .now) (c .before .before .before .before .before .before .before .before .before .before .before .before .before .before .pre .2) (c .before .before .before .before .before .before .in-range .ensures) in
+    let y = whole-range (a .k .modulus) (a .k .ring) (a .e0 .now) (c .before .before .before .before .before .before .before .before .before .before .before .before .before .before .pre .3) (c .before .before .before .before .in-range2 .ensures) in
     goes-on _ _ (c .before .before .before .before .before .before .before .before .is-ternary .ensures) (not-false (c .before .before .before .before .before .before .before .before .is-ternary .result) (c .before .before .before .before .before .before .before .if1 .left))
     (goes-on _ _ x (not-false (c .before .before .before .before .before .before .in-range .result) (c .before .before .before .before .before .if2 .left))
     (goes-on _ _ y (not-false (c .before .before .before .before .in-range2 .result) (c .before .before .before .if3 .left)) (goes-on _ _ (c .before .before .in-range3 .ensures) (not-false (c .before .before .in-range3 .result) (c .before .if4 .left)) (c .ballots-in-range .ensures))))

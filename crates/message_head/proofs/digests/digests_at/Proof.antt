@@ -4,6 +4,7 @@ use Prim.Native.Nat.{_+_, _-_, _*_}
 use native.Mathlib.Omega.{arith}
 use borrow.Author.Needs.{needs}
 use Rattle.codec.specs.Bytes.{put}
+use Rattle.call.proofs.Sweeping.{length-zeros}
 use Rattle.commitment.specs.Commitment.{keysOf}
 use Rattle.stern.specs.Argument.{Drawn}
 use Rattle.stern.specs.Shortness.{honestDigests}
@@ -18,7 +19,7 @@ write-digests-requires c κs =
     let r = a .vector in
     let s = a .salt in
     let t = a .permutation in
-    (p .0 .0, p .0 .1, p .0 .2, material-lent (a .q) (a .n) (a .secrets .now) (a .vectors .now) (a .permutations .now) (a .salts .now) r t s (r + 336 * a .n - r) (t + 168 * a .n - t) (s + 96 - s) (omega arith) (omega arith) (omega arith) (p .1))
+    (p .0, p .1, p .2, material-lent (a .q) (a .n) (a .secrets .now) (a .vectors .now) (a .permutations .now) (a .salts .now) r t s (r + 336 * a .n - r) (t + 168 * a .n - t) (s + 96 - s) (omega arith) (omega arith) (omega arith) (p .6))
 
 returns : tie.Need-returns
 returns c =
@@ -30,7 +31,7 @@ returns c =
       w .ensures .0
           ∙ ap (λ (x : Drawn). put (a .out .now) (a .at) (honestDigests (a .q) (a .n) (keysOf (a .n) (a .k .now)) (a .secrets .now) x))
           (drawn-lent (a .q) (a .n) (a .secrets .now) (a .vectors .now) (a .permutations .now) (a .salts .now) r t s (r + 336 * a .n - r) (t + 168 * a .n - t) (s + 96 - s) (omega arith) (omega arith) (omega arith)),
-      w .ensures .1,
+      length-zeros (w .ensures .1),
     )
 
 pub digests-at-spec : {M : Type 1} → statement M

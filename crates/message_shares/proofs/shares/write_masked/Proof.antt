@@ -11,14 +11,14 @@ scale-slot-requires : tie.Need-scale-slot-requires
 scale-slot-requires c κs =
     let a = c .before .before .before .before .before .before .before .before .args in
     let p = c .before .before .before .before .before .before .before .before .pre in
-    let h = scale-asks (a .q) (a .n) (p .0) (p .1) (p .2) (a .work .now) (p .4) (c .before .before .before .load-signed .last .0) (a .mask .now) (a .from) (p .5) (p .6) (c .before .before .before .load-signed .ensures) in
-    (omega (arith, p .1), p .2, h .0, h .1)
+    let h = scale-asks (a .q) (a .n) (p .0) (p .1) (p .2) (a .work .now) (p .4) (a .p) (c .before .before .before .load-signed .last .0) (a .mask .now) (a .from) (p .5) (p .6) (c .before .before .before .load-signed .ensures) in
+    (p .8, p .2, h .0, h .1)
 
 add-slot-requires : tie.Need-add-slot-requires
 add-slot-requires c κs =
     let a = c .before .before .before .before .before .before .before .before .before .before .before .before .args in
     let p = c .before .before .before .before .before .before .before .before .before .before .before .before .pre in
-    let h = add-asks (a .q) (a .n) (p .0) (p .1) (p .2) (a .work .now) (p .4) (c .before .before .before .before .before .before .before .load-signed .last .0) (a .mask .now) (a .from) (p .5) (p .6) (c .before .before .before .before .before .before .before .load-signed .ensures) (c .before .before .before .scale-slot .last .0) (c .before .before .before .scale-slot .ensures) in
+    let h = add-asks (a .q) (a .n) (p .0) (p .1) (p .2) (a .work .now) (p .4) (a .p) (c .before .before .before .before .before .before .before .load-signed .last .0) (a .mask .now) (a .from) (p .5) (p .6) (c .before .before .before .before .before .before .before .load-signed .ensures) (c .before .before .before .scale-slot .last .0) (c .before .before .before .scale-slot .ensures) in
     (p .2, h .0, h .1, h .2)
 
 returns : tie.Need-returns
@@ -31,11 +31,9 @@ returns c =
     let e1 = c .before .before .before .before .before .before .before .before .before .before .before .before .before .before .before .load-signed .ensures in
     let e2 = c .before .before .before .before .before .before .before .before .before .before .before .scale-slot .ensures in
     let e3 = c .before .before .before .before .before .before .before .add-slot .ensures in (
-      c .before .before .write-out .ensures ∙ ap (put (a .out .now) (a .at)) (masked (a .q) (a .n) (p .0) (p .1) (p .2) (a .work .now) (p .4) w1 (a .mask .now) (a .from) (p .5) (p .6) e1 w2 e2 w3 e3),
-      (
-        masked-length (a .q) (a .n) (p .0) (p .1) (p .2) (a .work .now) (p .4) w1 (a .mask .now) (a .from) (p .5) (p .6) e1 w2 e2 w3 e3 ∙ sym (p .4),
-        masked-keeps (a .q) (a .n) (p .0) (p .1) (p .2) (a .work .now) (p .4) w1 (a .mask .now) (a .from) (p .5) (p .6) e1 w2 e2 w3 e3,
-      ),
+      c .before .before .write-out .ensures ∙ ap (put (a .out .now) (a .at)) (masked (a .q) (a .n) (p .0) (p .1) (p .2) (a .work .now) (p .4) (a .p) w1 (a .mask .now) (a .from) (p .5) (p .6) e1 w2 e2 w3 e3),
+      masked-length (a .q) (a .n) (p .0) (p .1) (p .2) (a .work .now) (p .4) (a .p) w1 (a .mask .now) (a .from) (p .5) (p .6) e1 w2 e2 w3 e3 ∙ sym (p .4),
+      masked-keeps (a .q) (a .n) (p .0) (p .1) (p .2) (a .work .now) (p .4) (a .p) w1 (a .mask .now) (a .from) (p .5) (p .6) e1 w2 e2 w3 e3,
     )
 
 pub write-masked-spec : {M : Type 1} → statement M

@@ -36,6 +36,7 @@ write-masked-requires c κs =
       omega (arith, p .0),
       difference-below (a .q) (a .n) (p .0) (p .1) (p .2) (a .work .now) (p .5) (p .6) (p .7) w1 e1 w2 e2,
       p .9,
+      p .10,
     )
 
 write-masked-requires-2 : tie.Need-write-masked-requires-2
@@ -53,10 +54,11 @@ write-masked-requires-2 c κs =
       p .1,
       p .2,
       p .3,
-      m .ensures .1 .0 ∙ l,
+      m .ensures .1 ∙ l,
       omega (arith, p .0),
-      kept-below (a .n) (a .work .now) (m .last .1 .1 .0) 32768 16384 (m .ensures .1 .1 ∙ k) (omega (arith, p .0)) (p .7),
+      kept-below (a .n) (a .work .now) (m .last .1 .1 .0) 32768 16384 (m .ensures .2 ∙ k) (omega (arith, p .0)) (p .7),
       p .8,
+      p .10,
     )
 
 returns : tie.Need-returns
@@ -72,9 +74,11 @@ returns c =
     let e2 = c .before .before .before .before .before .before .before .before .before .before .before .before .before .before .before .before .subtract-slot .ensures in
     let l = difference-length (a .q) (a .n) (p .0) (p .1) (p .2) w (p .5) (p .6) (p .7) w1 e1 w2 e2 in
     let k = difference-keeps (a .q) (a .n) (p .0) (p .1) (p .2) w (p .5) (p .6) (p .7) w1 e1 w2 e2 in
-    let kept = m .ensures .1 .1 ∙ k in (
+    let kept = m .ensures .2 ∙ k in (
       o .ensures .0 ∙ ap (put (a .shares0 .now) (a .at)) (encode-alike (alike-plus (kept-alike (a .n) w (m .last .1 .1 .0) 32768 16384 kept (omega (arith, p .0))) alike-refl)),
-      (m .ensures .0 ∙ ap (put (a .shares1 .now) (a .at)) (encode-alike (alike-plus (difference-alike (a .q) (a .n) (p .0) (p .1) (p .2) w (p .5) (p .6) (p .7) w1 e1 w2 e2) alike-refl)), (o .ensures .1 .0 ∙ m .ensures .1 .0 ∙ l ∙ sym (p .5), o .ensures .1 .1 ∙ kept-head w (m .last .1 .1 .0) 32768 16384 (omega arith) kept)),
+      m .ensures .0 ∙ ap (put (a .shares1 .now) (a .at)) (encode-alike (alike-plus (difference-alike (a .q) (a .n) (p .0) (p .1) (p .2) w (p .5) (p .6) (p .7) w1 e1 w2 e2) alike-refl)),
+      o .ensures .1 ∙ m .ensures .1 ∙ l ∙ sym (p .5),
+      o .ensures .2 ∙ kept-head w (m .last .1 .1 .0) 32768 16384 (omega arith) kept,
     )
 
 pub write-shares-spec : {M : Type 1} → statement M

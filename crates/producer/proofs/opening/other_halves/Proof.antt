@@ -7,6 +7,7 @@ use Rattle.codec.specs.Bytes.{Bytes, part, put}
 use Rattle.ring.specs.Slots.{coefficientBytes, poly}
 use Rattle.ring.specs.Ternary.{ternary}
 use Rattle.bgv.specs.Scheme.{other}
+use Rattle.call.proofs.Sweeping.{length-zeros}
 use Rattle.stern.proofs.Answered.{lent-length}
 use Rattle.message_head.proofs.Joining.{cut}
 use Rattle.message_head.proofs.HeadParts.{two-behind}
@@ -19,7 +20,7 @@ difference-requires-2 c κs =
     let p = c .before .before .before .before .before .before .before .before .before .before .before .before .before .before .before .before .pre in
     let d = c .before .before .before .before .before .before .before .difference in
     let n = a .n in
-    (p .1, d .ensures .1 ∙ p .3, lent-length (a .secrets .now) n (2 * n - n) n (omega arith) (omega (arith, p .2)), omega (arith, p .4, d .kept .0))
+    (p .1, length-zeros (d .ensures .cleared) ∙ p .3, lent-length (a .secrets .now) n (2 * n - n) n (omega arith) (omega (arith, p .2)), omega (arith, p .4, d .kept .0))
 
 returns : tie.Need-returns
 returns c =
@@ -31,9 +32,9 @@ returns c =
     let d = c .before .before .before .before .before .before .before .before .before .before .before .before .difference in
     let e = c .before .before .before .before .difference2 in (
       two-behind q n (other q (ternary q (part s 0 n)) (poly (a .s0 .now))) (other q (ternary q (part s n n)) (poly (a .e0 .now))) (a .opening .now) (d .last .0) (e .last .0) (p .4)
-          (d .ensures .0 ∙ ap (λ (x : Bytes). put (a .opening .now) 0 (coefficientBytes q n (other q (ternary q x) (poly (a .s0 .now))))) (cut s 0 (n - 0) n (omega arith)))
-          (e .ensures .0 ∙ ap (λ (x : Bytes). put (d .last .0) (8 * n) (coefficientBytes q n (other q (ternary q x) (poly (a .e0 .now))))) (cut s n (2 * n - n) n (omega arith))),
-      e .ensures .1 ∙ d .ensures .1,
+          (d .ensures .written ∙ ap (λ (x : Bytes). put (a .opening .now) 0 (coefficientBytes q n (other q (ternary q x) (poly (a .s0 .now))))) (cut s 0 (n - 0) n (omega arith)))
+          (e .ensures .written ∙ ap (λ (x : Bytes). put (d .last .0) (8 * n) (coefficientBytes q n (other q (ternary q x) (poly (a .e0 .now))))) (cut s n (2 * n - n) n (omega arith))),
+      length-zeros (e .ensures .cleared) ∙ length-zeros (d .ensures .cleared),
     )
 
 pub other-halves-spec : {M : Type 1} → statement M

@@ -15,11 +15,11 @@ returns : tie.Need-returns
 returns c =
     let a = c .before .before .before .before .before .before .before .before .before .before .before .before .before .before .args in
     let p = c .before .before .before .before .before .before .before .before .before .before .before .before .before .before .pre in
-    let n = a .n in
+    let n = a .k .ring in
     let h = c .before .before .hiding in
     let l = c .before .before .before .before .before .before .lent-halves in (
-      opening-whole (a .q) n (poly (a .s0 .now)) (poly (a .e0 .now)) (a .secrets .now) (a .opening .now) (l .last .0) (h .last .0) (2 * n) (8 * n) 0 (p .5) (p .2) (omega arith) (omega arith) (omega arith) (l .ensures) (h .ensures)
-          ∙ opening-lent (a .q) n (a .secrets .now) (a .s0 .now) (a .e0 .now) (a .side) (c .before .before .before .before .before .before .before .before .if1 .taken),
+      opening-whole (a .k .modulus) n (poly (a .s0 .now)) (poly (a .e0 .now)) (a .secrets .now) (a .opening .now) (l .last .0) (h .last .0) (2 * n) (8 * n) 0 (p .5) (p .2) (omega arith) (omega arith) (omega arith) (l .ensures) (h .ensures)
+          ∙ opening-lent (a .k .modulus) n (a .secrets .now) (a .s0 .now) (a .e0 .now) (a .side) (c .before .before .before .before .before .before .before .before .if1 .taken),
       refl,
     )
 
@@ -27,8 +27,8 @@ returns-2 : tie.Need-returns-2
 returns-2 c =
     let a = c .before .before .before .before .before .before .before .before .before .before .before .before .before .before .before .before .before .args in
     let p = c .before .before .before .before .before .before .before .before .before .before .before .before .before .before .before .before .before .pre in
-    let q = a .q in
-    let n = a .n in
+    let q = a .k .modulus in
+    let n = a .k .ring in
     let s = a .secrets .now in
     let h = c .before .before .hiding2 in
     let o = c .before .before .before .before .before .before .before .before .other-halves in

@@ -16,7 +16,7 @@ use Rattle.producer.proofs.repetitions.answer_at.Tie as tie
 write-answer-requires : tie.Need-write-answer-requires
 write-answer-requires c κs =
     let a = c .before .before .before .before .before .before .before .before .before .args in
-    let p = c .before .before .before .before .before .before .before .before .before .pre .0 in
+    let p = c .before .before .before .before .before .before .before .before .before .pre in
     let r = a .vector in
     let s = a .salt in
     let t = a .permutation in (
@@ -24,13 +24,13 @@ write-answer-requires c κs =
       p .1,
       p .2,
       lent-length (a .answers .now) (a .at) (a .at + a .size - a .at) (a .size) (omega arith) (p .4) ∙ p .3,
-      material-lent (a .q) (a .n) (a .secrets .now) (a .vectors .now) (a .permutations .now) (a .salts .now) r t s (r + 336 * a .n - r) (t + 168 * a .n - t) (s + 96 - s) (omega arith) (omega arith) (omega arith) (c .before .before .before .before .before .before .before .before .before .pre .1),
+      material-lent (a .q) (a .n) (a .secrets .now) (a .vectors .now) (a .permutations .now) (a .salts .now) r t s (r + 336 * a .n - r) (t + 168 * a .n - t) (s + 96 - s) (omega arith) (omega arith) (omega arith) (c .before .before .before .before .before .before .before .before .before .pre .8),
     )
 
 returns : tie.Need-returns
 returns c =
     let a = c .before .before .before .before .before .before .before .before .before .before .before .before .args in
-    let p = c .before .before .before .before .before .before .before .before .before .before .before .before .pre .0 in
+    let p = c .before .before .before .before .before .before .before .before .before .before .before .before .pre in
     let r = a .vector in
     let s = a .salt in
     let t = a .permutation in

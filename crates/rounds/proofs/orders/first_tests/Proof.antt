@@ -8,7 +8,7 @@ use borrow.Author.Tests.{not-true, not-false}
 use Rattle.transcript.specs.Round.{Parameters}
 use Rattle.transcript.specs.Sheets.{parameters}
 use Rattle.transcript.specs.Producer.{Material, materialOf}
-use Rattle.material.proofs.Unread.{lengths-lent}
+use Rattle.transcript.specs.Writes.{FirstRoom, firstRoom}
 use Rattle.lengths.specs.Calls.{firstSized, firstTests}
 use Rattle.lengths.proofs.Sizes.{material-sizes, first-sizes}
 use Rattle.rounds.proofs.Testing.{many, missized, misfit, tried}
@@ -21,8 +21,11 @@ P s = parameters (s .args .k) (s .args .public .now)
 abbrev x : tie.Start → Material
 x s = let a = s .args in materialOf (a .secrets .now) (a .s0 .now) (a .e0 .now) (a .masks0 .now) (a .masks1 .now) (a .vectors .now) (a .permutations .now) (a .salts .now) (a .ballots .now)
 
+abbrev lent : tie.Start → FirstRoom
+lent s = let a = s .args in firstRoom (a .head .now) (a .shares0 .now) (a .shares1 .now) (a .claims .now) (a .scratch .now)
+
 abbrev room : tie.Start → ℕ → Bool
-room s m = let a = s .args in firstSized (a .k .ring) (a .k .repeats) m (a .head .now) (a .shares0 .now) (a .shares1 .now) (a .claims .now) (a .scratch .now)
+room s m = firstSized (s .args .k .ring) (s .args .k .repeats) m (lent s)
 
 returns : tie.Need-returns
 unfolding firstTests
@@ -45,8 +48,8 @@ test-material-requires c κs =
     let a = s .args in
     let m = c .before .before .before .before .before .before .before .count-of .result in
     let sizes = material-sizes (P s) m (x s) (sym (c .before .before .before .before .before .material-sized .ensures) ∙ not-false (c .before .before .before .before .before .material-sized .result) (c .before .before .before .before .if2 .left)) in
-    let f = first-sizes (a .k .ring) (a .k .repeats) m (a .head .now) (a .shares0 .now) (a .shares1 .now) (a .claims .now) (a .scratch .now) (sym (c .before .before .first-sized .ensures) ∙ not-false (c .before .before .first-sized .result) (c .before .if3 .left)) in
-    (s .pre, omega (arith, c .before .before .before .before .before .before .if1 .left), f .4, lengths-lent (x s) (P s) m sizes)
+    let f = first-sizes (a .k .ring) (a .k .repeats) m (lent s) (sym (c .before .before .first-sized .ensures) ∙ not-false (c .before .before .first-sized .result) (c .before .if3 .left)) in
+    (s .pre, f .4, omega (arith, c .before .before .before .before .before .before .if1 .left), sizes)
 
 returns-4 : tie.Need-returns-4
 unfolding firstTests

@@ -11,7 +11,6 @@ use Rattle.codec.specs.Lists.{all}
 use Rattle.transcript.specs.Round.{Parameters, isChallenge}
 use Rattle.transcript.specs.Sheets.{parameters}
 use Rattle.transcript.specs.Producer.{Material, materialOf, askedRanged}
-use Rattle.material.proofs.Unread.{lengths-lent}
 use Rattle.lengths.specs.Calls.{secondSized, secondTests}
 use Rattle.lengths.proofs.Sizes.{material-sizes, second-sizes}
 use Rattle.rounds.proofs.Testing.{many, missized, misfit, tried}
@@ -52,7 +51,7 @@ test-material-requires c κs =
     let m = c .before .before .before .before .before .before .before .before .count-of .result in
     let sizes = material-sizes (P s) m (x s) (sym (c .before .before .before .before .before .before .material-sized .ensures) ∙ not-false (c .before .before .before .before .before .before .material-sized .result) (c .before .before .before .before .before .if2 .left)) in
     let f = second-sizes (a .k .ring) (a .k .repeats) (a .challenges .now) (a .opening .now) (a .answers .now) (a .scratch .now) (sym (c .before .before .before .second-sized .ensures) ∙ not-false (c .before .before .before .second-sized .result) (c .before .before .if3 .left)) in
-    (s .pre, omega (arith, c .before .before .before .before .before .before .before .if1 .left), f .3, lengths-lent (x s) (P s) m sizes)
+    (s .pre, f .3, omega (arith, c .before .before .before .before .before .before .before .if1 .left), sizes)
 
 returns-4 : tie.Need-returns-4
 unfolding secondTests askedRanged

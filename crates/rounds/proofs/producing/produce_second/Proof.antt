@@ -1,8 +1,8 @@
 -- `producing::produce_second` meets its contract. Assumes nothing.
 use borrow.Author.Needs.{needs}
 use Rattle.transcript.specs.Producer.{Material, materialOf}
-use Rattle.lengths.specs.Calls.{SecondRoom, secondRoom}
-use Rattle.rounds.proofs.Passing.{second-asks}
+use Rattle.transcript.specs.Writes.{SecondRoom, secondRoom}
+use Rattle.rounds.proofs.Passing.{second-ready}
 use Rattle.rounds.proofs.Written.{second-taken, second-refused}
 use Rattle.rounds.proofs.producing.produce_second.Statement.{statement}
 use Rattle.rounds.proofs.producing.produce_second.Tie as tie
@@ -14,7 +14,7 @@ abbrev room : tie.Start → SecondRoom
 room s = let a = s .args in secondRoom (a .opening .now) (a .answers .now) (a .scratch .now)
 
 write-second-requires : tie.Need-write-second-requires
-write-second-requires c κs = let s = c .before .before .before .before .before .before .before .before .before .before .before .before .before .before .before .before .before .before .before .before .before .before .before .before .before in second-asks (s .args .k) (s .args .public .now) (x s) (s .pre) (s .args .side) (s .args .challenges .now) (room s) (c .before .before .before .before .before .before .before .second-tests .ensures) (c .before .before .before .enum-told .given .1)
+write-second-requires c κs = let s = c .before .before .before .before .before .before .before .before .before .before .before .before .before .before .before .before .before .before .before .before .before .before .before .before .before in second-ready (s .args .k) (s .args .public .now) (x s) (s .pre) (s .args .side) (s .args .challenges .now) (room s) (c .before .before .before .before .before .before .before .second-tests .ensures) (c .before .before .before .enum-told .given .1)
 
 returns : tie.Need-returns
 returns c = let s = c .before .before .before .before .before .before .before .before .before .before .before .before .before .before .before .before .before .before .before .before .before .before .before .before .before .before .before .before .before .before .before .before in second-taken (s .args .k) (s .args .public .now) (x s) (s .args .side) (s .args .challenges .now) (room s) (c .before .before .before .before .before .before .before .before .before .before .before .before .before .before .second-tests .ensures) (c .before .before .before .before .before .before .before .before .before .before .enum-told .given .1) (c .before .before .before .before .before .before .write-second .ensures)
