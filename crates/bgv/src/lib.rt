@@ -1,4 +1,5 @@
-// BGV encryption and decryption shares over slots of scratch (document 000, sections 5.3 and 6.1): what is worked on stands at 0, a second operand at ERROR,
+// BGV encryption and decryption shares over slots of scratch (document 000, sections 5.3 and 6.1): what is worked on stands at 0, a
+// second operand at ERROR,
 // and a product has its room from ROOM on. p is lent. What is made from secrets is left in scratch.
 ghost use mathlib.Core.Path.{_≡_};
 ghost use Prim.Native.Nat.{_+_, _*_, _%_, _≤_, _<_, _^_};
@@ -22,7 +23,8 @@ const ROOM: usize = 32768;
 pub fn combine(work: &mut [u8], a: &[u8], p: u64, n: usize, q: u64)
     requires { ⌜ Polynomial n q (now a) × (length (now work) ≡ scratchLength) × (p < q) ⌝ }
     requires { ⌜ Below q n (slot (now work) 0) × Below q n (slot (now work) 16384) ⌝ }
-    ensures { λ _. ⌜ Stands q n (scheme.noisy q n p (poly (now (a .entry))) (slot (now (work .entry)) 0) (slot (now (work .entry)) 16384)) (now (work .entry)) (now (work .exit)) ⌝ }
+    ensures { λ _. ⌜ Stands q n (scheme.noisy q n p (poly (now (a .entry))) (slot (now (work .entry)) 0) (slot (now (work .entry)) 16384))
+        (now (work .entry)) (now (work .exit)) ⌝ }
 {
     product::multiply(work, 0, ROOM, a, n, q);
     ring::scale_slot(work, ERROR, p, n, q);
@@ -32,7 +34,8 @@ pub fn combine(work: &mut [u8], a: &[u8], p: u64, n: usize, q: u64)
 // a x + p y, for ternary bytes x and y.
 pub fn noisy(work: &mut [u8], a: &[u8], x: &[u8], y: &[u8], p: u64, n: usize, q: u64)
     requires { ⌜ Polynomial n q (now a) × (length (now work) ≡ scratchLength) × (length (now x) ≡ n) × (length (now y) ≡ n) × (p < q) ⌝ }
-    ensures { λ _. ⌜ Stands q n (scheme.noisy q n p (poly (now (a .entry))) (ternary q (now (x .entry))) (ternary q (now (y .entry)))) (now (work .entry)) (now (work .exit)) ⌝ }
+    ensures { λ _. ⌜ Stands q n (scheme.noisy q n p (poly (now (a .entry))) (ternary q (now (x .entry))) (ternary q (now (y .entry))))
+        (now (work .entry)) (now (work .exit)) ⌝ }
 {
     ring::load_ternary(work, 0, x, q);
     ring::load_ternary(work, ERROR, y, q);
@@ -41,8 +44,10 @@ pub fn noisy(work: &mut [u8], a: &[u8], x: &[u8], y: &[u8], p: u64, n: usize, q:
 
 // a x + p y, for lent polynomials x and y.
 pub fn noisy_lent(work: &mut [u8], a: &[u8], x: &[u8], y: &[u8], p: u64, n: usize, q: u64)
-    requires { ⌜ Polynomial n q (now a) × Polynomial n q (now x) × Polynomial n q (now y) × (length (now work) ≡ scratchLength) × (p < q) ⌝ }
-    ensures { λ _. ⌜ Stands q n (scheme.noisy q n p (poly (now (a .entry))) (poly (now (x .entry))) (poly (now (y .entry)))) (now (work .entry)) (now (work .exit)) ⌝ }
+    requires { ⌜ Polynomial n q (now a) × Polynomial n q (now x) × Polynomial n q (now y) × (length (now work) ≡ scratchLength)
+        × (p < q) ⌝ }
+    ensures { λ _. ⌜ Stands q n (scheme.noisy q n p (poly (now (a .entry))) (poly (now (x .entry))) (poly (now (y .entry))))
+        (now (work .entry)) (now (work .exit)) ⌝ }
 {
     codec::copy(work, 0, x);
     codec::copy(work, ERROR, y);
@@ -85,8 +90,10 @@ pub fn load_bytes(work: &mut [u8], at: usize, m: &[u8])
 
 // Adds a message to what stands at 0.
 pub fn add_message(work: &mut [u8], m: &[u8], n: usize, q: u64)
-    requires { ⌜ (n ≤ 2048) × (3 ≤ q) × (q < 2 ^ 56) × (length (now work) ≡ scratchLength) × (length (now m) ≡ n) × Below q n (coefficients (now m)) × Below q n (slot (now work) 0) ⌝ }
-    ensures { λ _. ⌜ Stands q n (plus (slot (now (work .entry)) 0) (coefficients (now (m .entry)))) (now (work .entry)) (now (work .exit)) ⌝ }
+    requires { ⌜ (n ≤ 2048) × (3 ≤ q) × (q < 2 ^ 56) × (length (now work) ≡ scratchLength) × (length (now m) ≡ n)
+        × Below q n (coefficients (now m)) × Below q n (slot (now work) 0) ⌝ }
+    ensures { λ _. ⌜ Stands q n (plus (slot (now (work .entry)) 0) (coefficients (now (m .entry)))) (now (work .entry))
+        (now (work .exit)) ⌝ }
 {
     load_bytes(work, ERROR, m);
     ring::add_slot(work, 0, ERROR, n, q);
@@ -95,7 +102,8 @@ pub fn add_message(work: &mut [u8], m: &[u8], n: usize, q: u64)
 // x - x0 in the slot at a place, for ternary bytes x and a lent polynomial x0.
 pub fn difference(work: &mut [u8], at: usize, x: &[u8], x0: &[u8], n: usize, q: u64)
     requires { ⌜ Polynomial n q (now x0) × (length (now work) ≡ scratchLength) × (length (now x) ≡ n) × (at ≤ 16384) ⌝ }
-    ensures { λ _. ⌜ now (work .exit) ≡ put (now (work .entry)) at (coefficientBytes q n (scheme.other q (ternary q (now (x .entry))) (poly (now (x0 .entry))))) ⌝ }
+    ensures { λ _. ⌜ now (work .exit) ≡ put (now (work .entry)) at (coefficientBytes q n (scheme.other q (ternary q (now (x .entry)))
+        (poly (now (x0 .entry))))) ⌝ }
 {
     ring::load_ternary(work, at, x, q);
     ring::subtract(work, at, x0, n, q);
@@ -113,8 +121,11 @@ pub fn noisy_difference(
     n: usize,
     q: u64,
 )
-    requires { ⌜ Polynomial n q (now a) × Polynomial n q (now x0) × Polynomial n q (now y0) × (length (now work) ≡ scratchLength) × (length (now x) ≡ n) × (length (now y) ≡ n) × (p < q) ⌝ }
-    ensures { λ _. ⌜ Stands q n (scheme.noisy q n p (poly (now (a .entry))) (scheme.other q (ternary q (now (x .entry))) (poly (now (x0 .entry)))) (scheme.other q (ternary q (now (y .entry))) (poly (now (y0 .entry))))) (now (work .entry)) (now (work .exit)) ⌝ }
+    requires { ⌜ Polynomial n q (now a) × Polynomial n q (now x0) × Polynomial n q (now y0) × (length (now work) ≡ scratchLength)
+        × (length (now x) ≡ n) × (length (now y) ≡ n) × (p < q) ⌝ }
+    ensures { λ _. ⌜ Stands q n (scheme.noisy q n p (poly (now (a .entry))) (scheme.other q (ternary q (now (x .entry)))
+        (poly (now (x0 .entry)))) (scheme.other q (ternary q (now (y .entry))) (poly (now (y0 .entry))))) (now (work .entry))
+        (now (work .exit)) ⌝ }
 {
     difference(work, 0, x, x0, n, q);
     difference(work, ERROR, y, y0, n, q);
@@ -124,7 +135,8 @@ pub fn noisy_difference(
 // v - x u, for x at 0.
 fn less_product(work: &mut [u8], u: &[u8], v: &[u8], n: usize, q: u64)
     requires { ⌜ Polynomial n q (now u) × Polynomial n q (now v) × (length (now work) ≡ scratchLength) × Below q n (slot (now work) 0) ⌝ }
-    ensures { λ _. ⌜ Stands q n (minus q (poly (now (v .entry))) (mul q n (slot (now (work .entry)) 0) (poly (now (u .entry))))) (now (work .entry)) (now (work .exit)) ⌝ }
+    ensures { λ _. ⌜ Stands q n (minus q (poly (now (v .entry))) (mul q n (slot (now (work .entry)) 0) (poly (now (u .entry)))))
+        (now (work .entry)) (now (work .exit)) ⌝ }
 {
     product::multiply(work, 0, ROOM, u, n, q);
     ring::scale_slot(work, 0, q - 1, n, q);
@@ -134,7 +146,8 @@ fn less_product(work: &mut [u8], u: &[u8], v: &[u8], n: usize, q: u64)
 // v - s u, for ternary bytes s.
 pub fn opened(work: &mut [u8], s: &[u8], u: &[u8], v: &[u8], n: usize, q: u64)
     requires { ⌜ Polynomial n q (now u) × Polynomial n q (now v) × (length (now work) ≡ scratchLength) × (length (now s) ≡ n) ⌝ }
-    ensures { λ _. ⌜ Stands q n (scheme.opened q n (ternary q (now (s .entry))) (poly (now (u .entry))) (poly (now (v .entry)))) (now (work .entry)) (now (work .exit)) ⌝ }
+    ensures { λ _. ⌜ Stands q n (scheme.opened q n (ternary q (now (s .entry))) (poly (now (u .entry))) (poly (now (v .entry))))
+        (now (work .entry)) (now (work .exit)) ⌝ }
 {
     ring::load_ternary(work, 0, s, q);
     less_product(work, u, v, n, q);
@@ -143,7 +156,8 @@ pub fn opened(work: &mut [u8], s: &[u8], u: &[u8], v: &[u8], n: usize, q: u64)
 // v - t0 - t1.
 pub fn rebuilt(work: &mut [u8], v: &[u8], t0: &[u8], t1: &[u8], n: usize, q: u64)
     requires { ⌜ Polynomial n q (now v) × Polynomial n q (now t0) × Polynomial n q (now t1) × (length (now work) ≡ scratchLength) ⌝ }
-    ensures { λ _. ⌜ Stands q n (scheme.rebuilt q (poly (now (v .entry))) (poly (now (t0 .entry))) (poly (now (t1 .entry)))) (now (work .entry)) (now (work .exit)) ⌝ }
+    ensures { λ _. ⌜ Stands q n (scheme.rebuilt q (poly (now (v .entry))) (poly (now (t0 .entry))) (poly (now (t1 .entry))))
+        (now (work .entry)) (now (work .exit)) ⌝ }
 {
     codec::copy(work, 0, v);
     ring::subtract(work, 0, t0, n, q);
@@ -189,8 +203,10 @@ pub fn load_mask(work: &mut [u8], mask: &[u8], n: usize, q: u64)
 
 // s u + p E, for a lent mask E.
 pub fn share(work: &mut [u8], s: &[u8], u: &[u8], mask: &[u8], p: u64, n: usize, q: u64)
-    requires { ⌜ Polynomial n q (now s) × Polynomial n q (now u) × (length (now mask) ≡ 8 * n) × (length (now work) ≡ scratchLength) × (p < q) ⌝ }
-    ensures { λ _. ⌜ Stands q n (scheme.share q n p (poly (now (s .entry))) (poly (now (u .entry))) (lentMask (now (mask .entry)))) (now (work .entry)) (now (work .exit)) ⌝ }
+    requires { ⌜ Polynomial n q (now s) × Polynomial n q (now u) × (length (now mask) ≡ 8 * n) × (length (now work) ≡ scratchLength)
+        × (p < q) ⌝ }
+    ensures { λ _. ⌜ Stands q n (scheme.share q n p (poly (now (s .entry))) (poly (now (u .entry))) (lentMask (now (mask .entry))))
+        (now (work .entry)) (now (work .exit)) ⌝ }
 {
     codec::copy(work, 0, s);
     load_mask(work, mask, n, q);
@@ -216,7 +232,8 @@ fn quotients_within(work: &[u8], bound: u64, p: u64, n: usize, q: u64) -> bool
     true
 }
 
-// Whether the mask that is worked out from a share t of the half key s_i, (t - s_i u) / p modulo q and then centred, is at most a bound in size.
+// Whether the mask that is worked out from a share t of the half key s_i, (t - s_i u) / p modulo q and then centred, is at most a bound
+// in size.
 pub fn mask_within(
     work: &mut [u8],
     half: &[u8],
@@ -227,7 +244,8 @@ pub fn mask_within(
     n: usize,
     q: u64,
 ) -> bool
-    requires { ⌜ Polynomial n q (now half) × Polynomial n q (now u) × Polynomial n q (now t) × (length (now work) ≡ scratchLength) × (0 < p) × (p ≤ 251) × Coprime p q ⌝ }
+    requires { ⌜ Polynomial n q (now half) × Polynomial n q (now u) × Polynomial n q (now t) × (length (now work) ≡ scratchLength)
+        × (0 < p) × (p ≤ 251) × Coprime p q ⌝ }
     ensures { λ r. ⌜ r ≡ within bound n (scheme.worked q n p (poly (now (half .entry))) (poly (now (u .entry))) (poly (now (t .entry)))) ⌝ }
     ensures { λ _. ⌜ length (now (work .exit)) ≡ length (now (work .entry)) ⌝ }
 {

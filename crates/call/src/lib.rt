@@ -1,4 +1,5 @@
-// What the calls that are lent the sheet have in common: scratch and its sweep, the tests of lengths and ranges, and a polynomial of scratch written out.
+// What the calls that are lent the sheet have in common: scratch and its sweep, the tests of lengths and ranges, and a polynomial of
+// scratch written out.
 ghost use mathlib.Core.Path.{_≡_};
 ghost use mathlib.Core.Bool.{_&&_};
 ghost use mathlib.Core.List.{[], _∷_};

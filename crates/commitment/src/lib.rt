@@ -1,4 +1,5 @@
-// The commitment to a polynomial (document 01, "Ring and scheme"), worked out in the slots of scratch: specs/Commitment.antt, with its laws in
+// The commitment to a polynomial (document 01, "Ring and scheme"), worked out in the slots of scratch: specs/Commitment.antt, with its
+// laws in
 // proofs/Additive.antt and proofs/Opening.antt.
 ghost use mathlib.Core.Path.{_≡_};
 ghost use Prim.Native.Nat.{_+_, _*_, _≤_};
@@ -6,7 +7,8 @@ ghost use lib.ListN.{length};
 ghost use Rattle.ring.specs.Poly.{Below};
 ghost use Rattle.ring.specs.Slots.{poly, slot, Slots};
 ghost use Rattle.call.specs.Call.{scratchLength, Polynomial};
-ghost use Rattle.commitment.specs.Commitment.{keysOf, threeOf, threeAt, committed, opens, PublicKeys, PairStands, withProduct, withThree};
+ghost use Rattle.commitment.specs.Commitment.{keysOf, threeOf, threeAt, committed, opens, PublicKeys, PairStands, withProduct};
+ghost use Rattle.commitment.specs.Commitment.{withThree};
 
 const TWO: usize = 16384;
 
@@ -21,7 +23,8 @@ const ROOM: usize = 81920;
 
 // Adds the product of what stands in one slot with a lent polynomial to what stands in another.
 fn add_product(work: &mut [u8], to: usize, from: usize, a: &[u8], n: usize, q: u64)
-    requires { ⌜ Polynomial n q (now a) × (length (now work) ≡ scratchLength) × Slots n to from (now work) × (to + 8 * n ≤ 81920) × (from + 8 * n ≤ 81920) × Below q n (slot (now work) to) × Below q n (slot (now work) from) ⌝ }
+    requires { ⌜ Polynomial n q (now a) × (length (now work) ≡ scratchLength) × Slots n to from (now work) × (to + 8 * n ≤ 81920)
+        × (from + 8 * n ≤ 81920) × Below q n (slot (now work) to) × Below q n (slot (now work) from) ⌝ }
     ensures { λ _. ⌜ now (work .exit) ≡ withProduct q n (now (work .entry)) to from (poly (now (a .entry))) ⌝ }
 {
     product::multiply(work, from, ROOM, a, n, q);
@@ -31,8 +34,10 @@ fn add_product(work: &mut [u8], to: usize, from: usize, a: &[u8], n: usize, q: u
 // The pair of r1, r2, r3 and m, which stand in the first four slots.
 pub fn commit(work: &mut [u8], k: &[u8], n: usize, q: u64)
     requires { ⌜ PublicKeys n q (now k) × (length (now work) ≡ scratchLength) ⌝ }
-    requires { ⌜ Below q n (slot (now work) 0) × Below q n (slot (now work) 16384) × Below q n (slot (now work) 32768) × Below q n (slot (now work) 49152) ⌝ }
-    ensures { λ _. ⌜ PairStands q n (committed q n (keysOf n (now (k .entry))) (threeAt (now (work .entry))) (slot (now (work .entry)) 49152)) (now (work .entry)) (now (work .exit)) ⌝ }
+    requires { ⌜ Below q n (slot (now work) 0) × Below q n (slot (now work) 16384) × Below q n (slot (now work) 32768)
+        × Below q n (slot (now work) 49152) ⌝ }
+    ensures { λ _. ⌜ PairStands q n (committed q n (keysOf n (now (k .entry))) (threeAt (now (work .entry)))
+        (slot (now (work .entry)) 49152)) (now (work .entry)) (now (work .exit)) ⌝ }
 {
     ring::copy_slot(work, SPARE, THREE, n);
     add_product(work, MESSAGE, SPARE, &k[16 * n..24 * n], n, q);
@@ -54,7 +59,8 @@ pub fn load_three(work: &mut [u8], r: &[u8], n: usize, q: u64)
 // The pair of a lent polynomial m and of the three r in ternary bytes.
 pub fn pair(work: &mut [u8], k: &[u8], m: &[u8], r: &[u8], n: usize, q: u64)
     requires { ⌜ PublicKeys n q (now k) × Polynomial n q (now m) × (length (now r) ≡ 3 * n) × (length (now work) ≡ scratchLength) ⌝ }
-    ensures { λ _. ⌜ PairStands q n (committed q n (keysOf n (now (k .entry))) (threeOf q n (now (r .entry))) (poly (now (m .entry)))) (now (work .entry)) (now (work .exit)) ⌝ }
+    ensures { λ _. ⌜ PairStands q n (committed q n (keysOf n (now (k .entry))) (threeOf q n (now (r .entry))) (poly (now (m .entry))))
+        (now (work .entry)) (now (work .exit)) ⌝ }
 {
     load_three(work, r, n, q);
     codec::copy(work, MESSAGE, m);
@@ -63,8 +69,10 @@ pub fn pair(work: &mut [u8], k: &[u8], m: &[u8], r: &[u8], n: usize, q: u64)
 
 // Whether a lent pair is that of m and the three r.
 pub fn opens(work: &mut [u8], k: &[u8], halves: &[u8], m: &[u8], r: &[u8], n: usize, q: u64) -> bool
-    requires { ⌜ PublicKeys n q (now k) × Polynomial n q (now m) × (length (now r) ≡ 3 * n) × (length (now work) ≡ scratchLength) × (length (now halves) ≡ 16 * n) ⌝ }
-    ensures { λ yes. ⌜ yes ≡ opens q n (keysOf n (now (k .entry))) (now (halves .entry)) (threeOf q n (now (r .entry))) (poly (now (m .entry))) ⌝ }
+    requires { ⌜ PublicKeys n q (now k) × Polynomial n q (now m) × (length (now r) ≡ 3 * n) × (length (now work) ≡ scratchLength)
+        × (length (now halves) ≡ 16 * n) ⌝ }
+    ensures { λ yes. ⌜ yes ≡ opens q n (keysOf n (now (k .entry))) (now (halves .entry)) (threeOf q n (now (r .entry)))
+        (poly (now (m .entry))) ⌝ }
     ensures { λ _. ⌜ length (now (work .exit)) ≡ length (now (work .entry)) ⌝ }
 {
     pair(work, k, m, r, n, q);

@@ -1,4 +1,5 @@
-// The commitment (document 01, "Ring and scheme") once the sheet is taken: the tests of the lent slices, and then the work. Scratch is given back zeroed, or as it was where the call is refused.
+// The commitment (document 01, "Ring and scheme") once the sheet is taken: the tests of the lent slices, and then the work. Scratch is
+// given back zeroed, or as it was where the call is refused.
 use codec::Reply;
 use sheet_numbers::Numbers;
 ghost use mathlib.Core.Path.{_≡_};

@@ -1,4 +1,5 @@
-// Encryption and decryption once the sheet is taken: the tests of the lent slices, and then the work. Scratch is given back zeroed, or as it was where the call is refused.
+// Encryption and decryption once the sheet is taken: the tests of the lent slices, and then the work. Scratch is given back zeroed, or as
+// it was where the call is refused.
 use codec::Reply;
 use scheme::written;
 use sheet_numbers::Numbers;

@@ -1,11 +1,13 @@
-// The calls of the C interface, include/jackdawnail.h: no call asks anything of its caller, and each contract gives the reply and every lent byte.
+// The calls of the C interface, include/jackdawnail.h: no call asks anything of its caller, and each contract gives the reply and every
+// lent byte.
 pub mod round;
 pub mod steps;
 
 ghost use mathlib.Core.Path.{_≡_};
 ghost use Rattle.codec.specs.Reply.{packed};
 ghost use Rattle.codec.specs.Slices.{given, left};
-ghost use Rattle.scheme_calls.specs.Orders.{keygenOrder, encryptOrder, decryptOrder, splitOrder, shareOrder, reconstructOrder, commitmentOrder};
+ghost use Rattle.scheme_calls.specs.Orders.{keygenOrder, encryptOrder, decryptOrder, splitOrder, shareOrder, reconstructOrder};
+ghost use Rattle.scheme_calls.specs.Orders.{commitmentOrder};
 ghost use Rattle.scheme_calls.specs.Orders.{keyOf, ciphertextOf, voteOf, splitOf, shareOf, voteOfShares, pairOf};
 ghost use Rattle.sha3.specs.Digest.{digestReply, digestOut};
 ghost use Rattle.sheet_calls.specs.Calls.{describeReply, describeOut};
@@ -22,7 +24,8 @@ pub extern "C" fn jdn_digest(message: &[u8], out: &mut [u8]) -> u64
 // Reads a sheet, and writes N, D, B and L into 32 lent bytes.
 #[no_mangle]
 pub extern "C" fn jdn_sheet(sheet: &[u8], out: &mut [u8]) -> u64
-    ensures { λ answer. ⌜ (answer ≡ packed (describeReply (given sheet) (given out))) × (left out ≡ describeOut (given sheet) (given out)) ⌝ }
+    ensures { λ answer. ⌜ (answer ≡ packed (describeReply (given sheet) (given out))) × (left out ≡ describeOut (given sheet)
+        (given out)) ⌝ }
 {
     codec::pack(sheet_calls::describe(sheet, out))
 }
@@ -54,7 +57,8 @@ pub extern "C" fn jdn_encrypt(
     scratch: &mut [u8],
 ) -> u64
     ensures { λ answer. ⌜ Answered (encryptOrder (given sheet) (given r) (given e1) (given e2) (given m) (given ciphertext) (given scratch))
-        (ciphertextOf (given sheet) (given r) (given e1) (given e2) (given m)) answer (given ciphertext) (left ciphertext) (given scratch) (left scratch) ⌝ }
+        (ciphertextOf (given sheet) (given r) (given e1) (given e2) (given m)) answer (given ciphertext) (left ciphertext) (given scratch)
+        (left scratch) ⌝ }
 {
     codec::pack(scheme_calls::encrypt(sheet, r, e1, e2, m, ciphertext, scratch))
 }

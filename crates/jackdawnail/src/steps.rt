@@ -7,7 +7,8 @@ ghost use Rattle.register.specs.Register as entries;
 ghost use Rattle.checking.specs.Check.{inputsOf};
 ghost use Rattle.session.specs.Steps.{cleared, admittedBy, closedBy, claimedBy, committedBy, drawnBy, challengesOut};
 ghost use Rattle.image.specs.Image.{imageLength, decode};
-ghost use Rattle.session_calls.specs.Images.{imageLeft, clearReply, admitReply, withdrawReply, closeReply, claimReply, commitReply, drawReply, checkReply, checkImage, challengesReply, turnoutAnswer};
+ghost use Rattle.session_calls.specs.Images.{imageLeft, clearReply, admitReply, withdrawReply, closeReply, claimReply, commitReply};
+ghost use Rattle.session_calls.specs.Images.{drawReply, checkReply, checkImage, challengesReply, turnoutAnswer};
 
 // The length of the image of a session.
 #[no_mangle]
@@ -37,8 +38,10 @@ pub extern "C" fn jdn_register_length() -> u64
 #[no_mangle]
 pub extern "C" fn jdn_clear(image: &mut [u8], reg: &mut [u8], sheet: &[u8]) -> u64
     ensures reply { λ answer. ⌜ answer ≡ packed (clearReply (now (image .entry)) (now (reg .entry)) (now (sheet .entry))) ⌝ }
-    ensures image { λ _. ⌜ now (image .exit) ≡ imageLeft (clearReply (now (image .entry)) (now (reg .entry)) (now (sheet .entry))) (now (image .entry)) (cleared (now (sheet .entry))) ⌝ }
-    ensures register { λ _. ⌜ now (reg .exit) ≡ leaves (clearReply (now (image .entry)) (now (reg .entry)) (now (sheet .entry))) (zeros entries.registerLength) (now (reg .entry)) ⌝ }
+    ensures image { λ _. ⌜ now (image .exit) ≡ imageLeft (clearReply (now (image .entry)) (now (reg .entry)) (now (sheet .entry)))
+        (now (image .entry)) (cleared (now (sheet .entry))) ⌝ }
+    ensures register { λ _. ⌜ now (reg .exit) ≡ leaves (clearReply (now (image .entry)) (now (reg .entry)) (now (sheet .entry)))
+        (zeros entries.registerLength) (now (reg .entry)) ⌝ }
 {
     codec::pack(session_calls::clear(image, reg, sheet))
 }
@@ -47,8 +50,10 @@ pub extern "C" fn jdn_clear(image: &mut [u8], reg: &mut [u8], sheet: &[u8]) -> u
 #[no_mangle]
 pub extern "C" fn jdn_admit(image: &mut [u8], reg: &mut [u8], ballot: &[u8]) -> u64
     ensures reply { λ answer. ⌜ answer ≡ packed (admitReply (now (image .entry)) (now (reg .entry)) (now (ballot .entry))) ⌝ }
-    ensures image { λ _. ⌜ now (image .exit) ≡ imageLeft (admitReply (now (image .entry)) (now (reg .entry)) (now (ballot .entry))) (now (image .entry)) (admittedBy (decode (now (image .entry)))) ⌝ }
-    ensures register { λ _. ⌜ now (reg .exit) ≡ leaves (admitReply (now (image .entry)) (now (reg .entry)) (now (ballot .entry))) (entries.admitted (now (reg .entry)) (decode (now (image .entry)) .progress .used) (now (ballot .entry))) (now (reg .entry)) ⌝ }
+    ensures image { λ _. ⌜ now (image .exit) ≡ imageLeft (admitReply (now (image .entry)) (now (reg .entry)) (now (ballot .entry)))
+        (now (image .entry)) (admittedBy (decode (now (image .entry)))) ⌝ }
+    ensures register { λ _. ⌜ now (reg .exit) ≡ leaves (admitReply (now (image .entry)) (now (reg .entry)) (now (ballot .entry)))
+        (entries.admitted (now (reg .entry)) (decode (now (image .entry)) .progress .used) (now (ballot .entry))) (now (reg .entry)) ⌝ }
 {
     codec::pack(session_calls::admit(image, reg, ballot))
 }
@@ -58,7 +63,8 @@ pub extern "C" fn jdn_admit(image: &mut [u8], reg: &mut [u8], ballot: &[u8]) -> 
 pub extern "C" fn jdn_withdraw(image: &mut [u8], reg: &mut [u8], mark: u32) -> u64
     ensures reply { λ answer. ⌜ answer ≡ packed (withdrawReply (now (image .entry)) (now (reg .entry)) mark) ⌝ }
     ensures image { λ _. ⌜ now (image .exit) ≡ now (image .entry) ⌝ }
-    ensures register { λ _. ⌜ now (reg .exit) ≡ leaves (withdrawReply (now (image .entry)) (now (reg .entry)) mark) (entries.withdrawn (now (reg .entry)) (entries.find (now (reg .entry)) mark (decode (now (image .entry)) .progress .used))) (now (reg .entry)) ⌝ }
+    ensures register { λ _. ⌜ now (reg .exit) ≡ leaves (withdrawReply (now (image .entry)) (now (reg .entry)) mark) (entries.withdrawn
+        (now (reg .entry)) (entries.find (now (reg .entry)) mark (decode (now (image .entry)) .progress .used))) (now (reg .entry)) ⌝ }
 {
     codec::pack(session_calls::withdraw(image, reg, mark))
 }
@@ -67,7 +73,8 @@ pub extern "C" fn jdn_withdraw(image: &mut [u8], reg: &mut [u8], mark: u32) -> u
 #[no_mangle]
 pub extern "C" fn jdn_close(image: &mut [u8], reg: &[u8]) -> u64
     ensures reply { λ answer. ⌜ answer ≡ packed (closeReply (now (image .entry)) (now (reg .entry))) ⌝ }
-    ensures image { λ _. ⌜ now (image .exit) ≡ imageLeft (closeReply (now (image .entry)) (now (reg .entry))) (now (image .entry)) (closedBy (decode (now (image .entry))) (now (reg .entry))) ⌝ }
+    ensures image { λ _. ⌜ now (image .exit) ≡ imageLeft (closeReply (now (image .entry)) (now (reg .entry))) (now (image .entry))
+        (closedBy (decode (now (image .entry))) (now (reg .entry))) ⌝ }
 {
     codec::pack(session_calls::close(image, reg))
 }
@@ -76,7 +83,8 @@ pub extern "C" fn jdn_close(image: &mut [u8], reg: &[u8]) -> u64
 #[no_mangle]
 pub extern "C" fn jdn_claim(image: &mut [u8], claims: &[u8]) -> u64
     ensures reply { λ answer. ⌜ answer ≡ packed (claimReply (now (image .entry)) (now (claims .entry))) ⌝ }
-    ensures image { λ _. ⌜ now (image .exit) ≡ imageLeft (claimReply (now (image .entry)) (now (claims .entry))) (now (image .entry)) (claimedBy (decode (now (image .entry))) (now (claims .entry))) ⌝ }
+    ensures image { λ _. ⌜ now (image .exit) ≡ imageLeft (claimReply (now (image .entry)) (now (claims .entry))) (now (image .entry))
+        (claimedBy (decode (now (image .entry))) (now (claims .entry))) ⌝ }
 {
     codec::pack(session_calls::claim(image, claims))
 }
@@ -90,8 +98,11 @@ pub extern "C" fn jdn_commit(
     shares0: &[u8],
     shares1: &[u8],
 ) -> u64
-    ensures reply { λ answer. ⌜ answer ≡ packed (commitReply (now (image .entry)) round (now (head .entry)) (now (shares0 .entry)) (now (shares1 .entry))) ⌝ }
-    ensures image { λ _. ⌜ now (image .exit) ≡ imageLeft (commitReply (now (image .entry)) round (now (head .entry)) (now (shares0 .entry)) (now (shares1 .entry))) (now (image .entry)) (committedBy (decode (now (image .entry))) round (now (head .entry)) (now (shares0 .entry)) (now (shares1 .entry))) ⌝ }
+    ensures reply { λ answer. ⌜ answer ≡ packed (commitReply (now (image .entry)) round (now (head .entry)) (now (shares0 .entry))
+        (now (shares1 .entry))) ⌝ }
+    ensures image { λ _. ⌜ now (image .exit) ≡ imageLeft (commitReply (now (image .entry)) round (now (head .entry)) (now (shares0 .entry))
+        (now (shares1 .entry))) (now (image .entry)) (committedBy (decode (now (image .entry))) round (now (head .entry))
+        (now (shares0 .entry)) (now (shares1 .entry))) ⌝ }
 {
     codec::pack(session_calls::commit(image, round, head, shares0, shares1))
 }
@@ -100,7 +111,8 @@ pub extern "C" fn jdn_commit(
 #[no_mangle]
 pub extern "C" fn jdn_draw(image: &mut [u8], seed: &[u8]) -> u64
     ensures reply { λ answer. ⌜ answer ≡ packed (drawReply (now (image .entry)) (now (seed .entry))) ⌝ }
-    ensures image { λ _. ⌜ now (image .exit) ≡ imageLeft (drawReply (now (image .entry)) (now (seed .entry))) (now (image .entry)) (drawnBy (decode (now (image .entry))) (now (seed .entry))) ⌝ }
+    ensures image { λ _. ⌜ now (image .exit) ≡ imageLeft (drawReply (now (image .entry)) (now (seed .entry))) (now (image .entry))
+        (drawnBy (decode (now (image .entry))) (now (seed .entry))) ⌝ }
 {
     codec::pack(session_calls::draw(image, seed))
 }
@@ -120,9 +132,15 @@ pub extern "C" fn jdn_check(
     answers: &[u8],
     scratch: &mut [u8],
 ) -> u64
-    ensures reply { λ answer. ⌜ answer ≡ packed (checkReply (now (image .entry)) round (inputsOf (now (sheet .entry)) (now (ballots .entry)) (now (claims .entry)) (now (head .entry)) (now (shares0 .entry)) (now (shares1 .entry)) (now (opening .entry)) (now (answers .entry)) (now (scratch .entry)))) ⌝ }
-    ensures image { λ _. ⌜ now (image .exit) ≡ checkImage (now (image .entry)) round (inputsOf (now (sheet .entry)) (now (ballots .entry)) (now (claims .entry)) (now (head .entry)) (now (shares0 .entry)) (now (shares1 .entry)) (now (opening .entry)) (now (answers .entry)) (now (scratch .entry))) ⌝ }
-    ensures swept { λ _. ⌜ now (scratch .exit) ≡ swept (checkReply (now (image .entry)) round (inputsOf (now (sheet .entry)) (now (ballots .entry)) (now (claims .entry)) (now (head .entry)) (now (shares0 .entry)) (now (shares1 .entry)) (now (opening .entry)) (now (answers .entry)) (now (scratch .entry)))) (now (scratch .entry)) ⌝ }
+    ensures reply { λ answer. ⌜ answer ≡ packed (checkReply (now (image .entry)) round (inputsOf (now (sheet .entry))
+        (now (ballots .entry)) (now (claims .entry)) (now (head .entry)) (now (shares0 .entry)) (now (shares1 .entry))
+        (now (opening .entry)) (now (answers .entry)) (now (scratch .entry)))) ⌝ }
+    ensures image { λ _. ⌜ now (image .exit) ≡ checkImage (now (image .entry)) round (inputsOf (now (sheet .entry)) (now (ballots .entry))
+        (now (claims .entry)) (now (head .entry)) (now (shares0 .entry)) (now (shares1 .entry)) (now (opening .entry))
+        (now (answers .entry)) (now (scratch .entry))) ⌝ }
+    ensures swept { λ _. ⌜ now (scratch .exit) ≡ swept (checkReply (now (image .entry)) round (inputsOf (now (sheet .entry))
+        (now (ballots .entry)) (now (claims .entry)) (now (head .entry)) (now (shares0 .entry)) (now (shares1 .entry))
+        (now (opening .entry)) (now (answers .entry)) (now (scratch .entry)))) (now (scratch .entry)) ⌝ }
 {
     codec::pack(session_calls::checks::check(
         image,
@@ -143,7 +161,8 @@ pub extern "C" fn jdn_check(
 #[no_mangle]
 pub extern "C" fn jdn_challenges(image: &[u8], round: u64, out: &mut [u8]) -> u64
     ensures reply { λ answer. ⌜ answer ≡ packed (challengesReply (now (image .entry)) round (now (out .entry))) ⌝ }
-    ensures output { λ _. ⌜ now (out .exit) ≡ leaves (challengesReply (now (image .entry)) round (now (out .entry))) (challengesOut (decode (now (image .entry))) round) (now (out .entry)) ⌝ }
+    ensures output { λ _. ⌜ now (out .exit) ≡ leaves (challengesReply (now (image .entry)) round (now (out .entry)))
+        (challengesOut (decode (now (image .entry))) round) (now (out .entry)) ⌝ }
 {
     codec::pack(session_calls::checks::challenges(image, round, out))
 }

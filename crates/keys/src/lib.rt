@@ -1,4 +1,5 @@
-// The calls of key generation (document 000, section 5.3) and the key split (6.1) once the sheet is taken: the tests of the lent slices, and then the work.
+// The calls of key generation (document 000, section 5.3) and the key split (6.1) once the sheet is taken: the tests of the lent slices,
+// and then the work.
 // Scratch is given back zeroed, or as it was where the call is refused.
 use codec::Reply;
 use scheme::written;

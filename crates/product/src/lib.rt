@@ -101,8 +101,10 @@ fn dot(w: &[u8], x: usize, y: usize, n: usize, q: u64) -> u64
 
 // Fills the slot at `at` with the n coefficients of a product, from the row and the factor that stand in the room.
 fn products(work: &mut [u8], at: usize, room: usize, n: usize, q: u64)
-    requires { ⌜ (0 < q) × (q < 2 ^ 56) × (n ≤ 2048) × (at + 8 * n ≤ room) × (room + 24 * n ≤ length (now work)) × Below q (3 * n) (slot (now work) room) ⌝ }
-    ensures { λ _. ⌜ now (work .exit) ≡ store q n (now (work .entry)) at (λ k. sum n (λ i. slot (now (work .entry)) room (2 * n + i) * slot (now (work .entry)) room (n - 1 - k + i))) ⌝ }
+    requires { ⌜ (0 < q) × (q < 2 ^ 56) × (n ≤ 2048) × (at + 8 * n ≤ room) × (room + 24 * n ≤ length (now work))
+        × Below q (3 * n) (slot (now work) room) ⌝ }
+    ensures { λ _. ⌜ now (work .exit) ≡ store q n (now (work .entry)) at (λ k. sum n (λ i. slot (now (work .entry)) room (2 * n + i) * slot
+        (now (work .entry)) room (n - 1 - k + i))) ⌝ }
 {
     let mut k = 0;
     while k < n {
@@ -115,9 +117,11 @@ fn products(work: &mut [u8], at: usize, room: usize, n: usize, q: u64)
 // Multiplies a slot by a lent polynomial modulo X^n + 1: the room is three slots
 // behind the slot; it is zero afterwards. What the contract says is independent of the method.
 pub fn multiply(work: &mut [u8], at: usize, room: usize, a: &[u8], n: usize, q: u64)
-    requires { ⌜ (0 < q) × (q < 2 ^ 56) × (n ≤ 2048) × (at + 8 * n ≤ room) × (room + 24 * n ≤ length (now work)) × (8 * n ≤ length (now a)) ⌝ }
+    requires { ⌜ (0 < q) × (q < 2 ^ 56) × (n ≤ 2048) × (at + 8 * n ≤ room) × (room + 24 * n ≤ length (now work))
+        × (8 * n ≤ length (now a)) ⌝ }
     requires { ⌜ Below q n (slot (now work) at) × Below q n (poly (now a)) ⌝ }
-    ensures { λ _. ⌜ now (work .exit) ≡ put (store q n (now (work .entry)) at (mul q n (slot (now (work .entry)) at) (poly (now (a .entry))))) room (zeros (24 * n)) ⌝ }
+    ensures { λ _. ⌜ now (work .exit) ≡ put (store q n (now (work .entry)) at (mul q n (slot (now (work .entry)) at)
+        (poly (now (a .entry))))) room (zeros (24 * n)) ⌝ }
 {
     mirror(work, room, a, n, q);
     ring::copy_slot(work, room + 16 * n, at, n);

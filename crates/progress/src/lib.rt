@@ -1,12 +1,15 @@
-// The phase and the counts of a session (document 01, "Register and session"): which step is due, and how each moves them. A value that each step takes and hands back.
+// The phase and the counts of a session (document 01, "Register and session"): which step is due, and how each moves them. A value that
+// each step takes and hands back.
 use sheet_numbers::Numbers;
 ghost use mathlib.Core.Path.{_≡_};
 ghost use mathlib.Core.Bool.{_&&_};
 ghost use Prim.Native.Nat.{_≤_, _<_};
 ghost use lib.Dec.{eqb};
-ghost use Rattle.progress.specs.Progress.{drawn, inLimits, commitDue, drawDue, checkDue, challengesDue, initial, withEntry, withBatch, withClaims, withMessage, withSeed, withRefusal, withAcceptance};
+ghost use Rattle.progress.specs.Progress.{drawn, inLimits, commitDue, drawDue, checkDue, challengesDue, initial, withEntry};
+ghost use Rattle.progress.specs.Progress.{withBatch, withClaims, withMessage, withSeed, withRefusal, withAcceptance};
 
-// The phase is 0 gathering, 1 closed, 2 claimed, 3 drawn, 4 ended refused, 5 ended accepted; then how many entries of the register are used, how many ballots were closed, and how many
+// The phase is 0 gathering, 1 closed, 2 claimed, 3 drawn, 4 ended refused, 5 ended accepted; then how many entries of the register are
+// used, how many ballots were closed, and how many
 // rounds are committed and checked.
 pub struct Progress {
     pub phase: u8,

@@ -50,7 +50,8 @@ fn write_entry(reg: &mut [u8], n: usize, ballot: &[u8])
 pub fn admit(reg: &mut [u8], used: usize, ballot: &[u8]) -> Reply
     requires { ⌜ (length (now reg) ≡ def.registerLength) × (used ≤ def.capacity) × (4 ≤ length (now ballot)) ⌝ }
     ensures reply { λ r. ⌜ r ≡ first (admissionTests (now (reg .entry)) used (def.markOf (now (ballot .entry)))) ⌝ }
-    ensures register { λ _. ⌜ now (reg .exit) ≡ leaves (first (admissionTests (now (reg .entry)) used (def.markOf (now (ballot .entry))))) (def.admitted (now (reg .entry)) used (now (ballot .entry))) (now (reg .entry)) ⌝ }
+    ensures register { λ _. ⌜ now (reg .exit) ≡ leaves (first (admissionTests (now (reg .entry)) used (def.markOf (now (ballot .entry)))))
+        (def.admitted (now (reg .entry)) used (now (ballot .entry))) (now (reg .entry)) ⌝ }
 {
     let i = find(reg, codec::read32(ballot, 0), used);
     if i < used {
@@ -87,7 +88,8 @@ fn write_withdrawn(reg: &mut [u8], i: usize)
 pub fn withdraw(reg: &mut [u8], used: usize, mark: u32) -> Reply
     requires { ⌜ (length (now reg) ≡ def.registerLength) × (used ≤ def.capacity) ⌝ }
     ensures reply { λ r. ⌜ r ≡ first (withdrawalTests (now (reg .entry)) used mark) ⌝ }
-    ensures register { λ _. ⌜ now (reg .exit) ≡ leaves (first (withdrawalTests (now (reg .entry)) used mark)) (def.withdrawn (now (reg .entry)) (def.find (now (reg .entry)) mark used)) (now (reg .entry)) ⌝ }
+    ensures register { λ _. ⌜ now (reg .exit) ≡ leaves (first (withdrawalTests (now (reg .entry)) used mark))
+        (def.withdrawn (now (reg .entry)) (def.find (now (reg .entry)) mark used)) (now (reg .entry)) ⌝ }
 {
     let i = find(reg, mark, used);
     if i == used {

@@ -128,8 +128,10 @@ fn combine(x: u64, y: u64, minus: bool, q: u64) -> u64
 
 // Adds a lent polynomial to a slot, or subtracts it.
 fn combine_lent(work: &mut [u8], at: usize, a: &[u8], minus: bool, n: usize, q: u64)
-    requires { ⌜ (q < 2 ^ 56) × (at + 8 * n ≤ length (now work)) × (8 * n ≤ length (now a)) × Below q n (slot (now work) at) × Below q n (poly (now a)) ⌝ }
-    ensures { λ _. ⌜ now (work .exit) ≡ store q n (now (work .entry)) at (plus (slot (now (work .entry)) at) (scale (sign q minus) (poly (now (a .entry))))) ⌝ }
+    requires { ⌜ (q < 2 ^ 56) × (at + 8 * n ≤ length (now work)) × (8 * n ≤ length (now a)) × Below q n (slot (now work) at)
+        × Below q n (poly (now a)) ⌝ }
+    ensures { λ _. ⌜ now (work .exit) ≡ store q n (now (work .entry)) at (plus (slot (now (work .entry)) at) (scale (sign q minus)
+        (poly (now (a .entry))))) ⌝ }
 {
     let mut i = 0;
     while i < n {
@@ -144,7 +146,8 @@ fn combine_lent(work: &mut [u8], at: usize, a: &[u8], minus: bool, n: usize, q: 
 // Adds another slot to a slot, or subtracts it.
 fn combine_slot(work: &mut [u8], at: usize, from: usize, minus: bool, n: usize, q: u64)
     requires { ⌜ (q < 2 ^ 56) × Slots n at from (now work) × Below q n (slot (now work) at) × Below q n (slot (now work) from) ⌝ }
-    ensures { λ _. ⌜ now (work .exit) ≡ store q n (now (work .entry)) at (plus (slot (now (work .entry)) at) (scale (sign q minus) (slot (now (work .entry)) from))) ⌝ }
+    ensures { λ _. ⌜ now (work .exit) ≡ store q n (now (work .entry)) at (plus (slot (now (work .entry)) at) (scale (sign q minus)
+        (slot (now (work .entry)) from))) ⌝ }
 {
     let mut i = 0;
     while i < n {
@@ -158,7 +161,8 @@ fn combine_slot(work: &mut [u8], at: usize, from: usize, minus: bool, n: usize, 
 
 // Adds a lent polynomial to a slot.
 pub fn add(work: &mut [u8], at: usize, a: &[u8], n: usize, q: u64)
-    requires { ⌜ (q < 2 ^ 56) × (at + 8 * n ≤ length (now work)) × (8 * n ≤ length (now a)) × Below q n (slot (now work) at) × Below q n (poly (now a)) ⌝ }
+    requires { ⌜ (q < 2 ^ 56) × (at + 8 * n ≤ length (now work)) × (8 * n ≤ length (now a)) × Below q n (slot (now work) at)
+        × Below q n (poly (now a)) ⌝ }
     ensures { λ _. ⌜ now (work .exit) ≡ store q n (now (work .entry)) at (plus (slot (now (work .entry)) at) (poly (now (a .entry)))) ⌝ }
 {
     combine_lent(work, at, a, false, n, q);
@@ -166,7 +170,8 @@ pub fn add(work: &mut [u8], at: usize, a: &[u8], n: usize, q: u64)
 
 // Subtracts a lent polynomial from a slot.
 pub fn subtract(work: &mut [u8], at: usize, a: &[u8], n: usize, q: u64)
-    requires { ⌜ (q < 2 ^ 56) × (at + 8 * n ≤ length (now work)) × (8 * n ≤ length (now a)) × Below q n (slot (now work) at) × Below q n (poly (now a)) ⌝ }
+    requires { ⌜ (q < 2 ^ 56) × (at + 8 * n ≤ length (now work)) × (8 * n ≤ length (now a)) × Below q n (slot (now work) at)
+        × Below q n (poly (now a)) ⌝ }
     ensures { λ _. ⌜ now (work .exit) ≡ store q n (now (work .entry)) at (minus q (slot (now (work .entry)) at) (poly (now (a .entry)))) ⌝ }
 {
     combine_lent(work, at, a, true, n, q);
@@ -175,7 +180,8 @@ pub fn subtract(work: &mut [u8], at: usize, a: &[u8], n: usize, q: u64)
 // Adds another slot to a slot.
 pub fn add_slot(work: &mut [u8], at: usize, from: usize, n: usize, q: u64)
     requires { ⌜ (q < 2 ^ 56) × Slots n at from (now work) × Below q n (slot (now work) at) × Below q n (slot (now work) from) ⌝ }
-    ensures { λ _. ⌜ now (work .exit) ≡ store q n (now (work .entry)) at (plus (slot (now (work .entry)) at) (slot (now (work .entry)) from)) ⌝ }
+    ensures { λ _. ⌜ now (work .exit) ≡ store q n (now (work .entry)) at (plus (slot (now (work .entry)) at)
+        (slot (now (work .entry)) from)) ⌝ }
 {
     combine_slot(work, at, from, false, n, q);
 }
@@ -183,7 +189,8 @@ pub fn add_slot(work: &mut [u8], at: usize, from: usize, n: usize, q: u64)
 // Subtracts another slot from a slot.
 pub fn subtract_slot(work: &mut [u8], at: usize, from: usize, n: usize, q: u64)
     requires { ⌜ (q < 2 ^ 56) × Slots n at from (now work) × Below q n (slot (now work) at) × Below q n (slot (now work) from) ⌝ }
-    ensures { λ _. ⌜ now (work .exit) ≡ store q n (now (work .entry)) at (minus q (slot (now (work .entry)) at) (slot (now (work .entry)) from)) ⌝ }
+    ensures { λ _. ⌜ now (work .exit) ≡ store q n (now (work .entry)) at (minus q (slot (now (work .entry)) at)
+        (slot (now (work .entry)) from)) ⌝ }
 {
     combine_slot(work, at, from, true, n, q);
 }

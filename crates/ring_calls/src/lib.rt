@@ -1,7 +1,8 @@
 // Calls over `modular` and `ring` for tests and benchmarks outside the proof: plain numbers and byte slices, nothing asked of the caller.
 // A refusal is 1 for a slice of wrong length and 5 for a number out of range, and leaves every byte as it was. A call that writes answers 0
 // where it is taken; one that answers a number has it above the low byte, as 256 * value. Two answer a plain number: `modular_centred`,
-// whose refusal is 2^62, and `ring_count`, which refuses nothing. In C a slice is `uint8_t *, size_t`, and `const` where it is lent to be read.
+// whose refusal is 2^62, and `ring_count`, which refuses nothing. In C a slice is `uint8_t *, size_t`, and `const` where it is lent to be
+// read.
 ghost use mathlib.Core.Path.{_≡_};
 ghost use Prim.Native.Nat.{_+_, _*_, _%_, _≤_, _<_, _^_};
 ghost use lib.IntN.{pos};
@@ -15,7 +16,8 @@ ghost use Rattle.modular.specs.Division.{divide};
 ghost use Rattle.ring.specs.Poly.{Below};
 ghost use Rattle.ring.specs.Slots.{coefficientBytes, poly, encode};
 ghost use Rattle.ring.specs.Ternary.{ternary, count};
-ghost use Rattle.ring_calls.specs.Calls.{answer, onNumbers, numbersReply, divideReply, onPolynomials, polynomialsReply, polynomialsOut, ternaryReply};
+ghost use Rattle.ring_calls.specs.Calls.{answer, onNumbers, numbersReply, divideReply, onPolynomials, polynomialsReply};
+ghost use Rattle.ring_calls.specs.Calls.{polynomialsOut, ternaryReply};
 
 // ---- numbers
 
@@ -131,7 +133,8 @@ pub extern "C" fn ring_count(t: &[u8], v: u8) -> u64
 #[no_mangle]
 pub extern "C" fn ring_ternary(work: &mut [u8], t: &[u8], q: u64) -> u64
     ensures reply { λ r. ⌜ r ≡ packed (ternaryReply q (now (work .entry)) (now (t .entry))) ⌝ }
-    ensures output { λ _. ⌜ now (work .exit) ≡ leaves (ternaryReply q (now (work .entry)) (now (t .entry))) (encode (length (now (t .entry))) (ternary q (now (t .entry)))) (now (work .entry)) ⌝ }
+    ensures output { λ _. ⌜ now (work .exit) ≡ leaves (ternaryReply q (now (work .entry)) (now (t .entry)))
+        (encode (length (now (t .entry))) (ternary q (now (t .entry)))) (now (work .entry)) ⌝ }
 {
     if q < 2 {
         return 5;
@@ -186,9 +189,11 @@ fn judge(operation: u64, work: &[u8], a: &[u8], b: &[u8], n: usize, q: u64) -> u
 
 // The result in the first slot, and zeros in the others.
 fn compute(operation: u64, work: &mut [u8], a: &[u8], b: &[u8], n: usize, q: u64)
-    requires { ⌜ (n ≤ 2048) × (0 < q) × (q < 2 ^ 56) × (length (now work) ≡ 32 * n) × (length (now a) ≡ 8 * n) × (length (now b) ≡ 8 * n) ⌝ }
+    requires { ⌜ (n ≤ 2048) × (0 < q) × (q < 2 ^ 56) × (length (now work) ≡ 32 * n) × (length (now a) ≡ 8 * n)
+        × (length (now b) ≡ 8 * n) ⌝ }
     requires { ⌜ Below q n (poly (now a)) × Below q n (poly (now b)) ⌝ }
-    ensures { λ _. ⌜ now (work .exit) ≡ coefficientBytes q n (onPolynomials operation n q (poly (now (a .entry))) (poly (now (b .entry)))) ++ zeros (24 * n) ⌝ }
+    ensures { λ _. ⌜ now (work .exit) ≡ coefficientBytes q n (onPolynomials operation n q (poly (now (a .entry))) (poly (now (b .entry))))
+        ++ zeros (24 * n) ⌝ }
 {
     codec::wipe(work);
     codec::copy(work, 0, a);
@@ -203,7 +208,8 @@ fn compute(operation: u64, work: &mut [u8], a: &[u8], b: &[u8], n: usize, q: u64
     product::multiply(work, 0, 8 * n, b, n, q);
 }
 
-// uint64_t ring_polynomials(uint64_t operation, uint8_t *work, size_t, const uint8_t *a, size_t, const uint8_t *b, size_t, size_t n, uint64_t q);
+// uint64_t ring_polynomials(uint64_t operation, uint8_t *work, size_t, const uint8_t *a, size_t, const uint8_t *b, size_t, size_t n,
+// uint64_t q);
 // 0 a + b, 1 a - b, 2 a * b modulo X^n + 1, into the first 8n of the 32n bytes of work.
 #[no_mangle]
 pub extern "C" fn ring_polynomials(

@@ -1,5 +1,7 @@
-// The calls of decryption shares (document 000, section 6.1) once the sheet is taken: the tests of the lent slices, and then the work in scratch.
-// `written` has what the scheme's polynomials are written with, here and in the crates of the other calls: `keys`, `encryption`, `commitments`.
+// The calls of decryption shares (document 000, section 6.1) once the sheet is taken: the tests of the lent slices, and then the work in
+// scratch.
+// `written` has what the scheme's polynomials are written with, here and in the crates of the other calls: `keys`, `encryption`,
+// `commitments`.
 mod shares;
 pub mod written;
 

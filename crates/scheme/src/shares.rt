@@ -1,4 +1,5 @@
-// Decryption shares and the vote of two once the sheet is taken: the tests of the lent slices, and then the work. Scratch is given back zeroed, or as it was where the call is refused.
+// Decryption shares and the vote of two once the sheet is taken: the tests of the lent slices, and then the work. Scratch is given back
+// zeroed, or as it was where the call is refused.
 use crate::written;
 use codec::Reply;
 use sheet_numbers::Numbers;

@@ -23,8 +23,10 @@ pub fn noisy(
     n: usize,
     q: u64,
 )
-    requires { ⌜ Polynomial n q (now a) × (length (now scratch) ≡ scratchLength) × (length (now x) ≡ n) × (length (now y) ≡ n) × (at + 8 * n ≤ length (now out)) × (p < q) ⌝ }
-    ensures { λ _. ⌜ WrittenAt at (coefficientBytes q n (scheme.noisy q n p (poly (given a)) (ternary q (given x)) (ternary q (given y)))) (given out) (left out) (given scratch) (left scratch) ⌝ }
+    requires { ⌜ Polynomial n q (now a) × (length (now scratch) ≡ scratchLength) × (length (now x) ≡ n) × (length (now y) ≡ n)
+        × (at + 8 * n ≤ length (now out)) × (p < q) ⌝ }
+    ensures { λ _. ⌜ WrittenAt at (coefficientBytes q n (scheme.noisy q n p (poly (given a)) (ternary q (given x)) (ternary q (given y))))
+        (given out) (left out) (given scratch) (left scratch) ⌝ }
 {
     bgv::noisy(scratch, a, x, y, p, n, q);
     call::write_out(out, at, scratch, 0, n);
@@ -44,8 +46,10 @@ pub fn cipher_v(
     n: usize,
     q: u64,
 )
-    requires { ⌜ Polynomial n q (now b) × (length (now scratch) ≡ scratchLength) × (length (now r) ≡ n) × (length (now e2) ≡ n) × (length (now m) ≡ n) × Below q n (coefficients (now m)) × (at + 8 * n ≤ length (now out)) × (p < q) ⌝ }
-    ensures { λ _. ⌜ WrittenAt at (coefficientBytes q n (scheme.cipher-v q n p (poly (given b)) (ternary q (given r)) (ternary q (given e2)) (coefficients (given m)))) (given out) (left out) (given scratch) (left scratch) ⌝ }
+    requires { ⌜ Polynomial n q (now b) × (length (now scratch) ≡ scratchLength) × (length (now r) ≡ n) × (length (now e2) ≡ n)
+        × (length (now m) ≡ n) × Below q n (coefficients (now m)) × (at + 8 * n ≤ length (now out)) × (p < q) ⌝ }
+    ensures { λ _. ⌜ WrittenAt at (coefficientBytes q n (scheme.cipher-v q n p (poly (given b)) (ternary q (given r))
+        (ternary q (given e2)) (coefficients (given m)))) (given out) (left out) (given scratch) (left scratch) ⌝ }
 {
     bgv::noisy(scratch, b, r, e2, p, n, q);
     bgv::add_message(scratch, m, n, q);
@@ -63,8 +67,10 @@ pub fn difference(
     n: usize,
     q: u64,
 )
-    requires { ⌜ Polynomial n q (now x0) × (length (now scratch) ≡ scratchLength) × (length (now x) ≡ n) × (at + 8 * n ≤ length (now out)) ⌝ }
-    ensures { λ _. ⌜ WrittenAt at (coefficientBytes q n (scheme.other q (ternary q (given x)) (poly (given x0)))) (given out) (left out) (given scratch) (left scratch) ⌝ }
+    requires { ⌜ Polynomial n q (now x0) × (length (now scratch) ≡ scratchLength) × (length (now x) ≡ n)
+        × (at + 8 * n ≤ length (now out)) ⌝ }
+    ensures { λ _. ⌜ WrittenAt at (coefficientBytes q n (scheme.other q (ternary q (given x)) (poly (given x0)))) (given out) (left out)
+        (given scratch) (left scratch) ⌝ }
 {
     bgv::difference(scratch, 0, x, x0, n, q);
     call::write_out(out, at, scratch, 0, n);
@@ -83,8 +89,10 @@ pub fn lent_key(
     n: usize,
     q: u64,
 )
-    requires { ⌜ Polynomial n q (now a) × Polynomial n q (now x0) × Polynomial n q (now y0) × (length (now scratch) ≡ scratchLength) × (at + 8 * n ≤ length (now out)) × (p < q) ⌝ }
-    ensures { λ _. ⌜ WrittenAt at (coefficientBytes q n (scheme.key q n p (poly (given a)) (poly (given x0)) (poly (given y0)))) (given out) (left out) (given scratch) (left scratch) ⌝ }
+    requires { ⌜ Polynomial n q (now a) × Polynomial n q (now x0) × Polynomial n q (now y0) × (length (now scratch) ≡ scratchLength)
+        × (at + 8 * n ≤ length (now out)) × (p < q) ⌝ }
+    ensures { λ _. ⌜ WrittenAt at (coefficientBytes q n (scheme.key q n p (poly (given a)) (poly (given x0)) (poly (given y0))))
+        (given out) (left out) (given scratch) (left scratch) ⌝ }
 {
     bgv::noisy_lent(scratch, a, x0, y0, p, n, q);
     call::write_out(out, at, scratch, 0, n);
@@ -105,8 +113,11 @@ pub fn other_key(
     n: usize,
     q: u64,
 )
-    requires { ⌜ Polynomial n q (now a) × Polynomial n q (now x0) × Polynomial n q (now y0) × (length (now scratch) ≡ scratchLength) × (length (now x) ≡ n) × (length (now y) ≡ n) × (at + 8 * n ≤ length (now out)) × (p < q) ⌝ }
-    ensures { λ _. ⌜ WrittenAt at (coefficientBytes q n (scheme.key q n p (poly (given a)) (scheme.other q (ternary q (given x)) (poly (given x0))) (scheme.other q (ternary q (given y)) (poly (given y0))))) (given out) (left out) (given scratch) (left scratch) ⌝ }
+    requires { ⌜ Polynomial n q (now a) × Polynomial n q (now x0) × Polynomial n q (now y0) × (length (now scratch) ≡ scratchLength)
+        × (length (now x) ≡ n) × (length (now y) ≡ n) × (at + 8 * n ≤ length (now out)) × (p < q) ⌝ }
+    ensures { λ _. ⌜ WrittenAt at (coefficientBytes q n (scheme.key q n p (poly (given a)) (scheme.other q (ternary q (given x))
+        (poly (given x0))) (scheme.other q (ternary q (given y)) (poly (given y0))))) (given out) (left out) (given scratch)
+        (left scratch) ⌝ }
 {
     bgv::noisy_difference(scratch, a, x, x0, y, y0, p, n, q);
     call::write_out(out, at, scratch, 0, n);
@@ -125,8 +136,10 @@ pub fn share(
     n: usize,
     q: u64,
 )
-    requires { ⌜ Polynomial n q (now half) × Polynomial n q (now u) × (length (now mask) ≡ 8 * n) × (length (now scratch) ≡ scratchLength) × (at + 8 * n ≤ length (now out)) × (p < q) ⌝ }
-    ensures { λ _. ⌜ WrittenAt at (coefficientBytes q n (scheme.share q n p (poly (given half)) (poly (given u)) (lentMask (given mask)))) (given out) (left out) (given scratch) (left scratch) ⌝ }
+    requires { ⌜ Polynomial n q (now half) × Polynomial n q (now u) × (length (now mask) ≡ 8 * n) × (length (now scratch) ≡ scratchLength)
+        × (at + 8 * n ≤ length (now out)) × (p < q) ⌝ }
+    ensures { λ _. ⌜ WrittenAt at (coefficientBytes q n (scheme.share q n p (poly (given half)) (poly (given u)) (lentMask (given mask))))
+        (given out) (left out) (given scratch) (left scratch) ⌝ }
 {
     bgv::share(scratch, half, u, mask, p, n, q);
     call::write_out(out, at, scratch, 0, n);

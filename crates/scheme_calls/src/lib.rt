@@ -1,12 +1,15 @@
-// The calls of encryption, decryption, the key split, decryption shares (document 000, sections 5.3 and 6.1) and commitment (5.4) over the sheet and lent bytes.
+// The calls of encryption, decryption, the key split, decryption shares (document 000, sections 5.3 and 6.1) and commitment (5.4) over
+// the sheet and lent bytes.
 ghost use Rattle.codec.specs.Slices.{given, left};
 ghost use Rattle.call.specs.Call.{Called};
-ghost use Rattle.scheme_calls.specs.Orders.{keygenOrder, encryptOrder, decryptOrder, splitOrder, shareOrder, reconstructOrder, commitmentOrder};
+ghost use Rattle.scheme_calls.specs.Orders.{keygenOrder, encryptOrder, decryptOrder, splitOrder, shareOrder, reconstructOrder};
+ghost use Rattle.scheme_calls.specs.Orders.{commitmentOrder};
 ghost use Rattle.scheme_calls.specs.Orders.{keyOf, ciphertextOf, voteOf, splitOf, shareOf, voteOfShares, pairOf};
 
 // Writes the key b = a s + p e.
 pub fn keygen(sheet: &[u8], s: &[u8], e: &[u8], b: &mut [u8], scratch: &mut [u8]) -> codec::Reply
-    ensures { λ reply. ⌜ Called (keygenOrder (given sheet) (given s) (given e) (given b) (given scratch)) (keyOf (given sheet) (given s) (given e)) reply
+    ensures { λ reply. ⌜ Called (keygenOrder (given sheet) (given s) (given e) (given b) (given scratch)) (keyOf (given sheet) (given s)
+        (given e)) reply
         (given b) (left b) (given scratch) (left scratch) ⌝ }
 {
     let mut public = [0u8; 81920];
@@ -35,7 +38,8 @@ pub fn encrypt(
     ciphertext: &mut [u8],
     scratch: &mut [u8],
 ) -> codec::Reply
-    ensures { λ reply. ⌜ Called (encryptOrder (given sheet) (given r) (given e1) (given e2) (given m) (given ciphertext) (given scratch)) (ciphertextOf (given sheet) (given r) (given e1) (given e2) (given m)) reply
+    ensures { λ reply. ⌜ Called (encryptOrder (given sheet) (given r) (given e1) (given e2) (given m) (given ciphertext) (given scratch))
+        (ciphertextOf (given sheet) (given r) (given e1) (given e2) (given m)) reply
         (given ciphertext) (left ciphertext) (given scratch) (left scratch) ⌝ }
 {
     let mut public = [0u8; 81920];
@@ -62,7 +66,8 @@ pub fn decrypt(
     vote: &mut [u8],
     scratch: &mut [u8],
 ) -> codec::Reply
-    ensures { λ reply. ⌜ Called (decryptOrder (given sheet) (given s) (given ciphertext) (given vote) (given scratch)) (voteOf (given sheet) (given s) (given ciphertext)) reply
+    ensures { λ reply. ⌜ Called (decryptOrder (given sheet) (given s) (given ciphertext) (given vote) (given scratch))
+        (voteOf (given sheet) (given s) (given ciphertext)) reply
         (given vote) (left vote) (given scratch) (left scratch) ⌝ }
 {
     let mut public = [0u8; 81920];
@@ -91,7 +96,8 @@ pub fn split(
     out: &mut [u8],
     scratch: &mut [u8],
 ) -> codec::Reply
-    ensures { λ reply. ⌜ Called (splitOrder (given sheet) (given s) (given e) (given s0) (given e0) (given out) (given scratch)) (splitOf (given sheet) (given s) (given e) (given s0) (given e0)) reply
+    ensures { λ reply. ⌜ Called (splitOrder (given sheet) (given s) (given e) (given s0) (given e0) (given out) (given scratch))
+        (splitOf (given sheet) (given s) (given e) (given s0) (given e0)) reply
         (given out) (left out) (given scratch) (left scratch) ⌝ }
 {
     let mut public = [0u8; 81920];
@@ -119,7 +125,8 @@ pub fn share(
     t: &mut [u8],
     scratch: &mut [u8],
 ) -> codec::Reply
-    ensures { λ reply. ⌜ Called (shareOrder (given sheet) (given half) (given u) (given mask) (given t) (given scratch)) (shareOf (given sheet) (given half) (given u) (given mask)) reply
+    ensures { λ reply. ⌜ Called (shareOrder (given sheet) (given half) (given u) (given mask) (given t) (given scratch))
+        (shareOf (given sheet) (given half) (given u) (given mask)) reply
         (given t) (left t) (given scratch) (left scratch) ⌝ }
 {
     let mut public = [0u8; 81920];
@@ -147,7 +154,8 @@ pub fn reconstruct(
     vote: &mut [u8],
     scratch: &mut [u8],
 ) -> codec::Reply
-    ensures { λ reply. ⌜ Called (reconstructOrder (given sheet) (given v) (given t0) (given t1) (given vote) (given scratch)) (voteOfShares (given sheet) (given v) (given t0) (given t1)) reply
+    ensures { λ reply. ⌜ Called (reconstructOrder (given sheet) (given v) (given t0) (given t1) (given vote) (given scratch))
+        (voteOfShares (given sheet) (given v) (given t0) (given t1)) reply
         (given vote) (left vote) (given scratch) (left scratch) ⌝ }
 {
     let mut public = [0u8; 81920];
@@ -174,7 +182,8 @@ pub fn commitment(
     pair: &mut [u8],
     scratch: &mut [u8],
 ) -> codec::Reply
-    ensures { λ reply. ⌜ Called (commitmentOrder (given sheet) (given m) (given r) (given pair) (given scratch)) (pairOf (given sheet) (given m) (given r)) reply
+    ensures { λ reply. ⌜ Called (commitmentOrder (given sheet) (given m) (given r) (given pair) (given scratch)) (pairOf (given sheet)
+        (given m) (given r)) reply
         (given pair) (left pair) (given scratch) (left scratch) ⌝ }
 {
     let mut public = [0u8; 81920];

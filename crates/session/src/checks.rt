@@ -14,7 +14,8 @@ ghost use Rattle.progress.specs.Progress.{drawn};
 ghost use Rattle.session.specs.Steps.{checkTests, judgedBy, checkedBy, challengesTests, challengesOut};
 
 impl Session {
-    // What a verdict on the round that is due leaves: a round that fails ends the session refused, the last one that passes ends it accepted.
+    // What a verdict on the round that is due leaves: a round that fails ends the session refused, the last one that passes ends it
+    // accepted.
     fn judged(self, verdict: Verdict) -> Stepped
         requires { ⌜ (self .progress .phase ≡ drawn) × (self .progress .checked < self .numbers .rounds) ⌝ }
         ensures { λ r. ⌜ (r .reply ≡ replyOf verdict) × (r .session ≡ judgedBy verdict self) ⌝ }
@@ -57,9 +58,15 @@ impl Session {
         answers: &[u8],
         scratch: &mut [u8],
     ) -> Stepped
-        ensures reply { λ r. ⌜ r .reply ≡ first (checkTests self round (inputsOf (now (sheet .entry)) (now (ballots .entry)) (now (claims .entry)) (now (head .entry)) (now (shares0 .entry)) (now (shares1 .entry)) (now (opening .entry)) (now (answers .entry)) (now (scratch .entry)))) ⌝ }
-        ensures session { λ r. ⌜ r .session ≡ checkedBy self round (inputsOf (now (sheet .entry)) (now (ballots .entry)) (now (claims .entry)) (now (head .entry)) (now (shares0 .entry)) (now (shares1 .entry)) (now (opening .entry)) (now (answers .entry)) (now (scratch .entry))) ⌝ }
-        ensures scratch { λ _. ⌜ now (scratch .exit) ≡ swept (first (checkTests self round (inputsOf (now (sheet .entry)) (now (ballots .entry)) (now (claims .entry)) (now (head .entry)) (now (shares0 .entry)) (now (shares1 .entry)) (now (opening .entry)) (now (answers .entry)) (now (scratch .entry))))) (now (scratch .entry)) ⌝ }
+        ensures reply { λ r. ⌜ r .reply ≡ first (checkTests self round (inputsOf (now (sheet .entry)) (now (ballots .entry))
+            (now (claims .entry)) (now (head .entry)) (now (shares0 .entry)) (now (shares1 .entry)) (now (opening .entry))
+            (now (answers .entry)) (now (scratch .entry)))) ⌝ }
+        ensures session { λ r. ⌜ r .session ≡ checkedBy self round (inputsOf (now (sheet .entry)) (now (ballots .entry))
+            (now (claims .entry)) (now (head .entry)) (now (shares0 .entry)) (now (shares1 .entry)) (now (opening .entry))
+            (now (answers .entry)) (now (scratch .entry))) ⌝ }
+        ensures scratch { λ _. ⌜ now (scratch .exit) ≡ swept (first (checkTests self round (inputsOf (now (sheet .entry))
+            (now (ballots .entry)) (now (claims .entry)) (now (head .entry)) (now (shares0 .entry)) (now (shares1 .entry))
+            (now (opening .entry)) (now (answers .entry)) (now (scratch .entry))))) (now (scratch .entry)) ⌝ }
     {
         let progress = self.progress;
         let numbers = self.numbers;
@@ -99,7 +106,8 @@ impl Session {
     // Writes the side and the challenges that were drawn for a round.
     pub fn challenges(self, round: u64, out: &mut [u8]) -> Reply
         ensures reply { λ r. ⌜ r ≡ first (challengesTests self round (now (out .entry))) ⌝ }
-        ensures output { λ _. ⌜ now (out .exit) ≡ leaves (first (challengesTests self round (now (out .entry)))) (challengesOut self round) (now (out .entry)) ⌝ }
+        ensures output { λ _. ⌜ now (out .exit) ≡ leaves (first (challengesTests self round (now (out .entry)))) (challengesOut self round)
+            (now (out .entry)) ⌝ }
     {
         let progress = self.progress;
         if !progress.has_challenges(self.numbers, round) {

@@ -26,7 +26,8 @@ impl Session {
     // Takes the claims.
     pub fn claim(self, claims: &[u8]) -> Stepped
         ensures reply { λ r. ⌜ r .reply ≡ first (claimTests self (now (claims .entry))) ⌝ }
-        ensures session { λ r. ⌜ r .session ≡ leaves (first (claimTests self (now (claims .entry)))) (claimedBy self (now (claims .entry))) self ⌝ }
+        ensures session { λ r. ⌜ r .session ≡ leaves (first (claimTests self (now (claims .entry))))
+            (claimedBy self (now (claims .entry))) self ⌝ }
     {
         let progress = self.progress;
         let numbers = self.numbers;
@@ -54,7 +55,9 @@ impl Session {
     // Whether a first message has its lengths.
     fn message_sized(self, head: &[u8], shares0: &[u8], shares1: &[u8]) -> bool
         requires { ⌜ valid self ≡ true ⌝ }
-        ensures { λ r. ⌜ r ≡ same (length (now (head .entry)) ∷ length (now (shares0 .entry)) ∷ length (now (shares1 .entry)) ∷ []) (headLength (self .numbers .ring) (self .numbers .repeats) ∷ 8 * self .numbers .ring * self .progress .closed ∷ 8 * self .numbers .ring * self .progress .closed ∷ []) ⌝ }
+        ensures { λ r. ⌜ r ≡ same (length (now (head .entry)) ∷ length (now (shares0 .entry)) ∷ length (now (shares1 .entry)) ∷ [])
+            (headLength (self .numbers .ring) (self .numbers .repeats) ∷ 8 * self .numbers .ring * self .progress .closed
+            ∷ 8 * self .numbers .ring * self .progress .closed ∷ []) ⌝ }
     {
         let n = self.numbers.ring;
         let share = times(8 * n, self.progress.closed);
@@ -67,8 +70,10 @@ impl Session {
 
     // Takes the first message of the next round.
     pub fn commit(self, round: u64, head: &[u8], shares0: &[u8], shares1: &[u8]) -> Stepped
-        ensures reply { λ r. ⌜ r .reply ≡ first (commitTests self round (now (head .entry)) (now (shares0 .entry)) (now (shares1 .entry))) ⌝ }
-        ensures session { λ r. ⌜ r .session ≡ leaves (first (commitTests self round (now (head .entry)) (now (shares0 .entry)) (now (shares1 .entry)))) (committedBy self round (now (head .entry)) (now (shares0 .entry)) (now (shares1 .entry))) self ⌝ }
+        ensures reply { λ r. ⌜ r .reply ≡ first (commitTests self round (now (head .entry)) (now (shares0 .entry))
+            (now (shares1 .entry))) ⌝ }
+        ensures session { λ r. ⌜ r .session ≡ leaves (first (commitTests self round (now (head .entry)) (now (shares0 .entry))
+            (now (shares1 .entry)))) (committedBy self round (now (head .entry)) (now (shares0 .entry)) (now (shares1 .entry))) self ⌝ }
     {
         let progress = self.progress;
         if !progress.may_commit(self.numbers, round) {
@@ -93,7 +98,8 @@ impl Session {
     // Takes the seed, once all rounds are committed.
     pub fn draw(self, seed: &[u8]) -> Stepped
         ensures reply { λ r. ⌜ r .reply ≡ first (drawTests self (now (seed .entry))) ⌝ }
-        ensures session { λ r. ⌜ r .session ≡ leaves (first (drawTests self (now (seed .entry)))) (drawnBy self (now (seed .entry))) self ⌝ }
+        ensures session { λ r. ⌜ r .session ≡ leaves (first (drawTests self (now (seed .entry))))
+            (drawnBy self (now (seed .entry))) self ⌝ }
     {
         let progress = self.progress;
         if !progress.may_draw(self.numbers) {

@@ -25,8 +25,12 @@ pub fn check(
     answers: &[u8],
     scratch: &mut [u8],
 ) -> Reply
-    ensures { λ r. ⌜ r ≡ checkReply (now (image .entry)) round (inputsOf (now (sheet .entry)) (now (ballots .entry)) (now (claims .entry)) (now (head .entry)) (now (shares0 .entry)) (now (shares1 .entry)) (now (opening .entry)) (now (answers .entry)) (now (scratch .entry))) ⌝ }
-    ensures { λ _. ⌜ now (image .exit) ≡ checkImage (now (image .entry)) round (inputsOf (now (sheet .entry)) (now (ballots .entry)) (now (claims .entry)) (now (head .entry)) (now (shares0 .entry)) (now (shares1 .entry)) (now (opening .entry)) (now (answers .entry)) (now (scratch .entry))) ⌝ }
+    ensures { λ r. ⌜ r ≡ checkReply (now (image .entry)) round (inputsOf (now (sheet .entry)) (now (ballots .entry)) (now (claims .entry))
+        (now (head .entry)) (now (shares0 .entry)) (now (shares1 .entry)) (now (opening .entry)) (now (answers .entry))
+        (now (scratch .entry))) ⌝ }
+    ensures { λ _. ⌜ now (image .exit) ≡ checkImage (now (image .entry)) round (inputsOf (now (sheet .entry)) (now (ballots .entry))
+        (now (claims .entry)) (now (head .entry)) (now (shares0 .entry)) (now (shares1 .entry)) (now (opening .entry))
+        (now (answers .entry)) (now (scratch .entry))) ⌝ }
     ensures { λ r. ⌜ now (scratch .exit) ≡ swept r (now (scratch .entry)) ⌝ }
 {
     if image.len() != image::IMAGE {
@@ -53,7 +57,8 @@ pub fn check(
 // Writes the side and the challenges that were drawn for a round.
 pub fn challenges(image: &[u8], round: u64, out: &mut [u8]) -> Reply
     ensures { λ r. ⌜ r ≡ challengesReply (now (image .entry)) round (now (out .entry)) ⌝ }
-    ensures { λ _. ⌜ now (out .exit) ≡ leaves (challengesReply (now (image .entry)) round (now (out .entry))) (challengesOut (decode (now (image .entry))) round) (now (out .entry)) ⌝ }
+    ensures { λ _. ⌜ now (out .exit) ≡ leaves (challengesReply (now (image .entry)) round (now (out .entry)))
+        (challengesOut (decode (now (image .entry))) round) (now (out .entry)) ⌝ }
 {
     if image.len() != image::IMAGE {
         return refused();
@@ -64,7 +69,8 @@ pub fn challenges(image: &[u8], round: u64, out: &mut [u8]) -> Reply
 
 // Counts the standing entries in thousandths of the enrolled.
 pub fn turnout(image: &[u8], reg: &[u8], enrolled: u64) -> Turnout
-    ensures { λ r. ⌜ r ≡ turnoutBy (turnoutReply (now (image .entry)) (now (reg .entry)) enrolled) (entries.turnout (now (reg .entry)) (decode (now (image .entry)) .progress .used) enrolled) ⌝ }
+    ensures { λ r. ⌜ r ≡ turnoutBy (turnoutReply (now (image .entry)) (now (reg .entry)) enrolled) (entries.turnout (now (reg .entry))
+        (decode (now (image .entry)) .progress .used) enrolled) ⌝ }
 {
     if image.len() != image::IMAGE {
         return Turnout::Refused { number: 1 };

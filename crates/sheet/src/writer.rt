@@ -14,7 +14,8 @@ ghost use Rattle.sheet.specs.Sheet.{polynomials};
 // Puts the numbers from a place of the text up to LF into out, from an index on. Answers where the text goes on.
 fn write_values(text: &[u8], at: usize, out: &mut [u8], from: usize) -> usize
     requires { ⌜ Ready (values [] fresh (drop at (now text))) from (now out) ⌝ }
-    ensures { λ r. ⌜ Writes (values [] fresh (drop at (now (text .entry)))) from (now (out .entry)) (drop r (now (text .entry))) (now (out .exit)) ⌝ }
+    ensures { λ r. ⌜ Writes (values [] fresh (drop at (now (text .entry)))) from (now (out .entry)) (drop r (now (text .entry)))
+        (now (out .exit)) ⌝ }
 {
     let mut i = at;
     let mut v: u64 = 0;

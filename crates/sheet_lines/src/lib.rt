@@ -140,7 +140,8 @@ fn scan_key(text: &[u8], at: usize, k: usize) -> Scan
 // The lines of five keys, from one on.
 pub fn scan_lines(text: &[u8], at: usize, from: usize) -> Lines
     requires { ⌜ from + 5 ≤ 10 ⌝ }
-    ensures { λ r. ⌜ seen (now (text .entry)) r ≡ outlined (rows (take 5 (drop from (numberKeys ++ listKeys))) (drop at (now (text .entry)))) ⌝ }
+    ensures { λ r. ⌜ seen (now (text .entry)) r ≡ outlined (rows (take 5 (drop from (numberKeys ++ listKeys)))
+        (drop at (now (text .entry)))) ⌝ }
 {
     let mut counts = [0u64; 5];
     let mut tops = [0u64; 5];

@@ -1,4 +1,5 @@
-// The sheet program (document 01, "Sheet"): reads a sheet from standard input and prints the verdict, and of a sheet that is taken N, D, B and L.
+// The sheet program (document 01, "Sheet"): reads a sheet from standard input and prints the verdict, and of a sheet that is taken N, D,
+// B and L.
 use libc::STDIN_FILENO;
 use libc::STDOUT_FILENO;
 use sheet::Reading;

@@ -49,7 +49,8 @@ pub fn material_sized(
     n: usize,
 ) -> bool
     requires { ⌜ n ≤ 2048 ⌝ }
-    ensures { λ b. ⌜ b ≡ same (lengths (now (x .entry)) (now (r .entry)) (now (p .entry)) (now (salts .entry)) (now (out .entry)) (now (scratch .entry))) (wanted n room) ⌝ }
+    ensures { λ b. ⌜ b ≡ same (lengths (now (x .entry)) (now (r .entry)) (now (p .entry)) (now (salts .entry)) (now (out .entry))
+        (now (scratch .entry))) (wanted n room) ⌝ }
 {
     call::sized(
         [
@@ -68,7 +69,8 @@ pub fn material_sized(
 pub fn material_ranged(x: &[u8], r: &[u8], p: &[u8], scratch: &mut [u8], n: usize, q: u64) -> Reply
     requires { ⌜ (n ≤ 2048) × (length (now p) ≡ 168 * n) × (length (now scratch) ≡ scratchLength) ⌝ }
     ensures { λ reply. ⌜ reply ≡ first (rangeTests q n (now (x .entry)) (now (r .entry)) (now (p .entry))) ⌝ }
-    ensures { λ reply. ⌜ (swept reply (now (scratch .exit)) ≡ swept reply (now (scratch .entry))) × (length (now (scratch .exit)) ≡ length (now (scratch .entry))) ⌝ }
+    ensures { λ reply. ⌜ (swept reply (now (scratch .exit)) ≡ swept reply (now (scratch .entry))) × (length (now (scratch .exit)) ≡ length
+        (now (scratch .entry))) ⌝ }
 {
     if !ring::is_ternary(x) {
         return refused(5);
@@ -93,7 +95,8 @@ pub fn test_sized(
     n: usize,
 ) -> bool
     requires { ⌜ n ≤ 2048 ⌝ }
-    ensures { λ b. ⌜ b ≡ same (length (now (keys .entry)) ∷ length (now (pairs .entry)) ∷ length (now (digests .entry)) ∷ length (now (answer .entry)) ∷ length (now (scratch .entry)) ∷ []) (24 * n ∷ 64 * n ∷ 96 ∷ long ∷ scratchLength ∷ []) ⌝ }
+    ensures { λ b. ⌜ b ≡ same (length (now (keys .entry)) ∷ length (now (pairs .entry)) ∷ length (now (digests .entry)) ∷ length
+        (now (answer .entry)) ∷ length (now (scratch .entry)) ∷ []) (24 * n ∷ 64 * n ∷ 96 ∷ long ∷ scratchLength ∷ []) ⌝ }
 {
     call::sized(
         [
@@ -118,7 +121,8 @@ pub fn test_ranged(
     q: u64,
 ) -> bool
     requires { ⌜ (n ≤ 2048) × (length (now answer) ≡ answerLength n challenge) ⌝ }
-    ensures { λ b. ⌜ b ≡ allBelow q (vector (now (keys .entry))) && (allBelow q (vector (now (pairs .entry))) && inRange q n challenge (now (answer .entry))) ⌝ }
+    ensures { λ b. ⌜ b ≡ allBelow q (vector (now (keys .entry))) && (allBelow q (vector (now (pairs .entry))) && inRange q n challenge
+        (now (answer .entry))) ⌝ }
 {
     if !ring::in_range(keys, q) {
         return false;

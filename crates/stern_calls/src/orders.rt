@@ -24,8 +24,10 @@ pub fn digests_tests(
     n: usize,
     q: u64,
 ) -> Reply
-    ensures { λ reply. ⌜ reply ≡ digestsReply n q (now (keys .entry)) (now (x .entry)) (now (r .entry)) (now (p .entry)) (now (salts .entry)) (now (out .entry)) (now (scratch .entry)) ⌝ }
-    ensures { λ reply. ⌜ (swept reply (now (scratch .exit)) ≡ swept reply (now (scratch .entry))) × (length (now (scratch .exit)) ≡ length (now (scratch .entry))) ⌝ }
+    ensures { λ reply. ⌜ reply ≡ digestsReply n q (now (keys .entry)) (now (x .entry)) (now (r .entry)) (now (p .entry))
+        (now (salts .entry)) (now (out .entry)) (now (scratch .entry)) ⌝ }
+    ensures { λ reply. ⌜ (swept reply (now (scratch .exit)) ≡ swept reply (now (scratch .entry))) × (length (now (scratch .exit)) ≡ length
+        (now (scratch .entry))) ⌝ }
 {
     if !ring_fits(n, q) {
         return refused(5);
@@ -54,8 +56,10 @@ pub fn answer_tests(
     n: usize,
     q: u64,
 ) -> Reply
-    ensures { λ reply. ⌜ reply ≡ answerReply n q challenge (now (x .entry)) (now (r .entry)) (now (p .entry)) (now (salts .entry)) (now (out .entry)) (now (scratch .entry)) ⌝ }
-    ensures { λ reply. ⌜ (swept reply (now (scratch .exit)) ≡ swept reply (now (scratch .entry))) × (length (now (scratch .exit)) ≡ length (now (scratch .entry))) ⌝ }
+    ensures { λ reply. ⌜ reply ≡ answerReply n q challenge (now (x .entry)) (now (r .entry)) (now (p .entry)) (now (salts .entry))
+        (now (out .entry)) (now (scratch .entry)) ⌝ }
+    ensures { λ reply. ⌜ (swept reply (now (scratch .exit)) ≡ swept reply (now (scratch .entry))) × (length (now (scratch .exit)) ≡ length
+        (now (scratch .entry))) ⌝ }
 {
     if !ring_fits(n, q) {
         return refused(5);
@@ -79,7 +83,8 @@ pub fn tested(
     n: usize,
     q: u64,
 ) -> Reply
-    ensures { λ reply. ⌜ reply ≡ testReply n q challenge place (now (keys .entry)) (now (pairs .entry)) (now (digests .entry)) (now (answer .entry)) (now (scratch .entry)) ⌝ }
+    ensures { λ reply. ⌜ reply ≡ testReply n q challenge place (now (keys .entry)) (now (pairs .entry)) (now (digests .entry))
+        (now (answer .entry)) (now (scratch .entry)) ⌝ }
     ensures { λ reply. ⌜ swept reply (now (scratch .exit)) ≡ swept reply (now (scratch .entry)) ⌝ }
 {
     if !ring_fits(n, q) {

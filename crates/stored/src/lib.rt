@@ -1,4 +1,5 @@
-// What is lent to the check of a round, compared with what a session holds, once the sheet is taken: 1 by the session's numbers and closed count, then 16. The sheet's own numbers are k.
+// What is lent to the check of a round, compared with what a session holds, once the sheet is taken: 1 by the session's numbers and
+// closed count, then 16. The sheet's own numbers are k.
 use codec::Reply;
 use lengths::message_sized;
 use lengths::second_sized;
@@ -12,7 +13,8 @@ ghost use Rattle.sheet.specs.Reader.{sheetOf};
 ghost use Rattle.transcript.specs.Layout.{ballotLength};
 ghost use Rattle.stored.specs.Stored.{Within, challengesOf, inputsOf, sameNumbers, inputsSized, storedTests, lentTests};
 
-// What a session holds for the check of a round: the sheet's numbers, how many ballots were closed, the digests of the sheet, of closing, of the claims and of the
+// What a session holds for the check of a round: the sheet's numbers, how many ballots were closed, the digests of the sheet, of closing,
+// of the claims and of the
 // round's first message, the seed, and the round.
 pub struct Stored {
     pub numbers: Numbers,
@@ -63,7 +65,8 @@ fn inputs_sized(
     scratch: &[u8],
 ) -> bool
     requires { ⌜ Within held × (now challenges ≡ challengesOf held) ⌝ }
-    ensures { λ r. ⌜ r ≡ inputsSized held (inputsOf [] (now (ballots .entry)) (now (claims .entry)) (now (head .entry)) (now (shares0 .entry)) (now (shares1 .entry)) (now (opening .entry)) (now (answers .entry)) (now (scratch .entry))) ⌝ }
+    ensures { λ r. ⌜ r ≡ inputsSized held (inputsOf [] (now (ballots .entry)) (now (claims .entry)) (now (head .entry))
+        (now (shares0 .entry)) (now (shares1 .entry)) (now (opening .entry)) (now (answers .entry)) (now (scratch .entry))) ⌝ }
 {
     let n = held.numbers.ring as usize;
     let repeats = held.numbers.repeats as usize;
@@ -93,8 +96,10 @@ fn test_stored(
     shares0: &[u8],
     shares1: &[u8],
 ) -> Reply
-    requires { ⌜ Within held × (sheetOf (now sheet) .numbers ≡ k) × (length (now ballots) ≡ ballotLength (held .numbers .ring) * held .closed) ⌝ }
-    ensures { λ reply. ⌜ reply ≡ first (storedTests held (inputsOf (now (sheet .entry)) (now (ballots .entry)) (now (claims .entry)) (now (head .entry)) (now (shares0 .entry)) (now (shares1 .entry)) [] [] [])) ⌝ }
+    requires { ⌜ Within held × (sheetOf (now sheet) .numbers ≡ k)
+        × (length (now ballots) ≡ ballotLength (held .numbers .ring) * held .closed) ⌝ }
+    ensures { λ reply. ⌜ reply ≡ first (storedTests held (inputsOf (now (sheet .entry)) (now (ballots .entry)) (now (claims .entry))
+        (now (head .entry)) (now (shares0 .entry)) (now (shares1 .entry)) [] [] [])) ⌝ }
 {
     let refused = Reply::Refused {
         number: 16,
@@ -139,7 +144,9 @@ pub fn test_lent(
     scratch: &[u8],
 ) -> Reply
     requires { ⌜ Within held × (sheetOf (now sheet) .numbers ≡ k) × (now challenges ≡ challengesOf held) ⌝ }
-    ensures { λ reply. ⌜ reply ≡ first (lentTests held (inputsOf (now (sheet .entry)) (now (ballots .entry)) (now (claims .entry)) (now (head .entry)) (now (shares0 .entry)) (now (shares1 .entry)) (now (opening .entry)) (now (answers .entry)) (now (scratch .entry)))) ⌝ }
+    ensures { λ reply. ⌜ reply ≡ first (lentTests held (inputsOf (now (sheet .entry)) (now (ballots .entry)) (now (claims .entry))
+        (now (head .entry)) (now (shares0 .entry)) (now (shares1 .entry)) (now (opening .entry)) (now (answers .entry))
+        (now (scratch .entry)))) ⌝ }
 {
     if !inputs_sized(
         held,

@@ -50,7 +50,8 @@ fn below(j: usize, m: usize, v: usize) -> usize
 // Byte j of the extended form of x: x itself, its n bytes; behind it `minus` bytes for -1, up to m; `zeros` bytes for 0, up to z; and
 // bytes for 1. Past x the first byte of x is read and does not count.
 pub fn extended(x: &[u8], minus: usize, zeros: usize, j: usize) -> u8
-    requires { ⌜ (3 * length (now x) < 2 ^ 62) × (minus ≡ length (now x) - count 2 (now x)) × (zeros ≡ length (now x) - count 0 (now x)) × (j < 3 * length (now x)) ⌝ }
+    requires { ⌜ (3 * length (now x) < 2 ^ 62) × (minus ≡ length (now x) - count 2 (now x)) × (zeros ≡ length (now x) - count 0 (now x))
+        × (j < 3 * length (now x)) ⌝ }
     ensures { λ r. ⌜ r ≡ getD (extend (length (now (x .entry))) (now (x .entry))) j 0 ⌝ }
 {
     let n = x.len();
@@ -65,7 +66,8 @@ pub fn extended(x: &[u8], minus: usize, zeros: usize, j: usize) -> u8
 
 // Number j of the extended form of x plus r.
 fn masked(x: &[u8], minus: usize, zeros: usize, r: &[u8], j: usize, q: u64) -> u64
-    requires { ⌜ (3 * length (now x) < 2 ^ 62) × (minus ≡ length (now x) - count 2 (now x)) × (zeros ≡ length (now x) - count 0 (now x)) × (j < 3 * length (now x)) ⌝ }
+    requires { ⌜ (3 * length (now x) < 2 ^ 62) × (minus ≡ length (now x) - count 2 (now x)) × (zeros ≡ length (now x) - count 0 (now x))
+        × (j < 3 * length (now x)) ⌝ }
     requires { ⌜ (1 < q) × (q < 2 ^ 56) × (8 * j + 8 ≤ length (now r)) × (allBelow q (vector (now r)) ≡ true) ⌝ }
     ensures { λ v. ⌜ v ≡ getD (add q (ternaries q (extend (length (now (x .entry))) (now (x .entry)))) (vector (now (r .entry)))) j 0 ⌝ }
 {
@@ -79,7 +81,8 @@ fn masked(x: &[u8], minus: usize, zeros: usize, r: &[u8], j: usize, q: u64) -> u
 
 // The entries of x in the order of the permutation p.
 pub fn gather(work: &mut [u8], at: usize, p: &[u8], x: &[u8], n: usize)
-    requires { ⌜ (length (now p) ≡ 4 * n) × (length (now x) ≡ 8 * n) × (at + 8 * n ≤ length (now work)) × (allBelow n (entries (now p)) ≡ true) ⌝ }
+    requires { ⌜ (length (now p) ≡ 4 * n) × (length (now x) ≡ 8 * n) × (at + 8 * n ≤ length (now work))
+        × (allBelow n (entries (now p)) ≡ true) ⌝ }
     ensures { λ _. ⌜ now (work .exit) ≡ put (now (work .entry)) at (words (apply (entries (now (p .entry))) (vector (now (x .entry))))) ⌝ }
 {
     let mut i = 0;
@@ -103,7 +106,8 @@ pub fn gather_extended(
 )
     requires { ⌜ (n ≡ 3 * length (now x)) × (minus ≡ length (now x) - count 2 (now x)) × (zeros ≡ length (now x) - count 0 (now x)) ⌝ }
     requires { ⌜ (length (now p) ≡ 4 * n) × (at + n ≤ length (now out)) × (allBelow n (entries (now p)) ≡ true) ⌝ }
-    ensures { λ _. ⌜ now (out .exit) ≡ put (now (out .entry)) at (apply (entries (now (p .entry))) (extend (length (now (x .entry))) (now (x .entry)))) ⌝ }
+    ensures { λ _. ⌜ now (out .exit) ≡ put (now (out .entry)) at (apply (entries (now (p .entry))) (extend (length (now (x .entry)))
+        (now (x .entry)))) ⌝ }
 {
     let mut i = 0;
     while i < n {
@@ -125,8 +129,10 @@ pub fn mask(
     q: u64,
 )
     requires { ⌜ (n ≡ 3 * length (now x)) × (minus ≡ length (now x) - count 2 (now x)) × (zeros ≡ length (now x) - count 0 (now x)) ⌝ }
-    requires { ⌜ (1 < q) × (q < 2 ^ 56) × (length (now r) ≡ 8 * n) × (allBelow q (vector (now r)) ≡ true) × (at + 8 * n ≤ length (now out)) ⌝ }
-    ensures { λ _. ⌜ now (out .exit) ≡ put (now (out .entry)) at (words (add q (ternaries q (extend (length (now (x .entry))) (now (x .entry)))) (vector (now (r .entry))))) ⌝ }
+    requires { ⌜ (1 < q) × (q < 2 ^ 56) × (length (now r) ≡ 8 * n) × (allBelow q (vector (now r)) ≡ true)
+        × (at + 8 * n ≤ length (now out)) ⌝ }
+    ensures { λ _. ⌜ now (out .exit) ≡ put (now (out .entry)) at
+        (words (add q (ternaries q (extend (length (now (x .entry))) (now (x .entry)))) (vector (now (r .entry))))) ⌝ }
 {
     let mut i = 0;
     while i < n {
@@ -151,7 +157,8 @@ pub fn gather_masked(
     requires { ⌜ (n ≡ 3 * length (now x)) × (minus ≡ length (now x) - count 2 (now x)) × (zeros ≡ length (now x) - count 0 (now x)) ⌝ }
     requires { ⌜ (1 < q) × (q < 2 ^ 56) × (length (now r) ≡ 8 * n) × (allBelow q (vector (now r)) ≡ true) ⌝ }
     requires { ⌜ (length (now p) ≡ 4 * n) × (at + 8 * n ≤ length (now work)) × (allBelow n (entries (now p)) ≡ true) ⌝ }
-    ensures { λ _. ⌜ now (work .exit) ≡ put (now (work .entry)) at (words (apply (entries (now (p .entry))) (add q (ternaries q (extend (length (now (x .entry))) (now (x .entry)))) (vector (now (r .entry)))))) ⌝ }
+    ensures { λ _. ⌜ now (work .exit) ≡ put (now (work .entry)) at (words (apply (entries (now (p .entry)))
+        (add q (ternaries q (extend (length (now (x .entry))) (now (x .entry)))) (vector (now (r .entry)))))) ⌝ }
 {
     let mut i = 0;
     while i < n {
@@ -165,7 +172,8 @@ pub fn gather_masked(
 pub fn sum(work: &mut [u8], at: usize, w: &[u8], t: &[u8], n: usize, q: u64)
     requires { ⌜ (length (now w) ≡ n) × (length (now t) ≡ 8 * n) × (at + 8 * n ≤ length (now work)) ⌝ }
     requires { ⌜ (1 < q) × (q < 2 ^ 56) × (allBelow q (vector (now t)) ≡ true) ⌝ }
-    ensures { λ _. ⌜ now (work .exit) ≡ put (now (work .entry)) at (words (add q (ternaries q (now (w .entry))) (vector (now (t .entry))))) ⌝ }
+    ensures { λ _. ⌜ now (work .exit) ≡ put (now (work .entry)) at (words (add q (ternaries q (now (w .entry)))
+        (vector (now (t .entry))))) ⌝ }
 {
     let mut i = 0;
     while i < n {

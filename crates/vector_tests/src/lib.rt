@@ -1,4 +1,5 @@
-// Tests of lent bytes: whether they are a permutation, and whether they are ternary with as many of each (crates/vector/specs/Permutation.antt).
+// Tests of lent bytes: whether they are a permutation, and whether they are ternary with as many of each
+// (crates/vector/specs/Permutation.antt).
 ghost use mathlib.Core.Path.{_≡_};
 ghost use Prim.Native.Nat.{_+_, _*_, _≤_};
 ghost use lib.ListN.{length};
