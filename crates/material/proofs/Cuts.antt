@@ -11,7 +11,7 @@ use Rattle.sheet_numbers.specs.Plain.{plain}
 use Rattle.sheet_numbers.specs.declared.Numbers.{Numbers}
 use Rattle.bgv.specs.Scheme.{key}
 use Rattle.commitment.specs.Loaded.{aOf, bOf}
-use Rattle.transcript.specs.Producer.{sIn, keyMatches}
+use Rattle.transcript.specs.Producer.{keyMatches}
 use Rattle.transcript.specs.Sheets.{parameters}
 use Rattle.transcript.proofs.Cut.{a-cut, b-cut}
 

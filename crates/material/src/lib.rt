@@ -9,7 +9,6 @@ mod ranges;
 use codec::Reply;
 use sheet_numbers::Numbers;
 ghost use mathlib.Core.Path.{_≡_};
-ghost use mathlib.Core.Bool.{true};
 ghost use mathlib.Core.List.{_++_};
 ghost use Prim.Native.Nat.{_*_, _≤_};
 ghost use lib.ListN.{length};
@@ -18,13 +17,13 @@ ghost use Rattle.codec.specs.Reply.{first, leaves};
 ghost use Rattle.sheet_numbers.specs.Plain.{noiseOf, maskOf};
 ghost use Rattle.call.specs.Call.{scratchLength};
 ghost use Rattle.commitment.specs.Loaded.{Loaded};
-ghost use Rattle.transcript.specs.Layout.{ballotLength, ballotsBelow};
+ghost use Rattle.transcript.specs.Layout.{ballotLength};
 ghost use Rattle.codec.specs.Slices.{given, left};
 ghost use Rattle.transcript.specs.Lent.{materialNow, materialIn};
 ghost use Rattle.transcript.specs.Producer.{Sized, secretTests, maskTests, permutationTests, noiseTests};
 ghost use Rattle.transcript.specs.Sheets.{parameters};
 ghost use Rattle.sheet_numbers.specs.Usable.{Usable};
-ghost use Rattle.material.specs.Tested.{MaterialTested};
+ghost use Rattle.material.specs.Tested.{EachReady, MaterialTested};
 
 // 5, then 14.
 fn test_secret(
@@ -88,10 +87,8 @@ fn test_each(
     ballots: &[u8],
     count: usize,
 ) -> Reply
-    requires { ⌜ Usable k × (length (now work) ≡ scratchLength) × (count ≤ 4096) × (length (now secrets) ≡ 14 * k .ring)
-        × (length (now masks0) ≡ 8 * k .ring * count) × (length (now masks1) ≡ 8 * k .ring * count)
-        × (length (now permutations) ≡ 168 * k .ring * k .repeats) × (length (now ballots) ≡ ballotLength (k .ring) * count)
-        × (ballotsBelow (k .modulus) (k .ring) count (now ballots) ≡ true) ⌝ }
+    requires { ⌜ Usable k × (length (now work) ≡ scratchLength) × (count ≤ 4096)
+        × EachReady k count (now secrets) (now masks0) (now masks1) (now permutations) (now ballots) ⌝ }
     ensures { λ reply. let masks = maskTests (k .ring) (maskOf k) count (given masks0) (given masks1) in
         let noise = noiseTests (k .modulus) (k .ring) (noiseOf k) count (given secrets) (given ballots) in
         ⌜ (reply ≡ first (masks ++ (permutationTests (k .ring) (k .repeats) (given permutations) ++ noise)))

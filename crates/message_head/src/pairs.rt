@@ -9,7 +9,7 @@ ghost use Rattle.ring.specs.Slots.{poly};
 ghost use Rattle.ring.specs.Ternary.{ternary};
 ghost use Rattle.call.specs.Call.{scratchLength, Polynomial};
 ghost use Rattle.bgv.specs.Scheme.{other};
-ghost use Rattle.commitment.specs.Commitment.{keysOf, threeOf, committed, pairBytes, PublicKeys, PairStands};
+ghost use Rattle.commitment.specs.Commitment.{keysOf, threeOf, committed, PublicKeys, PairStands};
 ghost use Rattle.commitment.specs.Loaded.{keyBytes, Loaded};
 ghost use Rattle.codec.specs.Slices.{given, left};
 ghost use Rattle.transcript.specs.Producer.{pairOf, pairsBytes};

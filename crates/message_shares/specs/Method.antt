@@ -5,12 +5,12 @@ use Prim.Native.Nat.{ℕ, _+_, _*_, _≤_, _<_}
 use lib.ListN.{length}
 use Rattle.codec.specs.Bytes.{Bytes, part, put, zeros}
 use Rattle.codec.specs.Lists.{list}
-use Rattle.ring.specs.Poly.{Poly, modulo, Below}
+use Rattle.ring.specs.Poly.{Poly, plus, scale, modulo, Below}
 use Rattle.ring.specs.Slots.{coefficientBytes, encode}
 use Rattle.sheet_numbers.specs.Plain.{plain}
 use Rattle.sheet_numbers.specs.declared.Numbers.{Numbers}
 use Rattle.call.specs.Call.{scratchLength}
-use Rattle.bgv.specs.Scheme.{decrypted, other, lentMask, share}
+use Rattle.bgv.specs.Scheme.{residues, decrypted, other, lentMask, share}
 use Rattle.transcript.specs.Layout.{ballotLength, uAt}
 use Rattle.codec.specs.Slices.{Slice, given, left}
 use Rattle.transcript.specs.Producer.{sharesBytes, claimsBytes}
@@ -62,6 +62,10 @@ pub record BallotsWritten (k : Numbers) (m : ℕ) (secrets s0 masks0 masks1 ball
   pub shares1 : after .shares1 ≡ sharesBytes (k .modulus) (k .ring) (plain k) m secrets s0 masks1 ballots 1
   pub claims : after .claims ≡ claimsBytes (k .modulus) (k .ring) (plain k) m secrets ballots
   pub cleared : after .scratch ≡ zeros (length (before .scratch))
+
+-- f + p E, for a lent mask E
+abbrev pub masked : (q p : ℕ) → Poly → (mask : Bytes) → Poly
+masked q p f mask = plus f (scale p (residues q (lentMask mask)))
 
 -- two polynomials modulo q stand in the first two slots of scratch, in bytes; the length is as before
 pub record TwoStand (q n : ℕ) (f g : Poly) (w w' : Bytes) : Type 0 where

@@ -30,15 +30,14 @@ fn ballot_at(
     ballots: &[u8],
     at: usize,
 )
-    requires { ⌜ Usable k × Polynomial (k .ring) (k .modulus) (now s0) × (length (now secrets) ≡ 14 * k .ring)
-        × (at + 4 + 16 * k .ring ≤ length (now ballots)) × Below (k .modulus) (2 * k .ring) (slot (now ballots) (at + 4))
-        × (sent + 8 * k .ring ≤ length (now masks0)) × (sent + 8 * k .ring ≤ length (now masks1))
-        × Fits (k .ring) sent claim (roomNow shares0 shares1 claims work) ⌝ }
-    ensures { λ _. let s = ternary (k .modulus) (sIn (k .ring) (given secrets)) in
-        let u = slot (given ballots) (at + 4) in let v = slot (given ballots) (at + 4 + 8 * k .ring) in
-        let mask0 = part (given masks0) sent (8 * k .ring) in let mask1 = part (given masks1) sent (8 * k .ring) in
-        let before = roomIn shares0 shares1 claims work in let after = roomOut shares0 shares1 claims work in
-        ⌜ BallotWritten k s (poly (given s0)) u v mask0 mask1 sent claim before after ⌝ }
+    requires { let n = k .ring in ⌜ Usable k × Polynomial n (k .modulus) (now s0) × (length (now secrets) ≡ 14 * n)
+        × (at + 4 + 16 * n ≤ length (now ballots)) × Below (k .modulus) (2 * n) (slot (now ballots) (at + 4))
+        × (sent + 8 * n ≤ length (now masks0)) × (sent + 8 * n ≤ length (now masks1))
+        × Fits n sent claim (roomNow shares0 shares1 claims work) ⌝ }
+    ensures { λ _. let n = k .ring in let s = ternary (k .modulus) (sIn n (given secrets)) in
+        let u = slot (given ballots) (at + 4) in let v = slot (given ballots) (at + 4 + 8 * n) in
+        ⌜ BallotWritten k s (poly (given s0)) u v (part (given masks0) sent (8 * n)) (part (given masks1) sent (8 * n)) sent claim
+        (roomIn shares0 shares1 claims work) (roomOut shares0 shares1 claims work) ⌝ }
 {
     let n = k.ring as usize;
     let end = sent + 8 * n;

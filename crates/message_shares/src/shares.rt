@@ -6,14 +6,14 @@ ghost use Prim.Native.Nat.{_+_, _*_, _≤_, _<_, _^_};
 ghost use lib.ListN.{length};
 ghost use Rattle.codec.specs.Bytes.{part, put};
 ghost use Rattle.codec.specs.Lists.{list};
-ghost use Rattle.ring.specs.Poly.{plus, minus, scale, mul, Below};
+ghost use Rattle.ring.specs.Poly.{minus, mul, Below};
 ghost use Rattle.ring.specs.Slots.{coefficientBytes, poly, slot};
 ghost use Rattle.ring.specs.Ternary.{ternary};
 ghost use Rattle.call.specs.Call.{scratchLength, Polynomial};
-ghost use Rattle.bgv.specs.Scheme.{residues, plain, lentMask};
+ghost use Rattle.bgv.specs.Scheme.{plain};
 ghost use Rattle.codec.specs.Slices.{given, left};
 ghost use Rattle.sheet_numbers.specs.Usable.{Usable};
-ghost use Rattle.message_shares.specs.Method.{roomNow, roomIn, roomOut, Fits, BallotWritten, TwoStand};
+ghost use Rattle.message_shares.specs.Method.{roomNow, roomIn, roomOut, Fits, BallotWritten, masked, TwoStand};
 
 // Where s0 u stands, and then t0.
 const LENT: usize = 16384;
@@ -52,7 +52,7 @@ fn write_masked(
 )
     requires { ⌜ (n ≤ 2048) × (3 ≤ q) × (q < 2 ^ 56) × (length (now mask) ≡ 8 * n) × (length (now work) ≡ scratchLength)
         × (from + 8 * n ≤ 49152) × Below q n (slot (now work) from) × (at + 8 * n ≤ length (now out)) × (p < q) ⌝ }
-    ensures { λ _. let sum = plus (slot (given work) from) (scale p (residues q (lentMask (given mask)))) in
+    ensures { λ _. let sum = masked q p (slot (given work) from) (given mask) in
         ⌜ (left out ≡ put (given out) at (coefficientBytes q n sum)) × (length (left work) ≡ length (given work))
         × (part (left work) 0 from ≡ part (given work) 0 from) ⌝ }
 {
@@ -77,11 +77,11 @@ fn write_shares(
     requires { ⌜ (n ≤ 2048) × (3 ≤ q) × (q < 2 ^ 56) × (length (now mask0) ≡ 8 * n) × (length (now mask1) ≡ 8 * n)
         × (length (now work) ≡ scratchLength) × Below q n (slot (now work) 0) × Below q n (slot (now work) 16384)
         × (at + 8 * n ≤ length (now shares0)) × (at + 8 * n ≤ length (now shares1)) × (p < q) ⌝ }
-    ensures { λ _. let t0 = plus (slot (given work) 16384) (scale p (residues q (lentMask (given mask0)))) in
-        let t1 = plus (minus q (slot (given work) 0) (slot (given work) 16384)) (scale p (residues q (lentMask (given mask1)))) in
+    ensures { λ _. let w = given work in let t0 = masked q p (slot w 16384) (given mask0) in
+        let t1 = masked q p (minus q (slot w 0) (slot w 16384)) (given mask1) in
         ⌜ (left shares0 ≡ put (given shares0) at (coefficientBytes q n t0))
         × (left shares1 ≡ put (given shares1) at (coefficientBytes q n t1))
-        × (length (left work) ≡ length (given work)) × (part (left work) 0 16384 ≡ part (given work) 0 16384) ⌝ }
+        × (length (left work) ≡ length w) × (part (left work) 0 16384 ≡ part w 0 16384) ⌝ }
 {
     ring::copy_slot(work, OTHER, 0, n);
     ring::subtract_slot(work, OTHER, LENT, n, q);

@@ -16,7 +16,7 @@ use Rattle.transcript.specs.Round.{Parameters}
 use Rattle.transcript.specs.Sheets.{parameters}
 use Rattle.transcript.specs.Producer.{Material}
 use Rattle.transcript.specs.Writes.{FirstRoom, firstRoom, SecondRoom, secondRoom}
-use Rattle.lengths.proofs.OverSheet.{parameters-are, over, refused-over}
+use Rattle.lengths.proofs.OverSheet.{parameters-are, order-taken, order-refused}
 use Rattle.rounds.specs.First.{FirstWritten}
 use Rattle.rounds.specs.Second.{SecondWritten}
 use Rattle.round_calls.specs.Replies.{firstReply, FirstCalled, secondReply, SecondCalled}
@@ -28,25 +28,25 @@ module _ (text : Bytes) {public : Bytes} {s : Reading} {k : Numbers} (load : (s 
   unfolding firstReply
   first-over before {after} {r} f =
       let g = subst (λ (P : Parameters). FirstWritten P x before r after) (parameters-are text load e) f in
-      record { replied = over text _ (lent text load e .said) (g .replied); left = g .left; cleared = g .cleared }
+      record { replied = order-taken text _ (lent text load e .said) (g .replied); left = g .left; cleared = g .cleared }
 
   pub second-over : (side : ℕ) (challenges : Bytes) (before : SecondRoom) {after : SecondRoom} {r : Reply} → SecondWritten (parameters k public) x side challenges before r after
       → SecondCalled text x side challenges before r after
   unfolding secondReply
   second-over side challenges before {after} {r} f =
       let g = subst (λ (P : Parameters). SecondWritten P x side challenges before r after) (parameters-are text load e) f in
-      record { replied = over text _ (lent text load e .said) (g .replied); left = g .left; cleared = g .cleared }
+      record { replied = order-taken text _ (lent text load e .said) (g .replied); left = g .left; cleared = g .cleared }
 
 -- ---- it is refused
 
 module _ (text : Bytes) {s : Reading} {i : ℕ} (f : s ≡ reading text) (e : s ≡ Refused i) (x : Material) where
   pub first-unread : (room : FirstRoom) {w : Bytes} → w ≡ swept (reply.Refused i 0) (room .scratch) → FirstCalled text x room (reply.Refused i 0) (firstRoom (room .head) (room .shares0) (room .shares1) (room .claims) w)
   unfolding firstReply leaves
-  first-unread room z = record { replied = refused-over text _ f e; left = record { head = refl; shares0 = refl; shares1 = refl; claims = refl }; cleared = z }
+  first-unread room z = record { replied = order-refused text _ f e; left = record { head = refl; shares0 = refl; shares1 = refl; claims = refl }; cleared = z }
 
   pub second-unread : (side : ℕ) (challenges : Bytes) (room : SecondRoom) {w : Bytes} → w ≡ swept (reply.Refused i 0) (room .scratch) → SecondCalled text x side challenges room (reply.Refused i 0) (secondRoom (room .opening) (room .answers) w)
   unfolding secondReply leaves
-  second-unread side challenges room z = record { replied = refused-over text _ f e; left = record { opening = refl; answers = refl }; cleared = z }
+  second-unread side challenges room z = record { replied = order-refused text _ f e; left = record { opening = refl; answers = refl }; cleared = z }
 
 -- ---- with the reply packed into an answer
 

@@ -10,7 +10,7 @@ use Rattle.material.proofs.test_each.Statement.{statement}
 use Rattle.material.proofs.test_each.Tie as tie
 
 test-noise-requires : tie.Need-test-noise-requires
-test-noise-requires c κs = let p = c .before .before .before .before .before .before .before .before .before .before .before .before .pre in (p .0, p .2, c .before .before .before .test-permutations .ensures .1 ∙ p .1, p .3, p .7, p .8)
+test-noise-requires c κs = let p = c .before .before .before .before .before .before .before .before .before .before .before .before .pre in (p .0, p .2, c .before .before .before .test-permutations .ensures .1 ∙ p .1, p .3 .secrets, p .3 .ballots, p .3 .below)
 
 returns : tie.Need-returns
 returns c =

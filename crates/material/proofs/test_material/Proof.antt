@@ -26,12 +26,14 @@ test-each-requires c κs =
       s .pre .0 .numbers,
       length-zeros (c .before .before .before .before .before .wipe .ensures) ∙ t .1 ∙ s .pre .1,
       s .pre .2,
-      z .secrets,
-      z .masks0,
-      z .masks1,
-      z .permutations,
-      z .ballots,
-      ballots-passed (P s) (s .args .count) (x s) (s .args .asked) (t .0) (c .before .enum-told .given .1),
+      record {
+        secrets = z .secrets;
+        masks0 = z .masks0;
+        masks1 = z .masks1;
+        permutations = z .permutations;
+        ballots = z .ballots;
+        below = ballots-passed (P s) (s .args .count) (x s) (s .args .asked) (t .0) (c .before .enum-told .given .1);
+      },
     )
 
 returns-2 : tie.Need-returns-2

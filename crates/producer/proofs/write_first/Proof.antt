@@ -1,8 +1,5 @@
 -- `write_first` meets its contract. Assumes nothing.
-use mathlib.Core.Path.{sym, ap, subst, _∙_}
-use Prim.Native.Nat.{ℕ, _*_, _≤_}
 use borrow.Author.Needs.{needs}
-use lib.ListN.{length, length-replicate}
 use Rattle.transcript.specs.Producer.{Material, materialOf}
 use Rattle.transcript.specs.Writes.{FirstRoom, firstRoom}
 use Rattle.producer.proofs.Produced.{first-produced, ballots-asked}

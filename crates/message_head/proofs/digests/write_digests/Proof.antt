@@ -1,5 +1,5 @@
 -- `digests::write_digests` meets its contract. Assumes nothing.
-use mathlib.Core.Path.{_≡_, sym, ap, ap₂, subst, _∙_}
+use mathlib.Core.Path.{_≡_, sym, ap₂, subst, _∙_}
 use Prim.Native.Nat.{ℕ, _-_, _*_}
 use native.Mathlib.Omega.{arith}
 use borrow.Author.Needs.{needs}
@@ -7,7 +7,6 @@ use lib.ListN.{take, drop}
 use Rattle.codec.specs.Bytes.{Bytes, put}
 use Rattle.sheet_numbers.specs.declared.Numbers.{Numbers}
 use Rattle.commitment.specs.Commitment.{Keys, keysOf, PublicKeys}
-use Rattle.commitment.specs.Loaded.{keyBytes}
 use Rattle.transcript.specs.Layout.{joined}
 use Rattle.transcript.proofs.Cut.{keys-cut}
 use Rattle.message_head.proofs.Drawing.{drawn-ends, placed-fit, material, digestsOf, Digested, digested-first, digested-more, digests-end}

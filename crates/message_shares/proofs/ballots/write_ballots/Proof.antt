@@ -1,9 +1,9 @@
 -- `ballots::write_ballots` meets its contract. Assumes nothing.
 use mathlib.Core.Path.{sym, ap, _∙_}
-use Prim.Native.Nat.{ℕ, _-_, _+_, _*_, _≤_, _<_}
+use Prim.Native.Nat.{_-_}
 use native.Mathlib.Omega.{arith}
 use borrow.Author.Needs.{needs}
-use Rattle.codec.specs.Bytes.{Bytes, zeros}
+use Rattle.codec.specs.Bytes.{zeros}
 use Rattle.sheet_numbers.specs.Plain.{plain}
 use Rattle.message_shares.proofs.BallotWriting.{Sent, sent-first, ballot-asks, places-asks, places-fit, sent-more, sent-all}
 use Rattle.message_shares.proofs.ballots.write_ballots.Statement.{statement}

@@ -1,6 +1,5 @@
 -- `shares::write_masked` meets its contract. Assumes nothing.
 use mathlib.Core.Path.{sym, ap, _∙_}
-use native.Mathlib.Omega.{arith}
 use borrow.Author.Needs.{needs}
 use Rattle.codec.specs.Bytes.{put}
 use Rattle.message_shares.proofs.ShareSteps.{scale-asks, add-asks, masked-length, masked, masked-keeps}
