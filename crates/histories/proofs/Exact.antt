@@ -15,6 +15,7 @@ use Rattle.codec.specs.declared.Reply.the-variants.{Taken}
 use Rattle.codec.proofs.Laws.{both}
 use Rattle.codec.proofs.Replies.{taken-exactly}
 use Rattle.call.proofs.Order.{length-at}
+use Rattle.sheet_numbers.specs.Plain.{plain}
 use Rattle.transcript.specs.Layout.{ballotLength, headLength}
 use Rattle.transcript.proofs.Ranged.{each-exactly}
 use Rattle.register.specs.Register.{registerLength, markAt, stateAt, find, standing, markOf}

@@ -1,4 +1,4 @@
--- When each step of a session is taken (document 01, the orders under "Refused because of the state"), for the plaintext modulus p, in conditions to hold against the
+-- When each step of a session is taken (document 01, the orders under "Refused because of the state"), in conditions to hold against the
 -- paper and not as its order again; the numbers beside them are those of the refusals that they exclude. Assumes nothing.
 use mathlib.Core.Path.{_≡_}
 use mathlib.Core.Logic.{_≢_}
@@ -8,6 +8,7 @@ use Rattle.codec.specs.Bytes.{Bytes}
 use Rattle.sheet_lines.specs.Form.{AllPlain}
 use Rattle.sheet.specs.Form.{rowsOf, written}
 use Rattle.sheet.specs.Reader.{sheetOf}
+use Rattle.sheet_numbers.specs.Plain.{plain}
 use Rattle.vector.specs.Vector.{vector}
 use Rattle.transcript.specs.Layout.{headLength}
 use Rattle.transcript.specs.Accepted.{EachBelow, Accepted}

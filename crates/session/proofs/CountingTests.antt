@@ -11,6 +11,7 @@ use Rattle.codec.specs.Bytes.{Bytes, same}
 use Rattle.codec.specs.Reply.{first}
 use Rattle.codec.specs.declared.Reply.the-variants.{Taken, Refused}
 use Rattle.codec.specs.Lists.{allBelow}
+use Rattle.sheet_numbers.specs.Plain.{plain}
 use Rattle.transcript.specs.Layout.{headLength}
 use Rattle.progress.specs.Progress.{closed, commitDue, drawDue}
 use Rattle.session.specs.Session.{valid}

@@ -1,4 +1,4 @@
--- The steps of a session (document 01, "Register and session", and the orders under "Refused because of the state"), for the plaintext modulus p: what each refuses, in its
+-- The steps of a session (document 01, "Register and session", and the orders under "Refused because of the state"): what each refuses, in its
 -- order, and what a step that is taken leaves. A step that is refused leaves everything, but for a check whose round is refused. Assumes nothing.
 use mathlib.Core.Bool.{Bool, not, _&&_, _||_}
 use mathlib.Core.List.{List, [], _∷_, _++_}
@@ -13,6 +13,7 @@ use Rattle.codec.specs.Lists.{allBelow}
 use Rattle.sha3.specs.Sponge.{sha3}
 use Rattle.sheet.specs.Reader.{sheetOf}
 use Rattle.sheet.specs.Sheet.{order}
+use Rattle.sheet_numbers.specs.Plain.{plain}
 use Rattle.vector.specs.Vector.{vector}
 use Rattle.transcript.specs.Layout.{ballotLength, headLength}
 use Rattle.register.specs.Orders.{admissionTests, withdrawalTests}

@@ -36,7 +36,8 @@ impl Session {
         if claims.len() != times(numbers.ring, progress.closed) {
             return self.refused(1);
         }
-        if !bgv::is_message(claims, 2) {
+        let p = sheet_numbers::plain(numbers);
+        if !bgv::is_message(claims, p) {
             return self.refused(5);
         }
         let claim = digests::claim_digest(&self.closing, claims);
