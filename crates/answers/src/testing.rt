@@ -4,21 +4,23 @@ use stern::digests::equations_digest;
 use stern::digests::gathered_digest;
 use stern::digests::tagged;
 ghost use mathlib.Core.Path.{_≡_};
-ghost use mathlib.Core.Bool.{true, cond, not, _&&_};
-ghost use mathlib.Core.List.{[], _∷_, _++_};
+ghost use mathlib.Core.Bool.{true, not, _&&_};
+ghost use mathlib.Core.List.{[], _∷_};
 ghost use Prim.Native.Nat.{_+_, _*_, _≤_, _<_, _^_};
-ghost use lib.ListN.{length, take};
-ghost use Rattle.codec.specs.Bytes.{words, same, zeros};
+ghost use lib.ListN.{length};
+ghost use Rattle.codec.specs.Bytes.{same, zeros};
+ghost use Rattle.codec.specs.Slices.{given, left};
 ghost use Rattle.codec.specs.Reply.{test, first};
 ghost use Rattle.codec.specs.Lists.{allBelow};
 ghost use Rattle.sha3.specs.Sponge.{sha3};
 ghost use Rattle.call.specs.Call.{scratchLength};
 ghost use Rattle.commitment.specs.Commitment.{keysOf, PublicKeys};
-ghost use Rattle.vector.specs.Vector.{vector, ternaries, add, subtract};
-ghost use Rattle.vector.specs.Permutation.{entries, apply, permutes, balanced};
-ghost use Rattle.stern.specs.Argument.{string1, string2, string3};
-ghost use Rattle.stern.specs.Shortness.{equations, sides, answer1Of, answer2Of, answer3Of, tests1, tests2, tests3, answerLength};
+ghost use Rattle.vector.specs.Vector.{vector, ternaries, add};
+ghost use Rattle.vector.specs.Permutation.{balanced};
+ghost use Rattle.stern.specs.Argument.{string2, string3};
+ghost use Rattle.stern.specs.Shortness.{answer1Of, answer2Of, answer3Of, tests1, tests2, tests3, answerLength};
 ghost use Rattle.stern.specs.Shortness.{answerTests, inRange};
+ghost use Rattle.answers.specs.Permuted.{permutedTests};
 
 // Answer 1: there are L of each, and digests 2 and 3 are those of P(R) and of P(extended) + P(R).
 fn test_balanced(
@@ -35,11 +37,10 @@ fn test_balanced(
 ) -> Reply
     requires { ⌜ (n ≤ 2048) × (3 ≤ q) × (q < 2 ^ 56) × (length (now work) ≡ scratchLength) × (length (now w) ≡ 42 * n)
         × (length (now t) ≡ 336 * n) × (length (now salt2) ≡ 32) × (length (now salt3) ≡ 32) × (allBelow q (vector (now t)) ≡ true) ⌝ }
-    ensures { λ reply. ⌜ reply ≡ first (test 10 place (not (balanced (14 * n) (now (w .entry))))
-        ∷ test 11 place (not (same (now (two .entry)) (sha3 (string2 (now (salt2 .entry)) (now (t .entry))))
-        && same (now (three .entry)) (sha3 (string3 (now (salt3 .entry))
-        (add q (ternaries q (now (w .entry))) (vector (now (t .entry)))))))) ∷ []) ⌝ }
-    ensures { λ _. ⌜ length (now (work .exit)) ≡ length (now (work .entry)) ⌝ }
+    ensures { λ reply. ⌜ reply ≡ first (test 10 place (not (balanced (14 * n) (given w)))
+        ∷ test 11 place (not (same (given two) (sha3 (string2 (given salt2) (given t)))
+        && same (given three) (sha3 (string3 (given salt3) (add q (ternaries q (given w)) (vector (given t))))))) ∷ []) ⌝ }
+    ensures { λ _. ⌜ length (left work) ≡ length (given work) ⌝ }
 {
     if !vector_tests::is_balanced(w, 14 * n) {
         return Reply::Refused { number: 10, place };
@@ -56,7 +57,7 @@ fn test_balanced(
 
 // Whether two digests are two others.
 fn both_equal(a: &[u8], b: &[u8], c: &[u8], d: &[u8]) -> bool
-    ensures { λ r. ⌜ r ≡ (same (now (a .entry)) (now (b .entry)) && same (now (c .entry)) (now (d .entry))) ⌝ }
+    ensures { λ r. ⌜ r ≡ (same (given a) (given b) && same (given c) (given d)) ⌝ }
 {
     if codec::equal(a, b) {
         codec::equal(c, d)
@@ -86,14 +87,9 @@ fn test_permuted(
     requires { ⌜ PublicKeys n q (now k) × (length (now work) ≡ scratchLength) × (length (now p) ≡ 168 * n) × (length (now x) ≡ 336 * n)
         × (length (now salt1) ≡ 32) × (length (now salt) ≡ 32) × (allBelow q (vector (now x)) ≡ true) × (length (now c) ≡ 64 * n)
         × (allBelow q (vector (now c)) ≡ true) ⌝ }
-    ensures { λ reply. ⌜ reply ≡ first (test 9 place (not (permutes (42 * n) (entries (now (p .entry)))))
-        ∷ test 11 place (not (same (now (one .entry))
-        (sha3 (string1 (now (salt1 .entry)) (now (p .entry))
-        (cond less (subtract q (equations q n (keysOf n (now (k .entry))) (take (14 * n) (vector (now (x .entry)))))
-        (sides q n (now (c .entry)))) (equations q n (keysOf n (now (k .entry))) (take (14 * n) (vector (now (x .entry))))))))
-        && same (now (other .entry)) (sha3 (lead ∷ (now (salt .entry)
-        ++ words (apply (entries (now (p .entry))) (vector (now (x .entry))))))))) ∷ []) ⌝ }
-    ensures { λ _. ⌜ length (now (work .exit)) ≡ length (now (work .entry)) ⌝ }
+    ensures { λ reply. ⌜ reply ≡ first (permutedTests q n (keysOf n (given k)) (given c) less (given one) lead (given other) (given p)
+        (given x) (given salt1) (given salt) place) ⌝ }
+    ensures { λ _. ⌜ length (left work) ≡ length (given work) ⌝ }
 {
     if !vector_tests::is_permutation(p, work, 0, 42 * n) {
         return Reply::Refused { number: 9, place };
@@ -111,8 +107,8 @@ fn test_permuted(
 fn test_first(work: &mut [u8], d: &[u8], answer: &[u8], place: u32, n: usize, q: u64) -> Reply
     requires { ⌜ (n ≤ 2048) × (3 ≤ q) × (q < 2 ^ 56) × (length (now work) ≡ scratchLength) × (length (now d) ≡ 96)
         × (length (now answer) ≡ 378 * n + 64) × (allBelow q (vector (answer1Of n (now answer) .t)) ≡ true) ⌝ }
-    ensures { λ reply. ⌜ reply ≡ first (tests1 q n (keysOf n []) [] (now (d .entry)) place (answer1Of n (now (answer .entry)))) ⌝ }
-    ensures { λ _. ⌜ now (work .exit) ≡ zeros (length (now (work .entry))) ⌝ }
+    ensures { λ reply. ⌜ reply ≡ first (tests1 q n (keysOf n []) [] (given d) place (answer1Of n (given answer))) ⌝ }
+    ensures { λ _. ⌜ left work ≡ zeros (length (given work)) ⌝ }
 {
     let reply = test_balanced(
         work,
@@ -144,9 +140,8 @@ fn test_second(
     requires { ⌜ PublicKeys n q (now k) × (length (now work) ≡ scratchLength) × (length (now d) ≡ 96)
         × (length (now answer) ≡ 504 * n + 64) × (length (now c) ≡ 64 * n) × (allBelow q (vector (now c)) ≡ true)
         × (allBelow q (vector (answer2Of n (now answer) .u)) ≡ true) ⌝ }
-    ensures { λ reply. ⌜ reply ≡ first (tests2 q n (keysOf n (now (k .entry))) (now (c .entry)) (now (d .entry)) place
-        (answer2Of n (now (answer .entry)))) ⌝ }
-    ensures { λ _. ⌜ now (work .exit) ≡ zeros (length (now (work .entry))) ⌝ }
+    ensures { λ reply. ⌜ reply ≡ first (tests2 q n (keysOf n (given k)) (given c) (given d) place (answer2Of n (given answer))) ⌝ }
+    ensures { λ _. ⌜ left work ≡ zeros (length (given work)) ⌝ }
 {
     let reply = test_permuted(
         work,
@@ -182,9 +177,8 @@ fn test_third(
     requires { ⌜ PublicKeys n q (now k) × (length (now work) ≡ scratchLength) × (length (now d) ≡ 96)
         × (length (now answer) ≡ 504 * n + 64) × (length (now c) ≡ 64 * n) × (allBelow q (vector (now c)) ≡ true)
         × (allBelow q (vector (answer3Of n (now answer) .r)) ≡ true) ⌝ }
-    ensures { λ reply. ⌜ reply ≡ first (tests3 q n (keysOf n (now (k .entry))) (now (c .entry)) (now (d .entry)) place
-        (answer3Of n (now (answer .entry)))) ⌝ }
-    ensures { λ _. ⌜ now (work .exit) ≡ zeros (length (now (work .entry))) ⌝ }
+    ensures { λ reply. ⌜ reply ≡ first (tests3 q n (keysOf n (given k)) (given c) (given d) place (answer3Of n (given answer))) ⌝ }
+    ensures { λ _. ⌜ left work ≡ zeros (length (given work)) ⌝ }
 {
     let reply = test_permuted(
         work,
@@ -221,9 +215,8 @@ pub fn test_answer(
     requires { ⌜ PublicKeys n q (now k) × (length (now work) ≡ scratchLength) × (length (now d) ≡ 96) × (length (now c) ≡ 64 * n)
         × (allBelow q (vector (now c)) ≡ true) × (length (now answer) ≡ answerLength n challenge)
         × (inRange q n challenge (now answer) ≡ true) ⌝ }
-    ensures { λ reply. ⌜ reply ≡ first (answerTests q n (keysOf n (now (k .entry))) (now (c .entry)) (now (d .entry)) place challenge
-        (now (answer .entry))) ⌝ }
-    ensures { λ _. ⌜ now (work .exit) ≡ zeros (length (now (work .entry))) ⌝ }
+    ensures { λ reply. ⌜ reply ≡ first (answerTests q n (keysOf n (given k)) (given c) (given d) place challenge (given answer)) ⌝ }
+    ensures { λ _. ⌜ left work ≡ zeros (length (given work)) ⌝ }
 {
     if challenge == 1 {
         return test_first(work, d, answer, place, n, q);

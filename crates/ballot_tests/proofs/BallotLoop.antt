@@ -10,12 +10,11 @@ use Rattle.codec.specs.Bytes.{Bytes, part, same}
 use Rattle.codec.specs.Reply.{Test, test, first, None}
 use Rattle.codec.specs.declared.Reply.{Reply}
 use Rattle.codec.specs.declared.Reply.the-variants.{Taken, Refused}
-use Rattle.codec.specs.Lists.{list}
-use Rattle.ring.specs.Poly.{Poly, Alike, Below}
+use Rattle.ring.specs.Poly.{Poly, Alike}
 use Rattle.ring.specs.Slots.{poly, slot}
-use Rattle.bgv.specs.Scheme.{worked, within, reconstructed}
 use Rattle.transcript.specs.Layout.{each, ballotLength}
 use Rattle.transcript.specs.Method.{Batch, Shares}
+use Rattle.ballot_tests.specs.Vote.{voteTests, BallotAt}
 use Rattle.transcript.proofs.Compared.{within-alike, vote-alike, lent-alike}
 use Rattle.transcript.proofs.Many.{each-more, each-refused, each-taken, stretch}
 
@@ -23,9 +22,7 @@ module _ (q n p bound : ℕ) (s ballots claims shares0 shares1 opened : Bytes) w
   -- the tests of the ballot, claim and shares at places
   abbrev at-places : (at claim share place : ℕ) → List Test
   at-places at claim share place =
-      test 12 place (not (within bound n (worked q n p (poly s) (slot ballots (at + 4)) (slot opened share))))
-      ∷ test 13 place (not (same (part claims claim n) (list n (reconstructed q p (slot ballots (at + 4 + 8 * n)) (slot shares0 share) (slot shares1 share)))))
-      ∷ []
+      voteTests q n p bound place (poly s) (slot ballots (at + 4)) (slot opened share) (part claims claim n) (slot ballots (at + 4 + 8 * n)) (slot shares0 share) (slot shares1 share)
 
   -- the same from parts that are lent with lengths that are differences of places
   module _ (at claim share place : ℕ) (lb : at + 4 + 16 * n ≤ length ballots) (l0 : share + 8 * n ≤ length shares0) (l1 : share + 8 * n ≤ length shares1) (lo : share + 8 * n ≤ length opened) where
@@ -48,7 +45,7 @@ module _ (q n p bound : ℕ) (s ballots claims shares0 shares1 opened : Bytes) w
     alike-v = lent-alike n q ballots (at + 4 + 8 * n) (at + 4 + 16 * n - (at + 4 + 8 * n)) (omega arith) (omega arith)
 
     pub lent-tests : {r : Reply}
-        → r ≡ first (test 12 place (not (within bound n (worked q n p (poly s) lent-u (lent opened)))) ∷ test 13 place (not (same (take (claim + n - claim) (drop claim claims)) (list n (reconstructed q p lent-v (lent shares0) (lent shares1))))) ∷ [])
+        → r ≡ first (voteTests q n p bound place (poly s) lent-u (lent opened) (take (claim + n - claim) (drop claim claims)) lent-v (lent shares0) (lent shares1))
         → r ≡ first (at-places at claim share place)
     lent-tests e =
         let m : claim + n - claim ≡ n = omega arith in
@@ -100,17 +97,18 @@ module _ (q n p bound : ℕ) (s ballots claims shares0 shares1 opened : Bytes) w
     )
 
     module _ (b : Batch q n count ballots claims) (s0 : Shares q n count shares0) (s1 : Shares q n count shares1) (so : Shares q n count opened) where
-      pub at-asks : (at + 4 + 16 * n ≤ length ballots) × (claim + n ≤ length claims) × (share + 8 * n ≤ length shares0) × (share + 8 * n ≤ length shares1) × (share + 8 * n ≤ length opened)
-      at-asks = (
-        omega (arith, r .ballot, b .ballots-sized, stretch (ballotLength n) j count h),
-        omega (arith, r .vote, b .claims-sized, stretch n j count h),
-        omega (arith, r .sent, s0 .sized, stretch (8 * n) j count h),
-        omega (arith, r .sent, s1 .sized, stretch (8 * n) j count h),
-        omega (arith, r .sent, so .sized, stretch (8 * n) j count h),
-      )
-
-      pub below-asks : Below q (2 * n) (slot ballots (at + 4)) × Below q n (slot shares0 share) × Below q n (slot shares1 share) × Below q n (slot opened share)
-      below-asks = (rw (r .ballot) (b .below j h), rw (r .sent) (s0 .below j h), rw (r .sent) (s1 .below j h), rw (r .sent) (so .below j h))
+      pub ballot-stands : BallotAt q n ballots at claims claim shares0 shares1 opened share
+      ballot-stands = record {
+        ballot-ends = omega (arith, r .ballot, b .ballots-sized, stretch (ballotLength n) j count h);
+        claim-ends = omega (arith, r .vote, b .claims-sized, stretch n j count h);
+        ends0 = omega (arith, r .sent, s0 .sized, stretch (8 * n) j count h);
+        ends1 = omega (arith, r .sent, s1 .sized, stretch (8 * n) j count h);
+        ends = omega (arith, r .sent, so .sized, stretch (8 * n) j count h);
+        below = rw (r .ballot) (b .below j h);
+        below0 = rw (r .sent) (s0 .below j h);
+        below1 = rw (r .sent) (s1 .below j h);
+        below-opened = rw (r .sent) (so .below j h);
+      }
 
   pub reached-all : (count j at claim share : ℕ) (w : Bytes) → Reached count j at claim share w → count ≤ j → Taken ≡ first (each count ballotTests)
   reached-all count j at claim share w r h =

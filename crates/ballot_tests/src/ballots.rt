@@ -3,22 +3,18 @@ use crate::votes::test_ballot;
 use codec::Reply;
 use sheet_numbers::Numbers;
 ghost use mathlib.Core.Path.{_≡_};
-ghost use mathlib.Core.Bool.{not};
-ghost use mathlib.Core.List.{[], _∷_};
 ghost use Prim.Native.Nat.{_+_, _*_, _≤_};
 ghost use lib.ListN.{length};
-ghost use Rattle.codec.specs.Bytes.{part, same, zeros};
+ghost use Rattle.codec.specs.Bytes.{part, zeros};
 ghost use Rattle.codec.specs.Slices.{given, left};
-ghost use Rattle.codec.specs.Reply.{test, first};
-ghost use Rattle.codec.specs.Lists.{list};
-ghost use Rattle.ring.specs.Poly.{Below};
+ghost use Rattle.codec.specs.Reply.{first};
 ghost use Rattle.ring.specs.Slots.{poly, slot};
 ghost use Rattle.sheet_numbers.specs.Plain.{plain, maskOf};
 ghost use Rattle.sheet_numbers.specs.Usable.{Usable};
 ghost use Rattle.call.specs.Call.{scratchLength, Polynomial};
-ghost use Rattle.bgv.specs.Scheme.{worked, within, reconstructed};
 ghost use Rattle.transcript.specs.Round.{votesTests};
 ghost use Rattle.transcript.specs.Method.{Batch, Shares};
+ghost use Rattle.ballot_tests.specs.Vote.{voteTests, BallotAt};
 
 // One ballot where it stands: the ballot, its claim and its shares at places of their slices. `opened` is the opened side's shares.
 fn test_at(
@@ -36,17 +32,11 @@ fn test_at(
     place: u32,
 ) -> Reply
     requires { ⌜ Polynomial (k .ring) (k .modulus) (now s) × Usable k × (length (now work) ≡ scratchLength)
-        × (at + 4 + 16 * k .ring ≤ length (now ballots)) × (claim + k .ring ≤ length (now claims))
-        × (share + 8 * k .ring ≤ length (now shares0)) × (share + 8 * k .ring ≤ length (now shares1))
-        × (share + 8 * k .ring ≤ length (now opened)) ⌝ }
-    requires { ⌜ Below (k .modulus) (2 * k .ring) (slot (now ballots) (at + 4)) × Below (k .modulus) (k .ring) (slot (now shares0) share)
-        × Below (k .modulus) (k .ring) (slot (now shares1) share) × Below (k .modulus) (k .ring) (slot (now opened) share) ⌝ }
-    ensures { λ reply. let q = k .modulus in let n = k .ring in let p = plain k in
-        ⌜ (reply ≡ first (test 12 place (not (within (maskOf k) n
-        (worked q n p (poly (given s)) (slot (given ballots) (at + 4)) (slot (given opened) share))))
-        ∷ test 13 place (not (same (part (given claims) claim n)
-        (list n (reconstructed q p (slot (given ballots) (at + 4 + 8 * n)) (slot (given shares0) share) (slot (given shares1) share)))))
-        ∷ [])) × (length (left work) ≡ length (given work)) ⌝ }
+        × BallotAt (k .modulus) (k .ring) (now ballots) at (now claims) claim (now shares0) (now shares1) (now opened) share ⌝ }
+    ensures { λ reply. ⌜ (reply ≡ first (voteTests (k .modulus) (k .ring) (plain k) (maskOf k) place (poly (given s))
+        (slot (given ballots) (at + 4)) (slot (given opened) share) (part (given claims) claim (k .ring))
+        (slot (given ballots) (at + 4 + 8 * k .ring)) (slot (given shares0) share) (slot (given shares1) share)))
+        × (length (left work) ≡ length (given work)) ⌝ }
 {
     let n = k.ring as usize;
     let end = share + 8 * n;

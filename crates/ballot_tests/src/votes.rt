@@ -2,13 +2,11 @@
 use codec::Reply;
 use sheet_numbers::Numbers;
 ghost use mathlib.Core.Path.{_≡_};
-ghost use mathlib.Core.Bool.{not};
-ghost use mathlib.Core.List.{[], _∷_};
 ghost use Prim.Native.Nat.{_*_, _≤_};
 ghost use lib.ListN.{length};
 ghost use Rattle.codec.specs.Bytes.{same};
 ghost use Rattle.codec.specs.Slices.{given, left};
-ghost use Rattle.codec.specs.Reply.{test, first};
+ghost use Rattle.codec.specs.Reply.{first};
 ghost use Rattle.codec.specs.Lists.{list};
 ghost use Rattle.ring.specs.Poly.{Below};
 ghost use Rattle.ring.specs.Slots.{poly};
@@ -16,7 +14,8 @@ ghost use Rattle.sheet_numbers.specs.Plain.{plain, maskOf};
 ghost use Rattle.sheet_numbers.specs.Usable.{Usable};
 ghost use Rattle.call.specs.Call.{scratchLength, Polynomial};
 ghost use Rattle.bgv.specs.Scheme as scheme;
-ghost use Rattle.bgv.specs.Scheme.{worked, within, reconstructed, rebuilt};
+ghost use Rattle.bgv.specs.Scheme.{rebuilt};
+ghost use Rattle.ballot_tests.specs.Vote.{voteTests};
 
 // Whether each byte of a claim is the vote that a polynomial in scratch stands for.
 fn is_vote(work: &[u8], k: Numbers, claim: &[u8]) -> bool
@@ -66,11 +65,8 @@ pub fn test_ballot(
         × Polynomial (k .ring) (k .modulus) (now v) × Polynomial (k .ring) (k .modulus) (now t0)
         × Polynomial (k .ring) (k .modulus) (now t1) × Polynomial (k .ring) (k .modulus) (now t) × (length (now work) ≡ scratchLength)
         × (length (now claim) ≡ k .ring) ⌝ }
-    ensures { λ reply. let q = k .modulus in let n = k .ring in
-        ⌜ (reply ≡ first (test 12 place (not (within (maskOf k) n
-        (worked q n (plain k) (poly (given s)) (poly (given u)) (poly (given t)))))
-        ∷ test 13 place (not (same (given claim) (list n
-        (reconstructed q (plain k) (poly (given v)) (poly (given t0)) (poly (given t1)))))) ∷ []))
+    ensures { λ reply. ⌜ (reply ≡ first (voteTests (k .modulus) (k .ring) (plain k) (maskOf k) place (poly (given s)) (poly (given u))
+        (poly (given t)) (given claim) (poly (given v)) (poly (given t0)) (poly (given t1))))
         × (length (left work) ≡ length (given work)) ⌝ }
 {
     let p = sheet_numbers::plain(k);

@@ -23,8 +23,7 @@ ghost use Rattle.collisions.specs.Collision.{Answers, differing};
 // Copies the pair that stands in scratch into 16n bytes of room.
 fn keep_pair(room: &mut [u8], work: &[u8], n: usize)
     requires { ⌜ (16 * n ≤ length (now room)) × (49152 + 8 * n ≤ length (now work)) ⌝ }
-    ensures { λ _. ⌜ now (room .exit) ≡ put (now (room .entry)) 0 (part (now (work .entry)) 0 (8 * n)
-        ++ part (now (work .entry)) 49152 (8 * n)) ⌝ }
+    ensures { λ _. ⌜ left room ≡ put (given room) 0 (part (given work) 0 (8 * n) ++ part (given work) 49152 (8 * n)) ⌝ }
 {
     codec::copy(room, 0, &work[0..8 * n]);
     codec::copy(
@@ -37,8 +36,7 @@ fn keep_pair(room: &mut [u8], work: &[u8], n: usize)
 // Whether the pair that stands in scratch is the one that was kept.
 fn is_kept(room: &[u8], work: &[u8], n: usize) -> bool
     requires { ⌜ (16 * n ≤ length (now room)) × (49152 + 8 * n ≤ length (now work)) ⌝ }
-    ensures { λ yes. ⌜ yes ≡ same (part (now (room .entry)) 0 (16 * n)) (part (now (work .entry)) 0 (8 * n)
-        ++ part (now (work .entry)) 49152 (8 * n)) ⌝ }
+    ensures { λ yes. ⌜ yes ≡ same (part (given room) 0 (16 * n)) (part (given work) 0 (8 * n) ++ part (given work) 49152 (8 * n)) ⌝ }
 {
     if !codec::equal(&room[0..8 * n], &work[0..8 * n]) {
         return false;
@@ -67,10 +65,9 @@ fn pairs_agree(
         × (length (now r) ≡ 336 * n) × (length (now c) ≡ 64 * n) ⌝ }
     requires { ⌜ (first + 6 * n ≤ 42 * n) × (message + n ≤ 42 * n) × (from + 4 * n ≤ 8 * n) × (allBelow q (vector (now u)) ≡ true)
         × (allBelow q (vector (now r)) ≡ true) × (allBelow q (vector (now c)) ≡ true) ⌝ }
-    ensures { λ yes. ⌜ yes ≡ same (pairBytes q n (equationPair q n (keysOf n (now (k .entry))) (now (c .entry)) true
-        (now (u .entry)) first message from)) (pairBytes q n
-        (equationPair q n (keysOf n (now (k .entry))) (now (c .entry)) false (now (r .entry)) first message from)) ⌝ }
-    ensures { λ _. ⌜ (length (now (work .exit)) ≡ length (now (work .entry))) × (length (now (room .exit)) ≡ length (now (room .entry))) ⌝ }
+    ensures { λ yes. ⌜ yes ≡ same (pairBytes q n (equationPair q n (keysOf n (given k)) (given c) true (given u) first message from))
+        (pairBytes q n (equationPair q n (keysOf n (given k)) (given c) false (given r) first message from)) ⌝ }
+    ensures { λ _. ⌜ (length (left work) ≡ length (given work)) × (length (left room) ≡ length (given room)) ⌝ }
 {
     equation_pair(work, k, c, true, u, first, message, from, n, q);
     keep_pair(room, work, n);
@@ -92,9 +89,9 @@ fn equations_agree(
     requires { ⌜ PublicKeys n q (now k) × (length (now work) ≡ scratchLength) × (16 * n ≤ length (now room)) × (length (now u) ≡ 336 * n)
         × (length (now r) ≡ 336 * n) × (length (now c) ≡ 64 * n) ⌝ }
     requires { ⌜ (allBelow q (vector (now u)) ≡ true) × (allBelow q (vector (now r)) ≡ true) × (allBelow q (vector (now c)) ≡ true) ⌝ }
-    ensures { λ yes. ⌜ yes ≡ same (words (subtract q (equations q n (keysOf n (now (k .entry))) (take (14 * n) (vector (now (u .entry)))))
-        (sides q n (now (c .entry))))) (words (equations q n (keysOf n (now (k .entry))) (take (14 * n) (vector (now (r .entry)))))) ⌝ }
-    ensures { λ _. ⌜ (length (now (work .exit)) ≡ length (now (work .entry))) × (length (now (room .exit)) ≡ length (now (room .entry))) ⌝ }
+    ensures { λ yes. ⌜ yes ≡ same (words (subtract q (equations q n (keysOf n (given k)) (take (14 * n) (vector (given u))))
+        (sides q n (given c)))) (words (equations q n (keysOf n (given k)) (take (14 * n) (vector (given r))))) ⌝ }
+    ensures { λ _. ⌜ (length (left work) ≡ length (given work)) × (length (left room) ≡ length (given room)) ⌝ }
 {
     if !pairs_agree(work, room, k, c, u, r, 2 * n, 0, 0, n, q) {
         return false;
@@ -105,8 +102,8 @@ fn equations_agree(
 // Whether answers 2 and 3 have one salt 1 and one P.
 fn starts_agree(answer2: &[u8], answer3: &[u8], n: usize) -> bool
     requires { ⌜ (n ≤ 2048) × (length (now answer2) ≡ 504 * n + 64) × (length (now answer3) ≡ 504 * n + 64) ⌝ }
-    ensures { λ yes. ⌜ yes ≡ same (answer2Of n (now (answer2 .entry)) .salt1
-        ++ answer2Of n (now (answer2 .entry)) .p) (answer3Of n (now (answer3 .entry)) .salt1 ++ answer3Of n (now (answer3 .entry)) .p) ⌝ }
+    ensures { λ yes. ⌜ yes ≡ same (answer2Of n (given answer2) .salt1
+        ++ answer2Of n (given answer2) .p) (answer3Of n (given answer3) .salt1 ++ answer3Of n (given answer3) .p) ⌝ }
 {
     let salt = 504 * n;
     if !codec::equal(&answer2[salt..salt + 32], &answer3[salt..salt + 32]) {
@@ -130,10 +127,9 @@ fn first_agrees(
         × (length (now answer2) ≡ 504 * n + 64) × (length (now answer3) ≡ 504 * n + 64) × (length (now c) ≡ 64 * n) ⌝ }
     requires { ⌜ (allBelow q (vector (answer2Of n (now answer2) .u)) ≡ true) × (allBelow q (vector (answer3Of n (now answer3) .r)) ≡ true)
         × (allBelow q (vector (now c)) ≡ true) ⌝ }
-    ensures { λ yes. ⌜ yes ≡ same (one-by2 (setting q n (keysOf n (now (k .entry))) (now (c .entry)))
-        (answer2Of n (now (answer2 .entry)))) (one-by3 (setting q n (keysOf n (now (k .entry))) (now (c .entry)))
-        (answer3Of n (now (answer3 .entry)))) ⌝ }
-    ensures { λ _. ⌜ (length (now (work .exit)) ≡ length (now (work .entry))) × (length (now (room .exit)) ≡ length (now (room .entry))) ⌝ }
+    ensures { λ yes. ⌜ yes ≡ same (one-by2 (setting q n (keysOf n (given k)) (given c)) (answer2Of n (given answer2)))
+        (one-by3 (setting q n (keysOf n (given k)) (given c)) (answer3Of n (given answer3))) ⌝ }
+    ensures { λ _. ⌜ (length (left work) ≡ length (given work)) × (length (left room) ≡ length (given room)) ⌝ }
 {
     if !starts_agree(answer2, answer3, n) {
         return false;
@@ -156,8 +152,8 @@ fn first_agrees(
 fn is_gathered(work: &mut [u8], p: &[u8], x: &[u8], t: &[u8], n: usize) -> bool
     requires { ⌜ (n ≤ 2048) × (length (now work) ≡ scratchLength) × (length (now p) ≡ 168 * n) × (length (now x) ≡ 336 * n)
         × (allBelow (42 * n) (entries (now p)) ≡ true) ⌝ }
-    ensures { λ yes. ⌜ yes ≡ same (now (t .entry)) (words (apply (entries (now (p .entry))) (vector (now (x .entry))))) ⌝ }
-    ensures { λ _. ⌜ length (now (work .exit)) ≡ length (now (work .entry)) ⌝ }
+    ensures { λ yes. ⌜ yes ≡ same (given t) (words (apply (entries (given p)) (vector (given x)))) ⌝ }
+    ensures { λ _. ⌜ length (left work) ≡ length (given work) ⌝ }
 {
     vector::gather(work, 0, p, x, 42 * n);
     codec::equal(t, &work[0..336 * n])
@@ -167,10 +163,10 @@ fn is_gathered(work: &mut [u8], p: &[u8], x: &[u8], t: &[u8], n: usize) -> bool
 fn second_agrees(work: &mut [u8], answer1: &[u8], answer3: &[u8], n: usize) -> bool
     requires { ⌜ (n ≤ 2048) × (length (now work) ≡ scratchLength) × (length (now answer1) ≡ 378 * n + 64)
         × (length (now answer3) ≡ 504 * n + 64) × (allBelow (42 * n) (entries (answer3Of n (now answer3) .p)) ≡ true) ⌝ }
-    ensures { λ yes. ⌜ yes ≡ same (string2 (answer1Of n (now (answer1 .entry)) .salt2) (answer1Of n (now (answer1 .entry)) .t))
-        (string2 (answer3Of n (now (answer3 .entry)) .salt2)
-        (words (apply (entries (answer3Of n (now (answer3 .entry)) .p)) (vector (answer3Of n (now (answer3 .entry)) .r))))) ⌝ }
-    ensures { λ _. ⌜ length (now (work .exit)) ≡ length (now (work .entry)) ⌝ }
+    ensures { λ yes. ⌜ yes ≡ same (string2 (answer1Of n (given answer1) .salt2) (answer1Of n (given answer1) .t))
+        (string2 (answer3Of n (given answer3) .salt2)
+        (words (apply (entries (answer3Of n (given answer3) .p)) (vector (answer3Of n (given answer3) .r))))) ⌝ }
+    ensures { λ _. ⌜ length (left work) ≡ length (given work) ⌝ }
 {
     let one = 378 * n;
     let three = 504 * n + 32;
@@ -193,8 +189,8 @@ fn sums_agree(w: &[u8], t: &[u8], p: &[u8], u: &[u8], n: usize, q: u64) -> bool
     requires { ⌜ (1 < q) × (q < 2 ^ 56) × (length (now w) ≡ n) × (length (now t) ≡ 8 * n) × (length (now p) ≡ 4 * n)
         × (length (now u) ≡ 8 * n) ⌝ }
     requires { ⌜ (allBelow q (vector (now t)) ≡ true) × (allBelow q (vector (now u)) ≡ true) × (allBelow n (entries (now p)) ≡ true) ⌝ }
-    ensures { λ yes. ⌜ yes ≡ same (words (add q (ternaries q (now (w .entry))) (vector (now (t .entry)))))
-        (words (apply (entries (now (p .entry))) (vector (now (u .entry))))) ⌝ }
+    ensures { λ yes. ⌜ yes ≡ same (words (add q (ternaries q (given w)) (vector (given t))))
+        (words (apply (entries (given p)) (vector (given u)))) ⌝ }
 {
     let mut i = 0;
     while i < n {
@@ -213,10 +209,10 @@ fn third_agrees(answer1: &[u8], answer2: &[u8], n: usize, q: u64) -> bool
     requires { ⌜ (n ≤ 2048) × (1 < q) × (q < 2 ^ 56) × (length (now answer1) ≡ 378 * n + 64) × (length (now answer2) ≡ 504 * n + 64) ⌝ }
     requires { ⌜ (allBelow q (vector (answer1Of n (now answer1) .t)) ≡ true) × (allBelow q (vector (answer2Of n (now answer2) .u)) ≡ true)
         × (allBelow (42 * n) (entries (answer2Of n (now answer2) .p)) ≡ true) ⌝ }
-    ensures { λ yes. ⌜ yes ≡ same (string3 (answer1Of n (now (answer1 .entry)) .salt3)
-        (add q (ternaries q (answer1Of n (now (answer1 .entry)) .w)) (vector (answer1Of n (now (answer1 .entry)) .t))))
-        (string3 (answer2Of n (now (answer2 .entry)) .salt3)
-        (apply (entries (answer2Of n (now (answer2 .entry)) .p)) (vector (answer2Of n (now (answer2 .entry)) .u)))) ⌝ }
+    ensures { λ yes. ⌜ yes ≡ same (string3 (answer1Of n (given answer1) .salt3)
+        (add q (ternaries q (answer1Of n (given answer1) .w)) (vector (answer1Of n (given answer1) .t))))
+        (string3 (answer2Of n (given answer2) .salt3)
+        (apply (entries (answer2Of n (given answer2) .p)) (vector (answer2Of n (given answer2) .u)))) ⌝ }
 {
     let one = 378 * n + 32;
     let two = 504 * n + 32;
@@ -250,9 +246,9 @@ fn lowest(
 ) -> u8
     requires { ⌜ PublicKeys n q (now k) × (length (now work) ≡ scratchLength) × (16 * n ≤ length (now room)) × (length (now c) ≡ 64 * n)
         × (allBelow q (vector (now c)) ≡ true) × Answers q n (now answer1) (now answer2) (now answer3) ⌝ }
-    ensures { λ digest. ⌜ digest ≡ differing (setting q n (keysOf n (now (k .entry))) (now (c .entry)))
-        (answer1Of n (now (answer1 .entry))) (answer2Of n (now (answer2 .entry))) (answer3Of n (now (answer3 .entry))) ⌝ }
-    ensures { λ _. ⌜ (length (now (work .exit)) ≡ length (now (work .entry))) × (length (now (room .exit)) ≡ length (now (room .entry))) ⌝ }
+    ensures { λ digest. ⌜ digest ≡ differing (setting q n (keysOf n (given k)) (given c)) (answer1Of n (given answer1))
+        (answer2Of n (given answer2)) (answer3Of n (given answer3)) ⌝ }
+    ensures { λ _. ⌜ (length (left work) ≡ length (given work)) × (length (left room) ≡ length (given room)) ⌝ }
 {
     if !first_agrees(work, room, k, c, answer2, answer3, n, q) {
         return 1;
@@ -280,8 +276,8 @@ pub fn collision(
 ) -> u8
     requires { ⌜ PublicKeys n q (now k) × (length (now work) ≡ scratchLength) × (16 * n ≤ length (now room)) × (length (now c) ≡ 64 * n)
         × (allBelow q (vector (now c)) ≡ true) × Answers q n (now answer1) (now answer2) (now answer3) ⌝ }
-    ensures { λ digest. ⌜ digest ≡ differing (setting q n (keysOf n (now (k .entry))) (now (c .entry)))
-        (answer1Of n (now (answer1 .entry))) (answer2Of n (now (answer2 .entry))) (answer3Of n (now (answer3 .entry))) ⌝ }
+    ensures { λ digest. ⌜ digest ≡ differing (setting q n (keysOf n (given k)) (given c)) (answer1Of n (given answer1))
+        (answer2Of n (given answer2)) (answer3Of n (given answer3)) ⌝ }
     ensures { λ _. ⌜ (left work ≡ zeros (length (given work))) × (left room ≡ zeros (length (given room))) ⌝ }
 {
     let digest = lowest(work, room, k, c, answer1, answer2, answer3, n, q);

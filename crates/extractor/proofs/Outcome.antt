@@ -23,43 +23,31 @@ use Rattle.transcript.proofs.Cut.{keys-cut}
 use Rattle.transcript.proofs.ExtractionWritten.{collision-written}
 use Rattle.extractor.specs.Lent.{Finds}
 use Rattle.collisions.specs.Collision.{differing}
-use Rattle.extractor.specs.Method.{unknownsOf, lessUnknowns, excess, solved, written}
+use Rattle.extractor.specs.Method.{unknownsOf, lessUnknowns, excess, solved, written, vectorAt, keyOf, solvedBy, writtenBy}
 use Rattle.extractor.proofs.Unknowns.{lent-excess}
 
 -- ---- the two vectors, in order, of the r of two openings, lent with lengths that are differences of places
 
 module _ (q N : ℕ) (o0 o1 : Bytes) (z : List ℕ) where
-  abbrev vector-of : (at j : ℕ) → Three
-  vector-of at j = lessUnknowns q N (part o0 at (3 * N)) (part o1 at (3 * N)) z j
-
-  abbrev key-of : Bytes
-  key-of = ternaryBytes q N (polynomial N z 0) ++ (ternaryBytes q N (polynomial N z 1) ++ zeros (22 * N))
-
-  abbrev kind-of : ℕ
-  kind-of = solved q N (vector-of (16 * N) 2) (vector-of (19 * N) 8)
-
-  abbrev bytes-of : Bytes
-  bytes-of = written q N (vector-of (16 * N) 2) (vector-of (19 * N) 8) key-of
-
   module _ (r1 : Bool) (d1 : Bytes) (y1 : r1 ≡ same d1 (zeros (24 * N)))
       (e1 : d1 ≡ encode (3 * N) (modulo q (excess q N (take (19 * N - 16 * N) (drop (16 * N) o0)) (take (19 * N - 16 * N) (drop (16 * N) o1)) z (2 * N)))) where
-    first : (r1 ≡ isZero q N (vector-of (16 * N) 2)) × (d1 ≡ threeBytes q N (vector-of (16 * N) 2))
+    first : (r1 ≡ isZero q N (vectorAt q N o0 o1 z (16 * N) 2)) × (d1 ≡ threeBytes q N (vectorAt q N o0 o1 z (16 * N) 2))
     first = lent-excess q N o0 o1 z (16 * N) (19 * N - 16 * N) 2 (2 * N) (omega arith) (omega arith) r1 d1 y1 e1
 
-    pub s-nonzero : not r1 ≡ true → (4 ≡ kind-of) × (d1 ≡ bytes-of)
+    pub s-nonzero : not r1 ≡ true → (4 ≡ solvedBy q N o0 o1 z) × (d1 ≡ writtenBy q N o0 o1 z)
     unfolding solved written
     s-nonzero n1 = rw (← (first .0), not-true r1 n1) (refl, first .1)
 
     module _ (n1 : not r1 ≡ false) (r2 : Bool) (d2 : Bytes) (y2 : r2 ≡ same d2 (zeros (24 * N)))
         (e2 : d2 ≡ encode (3 * N) (modulo q (excess q N (take (22 * N - 19 * N) (drop (19 * N) o0)) (take (22 * N - 19 * N) (drop (19 * N) o1)) z (8 * N)))) where
-      second : (r2 ≡ isZero q N (vector-of (19 * N) 8)) × (d2 ≡ threeBytes q N (vector-of (19 * N) 8))
+      second : (r2 ≡ isZero q N (vectorAt q N o0 o1 z (19 * N) 8)) × (d2 ≡ threeBytes q N (vectorAt q N o0 o1 z (19 * N) 8))
       second = lent-excess q N o0 o1 z (19 * N) (22 * N - 19 * N) 8 (8 * N) (omega arith) (omega arith) r2 d2 y2 e2
 
-      pub e-nonzero : not r2 ≡ true → (5 ≡ kind-of) × (d2 ≡ bytes-of)
+      pub e-nonzero : not r2 ≡ true → (5 ≡ solvedBy q N o0 o1 z) × (d2 ≡ writtenBy q N o0 o1 z)
       unfolding solved written
       e-nonzero n2 = rw (← (first .0), not-false r1 n1, ← (second .0), not-true r2 n2) (refl, second .1)
 
-      pub both-zero : not r2 ≡ false → (6 ≡ kind-of) × (key-of ≡ bytes-of)
+      pub both-zero : not r2 ≡ false → (6 ≡ solvedBy q N o0 o1 z) × (keyOf q N o0 o1 z ≡ writtenBy q N o0 o1 z)
       unfolding solved written
       both-zero n2 = rw (← (first .0), not-false r1 n1, ← (second .0), not-false r2 n2) (refl, refl)
 
@@ -180,7 +168,7 @@ module _ (k : Numbers) (s head opening0 opening1 answer1 answer2 answer3 : Bytes
     abbrev unknown-numbers : List ℕ
     unknown-numbers = unknownsOf (k .modulus) n (take (504 * n - 168 * n) (drop (168 * n) answer2)) (take (504 * n - 168 * n) (drop (168 * n) answer3))
 
-    pub finds-solved : {r : ℕ} {out : Bytes} → d ≡ 0 → r ≡ kind-of (k .modulus) n opening0 opening1 unknown-numbers → out ≡ bytes-of (k .modulus) n opening0 opening1 unknown-numbers
+    pub finds-solved : {r : ℕ} {out : Bytes} → d ≡ 0 → r ≡ solvedBy (k .modulus) n opening0 opening1 unknown-numbers → out ≡ writtenBy (k .modulus) n opening0 opening1 unknown-numbers
         → Finds (parameters k s) head opening0 opening1 answer1 answer2 answer3 r out
     finds-solved {r} {out} h er eo = record {
       kind-is = λ m a b c f i. lent-solved (parameters k s) m (lent a b c f i) (80 * n - 16 * n) d (omega arith) keyed h (504 * n - 168 * n) r out (omega arith) er eo .0;

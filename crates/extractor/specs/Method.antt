@@ -1,17 +1,17 @@
 -- What inner functions work out: the unknowns, and what they leave of two openings. No public contract cites this file. Assumes nothing.
 use mathlib.Core.Path.{_≡_}
 use mathlib.Core.Bool.{true, cond, not}
-use mathlib.Core.List.{List}
+use mathlib.Core.List.{List, _++_}
 use Prim.Native.Nat.{ℕ, _+_, _*_}
 use lib.ListN.{length, getD, take}
-use Rattle.codec.specs.Bytes.{Bytes}
+use Rattle.codec.specs.Bytes.{Bytes, part, zeros}
 use Rattle.codec.specs.Lists.{allBelow}
 use Rattle.ring.specs.Poly.{Poly, plus, minus}
 use Rattle.ring.specs.Ternary.{ternary}
 use Rattle.commitment.specs.Commitment.{Three, threeOf, plus3, minus3}
 use Rattle.vector.specs.Vector.{vector, subtract}
-use Rattle.stern.specs.Shortness.{threeFrom}
-use Rattle.transcript.specs.Extractor.{threeBytes, isZero}
+use Rattle.stern.specs.Shortness.{polynomial, threeFrom}
+use Rattle.transcript.specs.Extractor.{threeBytes, isZero, ternaryBytes}
 
 -- ---- the unknowns
 
@@ -44,3 +44,19 @@ solved q N s e = cond (not (isZero q N s)) 4 (cond (not (isZero q N e)) 5 6)
 
 unfoldable pub written : (q N : ℕ) (s e : Three) → Bytes → Bytes
 written q N s e key = cond (not (isZero q N s)) (threeBytes q N s) (cond (not (isZero q N e)) (threeBytes q N e) key)
+
+-- the same from two openings and unknowns
+module _ (q N : ℕ) (opening0 opening1 : Bytes) (z : List ℕ) where
+  -- by where the r of s, or of e, stand in an opening, and which of the unknowns they are less
+  abbrev pub vectorAt : (at j : ℕ) → Three
+  vectorAt at j = lessUnknowns q N (part opening0 at (3 * N)) (part opening1 at (3 * N)) z j
+
+  -- s and e, and then zeros
+  abbrev pub keyOf : Bytes
+  keyOf = ternaryBytes q N (polynomial N z 0) ++ (ternaryBytes q N (polynomial N z 1) ++ zeros (22 * N))
+
+  abbrev pub solvedBy : ℕ
+  solvedBy = solved q N (vectorAt (16 * N) 2) (vectorAt (19 * N) 8)
+
+  abbrev pub writtenBy : Bytes
+  writtenBy = written q N (vectorAt (16 * N) 2) (vectorAt (19 * N) 8) keyOf

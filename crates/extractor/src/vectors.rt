@@ -5,18 +5,19 @@ ghost use mathlib.Core.List.{_++_};
 ghost use Prim.Native.Nat.{_+_, _*_, _%_, _≤_, _<_, _^_};
 ghost use lib.Dec.{eqb};
 ghost use lib.ListN.{length, getD};
-ghost use Rattle.codec.specs.Bytes.{part, put, zeros, same};
+ghost use Rattle.codec.specs.Bytes.{put, zeros, same};
+ghost use Rattle.codec.specs.Slices.{given, left};
 ghost use Rattle.ring.specs.Poly.{modulo};
 ghost use Rattle.ring.specs.Slots.{encode};
 ghost use Rattle.call.specs.Call.{scratchLength};
 ghost use Rattle.stern.specs.Shortness.{polynomial};
 ghost use Rattle.transcript.specs.Extractor.{ternaryBytes};
-ghost use Rattle.extractor.specs.Method.{Masked, unknownsOf, lessUnknowns, from, excess, solved, written};
+ghost use Rattle.extractor.specs.Method.{Masked, unknownsOf, from, excess, solvedBy, writtenBy};
 
 // Number i of the unknowns: that of extended + R less that of R.
 fn unknown(u: &[u8], r: &[u8], i: usize, n: usize, q: u64) -> u64
     requires { ⌜ (n ≤ 2048) × (q < 2 ^ 56) × (i < 14 * n) × Masked q n (now u) (now r) ⌝ }
-    ensures { λ v. ⌜ (v ≡ getD (unknownsOf q n (now (u .entry)) (now (r .entry))) i 0) × (v < q) ⌝ }
+    ensures { λ v. ⌜ (v ≡ getD (unknownsOf q n (given u) (given r)) i 0) × (v < q) ⌝ }
 {
     modular::subtract(vector::component(u, i), vector::component(r, i), q)
 }
@@ -27,7 +28,7 @@ fn unknown(u: &[u8], r: &[u8], i: usize, n: usize, q: u64) -> u64
 fn excess(r0: &[u8], r1: &[u8], u: &[u8], r: &[u8], first: usize, i: usize, n: usize, q: u64) -> u64
     requires { ⌜ (n ≤ 2048) × (3 ≤ q) × (q < 2 ^ 56) × (length (now r0) ≡ 3 * n) × (length (now r1) ≡ 3 * n) × Masked q n (now u) (now r)
         × (first + 6 * n ≤ 14 * n) × (i < 3 * n) ⌝ }
-    ensures { λ v. ⌜ v ≡ excess q n (now (r0 .entry)) (now (r1 .entry)) (unknownsOf q n (now (u .entry)) (now (r .entry))) first i % q ⌝ }
+    ensures { λ v. ⌜ v ≡ excess q n (given r0) (given r1) (unknownsOf q n (given u) (given r)) first i % q ⌝ }
 {
     let x = ring::from_ternary(r0[i], q);
     let y = ring::from_ternary(r1[i], q);
@@ -51,8 +52,7 @@ fn write_excess(
 )
     requires { ⌜ (n ≤ 2048) × (3 ≤ q) × (q < 2 ^ 56) × (length (now r0) ≡ 3 * n) × (length (now r1) ≡ 3 * n) × Masked q n (now u) (now r)
         × (first + 6 * n ≤ 14 * n) × (length (now out) ≡ 24 * n) ⌝ }
-    ensures { λ _. ⌜ now (out .exit) ≡ encode (3 * n)
-        (modulo q (excess q n (now (r0 .entry)) (now (r1 .entry)) (unknownsOf q n (now (u .entry)) (now (r .entry))) first)) ⌝ }
+    ensures { λ _. ⌜ left out ≡ encode (3 * n) (modulo q (excess q n (given r0) (given r1) (unknownsOf q n (given u) (given r)) first)) ⌝ }
 {
     let mut i = 0;
     while i < 3 * n {
@@ -76,10 +76,9 @@ fn vanishes(
 ) -> bool
     requires { ⌜ (n ≤ 2048) × (3 ≤ q) × (q < 2 ^ 56) × (length (now r0) ≡ 3 * n) × (length (now r1) ≡ 3 * n) × Masked q n (now u) (now r)
         × (first + 6 * n ≤ 14 * n) × (length (now out) ≡ 24 * n) × (length (now work) ≡ scratchLength) ⌝ }
-    ensures { λ yes. ⌜ yes ≡ same (now (out .exit)) (zeros (24 * n)) ⌝ }
-    ensures { λ _. ⌜ (now (out .exit) ≡ encode (3 * n)
-        (modulo q (excess q n (now (r0 .entry)) (now (r1 .entry)) (unknownsOf q n (now (u .entry)) (now (r .entry))) first)))
-        × (length (now (work .exit)) ≡ length (now (work .entry))) ⌝ }
+    ensures { λ yes. ⌜ yes ≡ same (left out) (zeros (24 * n)) ⌝ }
+    ensures { λ _. ⌜ (left out ≡ encode (3 * n) (modulo q (excess q n (given r0) (given r1) (unknownsOf q n (given u) (given r)) first)))
+        × (length (left work) ≡ length (given work)) ⌝ }
 {
     write_excess(out, r0, r1, u, r, first, n, q);
     vector::clear(work, 0, 24 * n);
@@ -104,8 +103,7 @@ fn to_ternary(v: u64) -> u8
 // The first two polynomials of the unknowns, s and e, as ternary bytes.
 fn write_secrets(out: &mut [u8], u: &[u8], r: &[u8], n: usize, q: u64)
     requires { ⌜ (n ≤ 2048) × (q < 2 ^ 56) × Masked q n (now u) (now r) × (length (now out) ≡ 24 * n) ⌝ }
-    ensures { λ _. ⌜ now (out .exit) ≡ put (now (out .entry)) 0
-        (ternaryBytes q (2 * n) (from (unknownsOf q n (now (u .entry)) (now (r .entry))) 0)) ⌝ }
+    ensures { λ _. ⌜ left out ≡ put (given out) 0 (ternaryBytes q (2 * n) (from (unknownsOf q n (given u) (given r)) 0)) ⌝ }
 {
     let mut i = 0;
     while i < 2 * n {
@@ -118,8 +116,8 @@ fn write_secrets(out: &mut [u8], u: &[u8], r: &[u8], n: usize, q: u64)
 // s and e, and then zeros.
 fn write_key(out: &mut [u8], u: &[u8], r: &[u8], n: usize, q: u64)
     requires { ⌜ (n ≤ 2048) × (q < 2 ^ 56) × Masked q n (now u) (now r) × (length (now out) ≡ 24 * n) ⌝ }
-    ensures { λ _. ⌜ now (out .exit) ≡ ternaryBytes q n (polynomial n (unknownsOf q n (now (u .entry)) (now (r .entry))) 0)
-        ++ (ternaryBytes q n (polynomial n (unknownsOf q n (now (u .entry)) (now (r .entry))) 1) ++ zeros (22 * n)) ⌝ }
+    ensures { λ _. ⌜ left out ≡ ternaryBytes q n (polynomial n (unknownsOf q n (given u) (given r)) 0)
+        ++ (ternaryBytes q n (polynomial n (unknownsOf q n (given u) (given r)) 1) ++ zeros (22 * n)) ⌝ }
 {
     write_secrets(out, u, r, n, q);
     vector::clear(out, 2 * n, 22 * n);
@@ -138,18 +136,8 @@ pub fn solve(
 ) -> u8
     requires { ⌜ (n ≤ 2048) × (3 ≤ q) × (q < 2 ^ 56) × (length (now work) ≡ scratchLength) × (length (now out) ≡ 24 * n)
         × (length (now opening0) ≡ 22 * n) × (length (now opening1) ≡ 22 * n) × Masked q n (now u) (now r) ⌝ }
-    ensures { λ kind. ⌜ kind ≡ solved q n (lessUnknowns q n (part (now (opening0 .entry)) (16 * n) (3 * n))
-        (part (now (opening1 .entry)) (16 * n) (3 * n)) (unknownsOf q n (now (u .entry)) (now (r .entry))) 2)
-        (lessUnknowns q n (part (now (opening0 .entry)) (19 * n) (3 * n)) (part (now (opening1 .entry)) (19 * n) (3 * n))
-        (unknownsOf q n (now (u .entry)) (now (r .entry))) 8) ⌝ }
-    ensures { λ _. ⌜ now (out .exit) ≡ written q n
-        (lessUnknowns q n (part (now (opening0 .entry)) (16 * n) (3 * n)) (part (now (opening1 .entry)) (16 * n) (3 * n))
-        (unknownsOf q n (now (u .entry)) (now (r .entry))) 2)
-        (lessUnknowns q n (part (now (opening0 .entry)) (19 * n) (3 * n)) (part (now (opening1 .entry)) (19 * n) (3 * n))
-        (unknownsOf q n (now (u .entry)) (now (r .entry))) 8)
-        (ternaryBytes q n (polynomial n (unknownsOf q n (now (u .entry)) (now (r .entry))) 0)
-        ++ (ternaryBytes q n (polynomial n (unknownsOf q n (now (u .entry)) (now (r .entry))) 1) ++ zeros (22 * n))) ⌝ }
-    ensures { λ _. ⌜ length (now (work .exit)) ≡ length (now (work .entry)) ⌝ }
+    ensures { λ kind. let z = unknownsOf q n (given u) (given r) in ⌜ (kind ≡ solvedBy q n (given opening0) (given opening1) z)
+        × ((left out ≡ writtenBy q n (given opening0) (given opening1) z) × (length (left work) ≡ length (given work))) ⌝ }
 {
     let s = 16 * n;
     let e = 19 * n;

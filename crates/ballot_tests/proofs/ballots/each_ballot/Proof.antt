@@ -4,7 +4,7 @@ use Prim.Native.Nat.{_-_}
 use native.Mathlib.Omega.{arith}
 use borrow.Author.Needs.{needs}
 use Rattle.sheet_numbers.specs.Plain.{plain, maskOf}
-use Rattle.ballot_tests.proofs.BallotLoop.{Reached, reached-first, reached-more, reached-refused, reached-all, places-fit, at-asks, below-asks}
+use Rattle.ballot_tests.proofs.BallotLoop.{Reached, reached-first, reached-more, reached-refused, reached-all, places-fit, ballot-stands}
 use Rattle.ballot_tests.proofs.ballots.each_ballot.Statement.{statement}
 use Rattle.ballot_tests.proofs.ballots.each_ballot.Tie as tie
 
@@ -28,9 +28,7 @@ test-at-requires c κs =
     let a = c .before .before .before .before .before .before .before .before .before .before .args in
     let p = c .before .before .before .before .before .before .before .before .before .before .pre in
     let l = c .before .before .loop in
-    let x = at-asks (a .k .modulus) (a .k .ring) (plain (a .k)) (maskOf (a .k)) (a .s .now) (a .ballots .now) (a .claims .now) (a .shares0 .now) (a .shares1 .now) (a .opened .now) (a .count) (l .j) (l .at) (l .claim) (l .share) (l .work) (l .inv) (omega arith) (p .4) (p .5) (p .6) (p .7) in
-    let y = below-asks (a .k .modulus) (a .k .ring) (plain (a .k)) (maskOf (a .k)) (a .s .now) (a .ballots .now) (a .claims .now) (a .shares0 .now) (a .shares1 .now) (a .opened .now) (a .count) (l .j) (l .at) (l .claim) (l .share) (l .work) (l .inv) (omega arith) (p .4) (p .5) (p .6) (p .7) in
-    ((p .0, p .1, l .inv .long, x .0, x .1, x .2, x .3, x .4), y)
+    (p .0, p .1, l .inv .long, ballot-stands (a .k .modulus) (a .k .ring) (plain (a .k)) (maskOf (a .k)) (a .s .now) (a .ballots .now) (a .claims .now) (a .shares0 .now) (a .shares1 .now) (a .opened .now) (a .count) (l .j) (l .at) (l .claim) (l .share) (l .work) (l .inv) (omega arith) (p .4) (p .5) (p .6) (p .7))
 
 returns : tie.Need-returns Inv-loop μ-loop
 returns c =

@@ -5,7 +5,7 @@ use mathlib.Core.List.{List, [], _∷_}
 use Prim.Native.Nat.{ℕ, _*_}
 use borrow.Author.Needs.{needs}
 use borrow.Author.Tests.{not-true, not-false}
-use lib.ListN.{length}
+use lib.ListN.{length, length-replicate}
 use Rattle.codec.specs.Bytes.{same}
 use Rattle.codec.proofs.Laws.{both}
 use Rattle.codec.specs.Lists.{allBelow}
@@ -73,7 +73,7 @@ unfolding testReply
 returns-4 c =
     let a = c .before .before .before .before .before .before .before .before .before .before .before .before .before .before .before .before .before .args in
     let at : List ℕ = length (a .keys .now) ∷ length (a .pairs .now) ∷ length (a .digests .now) ∷ length (a .answer .now) ∷ length (a .scratch .now) ∷ [] in
-    (goes 5 _ _ (c .before .before .before .before .before .before .before .before .before .before .before .ring-fits .ensures) (not-false (c .before .before .before .before .before .before .before .before .before .before .before .ring-fits .result) (c .before .before .before .before .before .before .before .before .before .before .if1 .left)) (goes 1 _ _ (c .before .before .before .before .before .before .before .test-sized .ensures ∙ ap (λ (m : ℕ). same at (24 * a .n ∷ 64 * a .n ∷ 96 ∷ m ∷ 1048576 ∷ [])) (c .before .before .before .before .before .before .before .before .before .answer-length .ensures)) (not-false (c .before .before .before .before .before .before .before .test-sized .result) (c .before .before .before .before .before .before .if2 .left)) (goes 5 _ _ (c .before .before .before .before .before .test-ranged .ensures) (not-false (c .before .before .before .before .before .test-ranged .result) (c .before .before .before .before .if3 .left)) (c .before .before .test-answer .ensures .0))), used-answer _ _ _ (c .before .before .test-answer .ensures .1) (a .q) (a .n) (keysOf (a .n) (a .keys .now)) (a .pairs .now) (a .digests .now) (a .place) (a .challenge) (a .answer .now) (c .before .before .test-answer .ensures .0))
+    (goes 5 _ _ (c .before .before .before .before .before .before .before .before .before .before .before .ring-fits .ensures) (not-false (c .before .before .before .before .before .before .before .before .before .before .before .ring-fits .result) (c .before .before .before .before .before .before .before .before .before .before .if1 .left)) (goes 1 _ _ (c .before .before .before .before .before .before .before .test-sized .ensures ∙ ap (λ (m : ℕ). same at (24 * a .n ∷ 64 * a .n ∷ 96 ∷ m ∷ 1048576 ∷ [])) (c .before .before .before .before .before .before .before .before .before .answer-length .ensures)) (not-false (c .before .before .before .before .before .before .before .test-sized .result) (c .before .before .before .before .before .before .if2 .left)) (goes 5 _ _ (c .before .before .before .before .before .test-ranged .ensures) (not-false (c .before .before .before .before .before .test-ranged .result) (c .before .before .before .before .if3 .left)) (c .before .before .test-answer .ensures .0))), used-answer _ _ _ (ap length (c .before .before .test-answer .ensures .1) ∙ length-replicate {A = ℕ} (length (a .scratch .now)) 0) (a .q) (a .n) (keysOf (a .n) (a .keys .now)) (a .pairs .now) (a .digests .now) (a .place) (a .challenge) (a .answer .now) (c .before .before .test-answer .ensures .0))
 
 pub tested-spec : {M : Type 1} → statement M
 tested-spec = tie.close (tie.spec (λ c κs. search needs) (λ c κs. search needs) returns answer-length-requires test-sized-requires (λ c κs. search needs) (λ c. search needs) returns-2 test-ranged-requires (λ c κs. search needs) (λ c. search needs) returns-3 test-answer-requires (λ c. search needs) returns-4)
