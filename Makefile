@@ -8,7 +8,7 @@
 
 PREFIX ?= /usr/local
 DESTDIR ?=
-version = 0.8
+version = 0.9
 
 ARCHIVE ?=
 library = $(if $(ARCHIVE),$(ARCHIVE),target/staticlib/libjackdawnail.a)

@@ -27,7 +27,7 @@ module _ (s : Session) (round : ℕ) (x : Inputs) where
   unfolding checkEarly
   early-none sound phase due within sheet lengths matches = (
     is-ready s sound (is-turn phase due within),
-    early-exactly (storedFor s round) x p .1 (sheet-exactly (x .sheet) .1 sheet, lengths, matches),
+    early-exactly (storedFor s round) x .1 (sheet-exactly (x .sheet) .1 sheet, lengths, matches),
   )
 
   -- the parameters of a sheet in range are those that the round's theorem asks for
@@ -47,7 +47,7 @@ module _ (s : Session) (round : ℕ) (x : Inputs) where
     checks-says n late =
         let r = ready s _ (n .0) in
         let t = on-turn (s .progress .phase) 3 round (s .progress .checked) (s .numbers .rounds) (r .1) in
-        let h = early-exactly (storedFor s round) x p .0 (n .1) in
+        let h = early-exactly (storedFor s round) x .0 (n .1) in
         let sheet = sheet-exactly (x .sheet) .0 (h .0) in
         record {
           sound = r .0;

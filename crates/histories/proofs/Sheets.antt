@@ -14,7 +14,8 @@ use Rattle.codec.specs.Lists.{every, allBelow}
 use Rattle.codec.proofs.Laws.{both}
 use Rattle.sheet.specs.Form.{Sheet}
 use Rattle.sheet.specs.Sheet.{fits, lists, unfit}
-use Rattle.sheet_numbers.specs.Bounds.{noise, least, power}
+use Rattle.sheet_numbers.specs.Bounds.{least, power}
+use Rattle.sheet_numbers.specs.Plain.{noiseOf}
 use Rattle.sheet_numbers.specs.Rules.{any, ranges, outside, conditions, unsound}
 use Rattle.sheet_numbers.specs.declared.Numbers.{Numbers}
 use Rattle.sheet_numbers.proofs.Ranges as numbers

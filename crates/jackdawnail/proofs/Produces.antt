@@ -59,7 +59,7 @@ module _ (text : Bytes) (x : Material) where
     abbrev room : Bool
     room = firstSized (P .N) (P .repeats) m (firstRoom head shares0 shares1 claims scratch)
 
-    pub first-exactly : (firstReply text x (firstRoom (firstRoom head shares0 shares1 claims scratch)) ≡ Taken) ↔ WritesFirst text x head shares0 shares1 claims scratch
+    pub first-exactly : (firstReply text x (firstRoom head shares0 shares1 claims scratch) ≡ Taken) ↔ WritesFirst text x head shares0 shares1 claims scratch
     unfolding firstReply firstTests
     first-exactly = (
       λ e.

@@ -50,7 +50,7 @@ passed-by : (s : Session) (round : ℕ) (x : Inputs) → first (checkTests s rou
 unfolding checkTests checkEarly checkLate lateTests
 passed-by s round x e =
     let n = append-none (checkEarly s round x) (checkLate s round x) (taken-exactly _ .0 e) in
-    let h = early-exactly (storedFor s round) x 2 .0 (n .0 .1) in
+    let h = early-exactly (storedFor s round) x .0 (n .0 .1) in
     let numbers = h .2 .numbers in
     record {
       sheet = h .0;

@@ -1,4 +1,4 @@
--- The three demands, over the definitions that the contracts of the exported calls cite (src/), with p = 2. Proved: proofs/Demands.antt. Assumes nothing.
+-- The three demands, over the definitions that the contracts of the exported calls cite (src/). Proved: proofs/Demands.antt. Assumes nothing.
 --
 -- 1. Any bytes, numbers or session lent to any entry point get an outcome and no fault. No exported call has a `requires`, and each contract gives the reply and every lent byte:
 --    that every contract is proved is this demand.
@@ -55,10 +55,10 @@ abbrev pub HonestBallots : Type 0
 HonestBallots = (text : Bytes) → first (order text) ≡ Taken
     → let P = parametersOf text in
     (s e r e1 e2 m : Poly) → Small (P .q) (P .N) 1 s → Small (P .q) (P .N) 1 e → Small (P .q) (P .N) 1 r → Small (P .q) (P .N) 1 e1 → Small (P .q) (P .N) 1 e2
-    → ((i : ℕ) → i < P .N → m i < 2) → Alike (P .q) (P .N) (key (P .q) (P .N) 2 (P .a) s e) (P .b)
-    → let u = cipher-u (P .q) (P .N) 2 (P .a) r e1 in
-    let v = cipher-v (P .q) (P .N) 2 (P .b) r e2 m in
-    Small (P .q) (P .N) (P .D) (opened (P .q) (P .N) s u v) × ((i : ℕ) → i < P .N → decrypted (P .q) (P .N) 2 s u v i ≡ m i)
+    → ((i : ℕ) → i < P .N → m i < P .p) → Alike (P .q) (P .N) (key (P .q) (P .N) (P .p) (P .a) s e) (P .b)
+    → let u = cipher-u (P .q) (P .N) (P .p) (P .a) r e1 in
+    let v = cipher-v (P .q) (P .N) (P .p) (P .b) r e2 m in
+    Small (P .q) (P .N) (P .D) (opened (P .q) (P .N) s u v) × ((i : ℕ) → i < P .N → decrypted (P .q) (P .N) (P .p) s u v i ≡ m i)
 
 -- worked examples A to K
 abbrev pub Examples : Type 0

@@ -5,4 +5,7 @@ use Rattle.jackdawnail.proofs.round.jdn_extract.Statement.{statement}
 use Rattle.jackdawnail.proofs.round.jdn_extract.Tie as tie
 
 returns : tie.Need-returns
-returns c = extract-packed (§pack .ensures) (§extract .ensures)
+returns c = extract-packed (c .pack .ensures) (c .before .before .before .before .before .extract .ensures)
+
+pub jdn-extract-spec : {M : Type 1} → statement M
+jdn-extract-spec = tie.close (tie.spec (λ c κs. search needs) (λ c κs. search needs) (λ c. search needs) (λ c. search needs) returns)

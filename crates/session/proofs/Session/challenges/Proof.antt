@@ -25,10 +25,10 @@ returns-2 : tie.Need-returns-2
 returns-2 c = silent _ _ _ (challenges-length _ _ _ (sym (c .before .before .has-challenges .ensures) ∙ not-false _ (c .before .if1 .left)) (c .if2 .taken))
 
 cast-side : tie.Need-cast-side
-cast-side c = omega (arith, challenges-below 2 (c .before .before .before .before .before .before .before .before .args .t1) (c .before .before .before .before .before .before .before .before .args .round) (c .before .before .before .before .before .before .before .before .args .out .now) (sym (c .before .before .before .before .has-challenges .ensures) ∙ not-false _ (c .before .before .before .if1 .left)), bounds (within-due _ _ _ (sym (c .before .before .before .before .has-challenges .ensures) ∙ not-false _ (c .before .before .before .if1 .left))) .rounds-high)
+cast-side c = omega (arith, challenges-below (c .before .before .before .before .before .before .before .before .args .t1) (c .before .before .before .before .before .before .before .before .args .round) (c .before .before .before .before .before .before .before .before .args .out .now) (sym (c .before .before .before .before .has-challenges .ensures) ∙ not-false _ (c .before .before .before .if1 .left)), bounds (within-due _ _ _ (sym (c .before .before .before .before .has-challenges .ensures) ∙ not-false _ (c .before .before .before .if1 .left))) .rounds-high)
 
 cast-challenges : tie.Need-cast-challenges
-cast-challenges c = omega (arith, challenges-below 2 (c .before .before .before .before .before .before .before .before .before .before .before .args .t1) (c .before .before .before .before .before .before .before .before .before .before .before .args .round) (c .before .before .before .before .before .before .before .before .before .before .before .args .out .now) (sym (c .before .before .before .before .before .before .before .has-challenges .ensures) ∙ not-false _ (c .before .before .before .before .before .before .if1 .left)), bounds (within-due _ _ _ (sym (c .before .before .before .before .before .before .before .has-challenges .ensures) ∙ not-false _ (c .before .before .before .before .before .before .if1 .left))) .rounds-high)
+cast-challenges c = omega (arith, challenges-below (c .before .before .before .before .before .before .before .before .before .before .before .args .t1) (c .before .before .before .before .before .before .before .before .before .before .before .args .round) (c .before .before .before .before .before .before .before .before .before .before .before .args .out .now) (sym (c .before .before .before .before .before .before .before .has-challenges .ensures) ∙ not-false _ (c .before .before .before .before .before .before .if1 .left)), bounds (within-due _ _ _ (sym (c .before .before .before .before .before .before .before .has-challenges .ensures) ∙ not-false _ (c .before .before .before .before .before .before .if1 .left))) .rounds-high)
 
 sub-challenges : tie.Need-sub-challenges
 sub-challenges c = simp length-set (omega arith)

@@ -1,10 +1,8 @@
 -- `Session::claim` meets its contract. Assumes nothing.
-use mathlib.Core.Path.{sym, ap, _∙_}
-use Prim.Native.Nat.{ℕ}
+use mathlib.Core.Path.{sym, _∙_}
 use native.Mathlib.Omega.{arith}
 use borrow.Author.Needs.{needs}
 use borrow.Author.Tests.{not-true, not-false}
-use Rattle.codec.specs.Lists.{allBelow}
 use Rattle.progress.proofs.Limits.{within-due, bounds}
 use Rattle.session.specs.Steps.{claimedBy}
 use Rattle.session.proofs.Stepping.{stays, moves}
@@ -24,14 +22,14 @@ returns-2 c = stays _ _ _ (claim-length _ _ (sym (c .before .before .before .bef
 returns-3 : tie.Need-returns-3
 returns-3 c =
     let m = c .before .before .is-message in
-    let ranged = m .ensures ∙ ap (λ (p : ℕ). allBelow p _) (c .before .before .before .plain .ensures) in
+    let ranged = rw (c .before .before .before .plain .ensures) at (m .ensures) in
     stays _ _ _ (claim-range _ _ (sym (c .before .before .before .before .before .before .before .is-in .ensures) ∙ not-false _ (c .before .before .before .before .before .before .if1 .left)) (c .before .before .before .before .if2 .left ∙ c .before .before .before .before .before .times .ensures) (sym ranged ∙ not-true _ (c .before .if3 .taken))) (c .refused3 .ensures)
 
 returns-4 : tie.Need-returns-4
 unfolding claimedBy
 returns-4 c =
     let m = c .before .before .before .before .before .is-message in
-    let ranged = m .ensures ∙ ap (λ (p : ℕ). allBelow p _) (c .before .before .before .before .before .before .plain .ensures) in
+    let ranged = rw (c .before .before .before .before .before .before .plain .ensures) at (m .ensures) in
     moves _ _ _ (claim-taken _ _ (sym (c .before .before .before .before .before .before .before .before .before .before .is-in .ensures) ∙ not-false _ (c .before .before .before .before .before .before .before .before .before .if1 .left)) (c .before .before .before .before .before .before .before .if2 .left ∙ c .before .before .before .before .before .before .before .before .times .ensures) (sym ranged ∙ not-false _ (c .before .before .before .before .if3 .left))) (rw (c .with-claims .ensures, c .before .claim-digest .ensures))
 
 pub claim-spec : {M : Type 1} → statement M
