@@ -1,11 +1,12 @@
--- A check is taken exactly if its conditions hold, in every round. Assumes nothing.
+-- A check is taken exactly if its conditions hold, in every round, and so is every step. Assumes nothing.
 use mathlib.Core.Path.{_≡_}
 use mathlib.Core.Logic.{_↔_}
 use Prim.Native.Nat.{ℕ, _<_}
 use native.Mathlib.Omega.{arith}
 use Rattle.codec.specs.Bytes.{Octets}
-use Rattle.codec.specs.Reply.{None}
-use Rattle.codec.proofs.Replies.{taken-exactly}
+use Rattle.codec.specs.Reply.{None, first}
+use Rattle.codec.specs.declared.Reply.the-variants.{Taken}
+use Rattle.codec.proofs.Replies as replies
 use Rattle.transcript.specs.Accepted.{Accepted}
 use Rattle.transcript.proofs.Many.{none-append, append-none}
 use Rattle.transcript.proofs.Accepted.{none-exactly}
@@ -15,8 +16,10 @@ use Rattle.checking.specs.Equations.{Sized, Held}
 use Rattle.checking.proofs.Laws.{early-exactly}
 use Rattle.session.specs.declared.Session.{Session}
 use Rattle.session.specs.Steps.{storedFor, checkEarly, checkLate, checkTests}
+use Rattle.session.specs.Machine.{clear, admit, withdraw, close, claim, commit, draw, check, reply}
 use Rattle.histories.specs.Conditions.{Valid, SheetTaken, Checks}
-use Rattle.histories.specs.Claims.{AcceptedExactly}
+use Rattle.histories.specs.Claims.{TakenExactly}
+use Rattle.histories.proofs.Exact.{cleared-exactly, admitted-exactly, withdrawn-exactly, closed-exactly, claimed-exactly, committed-exactly, drawn-exactly}
 use Rattle.histories.proofs.Valid.{ready, is-ready, on-turn, is-turn, sheet-exactly}
 
 module _ (s : Session) (round : ℕ) (x : Inputs) where
@@ -68,8 +71,19 @@ module _ (s : Session) (round : ℕ) (x : Inputs) where
           (late-exactly (c .sheet) (c .lengths) (c .matches) .1 (c .accepted)),
     )
 
-pub accepted-exactly : AcceptedExactly
+pub accepted-exactly : (s : Session) (round : ℕ) (x : Inputs) → Octets (x .head) → (first (checkTests s round x) ≡ Taken) ↔ Checks s round x
 accepted-exactly s round x octets =
-    let t = taken-exactly (checkTests s round x) in
+    let t = replies.taken-exactly (checkTests s round x) in
     let c = checks-exactly s round x octets in
     (λ e. c .0 (t .0 e), λ h. t .1 (c .1 h))
+
+pub taken-exactly : TakenExactly
+unfolding reply
+taken-exactly (clear b) st lent = cleared-exactly (st .register) b
+taken-exactly (admit ballot) st lent = admitted-exactly (st .session) (st .register) ballot
+taken-exactly (withdraw mark) st lent = withdrawn-exactly (st .session) (st .register) mark
+taken-exactly close st lent = closed-exactly (st .session) (st .register)
+taken-exactly (claim claims) st lent = claimed-exactly (st .session) claims
+taken-exactly (commit k head shares0 shares1) st lent = committed-exactly (st .session) k head shares0 shares1
+taken-exactly (draw seed) st lent = drawn-exactly (st .session) seed
+taken-exactly (check k x) st lent = accepted-exactly (st .session) k x lent

@@ -21,9 +21,8 @@ use Rattle.transcript.proofs.Ranged.{each-exactly}
 use Rattle.register.specs.Register.{registerLength, markAt, stateAt, find, standing, markOf}
 use Rattle.register.proofs.Entries.{found, find-first, stands, stands-all}
 use Rattle.session.specs.declared.Session.{Session}
-use Rattle.session.specs.Steps.{clearTests, admitTests, withdrawTests, closeTests, claimTests, commitTests, drawTests}
-use Rattle.histories.specs.Conditions.{Admits, Withdraws, Closes, Claims, Commits, Draws}
-use Rattle.histories.specs.Claims.{ClearedExactly, AdmittedExactly, WithdrawnExactly, ClosedExactly, ClaimedExactly, CommittedExactly, DrawnExactly}
+use Rattle.session.specs.Steps.{Beginning, clearTests, admitTests, withdrawTests, closeTests, claimTests, commitTests, drawTests}
+use Rattle.histories.specs.Conditions.{Clears, Admits, Withdraws, Closes, Claims, Commits, Draws}
 use Rattle.histories.proofs.Valid.{numbers-match, numbers-pass, bytes-pass, ready, is-ready, on-turn, is-turn, sheet-exactly}
 
 -- an order that says what a proposition says
@@ -44,11 +43,11 @@ absent reg mark n none = go (decLt (find reg mark n) n)
 pub here : (reg : Bytes) (mark at n : ℕ) → at < n → markAt reg at ≡ mark → ((i : ℕ) → i < at → markAt reg i ≢ mark) → find reg mark n ≡ at
 here reg mark at n within marked earlier = find-first reg mark at n (absent reg mark at earlier) marked within
 
-pub cleared-exactly : ClearedExactly
+pub cleared-exactly : (reg : Bytes) (b : Beginning) → (first (clearTests reg b) ≡ Taken) ↔ Clears reg b
 unfolding clearTests
-cleared-exactly reg text =
-    by-order _ (λ n. record { register-size = numbers-match (n .0); sheet = sheet-exactly text .0 (n .1) })
-    (λ c. (numbers-pass (c .register-size), sheet-exactly text .1 (c .sheet)))
+cleared-exactly reg b =
+    by-order _ (λ n. record { register-size = numbers-match (n .0); sheet = sheet-exactly (b .sheet) .0 (n .1) })
+    (λ c. (numbers-pass (c .register-size), sheet-exactly (b .sheet) .1 (c .sheet)))
 
 -- ---- admit
 
@@ -97,7 +96,7 @@ module _ (s : Session) (reg ballot : Bytes) where
         ),
       )
 
-pub admitted-exactly : AdmittedExactly
+pub admitted-exactly : (s : Session) (reg ballot : Bytes) → (first (admitTests s reg ballot) ≡ Taken) ↔ Admits s reg ballot
 admitted-exactly s reg ballot = by-order _ (admits-says s reg ballot) (admits-holds s reg ballot)
 
 -- ---- withdraw
@@ -131,7 +130,7 @@ module _ (s : Session) (reg : Bytes) (mark : ℕ) where
         (numbers-pass (a .register-size), (ne-eqb (find reg mark (s .progress .used)) (s .progress .used) (λ e. omega arith), (numbers-pass (ap (stateAt reg) there ∙ a .stands), tt))),
       )
 
-pub withdrawn-exactly : WithdrawnExactly
+pub withdrawn-exactly : (s : Session) (reg : Bytes) (mark : ℕ) → (first (withdrawTests s reg mark) ≡ Taken) ↔ Withdraws s reg mark
 withdrawn-exactly s reg mark = by-order _ (withdraws-says s reg mark) (withdraws-holds s reg mark)
 
 -- ---- close
@@ -159,7 +158,7 @@ closes-holds s reg c = (
   (numbers-pass (c .register-size), (ne-eqb _ _ (not-empty (c .at) (standing reg (s .progress .used)) (stands-all reg (s .progress .used) (c .at) (c .within) (c .stands))), tt)),
 )
 
-pub closed-exactly : ClosedExactly
+pub closed-exactly : (s : Session) (reg : Bytes) → (first (closeTests s reg) ≡ Taken) ↔ Closes s reg
 closed-exactly s reg = by-order _ (closes-says s reg) (closes-holds s reg)
 
 -- ---- claim, commit, draw
@@ -174,7 +173,7 @@ claims-holds : (s : Session) (claims : Bytes) → Claims s claims → None (clai
 unfolding claimTests
 claims-holds s claims c = (is-ready s (c .sound) (eq-eqb (s .progress .phase) 1 (c .phase)), (numbers-pass (c .size), (ap not (each-exactly (plain (s .numbers)) claims .1 (c .votes)), tt)))
 
-pub claimed-exactly : ClaimedExactly
+pub claimed-exactly : (s : Session) (claims : Bytes) → (first (claimTests s claims) ≡ Taken) ↔ Claims s claims
 claimed-exactly s claims = by-order _ (claims-says s claims) (claims-holds s claims)
 
 module _ (s : Session) (round : ℕ) (head shares0 shares1 : Bytes) where
@@ -204,7 +203,8 @@ module _ (s : Session) (round : ℕ) (head shares0 shares1 : Bytes) where
   unfolding commitTests
   commits-holds c = (is-ready s (c .sound) (is-turn (c .phase) (c .due) (c .within)), (bytes-pass (cc (c .head-size, c .shares0-size, c .shares1-size)), tt))
 
-pub committed-exactly : CommittedExactly
+pub committed-exactly : (s : Session) (round : ℕ) (head shares0 shares1 : Bytes)
+    → (first (commitTests s round head shares0 shares1) ≡ Taken) ↔ Commits s round head shares0 shares1
 committed-exactly s round head shares0 shares1 = by-order _ (commits-says s round head shares0 shares1) (commits-holds s round head shares0 shares1)
 
 draws-says : (s : Session) (seed : Bytes) → None (drawTests s seed) → Draws s seed
@@ -218,5 +218,5 @@ draws-holds : (s : Session) (seed : Bytes) → Draws s seed → None (drawTests 
 unfolding drawTests
 draws-holds s seed d = (is-ready s (d .sound) (ap₂ _&&_ (eq-eqb (s .progress .phase) 2 (d .phase)) (eq-eqb (s .progress .committed) (s .numbers .rounds) (d .all))), (numbers-pass (d .size), tt))
 
-pub drawn-exactly : DrawnExactly
+pub drawn-exactly : (s : Session) (seed : Bytes) → (first (drawTests s seed) ≡ Taken) ↔ Draws s seed
 drawn-exactly s seed = by-order _ (draws-says s seed) (draws-holds s seed)

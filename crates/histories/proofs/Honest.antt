@@ -33,7 +33,8 @@ use Rattle.checking.specs.Equations.{Sized, Held}
 use Rattle.session.specs.declared.Session.{Session}
 use Rattle.session.specs.Session.{trailAt}
 use Rattle.session.specs.Steps.{storedFor, checkEarly, checkLate, checkTests}
-use Rattle.histories.specs.Runs.{Trace, reply, trace, initial}
+use Rattle.session.specs.Machine.{reply}
+use Rattle.histories.specs.Runs.{Trace, trace, initial}
 use Rattle.histories.specs.Conditions.{SheetTaken}
 use Rattle.histories.specs.Claims.{Produced, Turn, HonestAccepted}
 use Rattle.histories.proofs.Valid.{sheet-exactly}

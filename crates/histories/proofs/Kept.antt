@@ -25,7 +25,8 @@ use Rattle.session.specs.declared.Session.{Session}
 use Rattle.progress.specs.declared.Progress.{Progress}
 use Rattle.session.specs.Session.{changed}
 use Rattle.session.specs.Steps.{cleared, admittedBy, closedBy, claimedBy, committedBy, drawnBy, checkEarly, checkLate, checkTests, acceptedBy, refusedBy, checkedBy}
-use Rattle.histories.specs.Runs.{Step, clear, admit, withdraw, close, claim, commit, draw, check, State, state, Message, message, Call, History, emptyHistory, historyAfter, Trace, reply, after, extend, trace, initial}
+use Rattle.session.specs.Machine.{Step, clear, admit, withdraw, close, claim, commit, draw, check, State, state, reply, after}
+use Rattle.histories.specs.Runs.{Message, message, Call, History, emptyHistory, historyAfter, Trace, extend, trace, initial}
 use Rattle.histories.specs.Conditions.{SheetTaken, Valid, Admits, Closes, Claims, Commits, Draws}
 use Rattle.histories.proofs.Replies.{left, left-both, left-alone}
 use Rattle.histories.proofs.Valid.{ready, on-turn, sheet-exactly}

@@ -17,7 +17,8 @@ use Rattle.checking.specs.Check.{Inputs, inputsSized, storedTests, earlyTests, 
 use Rattle.session.specs.declared.Session.{Session}
 use Rattle.session.specs.Session.{valid}
 use Rattle.session.specs.Steps.{dueTest, storedFor, clearTests, admitTests, withdrawTests, closeTests, claimTests, commitTests, drawTests, checkEarly, checkLate, checkTests}
-use Rattle.histories.specs.Runs.{Step, clear, admit, withdraw, close, claim, commit, draw, check, state, reply, after, ownInitial, initial, trace}
+use Rattle.session.specs.Machine.{Step, clear, admit, withdraw, close, claim, commit, draw, check, state, reply, after}
+use Rattle.histories.specs.Runs.{ownInitial, initial, trace}
 use Rattle.histories.specs.Claims.{Undue, ClearTaken, StaysValid, OnlyPhaseOrRound}
 use Rattle.histories.proofs.Replies.{Others, others, others-append, later-others, head-holds}
 use Rattle.histories.proofs.Valid.{off-both, off-turn, valid-holds, sheet-exactly}

@@ -21,7 +21,8 @@ use Rattle.digests.proofs.Laws.{Long, ballotDigests-concatenated}
 use Rattle.checking.specs.Check.{Inputs}
 use Rattle.session.specs.declared.Session.{Session}
 use Rattle.session.specs.Steps.{cleared, admittedBy, closedBy, claimedBy, committedBy, drawnBy, checkEarly, checkLate, checkTests, acceptedBy, refusedBy, checkedBy}
-use Rattle.histories.specs.Runs.{Step, clear, admit, withdraw, close, claim, commit, draw, check, State, state, History, historyAfter, without, rollAfter, OwnTrace, Trace, initial, ownInitial, reply, after, ownExtend, ownTrace, extend, trace, calls}
+use Rattle.session.specs.Machine.{Step, clear, admit, withdraw, close, claim, commit, draw, check, State, state, reply, after}
+use Rattle.histories.specs.Runs.{History, historyAfter, without, rollAfter, OwnTrace, Trace, initial, ownInitial, ownExtend, ownTrace, extend, trace, calls}
 use Rattle.histories.specs.Conditions.{Admits, Withdraws, Claims, Draws}
 use Rattle.histories.specs.Claims.{RollIsBatch, OwnRegister}
 use Rattle.histories.proofs.Replies.{left, left-all, left-four, left-alone}

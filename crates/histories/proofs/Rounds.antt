@@ -20,7 +20,8 @@ use Rattle.checking.specs.Check.{Inputs}
 use Rattle.session.specs.declared.Session.{Session}
 use Rattle.session.specs.Session.{trailAt}
 use Rattle.session.specs.Steps.{storedFor, clearTests, cleared, admitTests, admittedBy, closeTests, closedBy, claimTests, claimedBy, commitTests, committedBy, drawTests, drawnBy, checkEarly, checkLate, checkTests, acceptedBy, refusedBy, checkedBy}
-use Rattle.histories.specs.Runs.{Step, clear, admit, withdraw, close, claim, commit, draw, check, State, state, Trace, Call, call, lent, clears, reply, after, NoClear, extend, trace, initial}
+use Rattle.session.specs.Machine.{Step, clear, admit, withdraw, close, claim, commit, draw, check, State, state, reply, after}
+use Rattle.histories.specs.Runs.{Trace, Call, call, lent, clears, NoClear, extend, trace, initial}
 use Rattle.histories.specs.Claims.{Checked, RoundsChecked, EndedAccepted}
 use Rattle.histories.proofs.Replies.{left}
 use Rattle.histories.proofs.Valid.{ready, on-turn}

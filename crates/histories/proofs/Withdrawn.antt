@@ -16,7 +16,8 @@ use Rattle.register.specs.Register.{registerLength, markAt, stateAt, digestAt, 
 use Rattle.register.proofs.Entries.{stands, admitted-marks, admitted-states, admitted-mark, withdrawn-marks, withdrawn-state, withdrawn-states}
 use Rattle.session.specs.declared.Session.{Session}
 use Rattle.session.specs.Steps.{clearTests, cleared, admittedBy, withdrawTests, closeTests, closedBy, claimedBy, committedBy, drawnBy, acceptedBy, refusedBy, checkedBy}
-use Rattle.histories.specs.Runs.{Step, clear, admit, withdraw, close, claim, commit, draw, check, State, clears, reply, after, run, Uncleared, none, more}
+use Rattle.session.specs.Machine.{Step, clear, admit, withdraw, close, claim, commit, draw, check, State, reply, after}
+use Rattle.histories.specs.Runs.{clears, run, Uncleared, none, more}
 use Rattle.histories.specs.Conditions.{Admits, Withdraws}
 use Rattle.histories.specs.Claims.{ClosedWithout, StaysOut}
 use Rattle.histories.proofs.Replies.{left, left-both}

@@ -6,11 +6,9 @@ use mathlib.Core.List.{List, _∷_, _++_, List·Memᴰ, map}
 use Prim.Native.Nat.{ℕ, _≤_, _<_}
 use lib.ListN.{length}
 use Rattle.codec.specs.Bytes.{Bytes, Octets}
-use Rattle.codec.specs.Reply.{first}
 use Rattle.codec.specs.declared.Reply.the-variants.{Taken, Refused}
 use Rattle.sha3.specs.Sponge.{sha3}
 use Rattle.sheet.specs.Reader.{sheetOf}
-use Rattle.sheet.specs.Sheet.{order}
 use Rattle.call.specs.Call.{scratchLength}
 use Rattle.transcript.specs.Layout.{ballotLength}
 use Rattle.transcript.specs.Round.{Parameters}
@@ -23,9 +21,10 @@ use Rattle.drawing.specs.Draw.{drawnSide, drawnChallenges}
 use Rattle.checking.specs.Check.{Inputs}
 use Rattle.session.specs.declared.Session.{Session}
 use Rattle.progress.specs.Progress.{gathering, closed, claimed, drawn, ended-accepted}
-use Rattle.session.specs.Steps.{storedFor, clearTests, admitTests, withdrawTests, closeTests, claimTests, commitTests, drawTests, checkTests}
-use Rattle.histories.specs.Runs.{Step, clear, admit, withdraw, close, claim, commit, draw, check, State, state, message, Trace, Call, call, initial, ownInitial, reply, after, run, Uncleared, NoClear, ownTrace, extend, trace, calls}
-use Rattle.histories.specs.Conditions.{Valid, Clears, Admits, Withdraws, Closes, Claims, Commits, Draws, Checks}
+use Rattle.session.specs.Steps.{Beginning, storedFor}
+use Rattle.session.specs.Machine.{Step, clear, admit, withdraw, close, claim, commit, draw, check, State, state, reply, after}
+use Rattle.histories.specs.Runs.{message, Trace, Call, call, Begins, initial, ownInitial, run, Uncleared, NoClear, ownTrace, extend, trace, calls}
+use Rattle.histories.specs.Conditions.{Valid, Lent, Takes, Checks}
 
 -- the phase or the round is not that of the step
 unfoldable pub Undue : Step → Session → Type 0
@@ -59,38 +58,16 @@ module _ (P : Parameters) (m : ℕ) (material : Material) (seed : Bytes) (k : �
 
 -- ---- the second demand: each step is taken exactly if its conditions hold, the check in every round; what is lent is bytes
 
-abbrev pub ClearedExactly : Type 0
-ClearedExactly = (reg text : Bytes) → (first (clearTests reg text) ≡ Taken) ↔ Clears reg text
-
-abbrev pub AdmittedExactly : Type 0
-AdmittedExactly = (s : Session) (reg ballot : Bytes) → (first (admitTests s reg ballot) ≡ Taken) ↔ Admits s reg ballot
-
-abbrev pub WithdrawnExactly : Type 0
-WithdrawnExactly = (s : Session) (reg : Bytes) (mark : ℕ) → (first (withdrawTests s reg mark) ≡ Taken) ↔ Withdraws s reg mark
-
-abbrev pub ClosedExactly : Type 0
-ClosedExactly = (s : Session) (reg : Bytes) → (first (closeTests s reg) ≡ Taken) ↔ Closes s reg
-
-abbrev pub ClaimedExactly : Type 0
-ClaimedExactly = (s : Session) (claims : Bytes) → (first (claimTests s claims) ≡ Taken) ↔ Claims s claims
-
-abbrev pub CommittedExactly : Type 0
-CommittedExactly = (s : Session) (round : ℕ) (head shares0 shares1 : Bytes)
-    → (first (commitTests s round head shares0 shares1) ≡ Taken) ↔ Commits s round head shares0 shares1
-
-abbrev pub DrawnExactly : Type 0
-DrawnExactly = (s : Session) (seed : Bytes) → (first (drawTests s seed) ≡ Taken) ↔ Draws s seed
-
-abbrev pub AcceptedExactly : Type 0
-AcceptedExactly = (s : Session) (round : ℕ) (x : Inputs) → Octets (x .head) → (first (checkTests s round x) ≡ Taken) ↔ Checks s round x
+abbrev pub TakenExactly : Type 0
+TakenExactly = (x : Step) (st : State) → Lent x → (reply x st ≡ Taken) ↔ Takes x st
 
 -- ---- the second demand: withdrawn stays out
 
 -- run any steps after a clear taken, then a withdrawal that is taken, then any steps among which no clear is taken: what a close taken then leaves is a batch without that mark
 abbrev pub StaysOut : Type 0
-StaysOut = (start : State) (sheet : Bytes) (before between : List Step) (mark : ℕ)
-    → reply (clear sheet) start ≡ Taken
-    → let found = run before (after (clear sheet) start) in
+StaysOut = (start : State) (b : Beginning) (before between : List Step) (mark : ℕ)
+    → reply (clear b) start ≡ Taken
+    → let found = run before (after (clear b) start) in
     let last = run between (after (withdraw mark) found) in
     reply (withdraw mark) found ≡ Taken
     → Uncleared between (after (withdraw mark) found)
@@ -100,46 +77,46 @@ StaysOut = (start : State) (sheet : Bytes) (before between : List Step) (mark : 
 -- ---- the second demand: no round is waved by. Lists of steps from a newly cleared session, each lent any register
 
 -- a check of a round that was taken, since the last clear taken: `before` are the calls before it, `later` those behind it
-pub record Checked (sheet : Bytes) (cs : List Call) (round : ℕ) : Type 0 where
+pub record Checked (b : Beginning) (cs : List Call) (round : ℕ) : Type 0 where
   pub before : List Call
   pub register : Bytes
   pub inputs : Inputs
   pub later : List Call
   pub listed : cs ≡ before ++ (call (check round inputs) register ∷ later)
-  pub uncleared : NoClear later (extend (call (check round inputs) register) (trace before (initial sheet)))
+  pub uncleared : NoClear later (extend (call (check round inputs) register) (trace before (initial b)))
   -- it was taken, so all that a check of this round asks for was found
-  pub taken : reply (check round inputs) (state (trace before (initial sheet) .session) register) ≡ Taken
-  pub checks : Octets (inputs .head) → Checks (trace before (initial sheet) .session) round inputs
+  pub taken : reply (check round inputs) (state (trace before (initial b) .session) register) ≡ Taken
+  pub checks : Octets (inputs .head) → Checks (trace before (initial b) .session) round inputs
   -- what it was held against is what the session holds at the end: numbers, closed count, the digests of sheet, closing, claims and the round's first message, and the seed
-  pub stored : storedFor (trace before (initial sheet) .session) round ≡ storedFor (trace cs (initial sheet) .session) round
+  pub stored : storedFor (trace before (initial b) .session) round ≡ storedFor (trace cs (initial b) .session) round
 
 -- every round that a session counts as checked was checked
 abbrev pub RoundsChecked : Type 0
-RoundsChecked = (sheet : Bytes) (cs : List Call) → first (order sheet) ≡ Taken → (k : ℕ) → k < trace cs (initial sheet) .session .progress .checked → Checked sheet cs k
+RoundsChecked = (b : Beginning) (cs : List Call) → Begins b → (k : ℕ) → k < trace cs (initial b) .session .progress .checked → Checked b cs k
 
 -- and of a session that ended accepted every round was
 abbrev pub EndedAccepted : Type 0
-EndedAccepted = (sheet : Bytes) (cs : List Call) → first (order sheet) ≡ Taken
-    → let s = trace cs (initial sheet) .session in
-    s .progress .phase ≡ ended-accepted → (k : ℕ) → k < s .numbers .rounds → Checked sheet cs k
+EndedAccepted = (b : Beginning) (cs : List Call) → Begins b
+    → let s = trace cs (initial b) .session in
+    s .progress .phase ≡ ended-accepted → (k : ℕ) → k < s .numbers .rounds → Checked b cs k
 
 -- ---- the third demand: lists of steps from a newly cleared session, each lent any register
 
 -- a clear that is taken leaves what such a list starts from
 abbrev pub ClearTaken : Type 0
-ClearTaken = (start : State) (sheet : Bytes) → reply (clear sheet) start ≡ Taken
-    → (first (order sheet) ≡ Taken) × (after (clear sheet) start ≡ ownInitial sheet .now)
+ClearTaken = (start : State) (b : Beginning) → reply (clear b) start ≡ Taken
+    → Begins b × (after (clear b) start ≡ ownInitial b .now)
 
 abbrev pub StaysValid : Type 0
-StaysValid = (sheet : Bytes) (cs : List Call) → first (order sheet) ≡ Taken
-    → let l = trace cs (initial sheet) in
+StaysValid = (b : Beginning) (cs : List Call) → Begins b
+    → let l = trace cs (initial b) in
     Valid (l .session) × (l .session .numbers ≡ sheetOf (l .history .sheet) .numbers)
 
 -- so 31 is only ever met for wrong phase or round
 abbrev pub OnlyPhaseOrRound : Type 0
-OnlyPhaseOrRound = (sheet : Bytes) (cs : List Call) → first (order sheet) ≡ Taken
+OnlyPhaseOrRound = (b : Beginning) (cs : List Call) → Begins b
     → (x : Step) (register : Bytes) (place : ℕ)
-    → let s = trace cs (initial sheet) .session in
+    → let s = trace cs (initial b) .session in
     reply x (state s register) ≡ Refused 31 place → Undue x s
 
 -- a round's turn: the check of the round next due after draw, lent the session's sheet and batch, the claims and the first message that were lodged (taken since the last clear), all of it
@@ -156,21 +133,21 @@ pub record Turn (l : Trace) (material : Material) (round : ℕ) (x : Inputs) : T
 
 -- the last sentence: a round that the producer wrote for the session's sheet and batch, lodged, is accepted at its turn, whatever was drawn
 abbrev pub HonestAccepted : Type 0
-HonestAccepted = (sheet : Bytes) (cs : List Call) → first (order sheet) ≡ Taken
-    → let l = trace cs (initial sheet) in
+HonestAccepted = (b : Beginning) (cs : List Call) → Begins b
+    → let l = trace cs (initial b) in
     (register : Bytes) (material : Material) (round : ℕ) (x : Inputs) → Turn l material round x → reply (check round x) (state (l .session) register) ≡ Taken
 
 -- without host writing, the ballots admitted and not withdrawn are the batch: its digests are theirs, in order, and each has a ballot's length
 abbrev pub RollIsBatch : Type 0
-RollIsBatch = (sheet : Bytes) (steps : List Step)
-    → let t = ownTrace steps (ownInitial sheet) in
+RollIsBatch = (b : Beginning) (steps : List Step)
+    → let t = ownTrace steps (ownInitial b) in
     0 < t .now .session .progress .phase
-    → (t .history .batch ≡ map sha3 (t .roll)) × ((b : Bytes) → List·Memᴰ b (t .roll) → length b ≡ ballotLength (t .now .session .numbers .ring))
+    → (t .history .batch ≡ map sha3 (t .roll)) × ((y : Bytes) → List·Memᴰ y (t .roll) → length y ≡ ballotLength (t .now .session .numbers .ring))
     × (ballotDigests (ballotLength (t .now .session .numbers .ring)) (length (t .history .batch)) (concatenated (t .roll)) ≡ t .history .batch)
 
 -- and a list in which each step is lent the register that the last one left is one of those above, so that a turn's batch can be that roll
 abbrev pub OwnRegister : Type 0
-OwnRegister = (sheet : Bytes) (steps : List Step)
-    → let t = ownTrace steps (ownInitial sheet) in
-    let l = trace (calls steps (ownInitial sheet .now)) (initial sheet) in
+OwnRegister = (b : Beginning) (steps : List Step)
+    → let t = ownTrace steps (ownInitial b) in
+    let l = trace (calls steps (ownInitial b .now)) (initial b) in
     (l .session ≡ t .now .session) × (l .history ≡ t .history)

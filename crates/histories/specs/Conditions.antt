@@ -4,7 +4,7 @@ use mathlib.Core.Path.{_≡_}
 use mathlib.Core.Logic.{_≢_}
 use Prim.Native.Nat.{ℕ, _+_, _*_, _≤_, _<_}
 use lib.ListN.{length, drop}
-use Rattle.codec.specs.Bytes.{Bytes}
+use Rattle.codec.specs.Bytes.{Bytes, Octets}
 use Rattle.sheet_lines.specs.Form.{AllPlain}
 use Rattle.sheet.specs.Form.{rowsOf, written}
 use Rattle.sheet.specs.Reader.{sheetOf}
@@ -18,7 +18,8 @@ use Rattle.checking.specs.Check.{Inputs, drawnRound}
 use Rattle.checking.specs.Equations.{Sized, Held}
 use Rattle.session.specs.declared.Session.{Session}
 use Rattle.progress.specs.Progress.{gathering, closed, claimed, drawn}
-use Rattle.session.specs.Steps.{storedFor}
+use Rattle.session.specs.Steps.{Beginning, storedFor}
+use Rattle.session.specs.Machine.{Step, clear, admit, withdraw, close, claim, commit, draw, check, State}
 use Rattle.histories.specs.Sheets.{InRange, Sound, ListsFit}
 
 -- a sheet that is taken
@@ -41,9 +42,9 @@ pub record Valid (s : Session) : Type 0 where
   pub committed : s .progress .committed ≤ s .numbers .rounds
   pub checked : s .progress .checked ≤ s .numbers .rounds
 
-pub record Clears (reg text : Bytes) : Type 0 where
+pub record Clears (reg : Bytes) (b : Beginning) : Type 0 where
   pub register-size : length reg ≡ 163840  -- 1
-  pub sheet : SheetTaken text  -- 1 to 5
+  pub sheet : SheetTaken (b .sheet)  -- 1 to 5
 
 pub record Admits (s : Session) (reg ballot : Bytes) : Type 0 where
   pub sound : Valid s  -- 31
@@ -105,3 +106,26 @@ pub record Checks (s : Session) (round : ℕ) (x : Inputs) : Type 0 where
   pub lengths : Sized (storedFor s round) x  -- 1, by the session's numbers and closed count
   pub matches : Held (storedFor s round) x  -- 16, what is lent is what the session holds the digests of
   pub accepted : Accepted (parametersOf (x .sheet)) (s .progress .closed) (drawnRound (storedFor s round) x)  -- 5 to 13
+
+-- ---- by the step
+
+abbrev pub Takes : Step → State → Type 0
+Takes (clear b) st = Clears (st .register) b
+Takes (admit ballot) st = Admits (st .session) (st .register) ballot
+Takes (withdraw mark) st = Withdraws (st .session) (st .register) mark
+Takes close st = Closes (st .session) (st .register)
+Takes (claim claims) st = Claims (st .session) claims
+Takes (commit k head shares0 shares1) st = Commits (st .session) k head shares0 shares1
+Takes (draw seed) st = Draws (st .session) seed
+Takes (check k x) st = Checks (st .session) k x
+
+-- what is lent is bytes, where that is needed
+abbrev pub Lent : Step → Type 0
+Lent (clear b) = Unit
+Lent (admit ballot) = Unit
+Lent (withdraw mark) = Unit
+Lent close = Unit
+Lent (claim claims) = Unit
+Lent (commit k head shares0 shares1) = Unit
+Lent (draw seed) = Unit
+Lent (check k x) = Octets (x .head)

@@ -1,5 +1,5 @@
--- Lists of a session's steps (document 01, "Register and session", and the paragraph on demand 3's last sentence): what each step answers and
--- leaves, what was taken since the last clear taken, and the ballots admitted and not withdrawn. Assumes nothing.
+-- Lists of a session's steps (document 01, "Register and session", and the paragraph on demand 3's last sentence): what was taken since the last clear taken, and the ballots
+-- admitted and not withdrawn. Assumes nothing.
 use mathlib.Core.Bool.{Bool, true, false, cond}
 use mathlib.Core.Path.{_≡_}
 use mathlib.Core.List.{List, [], _∷_, _++_}
@@ -9,29 +9,11 @@ use Rattle.codec.specs.Bytes.{Bytes, zeros}
 use Rattle.codec.specs.Reply.{first, leaves}
 use Rattle.codec.specs.declared.Reply.{Reply}
 use Rattle.codec.specs.declared.Reply.the-variants.{Taken, Refused}
-use Rattle.register.specs.Register.{registerLength, find, standingDigests, markOf, admitted, withdrawn}
-use Rattle.checking.specs.Check.{Inputs}
+use Rattle.sheet.specs.Sheet.{order}
+use Rattle.register.specs.Register.{registerLength, standingDigests, markOf}
 use Rattle.session.specs.declared.Session.{Session}
-use Rattle.session.specs.Steps.{clearTests, cleared, admitTests, admittedBy, withdrawTests, closeTests, closedBy, claimTests, claimedBy, commitTests, committedBy, drawTests, drawnBy, checkTests, checkedBy}
-
--- a step, with what it is lent beside session and register
-pub data Step : Type 0 where
-  clear : (sheet : Bytes) → Step
-  admit : (ballot : Bytes) → Step
-  withdraw : (mark : ℕ) → Step
-  close : Step
-  claim : (claims : Bytes) → Step
-  commit : (round : ℕ) (head shares0 shares1 : Bytes) → Step
-  draw : (seed : Bytes) → Step
-  check : (round : ℕ) → Inputs → Step
-
--- a session, and the register lent with it
-pub record State : Type 0 where
-  pub session : Session
-  pub register : Bytes
-
-abbrev pub state : Session → Bytes → State
-state s reg = record { session = s; register = reg }
+use Rattle.session.specs.Steps.{Beginning, cleared}
+use Rattle.session.specs.Machine.{Step, clear, admit, withdraw, close, claim, commit, draw, check, State, state, reply, after}
 
 -- a first message, as it is lent
 pub record Message : Type 0 where
@@ -50,12 +32,12 @@ pub record History : Type 0 where
   pub firsts : ℕ → Message  -- the first messages, by round
 
 -- nothing but the sheet
-abbrev pub emptyHistory : Bytes → History
-emptyHistory text = record { sheet = text; batch = []; claims = []; firsts = λ k. message [] [] [] }
+abbrev pub emptyHistory : Beginning → History
+emptyHistory b = record { sheet = b .sheet; batch = []; claims = []; firsts = λ k. message [] [] [] }
 
 -- the history after a step that is taken
 unfoldable pub historyAfter : Step → State → History → History
-historyAfter (clear text) st h = emptyHistory text
+historyAfter (clear b) st h = emptyHistory b
 historyAfter (admit ballot) st h = h
 historyAfter (withdraw mark) st h = h
 historyAfter close st h = record { sheet = h .sheet; batch = standingDigests (st .register) (st .session .progress .used); claims = h .claims; firsts = h .firsts }
@@ -76,7 +58,7 @@ without mark (b ∷ bs) = cond (eqb (markOf b) mark) (without mark bs) (b ∷ wi
 
 -- the roll, which is the ballots admitted and not withdrawn, after a step that is taken
 unfoldable pub rollAfter : Step → List Bytes → List Bytes
-rollAfter (clear text) bs = []
+rollAfter (clear b) bs = []
 rollAfter (admit ballot) bs = bs ++ (ballot ∷ [])
 rollAfter (withdraw mark) bs = without mark bs
 rollAfter close bs = bs
@@ -87,8 +69,8 @@ rollAfter (check k x) bs = bs
 
 -- a clear that is taken
 abbrev pub clears : Step → Reply → Bool
-clears (clear text) Taken = true
-clears (clear text) (Refused number place) = false
+clears (clear b) Taken = true
+clears (clear b) (Refused number place) = false
 clears (admit ballot) r = false
 clears (withdraw mark) r = false
 clears close r = false
@@ -119,44 +101,17 @@ pub record OwnTrace : Type 0 where
   pub history : History
   pub roll : List Bytes
 
--- newly cleared, on a sheet
-unfoldable pub initial : Bytes → Trace
-initial text = record { session = cleared text; history = emptyHistory text }
+-- a clear with this is taken, lent a register
+abbrev pub Begins : Beginning → Type 0
+Begins b = first (order (b .sheet)) ≡ Taken
+
+-- newly cleared
+unfoldable pub initial : Beginning → Trace
+initial b = record { session = cleared b; history = emptyHistory b }
 
 -- with the register that clear leaves
-unfoldable pub ownInitial : Bytes → OwnTrace
-ownInitial text = record { now = state (cleared text) (zeros registerLength); history = emptyHistory text; roll = [] }
-
--- ---- one step
-
-unfoldable pub reply : Step → State → Reply
-reply (clear text) st = first (clearTests (st .register) text)
-reply (admit ballot) st = first (admitTests (st .session) (st .register) ballot)
-reply (withdraw mark) st = first (withdrawTests (st .session) (st .register) mark)
-reply close st = first (closeTests (st .session) (st .register))
-reply (claim claims) st = first (claimTests (st .session) claims)
-reply (commit k head shares0 shares1) st = first (commitTests (st .session) k head shares0 shares1)
-reply (draw seed) st = first (drawTests (st .session) seed)
-reply (check k x) st = first (checkTests (st .session) k x)
-
--- session and register, as the contracts of the steps have them
-unfoldable pub after : Step → State → State
-after (clear text) st =
-    let r = reply (clear text) st in
-    state (leaves r (cleared text) (st .session)) (leaves r (zeros registerLength) (st .register))
-after (admit ballot) st =
-    let r = reply (admit ballot) st in
-    state (leaves r (admittedBy (st .session)) (st .session)) (leaves r (admitted (st .register) (st .session .progress .used) ballot) (st .register))
-after (withdraw mark) st =
-    let r = reply (withdraw mark) st in
-    state (st .session) (leaves r (withdrawn (st .register) (find (st .register) mark (st .session .progress .used))) (st .register))
-after close st = state (leaves (reply close st) (closedBy (st .session) (st .register)) (st .session)) (st .register)
-after (claim claims) st = state (leaves (reply (claim claims) st) (claimedBy (st .session) claims) (st .session)) (st .register)
-after (commit k head shares0 shares1) st =
-    let r = reply (commit k head shares0 shares1) st in
-    state (leaves r (committedBy (st .session) k head shares0 shares1) (st .session)) (st .register)
-after (draw seed) st = state (leaves (reply (draw seed) st) (drawnBy (st .session) seed) (st .session)) (st .register)
-after (check k x) st = state (checkedBy (st .session) k x) (st .register)
+unfoldable pub ownInitial : Beginning → OwnTrace
+ownInitial b = record { now = state (cleared b) (zeros registerLength); history = emptyHistory b; roll = [] }
 
 -- ---- each step is given the session and the register that the last one left
 

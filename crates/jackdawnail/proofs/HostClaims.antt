@@ -9,7 +9,8 @@ use Rattle.codec.specs.declared.Reply.the-variants.{Taken}
 use Rattle.sheet.specs.Sheet.{order}
 use Rattle.session.specs.declared.Session.{Session}
 use Rattle.image.specs.Image.{decode}
-use Rattle.histories.specs.Runs.{Step, clear, withdraw, close, check, State, state, Call, clears, initial, ownInitial, reply, after, run, Uncleared, none, more, trace}
+use Rattle.session.specs.Machine.{Step, clear, withdraw, close, check, State, state, reply, after}
+use Rattle.histories.specs.Runs.{Call, clears, initial, ownInitial, run, Uncleared, none, more, trace}
 use Rattle.histories.specs.Claims.{Checked, HonestAccepted}
 use Rattle.histories.proofs.Withdrawn.{withdrawn-stays-out}
 use Rattle.histories.proofs.Reach.{clear-taken}

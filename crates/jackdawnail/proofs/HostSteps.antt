@@ -27,7 +27,8 @@ use Rattle.session.specs.Steps.{cleared, admittedBy, closedBy, claimedBy, commi
 use Rattle.image.specs.Image.{imageLength, encode, decode, Typed}
 use Rattle.image.proofs.Law.{length-encode, load-store}
 use Rattle.session_calls.specs.Images.{lentReply, clearReply, admitReply, withdrawReply, closeReply, claimReply, commitReply, drawReply, checkReply, checkImage}
-use Rattle.histories.specs.Runs.{Step, clear, admit, withdraw, close, claim, commit, draw, check, State, state, reply, after, run, extend, trace}
+use Rattle.session.specs.Machine.{Step, clear, admit, withdraw, close, claim, commit, draw, check, State, state, reply, after}
+use Rattle.histories.specs.Runs.{run, extend, trace}
 use Rattle.histories.specs.Conditions.{Clears, Admits, Closes, Commits, Draws}
 use Rattle.histories.proofs.Replies.{left}
 use Rattle.histories.proofs.Exact.{cleared-exactly, admitted-exactly, closed-exactly, committed-exactly, drawn-exactly}

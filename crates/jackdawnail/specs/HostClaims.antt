@@ -11,7 +11,8 @@ use Rattle.transcript.specs.Producer.{Material}
 use Rattle.checking.specs.Check.{Inputs}
 use Rattle.progress.specs.Progress.{ended-accepted}
 use Rattle.image.specs.Image.{imageLength, decode}
-use Rattle.histories.specs.Runs.{Step, clear, withdraw, close, check, Call, clears, initial, trace}
+use Rattle.session.specs.Machine.{Step, clear, withdraw, close, check}
+use Rattle.histories.specs.Runs.{Call, clears, initial, trace}
 use Rattle.histories.specs.Claims.{ClosedWithout, Checked, Turn}
 use Rattle.jackdawnail.specs.HostSteps.{Host, host, hostReply, hostAfter, hostRun, hostTrace}
 

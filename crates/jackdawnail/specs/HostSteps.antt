@@ -13,7 +13,8 @@ use Rattle.session.specs.declared.Session.{Session}
 use Rattle.session.specs.Steps.{cleared, admittedBy, closedBy, claimedBy, committedBy, drawnBy}
 use Rattle.image.specs.Image.{imageLength, decode, Typed}
 use Rattle.session_calls.specs.Images.{imageLeft, clearReply, admitReply, withdrawReply, closeReply, claimReply, commitReply, drawReply, checkReply, checkImage}
-use Rattle.histories.specs.Runs.{Step, clear, admit, withdraw, close, claim, commit, draw, check, state, Trace, Call, reply, after, run, trace}
+use Rattle.session.specs.Machine.{Step, clear, admit, withdraw, close, claim, commit, draw, check, state, reply, after}
+use Rattle.histories.specs.Runs.{Trace, Call, run, trace}
 
 -- what the host keeps between two calls
 pub record Host : Type 0 where

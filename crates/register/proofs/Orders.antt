@@ -10,7 +10,7 @@ use Rattle.codec.specs.Bytes.{Bytes}
 use Rattle.codec.specs.Reply.{Test, first, leaves}
 use Rattle.codec.specs.declared.Reply.the-variants.{Taken, Refused}
 use Rattle.register.specs.Register.{capacity, stateAt, find}
-use Rattle.register.specs.Orders.{admissionTests, withdrawalTests}
+use Rattle.register.specs.Orders.{admissionTests, withdrawalTests, Wrote}
 
 module _ (reg : Bytes) (used mark : ℕ) {i : ℕ} (f : i ≡ find reg mark used) where
   -- ---- admission
@@ -48,10 +48,10 @@ module _ (reg : Bytes) (used mark : ℕ) {i : ℕ} (f : i ≡ find reg mark used
 -- ---- a call that leaves lent bytes only
 
 module _ (ts : List Test) (written kept : Bytes) where
-  pub silent : {n : ℕ} → first ts ≡ Refused n 0 → (Refused n 0 ≡ first ts) × (kept ≡ leaves (first ts) written kept)
+  pub silent : {n : ℕ} → first ts ≡ Refused n 0 → Wrote ts written (Refused n 0) kept kept
   unfolding leaves
-  silent e = (sym e, rw e)
+  silent e = record { replied = sym e; written = rw e }
 
-  pub writes : {x : Bytes} → first ts ≡ Taken → x ≡ written → (Taken ≡ first ts) × (x ≡ leaves (first ts) written kept)
+  pub writes : {x : Bytes} → first ts ≡ Taken → x ≡ written → Wrote ts written Taken kept x
   unfolding leaves
-  writes e h = (sym e, rw e h)
+  writes e h = record { replied = sym e; written = rw e h }

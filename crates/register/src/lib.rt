@@ -4,8 +4,8 @@ ghost use mathlib.Core.Path.{_≡_};
 ghost use Prim.Native.Nat.{_+_, _*_, _≤_};
 ghost use lib.Dec.{eqb};
 ghost use lib.ListN.{length};
-ghost use Rattle.codec.specs.Reply.{first, leaves};
-ghost use Rattle.register.specs.Orders.{admissionTests, withdrawalTests};
+ghost use Rattle.codec.specs.Slices.{given, left};
+ghost use Rattle.register.specs.Orders.{admissionTests, withdrawalTests, Wrote};
 ghost use Rattle.register.specs.Register as def;
 
 // The length of a register.
@@ -49,9 +49,8 @@ fn write_entry(reg: &mut [u8], n: usize, ballot: &[u8])
 // Admits a ballot after the used entries: 32, 33, 35.
 pub fn admit(reg: &mut [u8], used: usize, ballot: &[u8]) -> Reply
     requires { ⌜ (length (now reg) ≡ def.registerLength) × (used ≤ def.capacity) × (4 ≤ length (now ballot)) ⌝ }
-    ensures reply { λ r. ⌜ r ≡ first (admissionTests (now (reg .entry)) used (def.markOf (now (ballot .entry)))) ⌝ }
-    ensures register { λ _. ⌜ now (reg .exit) ≡ leaves (first (admissionTests (now (reg .entry)) used (def.markOf (now (ballot .entry)))))
-        (def.admitted (now (reg .entry)) used (now (ballot .entry))) (now (reg .entry)) ⌝ }
+    ensures { λ r. ⌜ Wrote (admissionTests (given reg) used (def.markOf (given ballot))) (def.admitted (given reg) used (given ballot)) r
+        (given reg) (left reg) ⌝ }
 {
     let i = find(reg, codec::read32(ballot, 0), used);
     if i < used {
@@ -87,9 +86,8 @@ fn write_withdrawn(reg: &mut [u8], i: usize)
 // Withdraws the first of the used entries that has the mark: 34, 33.
 pub fn withdraw(reg: &mut [u8], used: usize, mark: u32) -> Reply
     requires { ⌜ (length (now reg) ≡ def.registerLength) × (used ≤ def.capacity) ⌝ }
-    ensures reply { λ r. ⌜ r ≡ first (withdrawalTests (now (reg .entry)) used mark) ⌝ }
-    ensures register { λ _. ⌜ now (reg .exit) ≡ leaves (first (withdrawalTests (now (reg .entry)) used mark))
-        (def.withdrawn (now (reg .entry)) (def.find (now (reg .entry)) mark used)) (now (reg .entry)) ⌝ }
+    ensures { λ r. ⌜ Wrote (withdrawalTests (given reg) used mark) (def.withdrawn (given reg) (def.find (given reg) mark used)) r
+        (given reg) (left reg) ⌝ }
 {
     let i = find(reg, mark, used);
     if i == used {

@@ -19,9 +19,11 @@ use Rattle.checking.specs.Check.{Inputs, earlyTests, verdict, replyOf, outcome}
 use Rattle.checking.specs.declared.Verdict.{Verdict}
 use Rattle.progress.specs.Progress.{drawn, checkDue, challengesDue}
 use Rattle.session.specs.Session.{valid, trailAt}
-use Rattle.session.specs.Steps.{storedFor, checkEarly, checkLate, checkTests, checkedBy, judgedBy, acceptedBy, refusedBy, challengesTests}
+use Rattle.session.specs.Steps.{storedFor, checkEarly, checkLate, checkTests, judgedBy, acceptedBy, refusedBy, challengesTests}
+use Rattle.session.specs.Machine.{check, State, state, reply, after, Checked}
 use Rattle.session.specs.declared.Session.{Session}
 use Rattle.session.specs.declared.Stepped.{Stepped}
+use Rattle.session.proofs.Stepping.{stays}
 
 -- ---- a verdict
 
@@ -40,11 +42,12 @@ verdict-first (t ∷ early) late = go (t .holds) refl (verdict-first early late)
     go false e rest = rw e rest
 
 -- and what it leaves of the session is what the two replies leave
-pub verdict-leaves : (early late : Reply) (s : Session) → judgedBy (verdict early late) s ≡ leaves early (leaves late (acceptedBy s) (refusedBy s)) s
+pub verdict-leaves : (early late : Reply) (s : Session) (reg : Bytes)
+    → state (judgedBy (verdict early late) s) reg ≡ leaves (replyOf (verdict early late)) (state (acceptedBy s) reg) (leaves early (state (refusedBy s) reg) (state s reg))
 unfolding leaves
-verdict-leaves (Refused n p) late s = refl
-verdict-leaves Taken (Refused n p) s = refl
-verdict-leaves Taken Taken s = refl
+verdict-leaves (Refused n p) late s reg = refl
+verdict-leaves Taken (Refused n p) s reg = refl
+verdict-leaves Taken Taken s reg = refl
 
 -- ---- check
 
@@ -62,14 +65,13 @@ holding s round message = record {
 }
 
 module _ (s : Session) (round : ℕ) (x : Inputs) where
-  -- what a check promises, of what it hands back and of scratch
-  abbrev pub Promised : Stepped → Bytes → Type 0
-  Promised r scratch = (r .reply ≡ first (checkTests s round x)) × ((r .session ≡ checkedBy s round x) × (scratch ≡ swept (first (checkTests s round x)) (x .scratch)))
-
   -- 31: nothing is touched
-  pub check-undue : {r : Stepped} → (valid s && checkDue (s .numbers) (s .progress) round) ≡ false → (r .session ≡ s) × (r .reply ≡ Refused 31 0) → Promised r (x .scratch)
-  unfolding checkTests checkEarly checkedBy first leaves swept
-  check-undue e h = (rw e (h .1), (rw e (h .0), rw e))
+  pub check-undue : {r : Stepped} → (valid s && checkDue (s .numbers) (s .progress) round) ≡ false → (r .session ≡ s) × (r .reply ≡ Refused 31 0) → Checked round x s r (x .scratch)
+  unfolding checkTests checkEarly first leaves swept
+  check-undue e h = record {
+    done = λ register. stays (check round x) (state s register) (rw e) (rw e) h;
+    cleared = rw (h .1);
+  }
 
   -- the round is due, and the verdict decides
   module _ (e : (valid s && checkDue (s .numbers) (s .progress) round) ≡ true) where
@@ -78,12 +80,24 @@ module _ (s : Session) (round : ℕ) (x : Inputs) where
     on = rw e
 
     pub check-judged : {r : Stepped} {v : Verdict} {message scratch : Bytes} → message ≡ trailAt s round → v ≡ outcome (holding s round message) x
-        → (r .reply ≡ replyOf v) × (r .session ≡ judgedBy v s) → scratch ≡ swept (replyOf v) (x .scratch) → Promised r scratch
-    unfolding checkTests checkLate checkedBy
+        → (r .reply ≡ replyOf v) × (r .session ≡ judgedBy v s) → scratch ≡ swept (replyOf v) (x .scratch) → Checked round x s r scratch
+    unfolding checkTests checkLate reply after
     check-judged {r} {v} m f g w =
-        let d : v ≡ verdict (first (checkEarly s round x)) (first (checkLate s round x)) = f ∙ ap (λ (y : Bytes). outcome (holding s round y) x) m ∙ ap (λ (y : Reply). verdict y (first (checkLate s round x))) (sym on) in
-        let said : replyOf v ≡ first (checkTests s round x) = ap replyOf d ∙ verdict-first (checkEarly s round x) (checkLate s round x) in
-        (g .0 ∙ said, (g .1 ∙ ap (λ (y : Verdict). judgedBy y s) d ∙ verdict-leaves (first (checkEarly s round x)) (first (checkLate s round x)) s, w ∙ ap (λ (y : Reply). swept y (x .scratch)) said))
+        let early = first (checkEarly s round x) in
+        let late = first (checkLate s round x) in
+        let d : v ≡ verdict early late = f ∙ ap (λ (y : Bytes). outcome (holding s round y) x) m ∙ ap (λ (y : Reply). verdict y late) (sym on) in
+        let said = verdict-first (checkEarly s round x) (checkLate s round x) in
+        let left : (register : Bytes) → state (judgedBy (verdict early late) s) register ≡ after (check round x) (state s register) = λ register.
+            verdict-leaves early late s register
+            ∙ ap (λ (y : Reply). leaves y (state (acceptedBy s) register) (leaves early (state (refusedBy s) register) (state s register))) said in
+        record {
+          done = λ register. record {
+            replied = g .0 ∙ ap replyOf d ∙ said;
+            session = g .1 ∙ ap (λ (y : Verdict). judgedBy y s) d ∙ ap (λ (z : State). z .session) (left register);
+            register-left = ap (λ (z : State). z .register) (left register);
+          };
+          cleared = w ∙ ap (λ (y : Reply). swept y (x .scratch)) (sym (g .0));
+        }
 
 -- ---- challenges
 

@@ -23,25 +23,25 @@ use Rattle.progress.specs.Progress.{gathering}
 use Rattle.register.specs.Orders.{admissionTests, withdrawalTests}
 use Rattle.register.specs.Register.{registerLength, digestAt, standing, standingDigests, markOf}
 use Rattle.session.specs.Session.{valid}
-use Rattle.session.specs.Steps.{clearTests, admitTests, withdrawTests, closeTests, turnoutTests}
+use Rattle.session.specs.Steps.{on, clearTests, admitTests, withdrawTests, closeTests, turnoutTests}
 use Rattle.session.specs.declared.Session.{Session}
 
 -- ---- clear
 
 module _ (reg text : Bytes) where
-  pub clear-length : length reg ≢ registerLength → first (clearTests reg text) ≡ Refused 1 0
+  pub clear-length : length reg ≢ registerLength → first (clearTests reg (on text)) ≡ Refused 1 0
   unfolding clearTests first
   clear-length e = rw (ne-eqb (length reg) registerLength e)
 
   module _ (e : length reg ≡ registerLength) where
-    said : first (clearTests reg text) ≡ replyOf (reading text)
+    said : first (clearTests reg (on text)) ≡ replyOf (reading text)
     unfolding clearTests first
     said = rw (eq-eqb (length reg) registerLength e) (sym (reply-is text))
 
-    pub clear-refused : {n : ℕ} → reading text ≡ reading.Refused n → first (clearTests reg text) ≡ Refused n 0
+    pub clear-refused : {n : ℕ} → reading text ≡ reading.Refused n → first (clearTests reg (on text)) ≡ Refused n 0
     clear-refused f = said ∙ ap replyOf f
 
-    pub clear-taken : {k : Numbers} → reading text ≡ reading.Taken k → first (clearTests reg text) ≡ Taken
+    pub clear-taken : {k : Numbers} → reading text ≡ reading.Taken k → first (clearTests reg (on text)) ≡ Taken
     clear-taken f = said ∙ ap replyOf f
 
 -- ---- admit

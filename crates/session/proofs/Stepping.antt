@@ -1,4 +1,4 @@
--- What a step answers and leaves, by its tests. Assumes nothing.
+-- What a method of `Session` hands back, by the reply of its step. Assumes nothing.
 use mathlib.Core.Path.{_≡_, refl, sym, ap, _∙_}
 use mathlib.Core.List.{List}
 use Prim.Native.Nat.{ℕ}
@@ -6,54 +6,39 @@ use Rattle.codec.specs.Bytes.{Bytes}
 use Rattle.codec.specs.Reply.{Test, first, leaves}
 use Rattle.codec.specs.declared.Reply.{Reply}
 use Rattle.codec.specs.declared.Reply.the-variants.{Taken, Refused}
+use Rattle.register.specs.Orders.{Wrote}
+use Rattle.session.specs.Machine.{Step, State, tests, next, still, reply, after, Done}
 use Rattle.session.specs.declared.Session.{Session}
 use Rattle.session.specs.declared.Stepped.{Stepped}
 
--- ---- what a step leaves
+module _ (x : Step) (st : State) {r : Stepped} where
+  -- refused, with everything left
+  pub stays : {n : ℕ} → first (tests x st) ≡ Refused n 0 → still x st ≡ st → (r .session ≡ st .session) × (r .reply ≡ Refused n 0) → Done x st r (st .register)
+  unfolding reply after leaves
+  stays e f h = record { replied = h .1 ∙ sym e; session = rw (e, f) (h .0); register-left = rw (e, f) }
 
-module _ (ts : List Test) (next s : Session) where
-  -- a step that is refused leaves the session
-  pub stays : {n : ℕ} {r : Stepped} → first ts ≡ Refused n 0 → (r .session ≡ s) × (r .reply ≡ Refused n 0) → (r .reply ≡ first ts) × (r .session ≡ leaves (first ts) next s)
-  unfolding leaves
-  stays e h = (h .1 ∙ sym e, rw e (h .0))
+  -- taken
+  pub moves : {register : Bytes} → first (tests x st) ≡ Taken → r .reply ≡ Taken → r .session ≡ next x st .session → register ≡ next x st .register → Done x st r register
+  unfolding reply after leaves
+  moves e t s w = record { replied = t ∙ sym e; session = rw e s; register-left = rw e w }
 
-  -- a step that is taken
-  pub moves : {r : Session} → first ts ≡ Taken → r ≡ next → (Taken ≡ first ts) × (r ≡ leaves (first ts) next s)
-  unfolding leaves
-  moves e h = (sym e, rw e h)
+  -- the register's own order decides, and the register is left as it leaves it
+  pub decides : (us : List Test) {register : Bytes} → first (tests x st) ≡ first us → still x st ≡ st → Wrote us (next x st .register) (r .reply) (st .register) register
+      → r .session ≡ leaves (r .reply) (next x st .session) (st .session) → Done x st r register
+  unfolding reply after leaves
+  decides us on f w s = record {
+    replied = w .replied ∙ sym on;
+    session = s ∙ ap (λ (q : Reply). leaves q (next x st .session) (st .session)) (w .replied ∙ sym on) ∙ within (λ (z : State). z .session) (first (tests x st));
+    register-left = w .written ∙ ap (λ (q : Reply). leaves q (next x st .register) (st .register)) (sym on) ∙ within (λ (z : State). z .register) (first (tests x st));
+  }
+    where
+      -- of one part of the state
+      within : {A : Type 0} (part : State → A) (q : Reply) → leaves q (part (next x st)) (part st) ≡ part (leaves q (next x st) (still x st))
+      within part Taken = refl
+      within part (Refused number place) = ap part (sym f)
 
-  -- the same with lent bytes
-  module _ (written kept : Bytes) where
-    pub stays-with : {n : ℕ} {r : Stepped} → first ts ≡ Refused n 0 → (r .session ≡ s) × (r .reply ≡ Refused n 0)
-        → (r .reply ≡ first ts) × ((r .session ≡ leaves (first ts) next s) × (kept ≡ leaves (first ts) written kept))
-    unfolding leaves
-    stays-with e h = (h .1 ∙ sym e, (rw e (h .0), rw e))
-
-    pub moves-with : {r : Session} {x : Bytes} → first ts ≡ Taken → r ≡ next → x ≡ written → (Taken ≡ first ts) × ((r ≡ leaves (first ts) next s) × (x ≡ leaves (first ts) written kept))
-    unfolding leaves
-    moves-with e h g = (sym e, (rw e h, rw e g))
-
--- a step that leaves the session in any case
-pub keeps-with : (ts : List Test) (s : Session) (written kept : Bytes) {n : ℕ} {r : Stepped} → first ts ≡ Refused n 0 → (r .session ≡ s) × (r .reply ≡ Refused n 0)
-    → (r .reply ≡ first ts) × ((r .session ≡ s) × (kept ≡ leaves (first ts) written kept))
+-- what is left alone in any case
+pub left-alone : {A : Type 0} (q : Reply) (a : A) → leaves q a a ≡ a
 unfolding leaves
-keeps-with ts s written kept e h = (h .1 ∙ sym e, (h .0, rw e))
-
--- a step whose last tests are those of a call that it makes, with what that call answers and leaves
-module _ (ts us : List Test) (on : first ts ≡ first us) (next s : Session) (written kept : Bytes) {r : Reply} {x : Bytes} (h : (r ≡ first us) × (x ≡ leaves (first us) written kept)) where
-  said : r ≡ first ts
-  said = h .0 ∙ sym on
-
-  left : x ≡ leaves (first ts) written kept
-  left = h .1 ∙ ap (λ (q : Reply). leaves q written kept) (sym on)
-
-  pub moves-on : {t : Session} → r ≡ Taken → t ≡ next → (r ≡ first ts) × ((t ≡ leaves (first ts) next s) × (x ≡ leaves (first ts) written kept))
-  unfolding leaves
-  moves-on e g = (said, (rw (sym said ∙ e) g, left))
-
-  pub stays-on : {n p : ℕ} → r ≡ Refused n p → (r ≡ first ts) × ((s ≡ leaves (first ts) next s) × (x ≡ leaves (first ts) written kept))
-  unfolding leaves
-  stays-on e = (said, (rw (sym said ∙ e), left))
-
-  pub keeps-on : (r ≡ first ts) × ((s ≡ s) × (x ≡ leaves (first ts) written kept))
-  keeps-on = (said, (refl, left))
+left-alone Taken a = refl
+left-alone (Refused number place) a = refl

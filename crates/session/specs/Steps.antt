@@ -36,14 +36,21 @@ dueTest s due = test 31 0 (not (valid s && due))
 
 -- ---- clear: 1, 2, 3, 4, 5, from any session. It starts a zeroed register
 
-unfoldable pub clearTests : (reg text : Bytes) → List Test
-clearTests reg text = test 1 0 (not (eqb (length reg) registerLength)) ∷ order text
+-- what a clear is lent
+pub record Beginning : Type 0 where
+  pub sheet : Bytes
 
-unfoldable pub cleared : (text : Bytes) → Session
-cleared text = record {
+abbrev pub on : (sheet : Bytes) → Beginning
+on sheet = record { sheet = sheet }
+
+unfoldable pub clearTests : (reg : Bytes) → Beginning → List Test
+clearTests reg b = test 1 0 (not (eqb (length reg) registerLength)) ∷ order (b .sheet)
+
+unfoldable pub cleared : Beginning → Session
+cleared b = record {
   progress = initial;
-  numbers = sheetOf text .numbers;
-  sheet = sha3 text;
+  numbers = sheetOf (b .sheet) .numbers;
+  sheet = sha3 (b .sheet);
   closing = zeros 32;
   claim = zeros 32;
   seed = zeros 32;
@@ -152,11 +159,7 @@ acceptedBy s = changed s (withAcceptance (s .numbers .rounds) (s .progress)) (s 
 unfoldable pub refusedBy : Session → Session
 refusedBy s = changed s (withRefusal (s .progress)) (s .closing) (s .claim) (s .seed) (s .trail)
 
--- what a check leaves
-unfoldable pub checkedBy : Session → (round : ℕ) → Inputs → Session
-checkedBy s round x = leaves (first (checkEarly s round x)) (leaves (first (checkLate s round x)) (acceptedBy s) (refusedBy s)) s
-
--- the same by the verdict that it comes to
+-- what a check leaves, by the verdict that it comes to
 abbrev pub judgedBy : Verdict → Session → Session
 judgedBy (Stopped number place) s = s
 judgedBy (Failed number place) s = refusedBy s

@@ -7,11 +7,12 @@ use codec::Reply;
 use stored::Stored;
 ghost use mathlib.Core.Path.{_≡_};
 ghost use Prim.Native.Nat.{_<_};
-ghost use Rattle.codec.specs.Reply.{first, leaves};
-ghost use Rattle.call.specs.Call.{swept};
-ghost use Rattle.checking.specs.Check.{inputsOf, replyOf};
+ghost use Rattle.codec.specs.Slices.{given, left};
+ghost use Rattle.register.specs.Orders.{Wrote};
+ghost use Rattle.checking.specs.Check.{inputsIn, replyOf};
 ghost use Rattle.progress.specs.Progress.{drawn};
-ghost use Rattle.session.specs.Steps.{checkTests, judgedBy, checkedBy, challengesTests, challengesOut};
+ghost use Rattle.session.specs.Steps.{judgedBy, challengesTests, challengesOut};
+ghost use Rattle.session.specs.Machine.{Checked};
 
 impl Session {
     // What a verdict on the round that is due leaves: a round that fails ends the session refused, the last one that passes ends it
@@ -58,15 +59,8 @@ impl Session {
         answers: &[u8],
         scratch: &mut [u8],
     ) -> Stepped
-        ensures reply { λ r. ⌜ r .reply ≡ first (checkTests self round (inputsOf (now (sheet .entry)) (now (ballots .entry))
-            (now (claims .entry)) (now (head .entry)) (now (shares0 .entry)) (now (shares1 .entry)) (now (opening .entry))
-            (now (answers .entry)) (now (scratch .entry)))) ⌝ }
-        ensures session { λ r. ⌜ r .session ≡ checkedBy self round (inputsOf (now (sheet .entry)) (now (ballots .entry))
-            (now (claims .entry)) (now (head .entry)) (now (shares0 .entry)) (now (shares1 .entry)) (now (opening .entry))
-            (now (answers .entry)) (now (scratch .entry))) ⌝ }
-        ensures scratch { λ _. ⌜ now (scratch .exit) ≡ swept (first (checkTests self round (inputsOf (now (sheet .entry))
-            (now (ballots .entry)) (now (claims .entry)) (now (head .entry)) (now (shares0 .entry)) (now (shares1 .entry))
-            (now (opening .entry)) (now (answers .entry)) (now (scratch .entry))))) (now (scratch .entry)) ⌝ }
+        ensures { λ r. ⌜ Checked round (inputsIn sheet ballots claims head shares0 shares1 opening answers scratch) self r
+            (left scratch) ⌝ }
     {
         let progress = self.progress;
         let numbers = self.numbers;
@@ -105,9 +99,7 @@ impl Session {
 
     // Writes the side and the challenges that were drawn for a round.
     pub fn challenges(self, round: u64, out: &mut [u8]) -> Reply
-        ensures reply { λ r. ⌜ r ≡ first (challengesTests self round (now (out .entry))) ⌝ }
-        ensures output { λ _. ⌜ now (out .exit) ≡ leaves (first (challengesTests self round (now (out .entry)))) (challengesOut self round)
-            (now (out .entry)) ⌝ }
+        ensures { λ r. ⌜ Wrote (challengesTests self round (given out)) (challengesOut self round) r (given out) (left out) ⌝ }
     {
         let progress = self.progress;
         if !progress.has_challenges(self.numbers, round) {

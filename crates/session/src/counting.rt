@@ -9,10 +9,10 @@ ghost use mathlib.Core.List.{[], _∷_};
 ghost use Prim.Native.Nat.{_*_, _≤_};
 ghost use lib.ListN.{length};
 ghost use Rattle.codec.specs.Bytes.{same};
-ghost use Rattle.codec.specs.Reply.{first, leaves};
+ghost use Rattle.codec.specs.Slices.{given};
 ghost use Rattle.transcript.specs.Layout.{headLength};
 ghost use Rattle.session.specs.Session.{valid};
-ghost use Rattle.session.specs.Steps.{claimTests, claimedBy, commitTests, committedBy, drawTests, drawnBy};
+ghost use Rattle.session.specs.Machine.{claim, commit, draw, DoneAlone};
 
 // The bytes of all ballots, from those of one.
 fn times(bytes: u64, ballots: u64) -> usize
@@ -25,9 +25,7 @@ fn times(bytes: u64, ballots: u64) -> usize
 impl Session {
     // Takes the claims.
     pub fn claim(self, claims: &[u8]) -> Stepped
-        ensures reply { λ r. ⌜ r .reply ≡ first (claimTests self (now (claims .entry))) ⌝ }
-        ensures session { λ r. ⌜ r .session ≡ leaves (first (claimTests self (now (claims .entry))))
-            (claimedBy self (now (claims .entry))) self ⌝ }
+        ensures { λ r. ⌜ DoneAlone (claim (given claims)) self r ⌝ }
     {
         let progress = self.progress;
         let numbers = self.numbers;
@@ -55,7 +53,7 @@ impl Session {
     // Whether a first message has its lengths.
     fn message_sized(self, head: &[u8], shares0: &[u8], shares1: &[u8]) -> bool
         requires { ⌜ valid self ≡ true ⌝ }
-        ensures { λ r. ⌜ r ≡ same (length (now (head .entry)) ∷ length (now (shares0 .entry)) ∷ length (now (shares1 .entry)) ∷ [])
+        ensures { λ r. ⌜ r ≡ same (length (given head) ∷ length (given shares0) ∷ length (given shares1) ∷ [])
             (headLength (self .numbers .ring) (self .numbers .repeats) ∷ 8 * self .numbers .ring * self .progress .closed
             ∷ 8 * self .numbers .ring * self .progress .closed ∷ []) ⌝ }
     {
@@ -70,10 +68,7 @@ impl Session {
 
     // Takes the first message of the next round.
     pub fn commit(self, round: u64, head: &[u8], shares0: &[u8], shares1: &[u8]) -> Stepped
-        ensures reply { λ r. ⌜ r .reply ≡ first (commitTests self round (now (head .entry)) (now (shares0 .entry))
-            (now (shares1 .entry))) ⌝ }
-        ensures session { λ r. ⌜ r .session ≡ leaves (first (commitTests self round (now (head .entry)) (now (shares0 .entry))
-            (now (shares1 .entry)))) (committedBy self round (now (head .entry)) (now (shares0 .entry)) (now (shares1 .entry))) self ⌝ }
+        ensures { λ r. ⌜ DoneAlone (commit round (given head) (given shares0) (given shares1)) self r ⌝ }
     {
         let progress = self.progress;
         if !progress.may_commit(self.numbers, round) {
@@ -97,9 +92,7 @@ impl Session {
 
     // Takes the seed, once all rounds are committed.
     pub fn draw(self, seed: &[u8]) -> Stepped
-        ensures reply { λ r. ⌜ r .reply ≡ first (drawTests self (now (seed .entry))) ⌝ }
-        ensures session { λ r. ⌜ r .session ≡ leaves (first (drawTests self (now (seed .entry))))
-            (drawnBy self (now (seed .entry))) self ⌝ }
+        ensures { λ r. ⌜ DoneAlone (draw (given seed)) self r ⌝ }
     {
         let progress = self.progress;
         if !progress.may_draw(self.numbers) {

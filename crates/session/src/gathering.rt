@@ -5,20 +5,16 @@ use crate::Turnout;
 use codec::Reply;
 use progress::Progress;
 ghost use mathlib.Core.Path.{_≡_};
-ghost use Rattle.codec.specs.Bytes.{zeros};
-ghost use Rattle.codec.specs.Reply.{first, leaves};
-ghost use Rattle.register.specs.Register.{registerLength, find, admitted, withdrawn, turnout};
-ghost use Rattle.session.specs.Steps.{clearTests, cleared, admitTests, admittedBy, withdrawTests, closeTests, closedBy, turnoutTests};
-ghost use Rattle.session.specs.Steps.{turnoutBy};
+ghost use Rattle.codec.specs.Slices.{given, left};
+ghost use Rattle.codec.specs.Reply.{first};
+ghost use Rattle.register.specs.Register.{turnout};
+ghost use Rattle.session.specs.Steps.{on, turnoutTests, turnoutBy};
+ghost use Rattle.session.specs.Machine.{clear, admit, withdraw, close, state, Done};
 
 impl Session {
     // Starts anew, on a sheet and with an empty register, from any session.
     pub fn clear(self, reg: &mut [u8], text: &[u8]) -> Stepped
-        ensures reply { λ r. ⌜ r .reply ≡ first (clearTests (now (reg .entry)) (now (text .entry))) ⌝ }
-        ensures session { λ r. ⌜ r .session ≡ leaves (first (clearTests (now (reg .entry)) (now (text .entry))))
-            (cleared (now (text .entry))) self ⌝ }
-        ensures register { λ _. ⌜ now (reg .exit) ≡ leaves (first (clearTests (now (reg .entry)) (now (text .entry))))
-            (zeros registerLength) (now (reg .entry)) ⌝ }
+        ensures { λ r. ⌜ Done (clear (on (given text))) (state self (given reg)) r (left reg) ⌝ }
     {
         if reg.len() != register::REGISTER {
             return self.refused(1);
@@ -50,11 +46,7 @@ impl Session {
 
     // Admits a ballot.
     pub fn admit(self, reg: &mut [u8], ballot: &[u8]) -> Stepped
-        ensures reply { λ r. ⌜ r .reply ≡ first (admitTests self (now (reg .entry)) (now (ballot .entry))) ⌝ }
-        ensures session { λ r. ⌜ r .session ≡ leaves (first (admitTests self (now (reg .entry)) (now (ballot .entry))))
-            (admittedBy self) self ⌝ }
-        ensures register { λ _. ⌜ now (reg .exit) ≡ leaves (first (admitTests self (now (reg .entry)) (now (ballot .entry))))
-            (admitted (now (reg .entry)) (self .progress .used) (now (ballot .entry))) (now (reg .entry)) ⌝ }
+        ensures { λ r. ⌜ Done (admit (given ballot)) (state self (given reg)) r (left reg) ⌝ }
     {
         let progress = self.progress;
         let numbers = self.numbers;
@@ -87,10 +79,7 @@ impl Session {
 
     // Withdraws the ballot with a mark.
     pub fn withdraw(self, reg: &mut [u8], mark: u32) -> Stepped
-        ensures reply { λ r. ⌜ r .reply ≡ first (withdrawTests self (now (reg .entry)) mark) ⌝ }
-        ensures session { λ r. ⌜ r .session ≡ self ⌝ }
-        ensures register { λ _. ⌜ now (reg .exit) ≡ leaves (first (withdrawTests self (now (reg .entry)) mark))
-            (withdrawn (now (reg .entry)) (find (now (reg .entry)) mark (self .progress .used))) (now (reg .entry)) ⌝ }
+        ensures { λ r. ⌜ Done (withdraw mark) (state self (given reg)) r (left reg) ⌝ }
     {
         let progress = self.progress;
         let numbers = self.numbers;
@@ -109,9 +98,7 @@ impl Session {
 
     // Closes the batch of the standing entries.
     pub fn close(self, reg: &[u8]) -> Stepped
-        ensures reply { λ r. ⌜ r .reply ≡ first (closeTests self (now (reg .entry))) ⌝ }
-        ensures session { λ r. ⌜ r .session ≡ leaves (first (closeTests self (now (reg .entry))))
-            (closedBy self (now (reg .entry))) self ⌝ }
+        ensures { λ r. ⌜ Done close (state self (given reg)) r (given reg) ⌝ }
     {
         let progress = self.progress;
         let numbers = self.numbers;
@@ -139,8 +126,8 @@ impl Session {
 
     // The standing entries in thousandths of the enrolled.
     pub fn turnout(self, reg: &[u8], enrolled: u64) -> Turnout
-        ensures { λ r. ⌜ r ≡ turnoutBy (first (turnoutTests self (now (reg .entry)) enrolled)) (turnout (now (reg .entry))
-            (self .progress .used) enrolled) ⌝ }
+        ensures { λ r. ⌜ r ≡ turnoutBy (first (turnoutTests self (given reg) enrolled)) (turnout (given reg) (self .progress .used)
+            enrolled) ⌝ }
     {
         let progress = self.progress;
         if !progress.is_valid(self.numbers) {
