@@ -139,4 +139,4 @@ module _ (l : Trace) (k : Kept (l .session) (l .history)) (material : Material) 
 
 pub honest-accepted : HonestAccepted
 unfolding reply
-honest-accepted sheet cs e register material round x turn = accepted (trace cs (initial sheet)) (kept sheet cs e) material round x turn
+honest-accepted b cs e register material round x turn = accepted (trace cs (initial b)) (kept b cs e) material round x turn

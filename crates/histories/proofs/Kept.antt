@@ -9,7 +9,7 @@ use lib.Dec.{eqb}
 use lib.ListN.{length, length-map, length-replicate}
 use borrow.Author.Tests.{eqb-false, eq-eqb, ne-eqb}
 use Rattle.codec.specs.Bytes.{Bytes, part, put}
-use Rattle.codec.specs.Reply.{first, leaves}
+use Rattle.codec.specs.Reply.{leaves}
 use Rattle.codec.specs.declared.Reply.the-variants.{Taken}
 use Rattle.codec.proofs.Laws.{length-put, part-put, part-put-before}
 use Rattle.codec.proofs.Replies.{taken-exactly}
@@ -20,16 +20,15 @@ use Rattle.register.specs.Register.{digestAt, standing, standingDigests}
 use Rattle.register.proofs.Entries.{standing-few}
 use Rattle.digests.specs.Digests.{closingDigest, claimDigest, roundDigest}
 use Rattle.digests.proofs.Laws.{length-roundDigest}
-use Rattle.checking.specs.Check.{Inputs}
 use Rattle.session.specs.declared.Session.{Session}
 use Rattle.progress.specs.declared.Progress.{Progress}
 use Rattle.session.specs.Session.{changed}
-use Rattle.session.specs.Steps.{cleared, admittedBy, closedBy, claimedBy, committedBy, drawnBy, checkEarly, checkLate, checkTests, acceptedBy, refusedBy, checkedBy}
-use Rattle.session.specs.Machine.{Step, clear, admit, withdraw, close, claim, commit, draw, check, State, state, reply, after}
-use Rattle.histories.specs.Runs.{Message, message, Call, History, emptyHistory, historyAfter, Trace, extend, trace, initial}
+use Rattle.session.specs.Steps.{Beginning, cleared, admittedBy, closedBy, claimedBy, committedBy, drawnBy, acceptedBy, refusedBy}
+use Rattle.session.specs.Machine.{Step, clear, admit, withdraw, close, claim, commit, draw, check, State, state, next, reply, after}
+use Rattle.histories.specs.Runs.{Message, message, Call, History, Begins, emptyHistory, historyAfter, Trace, extend, trace, initial}
 use Rattle.histories.specs.Conditions.{SheetTaken, Valid, Admits, Closes, Claims, Commits, Draws}
-use Rattle.histories.proofs.Replies.{left, left-both, left-alone}
-use Rattle.histories.proofs.Valid.{ready, on-turn, sheet-exactly}
+use Rattle.histories.proofs.Valid.{sheet-exactly}
+use Rattle.histories.proofs.Stepped.{taken-turn, stepped-with}
 use Rattle.histories.proofs.Exact.{cleared-exactly, admitted-exactly, closed-exactly, claimed-exactly, committed-exactly, drawn-exactly}
 
 -- the digest of a first message
@@ -51,17 +50,9 @@ pub record Kept (s : Session) (h : History) : Type 0 where
   pub whole : 2 < s .progress .phase → s .progress .committed ≡ s .numbers .rounds
   pub next : s .progress .phase ≡ 3 → s .progress .checked < s .numbers .rounds
 
--- a check that is not stopped early finds its round due
-pub drawn-now : (s : Session) (round : ℕ) (x : Inputs) → first (checkEarly s round x) ≡ Taken → (s .progress .phase ≡ 3) × (s .progress .checked < s .numbers .rounds)
-unfolding checkEarly
-drawn-now s round x e =
-    let n = taken-exactly _ .0 e in
-    let d = on-turn (s .progress .phase) 3 round (s .progress .checked) (s .numbers .rounds) (ready s _ (n .0) .1) in
-    (d .0, omega arith)
-
-kept-clear : (text : Bytes) → SheetTaken text → Kept (cleared text) (emptyHistory text)
+kept-clear : (b : Beginning) → SheetTaken (b .sheet) → Kept (cleared b) (emptyHistory b)
 unfolding cleared
-kept-clear text t = record {
+kept-clear b t = record {
   sound = record { phase = omega arith; inside = t .inside; sound = t .sound; used = omega arith; closed = omega arith; committed = omega arith; checked = omega arith };
   taken = t;
   numbers = refl;
@@ -257,33 +248,31 @@ module _ (s : Session) (h : History) (k : Kept s h) where
   unfolding refusedBy
   kept-refused was low = kept-checked 4 (s .progress .checked) was (omega arith) (omega arith) (omega arith) (λ l. absurd (omega arith))
 
-  kept-check : (round : ℕ) (x : Inputs) → Kept (checkedBy s round x) h
-  unfolding checkedBy
-  kept-check round x =
-      left (λ t. Kept t h) (first (checkEarly s round x))
-      (λ e. let d = drawn-now s round x e in left (λ t. Kept t h) (first (checkLate s round x)) (λ f. kept-accepted (d .0) (d .1)) (kept-refused (d .0) (d .1)))
-      k
-
 -- ---- every step, and every list of them
 
-kept-step : (x : Step) (reg : Bytes) (s : Session) (h : History) → Kept s h
-    → let st = state s reg in Kept (after x st .session) (leaves (reply x st) (historyAfter x st h) h)
-unfolding reply after historyAfter
-kept-step (clear text) reg s h k = left-both (Kept) _ (λ e. kept-clear text (cleared-exactly reg text .0 e .sheet)) k
-kept-step (admit ballot) reg s h k = left-both (Kept) _ (λ e. kept-admit s h k reg ballot (admitted-exactly s reg ballot .0 e)) k
-kept-step (withdraw mark) reg s h k = left (Kept s) _ (λ e. k) k
-kept-step close reg s h k = left-both (Kept) _ (λ e. kept-close s h k reg (closed-exactly s reg .0 e)) k
-kept-step (claim claims) reg s h k = left-both (Kept) _ (λ e. kept-claim s h k (state s reg) claims (claimed-exactly s claims .0 e)) k
-kept-step (commit r head shares0 shares1) reg s h k =
-    left-both (Kept) _ (λ e. kept-commit s h k r head shares0 shares1 (committed-exactly s r head shares0 shares1 .0 e) (state s reg)) k
-kept-step (draw seed) reg s h k = left-both (Kept) _ (λ e. kept-draw s h k seed (drawn-exactly s seed .0 e)) k
-kept-step (check r x) reg s h k = rw (left-alone (first (checkTests s r x)) h) (kept-check s h k r x)
+module _ (reg : Bytes) (s : Session) (h : History) (k : Kept s h) where
+  abbrev st : State
+  st = state s reg
+
+  kept-next : (x : Step) → reply x st ≡ Taken → Kept (next x st .session) (historyAfter x st h)
+  unfolding reply historyAfter
+  kept-next (clear b) e = kept-clear b (cleared-exactly reg b .0 e .sheet)
+  kept-next (admit ballot) e = kept-admit s h k reg ballot (admitted-exactly s reg ballot .0 e)
+  kept-next (withdraw mark) e = k
+  kept-next close e = kept-close s h k reg (closed-exactly s reg .0 e)
+  kept-next (claim claims) e = kept-claim s h k st claims (claimed-exactly s claims .0 e)
+  kept-next (commit r head shares0 shares1) e = kept-commit s h k r head shares0 shares1 (committed-exactly s r head shares0 shares1 .0 e) st
+  kept-next (draw seed) e = kept-draw s h k seed (drawn-exactly s seed .0 e)
+  kept-next (check r x) e = let t = taken-turn s r x e in kept-accepted s h k (t .0) (omega (arith, t .1, t .2))
+
+  kept-step : (x : Step) → Kept (after x st .session) (leaves (reply x st) (historyAfter x st h) h)
+  kept-step x = stepped-with st (λ (z : State) (g : History). Kept (z .session) g) x (kept-next x) (λ number place e. k) (λ number place e. kept-refused s h k)
 
 kept-trace : (cs : List Call) (l : Trace) → Kept (l .session) (l .history) → Kept (trace cs l .session) (trace cs l .history)
 unfolding trace extend
 kept-trace [] l k = k
-kept-trace (c ∷ cs) l k = kept-trace cs (extend c l) (kept-step (c .step) (c .register) (l .session) (l .history) k)
+kept-trace (c ∷ cs) l k = kept-trace cs (extend c l) (kept-step (c .register) (l .session) (l .history) k (c .step))
 
-pub kept : (sheet : Bytes) (cs : List Call) → first (order sheet) ≡ Taken → Kept (trace cs (initial sheet) .session) (trace cs (initial sheet) .history)
+pub kept : (b : Beginning) (cs : List Call) → Begins b → Kept (trace cs (initial b) .session) (trace cs (initial b) .history)
 unfolding initial
-kept sheet cs e = kept-trace cs (initial sheet) (kept-clear sheet (sheet-exactly sheet .0 (taken-exactly (order sheet) .0 e)))
+kept b cs e = kept-trace cs (initial b) (kept-clear b (sheet-exactly (b .sheet) .0 (taken-exactly (order (b .sheet)) .0 e)))

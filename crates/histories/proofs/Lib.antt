@@ -1,6 +1,7 @@
 pub mod Replies
 pub mod Sheets
 pub mod Valid
+pub mod Stepped
 pub mod Exact
 pub mod Checked
 pub mod Kept

@@ -1,5 +1,5 @@
 -- Sessions reached from a clear taken are valid, so that 31 is met only for wrong phase or round. Assumes nothing.
-use mathlib.Core.Path.{_≡_, sym, ap₂}
+use mathlib.Core.Path.{_≡_}
 use mathlib.Core.Bool.{Bool, true, false, not, _&&_}
 use mathlib.Core.List.{List, _∷_, _++_}
 use Prim.Native.Nat.{ℕ}
@@ -9,7 +9,6 @@ use Rattle.codec.specs.Bytes.{Bytes}
 use Rattle.codec.specs.Reply.{Test, test, first}
 use Rattle.codec.specs.declared.Reply.the-variants.{Refused}
 use Rattle.codec.proofs.Replies.{taken-exactly}
-use Rattle.call.proofs.Sweeping.{leaves-taken}
 use Rattle.sheet.specs.Sheet.{order}
 use Rattle.lengths.specs.Sheets.{parametersOf}
 use Rattle.lengths.proofs.Swept.{later-round}
@@ -17,24 +16,24 @@ use Rattle.checking.specs.Check.{Inputs, inputsSized, storedTests, earlyTests, 
 use Rattle.session.specs.declared.Session.{Session}
 use Rattle.session.specs.Session.{valid}
 use Rattle.session.specs.Steps.{dueTest, storedFor, clearTests, admitTests, withdrawTests, closeTests, claimTests, commitTests, drawTests, checkEarly, checkLate, checkTests}
-use Rattle.session.specs.Machine.{Step, clear, admit, withdraw, close, claim, commit, draw, check, state, reply, after}
+use Rattle.session.specs.Machine.{Step, clear, admit, withdraw, close, claim, commit, draw, check, state, reply}
 use Rattle.histories.specs.Runs.{ownInitial, initial, trace}
 use Rattle.histories.specs.Claims.{Undue, ClearTaken, StaysValid, OnlyPhaseOrRound}
 use Rattle.histories.proofs.Replies.{Others, others, others-append, later-others, head-holds}
 use Rattle.histories.proofs.Valid.{off-both, off-turn, valid-holds, sheet-exactly}
+use Rattle.histories.proofs.Stepped.{after-taken}
 use Rattle.histories.proofs.Exact.{cleared-exactly}
 use Rattle.histories.proofs.Kept.{kept}
 
 pub reachable-valid : StaysValid
-reachable-valid sheet cs e = let k = kept sheet cs e in (k .sound, k .numbers)
+reachable-valid b cs e = let k = kept b cs e in (k .sound, k .numbers)
 
 pub clear-taken : ClearTaken
-unfolding reply after ownInitial
-clear-taken st sheet e =
-    let r = first (clearTests (st .register) sheet) in (
-      taken-exactly (order sheet) .1 (sheet-exactly sheet .1 (cleared-exactly (st .register) sheet .0 e .sheet)),
-      sym (ap₂ state (leaves-taken r (st .session) e) (leaves-taken r (st .register) e)),
-    )
+unfolding reply ownInitial
+clear-taken st b e = (
+  taken-exactly (order (b .sheet)) .1 (sheet-exactly (b .sheet) .1 (cleared-exactly (st .register) b .0 e .sheet)),
+  after-taken st (clear b) e,
+)
 
 -- where a valid session is not taken for valid and due, it is not due
 undue : (v d : Bool) → v ≡ true → not (v && d) ≡ true → d ≡ false
@@ -56,7 +55,7 @@ module _ (s : Session) (reg : Bytes) (place : ℕ) (v : valid s ≡ true) where
 
   only-31 : (x : Step) → reply x (state s reg) ≡ Refused 31 place → Undue x s
   unfolding reply Undue clearTests admitTests withdrawTests closeTests claimTests commitTests drawTests checkEarly checkTests
-  only-31 (clear text) e = absurd (others 31 place (clearTests reg text) (omega arith) e)
+  only-31 (clear b) e = absurd (others 31 place (clearTests reg b) (omega arith) e)
   only-31 (admit ballot) e = eqb-false _ _ (not-due _ _ (omega arith) e)
   only-31 (withdraw mark) e = eqb-false _ _ (not-due _ _ (omega arith) e)
   only-31 close e = eqb-false _ _ (not-due _ _ (omega arith) e)
@@ -66,6 +65,6 @@ module _ (s : Session) (reg : Bytes) (place : ℕ) (v : valid s ≡ true) where
   only-31 (check k x) e = off-turn _ _ _ _ _ (not-due _ (earlyTests (storedFor s k) x ++ checkLate s k x) (check-others k x) e)
 
 pub only-phase-or-round : OnlyPhaseOrRound
-only-phase-or-round sheet cs e x reg place r =
-    let s = trace cs (initial sheet) .session in
-    only-31 s reg place (valid-holds s (reachable-valid sheet cs e .0)) x r
+only-phase-or-round b cs e x reg place r =
+    let s = trace cs (initial b) .session in
+    only-31 s reg place (valid-holds s (reachable-valid b cs e .0)) x r

@@ -16,30 +16,6 @@ unfolding leaves
 left P Taken f k = f refl
 left P (Refused n place) f k = k
 
--- the same of two things, of three and of four
-pub left-both : {A B : Type 0} (P : A → B → Type 0) (r : Reply) {new old : A} {new' old' : B} → (r ≡ Taken → P new new') → P old old' → P (leaves r new old) (leaves r new' old')
-unfolding leaves
-left-both P Taken f k = f refl
-left-both P (Refused n place) f k = k
-
-pub left-all : {A B C : Type 0} (P : A → B → C → Type 0) (r : Reply) {new old : A} {new' old' : B} {new'' old'' : C} → (r ≡ Taken → P new new' new'') → P old old' old''
-    → P (leaves r new old) (leaves r new' old') (leaves r new'' old'')
-unfolding leaves
-left-all P Taken f k = f refl
-left-all P (Refused n place) f k = k
-
-pub left-four : {A B C D : Type 0} (P : A → B → C → D → Type 0) (r : Reply) {a a' : A} {b b' : B} {c c' : C} {d d' : D} → (r ≡ Taken → P a b c d) → P a' b' c' d'
-    → P (leaves r a a') (leaves r b b') (leaves r c c') (leaves r d d')
-unfolding leaves
-left-four P Taken f k = f refl
-left-four P (Refused n place) f k = k
-
--- a step that leaves things alone
-pub left-alone : {A : Type 0} (r : Reply) (x : A) → leaves r x x ≡ x
-unfolding leaves
-left-alone Taken x = refl
-left-alone (Refused n place) x = refl
-
 -- ---- which test a refusal comes from
 
 -- no test of the list has the number

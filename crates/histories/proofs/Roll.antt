@@ -11,23 +11,21 @@ use lib.Dec.{eqb}
 use lib.ListN.{length, length-map}
 use borrow.Author.Tests.{eq-eqb, ne-eqb}
 use Rattle.codec.specs.Bytes.{Bytes}
-use Rattle.codec.specs.Reply.{first, leaves}
+use Rattle.codec.specs.Reply.{leaves}
 use Rattle.codec.specs.declared.Reply.the-variants.{Taken}
 use Rattle.sha3.specs.Sponge.{sha3}
 use Rattle.transcript.specs.Layout.{ballotLength}
 use Rattle.register.specs.Register.{markAt, stateAt, digestAt, find, standing, standingDigests, markOf, admitted, withdrawn}
 use Rattle.register.proofs.Entries.{admitted-marks, admitted-states, admitted-digests, admitted-mark, admitted-state, admitted-digest, withdrawn-marks, withdrawn-digests, withdrawn-state, withdrawn-states}
 use Rattle.digests.proofs.Laws.{Long, ballotDigests-concatenated}
-use Rattle.checking.specs.Check.{Inputs}
 use Rattle.session.specs.declared.Session.{Session}
-use Rattle.session.specs.Steps.{cleared, admittedBy, closedBy, claimedBy, committedBy, drawnBy, checkEarly, checkLate, checkTests, acceptedBy, refusedBy, checkedBy}
-use Rattle.session.specs.Machine.{Step, clear, admit, withdraw, close, claim, commit, draw, check, State, state, reply, after}
+use Rattle.session.specs.Steps.{cleared, admittedBy, closedBy, claimedBy, committedBy, drawnBy, acceptedBy, refusedBy}
+use Rattle.session.specs.Machine.{Step, clear, admit, withdraw, close, claim, commit, draw, check, State, state, next, reply, after}
 use Rattle.histories.specs.Runs.{History, historyAfter, without, rollAfter, OwnTrace, Trace, initial, ownInitial, ownExtend, ownTrace, extend, trace, calls}
 use Rattle.histories.specs.Conditions.{Admits, Withdraws, Claims, Draws}
 use Rattle.histories.specs.Claims.{RollIsBatch, OwnRegister}
-use Rattle.histories.proofs.Replies.{left, left-all, left-four, left-alone}
+use Rattle.histories.proofs.Stepped.{taken-turn, stepped-all}
 use Rattle.histories.proofs.Exact.{here, admitted-exactly, withdrawn-exactly, claimed-exactly, drawn-exactly}
-use Rattle.histories.proofs.Kept.{drawn-now}
 use Rattle.histories.proofs.Withdrawn.{Single, single-none, single-step}
 
 -- the first n entries are those of the ballots, in order, and of others that do not stand
@@ -172,37 +170,27 @@ module _ (st : State) (h : History) (bs : List Bytes) (o : Own st h bs) where
   unfolding drawnBy
   own-draw seed d = let was = d .phase in record { rows = o .rows; long = o .long; noted = λ l. o .noted (omega arith) }
 
-  abbrev Here : Session → Type 0
-  Here t = Own (state t reg) h bs
+  own-checked : s .progress .phase ≡ 3 → Own (state (acceptedBy s) reg) h bs
+  unfolding acceptedBy
+  own-checked was = record { rows = o .rows; long = o .long; noted = λ l. o .noted (omega arith) }
 
-  own-check : (round : ℕ) (x : Inputs) → Here (checkedBy s round x)
-  unfolding checkedBy acceptedBy refusedBy
-  own-check round x = left Here (first (checkEarly s round x)) judged o
-    where
-      judged : first (checkEarly s round x) ≡ Taken → Here (leaves (first (checkLate s round x)) (acceptedBy s) (refusedBy s))
-      judged e =
-          let was = drawn-now s round x e .0 in
-          left Here (first (checkLate s round x)) (λ f. record { rows = o .rows; long = o .long; noted = λ l. o .noted (omega arith) })
-          (record { rows = o .rows; long = o .long; noted = λ l. o .noted (omega arith) })
+  own-ended : s .progress .phase ≡ 3 → Own (state (refusedBy s) reg) h bs
+  unfolding refusedBy
+  own-ended was = record { rows = o .rows; long = o .long; noted = λ l. o .noted (omega arith) }
 
-  -- with session and register apart, and with this register
-  abbrev Whole : Session → Bytes → History → List Bytes → Type 0
-  Whole t other = Own (state t other)
+  own-next : Single reg (s .progress .used) → (x : Step) → reply x st ≡ Taken → Own (next x st) (historyAfter x st h) (rollAfter x bs)
+  unfolding reply cleared committedBy historyAfter rollAfter
+  own-next single (clear b) e = record { rows = start; long = tt; noted = λ l. absurd (omega arith) }
+  own-next single (admit ballot) e = own-admit ballot (admitted-exactly s reg ballot .0 e)
+  own-next single (withdraw mark) e = own-withdraw single mark (withdrawn-exactly s reg mark .0 e)
+  own-next single close e = own-close
+  own-next single (claim claims) e = own-claim claims (claimed-exactly s claims .0 e)
+  own-next single (commit k head shares0 shares1) e = record { rows = o .rows; long = o .long; noted = o .noted }
+  own-next single (draw seed) e = own-draw seed (drawn-exactly s seed .0 e)
+  own-next single (check k x) e = own-checked (taken-turn s k x e .0)
 
-  abbrev With : Session → History → List Bytes → Type 0
-  With t = Own (state t reg)
-
-  own-step : Single reg (s .progress .used) → (x : Step)
-      → Own (after x st) (leaves (reply x st) (historyAfter x st h) h) (leaves (reply x st) (rollAfter x bs) bs)
-  unfolding reply after cleared committedBy historyAfter rollAfter
-  own-step single (clear text) = left-four Whole _ (λ e. record { rows = start; long = tt; noted = λ l. absurd (omega arith) }) o
-  own-step single (admit ballot) = left-four Whole _ (λ e. own-admit ballot (admitted-exactly s reg ballot .0 e)) o
-  own-step single (withdraw mark) = left-all (Whole s) _ (λ e. own-withdraw single mark (withdrawn-exactly s reg mark .0 e)) o
-  own-step single close = left-all With _ (λ e. own-close) o
-  own-step single (claim claims) = left-all With _ (λ e. own-claim claims (claimed-exactly s claims .0 e)) o
-  own-step single (commit k head shares0 shares1) = left-all With _ (λ e. record { rows = o .rows; long = o .long; noted = o .noted }) o
-  own-step single (draw seed) = left-all With _ (λ e. own-draw seed (drawn-exactly s seed .0 e)) o
-  own-step single (check k x) = rw (left-alone (first (checkTests s k x)) h, left-alone (first (checkTests s k x)) bs) (own-check k x)
+  own-step : Single reg (s .progress .used) → (x : Step) → Own (after x st) (leaves (reply x st) (historyAfter x st h) h) (leaves (reply x st) (rollAfter x bs) bs)
+  own-step single x = stepped-all st Own x (own-next single x) (λ number place e. o) (λ number place e was low. own-ended was)
 
 own-ownTrace : (xs : List Step) (t : OwnTrace) → Single (t .now .register) (t .now .session .progress .used) → Own (t .now) (t .history) (t .roll)
     → Own (ownTrace xs t .now) (ownTrace xs t .history) (ownTrace xs t .roll)
@@ -221,9 +209,9 @@ each-long size (c ∷ cs) h b m = go (List·Memᴰ·append-cases (c ∷ []) m) (
 
 pub roll-is-batch : RollIsBatch
 unfolding ownInitial cleared
-roll-is-batch sheet steps l =
-    let t = ownTrace steps (ownInitial sheet) in
-    let o = own-ownTrace steps (ownInitial sheet) (single-none _) (record { rows = start; long = tt; noted = λ q. absurd (omega arith) }) in
+roll-is-batch b steps l =
+    let t = ownTrace steps (ownInitial b) in
+    let o = own-ownTrace steps (ownInitial b) (single-none _) (record { rows = start; long = tt; noted = λ q. absurd (omega arith) }) in
     (o .noted l, each-long _ (t .roll) (o .long), rw (o .noted l, length-map (t .roll) sha3) (ballotDigests-concatenated _ (t .roll) (o .long)))
 
 -- ---- such a list is one of those in which each step is lent any register
@@ -236,4 +224,4 @@ same-trace (x ∷ xs) t l es eh = same-trace xs (ownExtend x t) (extend (record 
 
 pub own-register : OwnRegister
 unfolding ownInitial initial
-own-register sheet steps = same-trace steps (ownInitial sheet) (initial sheet) refl refl
+own-register b steps = same-trace steps (ownInitial b) (initial b) refl refl

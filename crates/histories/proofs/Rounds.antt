@@ -10,31 +10,21 @@ use native.Mathlib.Omega.{arith}
 use lib.Dec.{eqb}
 use borrow.Author.Tests.{eqb-true}
 use Rattle.codec.specs.Bytes.{Bytes}
-use Rattle.codec.specs.Reply.{first, leaves}
-use Rattle.codec.specs.declared.Reply.{Reply}
-use Rattle.codec.specs.declared.Reply.the-variants.{Taken, Refused}
-use Rattle.codec.proofs.Replies.{taken-exactly, first-append}
-use Rattle.sheet.specs.Sheet.{order}
+use Rattle.codec.specs.declared.Reply.the-variants.{Taken}
 use Rattle.transcript.proofs.Many.{last}
 use Rattle.checking.specs.Check.{Inputs}
 use Rattle.session.specs.declared.Session.{Session}
 use Rattle.session.specs.Session.{trailAt}
-use Rattle.session.specs.Steps.{storedFor, clearTests, cleared, admitTests, admittedBy, closeTests, closedBy, claimTests, claimedBy, commitTests, committedBy, drawTests, drawnBy, checkEarly, checkLate, checkTests, acceptedBy, refusedBy, checkedBy}
-use Rattle.session.specs.Machine.{Step, clear, admit, withdraw, close, claim, commit, draw, check, State, state, reply, after}
-use Rattle.histories.specs.Runs.{Trace, Call, call, lent, clears, NoClear, extend, trace, initial}
+use Rattle.session.specs.Steps.{Beginning, storedFor, cleared, admittedBy, closedBy, claimedBy, committedBy, drawnBy, acceptedBy, refusedBy}
+use Rattle.session.specs.Machine.{Step, clear, admit, withdraw, close, claim, commit, draw, check, State, state, next, reply, after}
+use Rattle.histories.specs.Runs.{Begins, Trace, Call, call, lent, clears, NoClear, extend, trace, initial}
 use Rattle.histories.specs.Claims.{Checked, RoundsChecked, EndedAccepted}
-use Rattle.histories.proofs.Replies.{left}
-use Rattle.histories.proofs.Valid.{ready, on-turn}
+use Rattle.histories.proofs.Stepped.{clears-refused, stepped, taken-turn}
 use Rattle.histories.proofs.Exact.{closed-exactly, claimed-exactly, committed-exactly, drawn-exactly}
 use Rattle.histories.proofs.Checked.{accepted-exactly}
 use Rattle.histories.proofs.Kept.{kept}
 
 -- ---- one step
-
--- a check that is not stopped early is of the round next due
-due-now : (s : Session) (round : ℕ) (x : Inputs) → first (checkEarly s round x) ≡ Taken → round ≡ s .progress .checked
-unfolding checkEarly
-due-now s round x e = on-turn (s .progress .phase) 3 round (s .progress .checked) (s .numbers .rounds) (ready s _ (taken-exactly _ .0 e .0) .1) .1
 
 -- what a step does to the count of rounds checked, and to what checks are held against
 data Move (s : Session) (reg : Bytes) : Step → Session → Type 0 where
@@ -50,63 +40,49 @@ module _ (s : Session) (reg : Bytes) (unchecked : s .progress .phase < 3 → s .
   abbrev st : State
   st = state s reg
 
-  -- a step that is refused, or that is taken before draw
-  early : (x : Step) (r : Reply) (t : Session) → clears x (reply x st) ≡ false → (r ≡ Taken → t .progress .checked ≡ s .progress .checked) → (r ≡ Taken → 0 < s .progress .checked → (k : ℕ) → storedFor s k ≡ storedFor t k)
-      → Move s reg x (leaves r t s)
-  early x r t c n d = left (Move s reg x) r (λ e. same c (n e) (d e)) (same c refl (λ l k. refl))
+  -- a step that is taken before draw
+  early : (x : Step) (t : Session) → clears x (reply x st) ≡ false → t .progress .checked ≡ s .progress .checked → s .progress .phase < 3 → Move s reg x t
+  early x t c n low = same c n (λ l k. absurd (omega (arith, unchecked low)))
 
-  clear-moves : (text : Bytes) (r : Reply) → reply (clear text) st ≡ r → Move s reg (clear text) (leaves r (cleared text) s)
-  unfolding leaves cleared
-  clear-moves text Taken e = restarted refl
-  clear-moves text (Refused n place) e = same (ap (clears (clear text)) e) refl (λ l k. refl)
-
-  check-moves : (round : ℕ) (x : Inputs) → Move s reg (check round x) (checkedBy s round x)
-  unfolding checkedBy acceptedBy refusedBy trailAt
-  check-moves round x =
-      left (Move s reg (check round x)) (first (checkEarly s round x))
-      (λ e. left (Move s reg (check round x)) (first (checkLate s round x)) (λ f. accepts e f) (same {t = refusedBy s} refl refl (λ l k. refl)))
-      (same refl refl (λ l k. refl))
-    where
-      taken : first (checkEarly s round x) ≡ Taken → first (checkLate s round x) ≡ Taken → reply (check round x) st ≡ Taken
-      taken e f = unfold reply checkTests in first-append (checkEarly s round x) (checkLate s round x) (taken-exactly _ .0 e) ∙ f
-
-      accepts : first (checkEarly s round x) ≡ Taken → first (checkLate s round x) ≡ Taken → Move s reg (check round x) (acceptedBy s)
-      accepts e f = unfold acceptedBy trailAt in counted {t = acceptedBy s} (due-now s round x e) (taken e f) refl (λ k. refl)
+  moved : (x : Step) → reply x st ≡ Taken → Move s reg x (next x st .session)
+  unfolding reply cleared admittedBy closedBy claimedBy committedBy drawnBy acceptedBy trailAt
+  moved (clear b) e = restarted refl
+  moved (admit ballot) e = same refl refl (λ l k. refl)
+  moved (withdraw mark) e = same refl refl (λ l k. refl)
+  moved close e = let was = closed-exactly s reg .0 e .phase in early close _ refl refl (omega arith)
+  moved (claim claims) e = let was = claimed-exactly s claims .0 e .phase in early (claim claims) _ refl refl (omega arith)
+  moved (commit k head shares0 shares1) e = let was = committed-exactly s k head shares0 shares1 .0 e .phase in early (commit k head shares0 shares1) _ refl refl (omega arith)
+  moved (draw seed) e = let was = drawn-exactly s seed .0 e .phase in early (draw seed) _ refl refl (omega arith)
+  moved (check round x) e = counted (taken-turn s round x e .1) (unfold reply in e) refl (λ k. refl)
 
   moves : (x : Step) → Move s reg x (after x st .session)
-  unfolding reply after admittedBy closedBy claimedBy committedBy drawnBy trailAt
-  moves (clear text) = clear-moves text (first (clearTests reg text)) refl
-  moves (admit ballot) = early (admit ballot) (first (admitTests s reg ballot)) _ refl (λ e. refl) (λ e l k. refl)
-  moves (withdraw mark) = same refl refl (λ l k. refl)
-  moves close = early close (first (closeTests s reg)) _ refl (λ e. refl) (λ e l k. let was = closed-exactly s reg .0 e .phase in absurd (omega (arith, unchecked (omega arith))))
-  moves (claim claims) =
-      early (claim claims) (first (claimTests s claims)) _ refl (λ e. refl) (λ e l k. let was = claimed-exactly s claims .0 e .phase in absurd (omega (arith, unchecked (omega arith))))
-  moves (commit k head shares0 shares1) =
-      early (commit k head shares0 shares1) (first (commitTests s k head shares0 shares1)) _ refl (λ e. refl)
-      (λ e l j. let was = committed-exactly s k head shares0 shares1 .0 e .phase in absurd (omega (arith, unchecked (omega arith))))
-  moves (draw seed) =
-      early (draw seed) (first (drawTests s seed)) _ refl (λ e. refl) (λ e l k. let was = drawn-exactly s seed .0 e .phase in absurd (omega (arith, unchecked (omega arith))))
-  moves (check round x) = check-moves round x
+  unfolding refusedBy trailAt
+  moves x =
+      stepped st (λ (z : State). Move s reg x (z .session)) x (moved x) (λ number place e. same (clears-refused x _ number place e) refl (λ l k. refl))
+      (λ number place e was low. same {t = refusedBy s} (clears-refused x _ number place e) refl (λ l k. refl))
 
 -- a session that ended accepted counts all its rounds
 abbrev Complete : Session → Type 0
 Complete s = s .progress .phase ≡ 5 → s .progress .checked ≡ s .numbers .rounds
 
-complete-step : (x : Step) (reg : Bytes) (s : Session) → Complete s → Complete (after x (state s reg) .session)
-unfolding reply after cleared admittedBy closedBy claimedBy committedBy drawnBy
-complete-step (clear text) reg s h = left Complete _ (λ e l. absurd (omega arith)) h
-complete-step (admit ballot) reg s h = left Complete _ (λ e. h) h
-complete-step (withdraw mark) reg s h = h
-complete-step close reg s h = left Complete _ (λ e l. absurd (omega arith)) h
-complete-step (claim claims) reg s h = left Complete _ (λ e l. absurd (omega arith)) h
-complete-step (commit k head shares0 shares1) reg s h = left Complete _ (λ e l. let was = committed-exactly s k head shares0 shares1 .0 e .phase in absurd (omega arith)) h
-complete-step (draw seed) reg s h = left Complete _ (λ e l. absurd (omega arith)) h
-complete-step (check round x) reg s h = unfold checkedBy refusedBy in
-    left Complete _ (λ e. left Complete _ (λ f. accepted (eqb (s .progress .checked + 1) (s .numbers .rounds)) refl) (λ l. absurd (omega arith))) h
+complete-next : (x : Step) (reg : Bytes) (s : Session) → Complete s → reply x (state s reg) ≡ Taken → Complete (next x (state s reg) .session)
+unfolding reply cleared admittedBy closedBy claimedBy committedBy drawnBy
+complete-next (clear b) reg s h e = λ l. absurd (omega arith)
+complete-next (admit ballot) reg s h e = h
+complete-next (withdraw mark) reg s h e = h
+complete-next close reg s h e = λ l. absurd (omega arith)
+complete-next (claim claims) reg s h e = λ l. absurd (omega arith)
+complete-next (commit k head shares0 shares1) reg s h e = λ l. let was = committed-exactly s k head shares0 shares1 .0 e .phase in absurd (omega arith)
+complete-next (draw seed) reg s h e = λ l. absurd (omega arith)
+complete-next (check round x) reg s h e = accepted (eqb (s .progress .checked + 1) (s .numbers .rounds)) refl
   where
     accepted : (b : Bool) → eqb (s .progress .checked + 1) (s .numbers .rounds) ≡ b → Complete (acceptedBy s)
     accepted true e = unfold acceptedBy in λ l. eqb-true (s .progress .checked + 1) (s .numbers .rounds) e
     accepted false e = unfold acceptedBy in (rw e (λ l. absurd (omega arith)))
+
+complete-step : (x : Step) (reg : Bytes) (s : Session) → Complete s → Complete (after x (state s reg) .session)
+unfolding refusedBy
+complete-step x reg s h = stepped (state s reg) (λ (z : State). Complete (z .session)) x (complete-next x reg s h) (λ number place e. h) (λ number place e was low l. absurd (omega arith))
 
 complete-trace : (cs : List Call) (l : Trace) → Complete (l .session) → Complete (trace cs l .session)
 unfolding trace extend
@@ -125,15 +101,15 @@ unfolding trace NoClear
 no-clear-more [] c l h e = (e, tt)
 no-clear-more (d ∷ cs) c l h e = (h .0, no-clear-more cs c (extend d l) (h .1) e)
 
-module _ (sheet : Bytes) (readable : first (order sheet) ≡ Taken) where
+module _ (b : Beginning) (readable : Begins b) where
   abbrev at : List Call → Trace
-  at cs = trace cs (initial sheet)
+  at cs = trace cs (initial b)
 
   at-more : (cs : List Call) (c : Call) → at (cs ++ (c ∷ [])) ≡ extend c (at cs)
-  at-more cs c = trace-append cs (c ∷ []) (initial sheet) ∙ (unfold trace in refl)
+  at-more cs c = trace-append cs (c ∷ []) (initial b) ∙ (unfold trace in refl)
 
   record All (cs : List Call) : Type 0 where
-    of : (k : ℕ) → k < at cs .session .progress .checked → Checked sheet cs k
+    of : (k : ℕ) → k < at cs .session .progress .checked → Checked b cs k
 
   module _ (cs : List Call) (c : Call) (h : All cs) where
     abbrev s : Session
@@ -143,10 +119,10 @@ module _ (sheet : Bytes) (readable : first (order sheet) ≡ Taken) where
     t = at (cs ++ (c ∷ [])) .session
 
     -- a check that was taken before
-    longer : clears (c .step) (reply (c .step) (lent (at cs) c)) ≡ false → (k : ℕ) → storedFor s k ≡ storedFor t k → Checked sheet cs k → Checked sheet (cs ++ (c ∷ [])) k
+    longer : clears (c .step) (reply (c .step) (lent (at cs) c)) ≡ false → (k : ℕ) → storedFor s k ≡ storedFor t k → Checked b cs k → Checked b (cs ++ (c ∷ [])) k
     longer e k d w =
         let this = call (check k (w .inputs)) (w .register) in
-        let where-at : at cs ≡ trace (w .later) (extend this (at (w .before))) = ap at (w .listed) ∙ trace-append (w .before) (this ∷ w .later) (initial sheet) ∙ (unfold trace in refl) in
+        let where-at : at cs ≡ trace (w .later) (extend this (at (w .before))) = ap at (w .listed) ∙ trace-append (w .before) (this ∷ w .later) (initial b) ∙ (unfold trace in refl) in
         record {
           before = w .before;
           register = w .register;
@@ -160,7 +136,7 @@ module _ (sheet : Bytes) (readable : first (order sheet) ≡ Taken) where
         }
 
     -- one that is taken now
-    new : (k : ℕ) (x : Inputs) → c .step ≡ check k x → reply (check k x) (lent (at cs) c) ≡ Taken → storedFor s k ≡ storedFor t k → Checked sheet (cs ++ (c ∷ [])) k
+    new : (k : ℕ) (x : Inputs) → c .step ≡ check k x → reply (check k x) (lent (at cs) c) ≡ Taken → storedFor s k ≡ storedFor t k → Checked b (cs ++ (c ∷ [])) k
     new k x e r d = record {
       before = cs;
       register = c .register;
@@ -175,19 +151,19 @@ module _ (sheet : Bytes) (readable : first (order sheet) ≡ Taken) where
 
     step : All (cs ++ (c ∷ []))
     unfolding extend
-    step = record { of = λ k l. go (c .step) refl (moves s (c .register) (kept sheet cs readable .unchecked) (c .step)) k (rw (at-more cs c) at l) }
+    step = record { of = λ k l. go (c .step) refl (moves s (c .register) (kept b cs readable .unchecked) (c .step)) k (rw (at-more cs c) at l) }
       where
         now : after (c .step) (lent (at cs) c) .session ≡ t
         now = ap (λ (l : Trace). l .session) (sym (at-more cs c))
 
         go : (x : Step) → c .step ≡ x → Move s (c .register) x (after (c .step) (lent (at cs) c) .session) → (k : ℕ) → k < after (c .step) (lent (at cs) c) .session .progress .checked
-            → Checked sheet (cs ++ (c ∷ [])) k
+            → Checked b (cs ++ (c ∷ [])) k
         go x e (restarted z) k l = absurd (omega arith)
         go x e (same u n d) k l =
             longer (ap (λ (y : Step). clears y (reply y (lent (at cs) c))) e ∙ u) k (d (omega arith) k ∙ ap (λ (w : Session). storedFor w k) now) (h .of k (omega arith))
         go x e (counted {round = round} {x = y} i r n d) k l = by (last (s .progress .checked) k (omega (arith, add-one (s .progress .checked))))
           where
-            by : (k < s .progress .checked) ⊎ (k ≡ s .progress .checked) → Checked sheet (cs ++ (c ∷ [])) k
+            by : (k < s .progress .checked) ⊎ (k ≡ s .progress .checked) → Checked b (cs ++ (c ∷ [])) k
             by (inl j) = longer (ap (λ (y : Step). clears y (reply y (lent (at cs) c))) e) k (d k ∙ ap (λ (w : Session). storedFor w k) now) (h .of k j)
             by (inr j) = rw (j ∙ sym i) (new round y e r (d round ∙ ap (λ (w : Session). storedFor w round) now))
 
@@ -199,9 +175,9 @@ module _ (sheet : Bytes) (readable : first (order sheet) ≡ Taken) where
   every cs = all [] cs (record { of = λ k l. absurd (unfold trace initial cleared in omega arith) })
 
 pub rounds-checked : RoundsChecked
-rounds-checked sheet cs e = every sheet e cs .of
+rounds-checked b cs e = every b e cs .of
 
 pub ended-accepted : EndedAccepted
-ended-accepted sheet cs e ended k l =
-    let all : Complete (trace cs (initial sheet) .session) = complete-trace cs (initial sheet) (λ w. absurd (unfold initial cleared in omega arith)) in
-    every sheet e cs .of k (omega (arith, all ended))
+ended-accepted b cs e ended k l =
+    let all : Complete (trace cs (initial b) .session) = complete-trace cs (initial b) (λ w. absurd (unfold initial cleared in omega arith)) in
+    every b e cs .of k (omega (arith, all ended))

@@ -1,5 +1,5 @@
 -- The second demand: a mark whose withdrawal was taken stands in no batch closed later, before the next clear taken. Assumes nothing.
-use mathlib.Core.Path.{_≡_, refl, sym, subst, _∙_}
+use mathlib.Core.Path.{_≡_, refl, sym, _∙_}
 use mathlib.Core.Logic.{_≢_}
 use mathlib.Core.Bool.{true, false}
 use mathlib.Core.List.{List, [], _∷_, List·Memᴰ}
@@ -8,23 +8,20 @@ use native.Mathlib.Omega.{arith}
 use native.Mathlib.Decide.{ℕ-discrete}
 use lib.ListN.{length, length-map}
 use Rattle.codec.specs.Bytes.{Bytes, zeros}
-use Rattle.codec.specs.Reply.{first}
 use Rattle.codec.specs.declared.Reply.{Reply}
 use Rattle.codec.specs.declared.Reply.the-variants.{Taken}
-use Rattle.call.proofs.Sweeping.{leaves-taken}
 use Rattle.register.specs.Register.{registerLength, markAt, stateAt, digestAt, find, standing, standingDigests, markOf, admitted, withdrawn}
 use Rattle.register.proofs.Entries.{stands, admitted-marks, admitted-states, admitted-mark, withdrawn-marks, withdrawn-state, withdrawn-states}
-use Rattle.session.specs.declared.Session.{Session}
-use Rattle.session.specs.Steps.{clearTests, cleared, admittedBy, withdrawTests, closeTests, closedBy, claimedBy, committedBy, drawnBy, acceptedBy, refusedBy, checkedBy}
-use Rattle.session.specs.Machine.{Step, clear, admit, withdraw, close, claim, commit, draw, check, State, reply, after}
+use Rattle.session.specs.Steps.{Beginning, cleared, admittedBy, closedBy, claimedBy, committedBy, drawnBy, acceptedBy, refusedBy}
+use Rattle.session.specs.Machine.{Step, clear, admit, withdraw, close, claim, commit, draw, check, State, next, reply, after}
 use Rattle.histories.specs.Runs.{clears, run, Uncleared, none, more}
 use Rattle.histories.specs.Conditions.{Admits, Withdraws}
 use Rattle.histories.specs.Claims.{ClosedWithout, StaysOut}
-use Rattle.histories.proofs.Replies.{left, left-both}
+use Rattle.histories.proofs.Stepped.{stepped, after-taken}
 use Rattle.histories.proofs.Exact.{here, admitted-exactly, withdrawn-exactly}
 
-clears-taken : (text : Bytes) (r : Reply) → r ≡ Taken → clears (clear text) r ≡ true
-clears-taken text r e = rw e
+clears-taken : (b : Beginning) (r : Reply) → r ≡ Taken → clears (clear b) r ≡ true
+clears-taken b r e = rw e
 
 -- no mark has two entries
 pub record Single (reg : Bytes) (used : ℕ) : Type 0 where
@@ -52,22 +49,22 @@ out mark i used reg s g m k =
 module _ (P : Bytes → ℕ → Type 0) (st : State)
     (admits : (ballot : Bytes) → Admits (st .session) (st .register) ballot → P (admitted (st .register) (st .session .progress .used) ballot) (st .session .progress .used + 1))
     (withdraws : (mark : ℕ) → Withdraws (st .session) (st .register) mark → P (withdrawn (st .register) (find (st .register) mark (st .session .progress .used))) (st .session .progress .used)) where
-  abbrev Both : Session → Bytes → Type 0
-  Both s reg = P reg (s .progress .used)
+  abbrev Here : State → Type 0
+  Here z = P (z .register) (z .session .progress .used)
 
-  abbrev Used : Session → Type 0
-  Used s = P (st .register) (s .progress .used)
-
-  rule : (x : Step) → (clears x (reply x st) ≡ true → P (zeros registerLength) 0) → P (st .register) (st .session .progress .used) → P (after x st .register) (after x st .session .progress .used)
-  unfolding reply after cleared admittedBy closedBy claimedBy committedBy drawnBy acceptedBy refusedBy checkedBy
-  rule (clear text) c h = left-both Both (first (clearTests (st .register) text)) (λ e. c (clears-taken text _ e)) h
-  rule (admit ballot) c h = left-both Both _ (λ e. admits ballot (admitted-exactly (st .session) (st .register) ballot .0 e)) h
-  rule (withdraw mark) c h = left (λ reg. P reg (st .session .progress .used)) _ (λ e. withdraws mark (withdrawn-exactly (st .session) (st .register) mark .0 e)) h
-  rule close c h = left Used _ (λ e. h) h
-  rule (claim claims) c h = left Used _ (λ e. h) h
-  rule (commit k head shares0 shares1) c h = left Used _ (λ e. h) h
-  rule (draw seed) c h = left Used _ (λ e. h) h
-  rule (check k x) c h = left Used _ (λ e. left Used _ (λ f. h) h) h
+  rule : (x : Step) → (clears x (reply x st) ≡ true → P (zeros registerLength) 0) → Here st → Here (after x st)
+  unfolding refusedBy
+  rule x c h = stepped st Here x (taken x c) (λ number place e. h) (λ number place e was low. h)
+    where
+      taken : (x : Step) → (clears x (reply x st) ≡ true → P (zeros registerLength) 0) → reply x st ≡ Taken → Here (next x st)
+      taken (clear b) c e = unfold cleared in c (clears-taken b _ e)
+      taken (admit ballot) c e = unfold reply admittedBy in admits ballot (admitted-exactly (st .session) (st .register) ballot .0 e)
+      taken (withdraw mark) c e = unfold reply in withdraws mark (withdrawn-exactly (st .session) (st .register) mark .0 e)
+      taken close c e = unfold closedBy in h
+      taken (claim claims) c e = unfold claimedBy in h
+      taken (commit k head shares0 shares1) c e = unfold committedBy in h
+      taken (draw seed) c e = unfold drawnBy in h
+      taken (check k x) c e = unfold acceptedBy in h
 
 module _ (st : State) where
   abbrev reg : Bytes
@@ -157,15 +154,11 @@ module _ (st : State) where
       (λ t. absurd (let z : _≡_ {A = ℕ} 0 1 = cc in omega arith)) h
 
   gone-after : (mark : ℕ) → reply (withdraw mark) st ≡ Taken → Gone mark (after (withdraw mark) st .register) (after (withdraw mark) st .session .progress .used)
-  unfolding reply after
-  gone-after mark e = rw (← leaves-taken (first (withdrawTests (st .session) reg mark)) {x = withdrawn reg (find reg mark used)} reg e) (gone-first mark (withdrawn-exactly (st .session) reg mark .0 e))
+  gone-after mark e = rw (after-taken st (withdraw mark) e) (gone-first mark (withdrawn-exactly (st .session) reg mark .0 (unfold reply in e)))
 
   -- after a clear that is taken no entry is used
-  single-clear : (sheet : Bytes) → reply (clear sheet) st ≡ Taken → Single (after (clear sheet) st .register) (after (clear sheet) st .session .progress .used)
-  unfolding reply after cleared
-  single-clear sheet e =
-      let r = first (clearTests reg sheet) in
-      rw (← leaves-taken r {x = zeros registerLength} reg e, ← leaves-taken r {x = cleared sheet} (st .session) e) (single-none (zeros registerLength))
+  single-clear : (b : Beginning) → reply (clear b) st ≡ Taken → Single (after (clear b) st .register) (after (clear b) st .session .progress .used)
+  single-clear b e = rw (after-taken st (clear b) e) (unfold cleared in single-none (zeros registerLength))
 
 -- ---- over a run
 
@@ -183,16 +176,15 @@ gone-run mark (more {x = x} {st = st} c u) h = gone-run mark u (gone-step st mar
 closed-without : (mark : ℕ) (st : State) → reply close st ≡ Taken
     → ((i : ℕ) → List·Memᴰ i (standing (st .register) (st .session .progress .used)) → markAt (st .register) i ≢ mark)
     → ClosedWithout mark (st .register) (after close st .session)
-unfolding reply after closedBy standingDigests
+unfolding closedBy standingDigests
 closed-without mark st e others =
     let s = st .session in
     let reg = st .register in
-    subst (ClosedWithout mark reg) (leaves-taken (first (closeTests s reg)) {x = closedBy s reg} s e)
-    (record { out = others; count = length-map (standing reg (s .progress .used)) (digestAt reg); digest = refl })
+    rw (after-taken st close e) (record { out = others; count = length-map (standing reg (s .progress .used)) (digestAt reg); digest = refl })
 
 pub withdrawn-stays-out : StaysOut
-withdrawn-stays-out start sheet before between mark c e u d =
-    let found = run before (after (clear sheet) start) in
-    let single = single-run before (after (clear sheet) start) (single-clear start sheet c) in
+withdrawn-stays-out start b before between mark c e u d =
+    let found = run before (after (clear b) start) in
+    let single = single-run before (after (clear b) start) (single-clear start b c) in
     let later = single-run between (after (withdraw mark) found) (single-step found (withdraw mark) single) in
     closed-without mark _ d (λ i. out mark i _ _ later (gone-run mark u (gone-after found mark e)))

@@ -88,8 +88,8 @@ module _ (s : Session) (round : ℕ) (x : Inputs) where
         let d : v ≡ verdict early late = f ∙ ap (λ (y : Bytes). outcome (holding s round y) x) m ∙ ap (λ (y : Reply). verdict y late) (sym on) in
         let said = verdict-first (checkEarly s round x) (checkLate s round x) in
         let left : (register : Bytes) → state (judgedBy (verdict early late) s) register ≡ after (check round x) (state s register) = λ register.
-            verdict-leaves early late s register
-            ∙ ap (λ (y : Reply). leaves y (state (acceptedBy s) register) (leaves early (state (refusedBy s) register) (state s register))) said in
+        verdict-leaves early late s register
+        ∙ ap (λ (y : Reply). leaves y (state (acceptedBy s) register) (leaves early (state (refusedBy s) register) (state s register))) said in
         record {
           done = λ register. record {
             replied = g .0 ∙ ap replyOf d ∙ said;
