@@ -6,7 +6,7 @@ use native.Mathlib.Omega.{arith}
 use Rattle.codec.specs.Bytes.{Octets}
 use Rattle.codec.specs.Reply.{None, first}
 use Rattle.codec.specs.declared.Reply.the-variants.{Taken}
-use Rattle.codec.proofs.Replies as replies
+use Rattle.codec.proofs.Replies.{taken-exactly}
 use Rattle.transcript.specs.Accepted.{Accepted}
 use Rattle.transcript.proofs.Many.{none-append, append-none}
 use Rattle.transcript.proofs.Accepted.{none-exactly}
@@ -18,7 +18,7 @@ use Rattle.session.specs.declared.Session.{Session}
 use Rattle.session.specs.Steps.{storedFor, checkEarly, checkLate, checkTests}
 use Rattle.session.specs.Machine.{clear, admit, withdraw, close, claim, commit, draw, check, reply}
 use Rattle.histories.specs.Conditions.{Valid, SheetTaken, Checks}
-use Rattle.histories.specs.Claims.{TakenExactly}
+use Rattle.histories.specs.Claims.{StepExactly}
 use Rattle.histories.proofs.Exact.{cleared-exactly, admitted-exactly, withdrawn-exactly, closed-exactly, claimed-exactly, committed-exactly, drawn-exactly}
 use Rattle.histories.proofs.Valid.{ready, is-ready, on-turn, is-turn, sheet-exactly}
 
@@ -73,17 +73,17 @@ module _ (s : Session) (round : ℕ) (x : Inputs) where
 
 pub accepted-exactly : (s : Session) (round : ℕ) (x : Inputs) → Octets (x .head) → (first (checkTests s round x) ≡ Taken) ↔ Checks s round x
 accepted-exactly s round x octets =
-    let t = replies.taken-exactly (checkTests s round x) in
+    let t = taken-exactly (checkTests s round x) in
     let c = checks-exactly s round x octets in
     (λ e. c .0 (t .0 e), λ h. t .1 (c .1 h))
 
-pub taken-exactly : TakenExactly
+pub step-exactly : StepExactly
 unfolding reply
-taken-exactly (clear b) st lent = cleared-exactly (st .register) b
-taken-exactly (admit ballot) st lent = admitted-exactly (st .session) (st .register) ballot
-taken-exactly (withdraw mark) st lent = withdrawn-exactly (st .session) (st .register) mark
-taken-exactly close st lent = closed-exactly (st .session) (st .register)
-taken-exactly (claim claims) st lent = claimed-exactly (st .session) claims
-taken-exactly (commit k head shares0 shares1) st lent = committed-exactly (st .session) k head shares0 shares1
-taken-exactly (draw seed) st lent = drawn-exactly (st .session) seed
-taken-exactly (check k x) st lent = accepted-exactly (st .session) k x lent
+step-exactly (clear b) st lent = cleared-exactly (st .register) b
+step-exactly (admit ballot) st lent = admitted-exactly (st .session) (st .register) ballot
+step-exactly (withdraw mark) st lent = withdrawn-exactly (st .session) (st .register) mark
+step-exactly close st lent = closed-exactly (st .session) (st .register)
+step-exactly (claim claims) st lent = claimed-exactly (st .session) claims
+step-exactly (commit k head shares0 shares1) st lent = committed-exactly (st .session) k head shares0 shares1
+step-exactly (draw seed) st lent = drawn-exactly (st .session) seed
+step-exactly (check k x) st lent = accepted-exactly (st .session) k x lent

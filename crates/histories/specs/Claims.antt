@@ -58,8 +58,8 @@ module _ (P : Parameters) (m : ℕ) (material : Material) (seed : Bytes) (k : �
 
 -- ---- the second demand: each step is taken exactly if its conditions hold, the check in every round; what is lent is bytes
 
-abbrev pub TakenExactly : Type 0
-TakenExactly = (x : Step) (st : State) → Lent x → (reply x st ≡ Taken) ↔ Takes x st
+abbrev pub StepExactly : Type 0
+StepExactly = (x : Step) (st : State) → Lent x → (reply x st ≡ Taken) ↔ Takes x st
 
 -- ---- the second demand: withdrawn stays out
 

@@ -30,34 +30,25 @@ use Rattle.lengths.specs.Calls.{openingsTests}
 use Rattle.lengths.specs.Sheets.{parametersOf, ballotsIn}
 use Rattle.verification.proofs.Tested.{lent-message, lent-openings, extract-lengths}
 use Rattle.verification_calls.specs.Replies.{extractReply}
-use Rattle.session.specs.Steps.{admitTests, checkTests}
+use Rattle.session.specs.Machine.{state, reply}
 use Rattle.image.specs.Image.{decode}
-use Rattle.session_calls.specs.Images.{admitReply, checkReply}
+use Rattle.session_calls.specs.Images.{hostReply}
 use Rattle.histories.specs.Examples.{all-examples}
 use Rattle.histories.proofs.Valid.{sheet-exactly}
-use Rattle.histories.proofs.Exact.{cleared-exactly, admitted-exactly, withdrawn-exactly, closed-exactly, claimed-exactly, committed-exactly, drawn-exactly}
-use Rattle.histories.proofs.Checked.{accepted-exactly}
-use Rattle.histories.proofs.Withdrawn.{withdrawn-stays-out}
-use Rattle.histories.proofs.Rounds.{rounds-checked, ended-accepted}
-use Rattle.histories.proofs.Reach.{clear-taken, reachable-valid, only-phase-or-round}
-use Rattle.histories.proofs.Honest.{honest-accepted}
+use Rattle.histories.proofs.Checked.{step-exactly}
 use Rattle.histories.proofs.Roll.{roll-is-batch, own-register}
 use Rattle.jackdawnail.proofs.HostSteps.{over-images}
-use Rattle.jackdawnail.proofs.HostClaims.{host-stays-out, host-ended-accepted, host-honest-accepted}
+use Rattle.jackdawnail.proofs.HostClaims.{host-stays-out, host-rounds-checked, host-ended-accepted, host-honest-accepted, host-stays-valid, host-only-phase-or-round}
 use Rattle.jackdawnail.proofs.Images.{over-image}
 use Rattle.jackdawnail.proofs.Yields.{extractor-takes}
 use Rattle.jackdawnail.proofs.Produces.{first-exactly, second-call-exactly}
-use Rattle.jackdawnail.specs.Demands.{SheetExactly, AcceptedExactly, AdmittedExactly, HonestBallots, Demand2, Extracts, AcceptedYields, RefusesAsChecks, ProducerWrites, HonestRounds, Demand3}
+use Rattle.jackdawnail.specs.Demands.{SheetExactly, StepExactly, HonestBallots, Demand2, Extracts, AcceptedYields, RefusesAsChecks, ProducerWrites, HonestRounds, Demand3}
 
 -- ---- over an image
 
-accepted : AcceptedExactly
-unfolding checkReply
-accepted image round x octets = over-image image (λ s. first (checkTests s round x)) (accepted-exactly (decode image) round x octets)
-
-admitted : AdmittedExactly
-unfolding admitReply
-admitted image reg ballot = over-image image (λ s. first (admitTests s reg ballot)) (admitted-exactly (decode image) reg ballot)
+steps : StepExactly
+unfolding hostReply
+steps x image register lent = over-image image (λ s. reply x (state s register)) (step-exactly x (state (decode image) register) lent)
 
 -- ---- over a sheet that is taken
 
@@ -122,22 +113,13 @@ refuses-as-checks P m x opens answers lending = (refuses-exactly P m x opens ans
 pub demand2 : Demand2
 demand2 = record {
   sheet-exactly = sheets;
-  accepted-exactly = accepted;
-  rounds-checked = rounds-checked;
-  ended-accepted = ended-accepted;
-  admitted-exactly = admitted;
-  cleared-exactly = cleared-exactly;
-  withdrawn-exactly = withdrawn-exactly;
-  closed-exactly = closed-exactly;
-  claimed-exactly = claimed-exactly;
-  committed-exactly = committed-exactly;
-  drawn-exactly = drawn-exactly;
-  withdrawn-stays-out = withdrawn-stays-out;
+  step-exactly = steps;
+  rounds-checked = host-rounds-checked;
+  ended-accepted = host-ended-accepted;
+  withdrawn-stays-out = host-stays-out;
   honest-ballots = honest-ballots;
   examples = all-examples;
   over-images = over-images;
-  host-stays-out = host-stays-out;
-  host-ended-accepted = host-ended-accepted;
 }
 
 pub demand3 : Demand3
@@ -148,13 +130,11 @@ demand3 = record {
   check-parts = parts-exactly;
   lent-rounds = lending;
   takes-accepted = takes-accepted;
-  honest-accepted = honest-accepted;
-  host-honest-accepted = host-honest-accepted honest-accepted;
+  honest-accepted = host-honest-accepted;
   honest-rounds = honest-rounds;
   producer-writes = producer-writes;
-  clear-taken = clear-taken;
-  stays-valid = reachable-valid;
-  only-phase-or-round = only-phase-or-round;
+  stays-valid = host-stays-valid;
+  only-phase-or-round = host-only-phase-or-round;
   roll-is-batch = roll-is-batch;
   own-register = own-register;
 }

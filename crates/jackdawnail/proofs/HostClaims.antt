@@ -3,20 +3,23 @@ use mathlib.Core.Path.{_≡_, sym, ap, subst, _∙_}
 use mathlib.Core.List.{List, [], _∷_}
 use Prim.Native.Nat.{ℕ, _<_}
 use Rattle.codec.specs.Bytes.{Bytes}
-use Rattle.codec.specs.Reply.{first}
 use Rattle.codec.specs.declared.Reply.{Reply}
 use Rattle.codec.specs.declared.Reply.the-variants.{Taken}
-use Rattle.sheet.specs.Sheet.{order}
+use Rattle.sheet.specs.Reader.{sheetOf}
 use Rattle.session.specs.declared.Session.{Session}
 use Rattle.image.specs.Image.{decode}
+use Rattle.session.specs.Steps.{Beginning}
 use Rattle.session.specs.Machine.{Step, clear, withdraw, close, check, State, state, reply, after}
-use Rattle.histories.specs.Runs.{Call, clears, initial, ownInitial, run, Uncleared, none, more, trace}
-use Rattle.histories.specs.Claims.{Checked, HonestAccepted}
+use Rattle.histories.specs.Runs.{Call, clears, Begins, initial, ownInitial, run, Uncleared, none, more, trace}
+use Rattle.histories.specs.Conditions.{Valid}
+use Rattle.histories.specs.Claims.{Checked, Undue}
 use Rattle.histories.proofs.Withdrawn.{withdrawn-stays-out}
-use Rattle.histories.proofs.Reach.{clear-taken}
-use Rattle.histories.proofs.Rounds.{ended-accepted}
-use Rattle.jackdawnail.specs.HostSteps.{Host, Holds, hostReply, hostAfter, hostRun, hostTrace}
-use Rattle.jackdawnail.specs.HostClaims.{HostUncleared, Starts, HostStaysOut, HostEndedAccepted, HostHonestAccepted}
+use Rattle.histories.proofs.Reach.{clear-taken, reachable-valid, only-phase-or-round}
+use Rattle.histories.proofs.Honest.{honest-accepted}
+use Rattle.histories.proofs.Rounds.{rounds-checked, ended-accepted}
+use Rattle.session_calls.specs.Images.{Host, host, hostReply, hostAfter}
+use Rattle.jackdawnail.specs.HostSteps.{Holds, hostRun, hostTrace}
+use Rattle.jackdawnail.specs.HostClaims.{HostUncleared, Starts, HostStaysOut, HostRoundsChecked, HostEndedAccepted, HostHonestAccepted, HostStaysValid, HostOnlyPhaseOrRound}
 use Rattle.jackdawnail.proofs.HostSteps.{over-images}
 
 -- ---- with the register that was left
@@ -45,50 +48,69 @@ uncleared (x ∷ xs) h st k u =
 
 -- ---- from a clear that is taken
 
-module _ (start : Host) (sheet : Bytes) (s : Starts start sheet) where
+module _ (start : Host) (b : Beginning) (s : Starts start b) where
   abbrev st : State
   st = state (decode (start .image)) (start .register)
 
   keeps : Keeps start st
   keeps = record { image = over-images .bytes-hold (start .image) (s .sized) (s .octets); register = λ i. start .register }
 
-  taken : reply (clear sheet) st ≡ Taken
-  taken = sym (over-step (clear sheet) start st keeps .0) ∙ s .taken
+  taken : reply (clear b) st ≡ Taken
+  taken = sym (over-step (clear b) start st keeps .0) ∙ s .taken
 
-  readable : first (order sheet) ≡ Taken
-  readable = clear-taken st sheet taken .0
+  readable : Begins b
+  readable = clear-taken st b taken .0
 
-  newly : Keeps (hostAfter (clear sheet) start) (after (clear sheet) st)
-  newly = over-step (clear sheet) start st keeps .1
+  newly : Keeps (hostAfter (clear b) start) (after (clear b) st)
+  newly = over-step (clear b) start st keeps .1
 
-  begins : Holds (hostAfter (clear sheet) start .image) (initial sheet .session)
-  begins = subst (Holds (hostAfter (clear sheet) start .image)) same (newly .image)
+  begins : Holds (hostAfter (clear b) start .image) (initial b .session)
+  begins = subst (Holds (hostAfter (clear b) start .image)) same (newly .image)
     where
-      same : after (clear sheet) st .session ≡ initial sheet .session
-      same = unfold ownInitial initial in ap (λ (z : State). z .session) (clear-taken st sheet taken .1)
+      same : after (clear b) st .session ≡ initial b .session
+      same = unfold ownInitial initial in ap (λ (z : State). z .session) (clear-taken st b taken .1)
 
-  traced : (cs : List Call) → Holds (hostTrace cs (hostAfter (clear sheet) start .image)) (trace cs (initial sheet) .session)
-  traced cs = over-images .any-register cs (hostAfter (clear sheet) start .image) (initial sheet) begins
+  traced : (cs : List Call) → Holds (hostTrace cs (hostAfter (clear b) start .image)) (trace cs (initial b) .session)
+  traced cs = over-images .any-register cs (hostAfter (clear b) start .image) (initial b) begins
 
 -- ---- the claims
 
 pub host-stays-out : HostStaysOut
-host-stays-out start sheet before between mark s e u d =
-    let found = hostRun before (hostAfter (clear sheet) start) in
+host-stays-out start b before between mark s e u d =
+    let found = hostRun before (hostAfter (clear b) start) in
     let last = hostRun between (hostAfter (withdraw mark) found) in
-    let there = run before (after (clear sheet) (st start sheet s)) in
-    let k : Keeps found there = over-run before (hostAfter (clear sheet) start) (after (clear sheet) (st start sheet s)) (newly start sheet s) in
+    let there = run before (after (clear b) (st start b s)) in
+    let k : Keeps found there = over-run before (hostAfter (clear b) start) (after (clear b) (st start b s)) (newly start b s) in
     let w = over-step (withdraw mark) found there k in
     let l : Keeps last (run between (after (withdraw mark) there)) = over-run between (hostAfter (withdraw mark) found) (after (withdraw mark) there) (w .1) in
     let c = over-step close last (run between (after (withdraw mark) there)) l in
-    let out = withdrawn-stays-out (st start sheet s) sheet before between mark (taken start sheet s) (sym (w .0) ∙ e) (uncleared between (hostAfter (withdraw mark) found) (after (withdraw mark) there) (w .1) u) (sym (c .0) ∙ d) in
+    let out = withdrawn-stays-out (st start b s) b before between mark (taken start b s) (sym (w .0) ∙ e) (uncleared between (hostAfter (withdraw mark) found) (after (withdraw mark) there) (w .1) u) (sym (c .0) ∙ d) in
     rw (c .1 .image .session, l .register) out
 
-pub host-ended-accepted : HostEndedAccepted
-host-ended-accepted start sheet cs s =
-    subst (λ (z : Session). z .progress .phase ≡ 5 → (k : ℕ) → k < z .numbers .rounds → Checked sheet cs k) (sym (traced start sheet s cs .session)) (ended-accepted sheet cs (readable start sheet s))
+-- what is shown of the session that a list of steps reaches is shown of the session in the image
+in-image : (P : Session → Type 0) (start : Host) (b : Beginning) (cs : List Call) (s : Starts start b) → P (trace cs (initial b) .session) → P (decode (hostTrace cs (hostAfter (clear b) start .image)))
+in-image P start b cs s h = subst P (sym (traced start b s cs .session)) h
 
-pub host-honest-accepted : HonestAccepted → HostHonestAccepted
-host-honest-accepted honest start sheet cs s register material round x turn =
-    over-images .one-step (check round x) (hostTrace cs (hostAfter (clear sheet) start .image)) register (trace cs (initial sheet) .session) (traced start sheet s cs) .0
-    ∙ honest sheet cs (readable start sheet s) register material round x turn
+pub host-rounds-checked : HostRoundsChecked
+host-rounds-checked start b cs s = in-image (λ (z : Session). (k : ℕ) → k < z .progress .checked → Checked b cs k) start b cs s (rounds-checked b cs (readable start b s))
+
+pub host-ended-accepted : HostEndedAccepted
+host-ended-accepted start b cs s =
+    in-image (λ (z : Session). z .progress .phase ≡ 5 → (k : ℕ) → k < z .numbers .rounds → Checked b cs k) start b cs s (ended-accepted b cs (readable start b s))
+
+pub host-stays-valid : HostStaysValid
+host-stays-valid start b cs s =
+    in-image (λ (z : Session). Valid z × (z .numbers ≡ sheetOf (trace cs (initial b) .history .sheet) .numbers)) start b cs s (reachable-valid b cs (readable start b s))
+
+-- the reply of one more call
+answered : (start : Host) (b : Beginning) (cs : List Call) (s : Starts start b) (x : Step) (register : Bytes)
+    → hostReply x (host (hostTrace cs (hostAfter (clear b) start .image)) register) ≡ reply x (state (trace cs (initial b) .session) register)
+answered start b cs s x register = over-images .one-step x (hostTrace cs (hostAfter (clear b) start .image)) register (trace cs (initial b) .session) (traced start b s cs) .0
+
+pub host-only-phase-or-round : HostOnlyPhaseOrRound
+host-only-phase-or-round start b cs s x register place e =
+    in-image (λ (z : Session). Undue x z) start b cs s (only-phase-or-round b cs (readable start b s) x register place (sym (answered start b cs s x register) ∙ e))
+
+pub host-honest-accepted : HostHonestAccepted
+host-honest-accepted start b cs s register material round x turn =
+    answered start b cs s (check round x) register ∙ honest-accepted b cs (readable start b s) register material round x turn

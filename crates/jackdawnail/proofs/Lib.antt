@@ -1,5 +1,6 @@
 pub mod Answers
 pub mod Images
+pub mod Typed
 pub mod HostSteps
 pub mod HostClaims
 pub mod Produces

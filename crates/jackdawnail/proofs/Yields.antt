@@ -32,7 +32,8 @@ use Rattle.checking.proofs.Laws.{round-sized, early-exactly}
 use Rattle.session.specs.declared.Session.{Session}
 use Rattle.session.specs.Steps.{storedFor, checkEarly, checkLate, checkTests}
 use Rattle.image.specs.Image.{decode}
-use Rattle.session_calls.specs.Images.{checkReply}
+use Rattle.session.specs.Machine.{reply}
+use Rattle.session_calls.specs.Images.{hostReply}
 use Rattle.histories.proofs.Valid.{ready, sheet-exactly}
 use Rattle.jackdawnail.proofs.Images.{lent-exactly}
 use Rattle.jackdawnail.proofs.Produces.{none-call}
@@ -61,7 +62,7 @@ passed-by s round x e =
 
 -- the count of its session is that of the lent ballots
 passed : {text : Bytes} (x : Openings) (c : AcceptedCheck text) → OfLent x (roundOf c) → Passed text (ballotsIn text (x .ballots)) (roundOf c)
-unfolding checkReply
+unfolding hostReply reply
 passed {text} x c o =
     let s = decode (c .image) in
     let taken = lent-exactly (c .image) (λ t. first (checkTests t (c .round) (c .inputs))) .0 (c .taken) .1 in

@@ -18,7 +18,8 @@ use Rattle.bgv.specs.Examples.{Row}
 use Rattle.transcript.specs.Round.{Parameters, Round, roundTests}
 use Rattle.transcript.specs.Producer.{Material, Sized, producedRound}
 use Rattle.transcript.specs.Suitable.{Suitable}
-use Rattle.transcript.specs.Extractor.{Openings, extractRoom, Lent, extractTests, kind, extracted, Found, Hashed, Lowest, Output}
+use Rattle.transcript.specs.Extractor as extractor
+use Rattle.transcript.specs.Extractor.{Openings, extractRoom, extractTests, kind, extracted, Found, Hashed, Lowest, Output}
 use Rattle.transcript.specs.Refuses.{openingTests, repetitionTests, OpensLent, AnswersLent, lentRound, Lending, ChecksTake, ChecksRefuse}
 use Rattle.lengths.specs.Sheets.{parametersOf, ballotsIn}
 use Rattle.transcript.specs.Writes.{firstRoom, secondRoom}
@@ -26,14 +27,15 @@ use Rattle.round_calls.specs.Replies.{firstReply, secondReply}
 use Rattle.verification_calls.specs.Replies.{extractReply}
 use Rattle.checking.specs.Check.{Inputs, drawnRound}
 use Rattle.session.specs.Steps.{storedFor}
+use Rattle.session.specs.Machine.{Step, check, state}
 use Rattle.image.specs.Image.{imageLength, decode}
-use Rattle.session_calls.specs.Images.{admitReply, checkReply}
-use Rattle.histories.specs.Conditions.{SheetTaken, Admits, Checks}
-use Rattle.histories.specs.Claims.{ClearedExactly, WithdrawnExactly, ClosedExactly, ClaimedExactly, CommittedExactly, DrawnExactly, StaysOut, RoundsChecked, EndedAccepted, ClearTaken, StaysValid, OnlyPhaseOrRound, HonestAccepted, RollIsBatch, OwnRegister}
+use Rattle.session_calls.specs.Images.{host, hostReply}
+use Rattle.histories.specs.Conditions.{SheetTaken, Lent, Takes}
+use Rattle.histories.specs.Claims.{RollIsBatch, OwnRegister}
 use Rattle.histories.specs.Examples.{all-rows}
 use Rattle.jackdawnail.specs.Produces.{WritesFirst, WritesSecond}
 use Rattle.jackdawnail.specs.HostSteps.{OverImages}
-use Rattle.jackdawnail.specs.HostClaims.{HostStaysOut, HostEndedAccepted, HostHonestAccepted}
+use Rattle.jackdawnail.specs.HostClaims.{HostStaysOut, HostRoundsChecked, HostEndedAccepted, HostHonestAccepted, HostStaysValid, HostOnlyPhaseOrRound}
 
 -- ---- 2. Everything equals the papers, a round is accepted exactly if every listed check holds, and a withdrawn mark is in no closed batch.
 
@@ -41,14 +43,11 @@ use Rattle.jackdawnail.specs.HostClaims.{HostStaysOut, HostEndedAccepted
 abbrev pub SheetExactly : Type 0
 SheetExactly = (text : Bytes) → (first (order text) ≡ Taken) ↔ SheetTaken text
 
--- a check is taken exactly if the image has its length and all of `Checks` holds of the session in it, in every round
-abbrev pub AcceptedExactly : Type 0
-AcceptedExactly = (image : Bytes) (round : ℕ) (x : Inputs) → Octets (x .head)
-    → (checkReply image round x ≡ Taken) ↔ ((length image ≡ imageLength) × Checks (decode image) round x)
-
--- a ballot is admitted exactly if all of `Admits` holds: "full" means 4,096 entries
-abbrev pub AdmittedExactly : Type 0
-AdmittedExactly = (image reg ballot : Bytes) → (admitReply image reg ballot ≡ Taken) ↔ ((length image ≡ imageLength) × Admits (decode image) reg ballot)
+-- a step is taken exactly if the image has its length and its conditions hold of the session in it: a check in every round if all of `Checks` holds, a ballot is admitted if all of
+-- `Admits` does, where "full" means 4,096 entries, and so on; what is lent is bytes
+abbrev pub StepExactly : Type 0
+StepExactly = (x : Step) (image register : Bytes) → Lent x
+    → (hostReply x (host image register) ≡ Taken) ↔ ((length image ≡ imageLength) × Takes x (state (decode image) register))
 
 -- a ballot made with short r, e' and e'' under a key that matches the sheet's b has noise within D, and decrypts to its message
 abbrev pub HonestBallots : Type 0
@@ -66,25 +65,15 @@ Examples = map (λ (x : Row). x .got) all-rows ≡ map (λ (x : Row). x .said) a
 
 pub record Demand2 : Type 0 where
   pub sheet-exactly : SheetExactly
-  pub accepted-exactly : AcceptedExactly
-  -- over every list of steps from a newly cleared session: a round that a session counts as checked has had its check, and of a session that ended accepted every round has
-  pub rounds-checked : RoundsChecked
-  pub ended-accepted : EndedAccepted
-  pub admitted-exactly : AdmittedExactly
-  -- the other steps, each taken exactly under its conditions
-  pub cleared-exactly : ClearedExactly
-  pub withdrawn-exactly : WithdrawnExactly
-  pub closed-exactly : ClosedExactly
-  pub claimed-exactly : ClaimedExactly
-  pub committed-exactly : CommittedExactly
-  pub drawn-exactly : DrawnExactly
-  pub withdrawn-stays-out : StaysOut
+  pub step-exactly : StepExactly
+  -- over every list of calls from a clear that is taken: a round that a session counts as checked has had its check, and of a session that ended accepted every round has
+  pub rounds-checked : HostRoundsChecked
+  pub ended-accepted : HostEndedAccepted
+  pub withdrawn-stays-out : HostStaysOut
   pub honest-ballots : HonestBallots
   pub examples : Examples
   -- what is shown of steps and of lists of steps over sessions holds of the exported calls over images
   pub over-images : OverImages
-  pub host-stays-out : HostStaysOut
-  pub host-ended-accepted : HostEndedAccepted
 
 -- ---- 3. Two accepted openings and three accepted answers yield a hash collision, a short commitment vector or the key, and every honest round is accepted whatever is drawn.
 
@@ -106,7 +95,8 @@ pub record AcceptedCheck (text : Bytes) : Type 0 where
   pub round : ℕ
   pub inputs : Inputs
   pub sheet : inputs .sheet ≡ text
-  pub taken : checkReply image round inputs ≡ Taken
+  pub register : Bytes
+  pub taken : hostReply (check round inputs) (host image register) ≡ Taken
 
 -- what it was lent, with the side and the challenges that the seed in its image draws for its round
 abbrev pub roundOf : {text : Bytes} → AcceptedCheck text → Round
@@ -140,7 +130,7 @@ CheckParts = (P : Parameters) (m : ℕ) (r : Round) → None (roundTests P m r) 
 
 -- there are such checks, of whatever is lent in the right lengths
 abbrev pub LentRounds : Type 0
-LentRounds = (P : Parameters) (m : ℕ) (x : Openings) → Lent P m x → x .repetition < P .repeats → Lending P m x (λ i. lentRound P x i 1) (λ c. lentRound P x 0 c)
+LentRounds = (P : Parameters) (m : ℕ) (x : Openings) → extractor.Lent P m x → x .repetition < P .repeats → Lending P m x (λ i. lentRound P x i 1) (λ c. lentRound P x 0 c)
 
 -- and so the extractor takes openings and answers that checks accepted
 abbrev pub TakesAccepted : Type 0
@@ -168,16 +158,13 @@ pub record Demand3 : Type 0 where
   pub check-parts : CheckParts
   pub lent-rounds : LentRounds
   pub takes-accepted : TakesAccepted
-  -- over every list of steps from a newly cleared session, each lent any register: a round of the producer's that is lodged is accepted at its turn
-  pub honest-accepted : HonestAccepted
-  pub host-honest-accepted : HostHonestAccepted
+  -- over every list of calls from a clear that is taken, each lent any register: a round of the producer's that is lodged is accepted at its turn
+  pub honest-accepted : HostHonestAccepted
   pub honest-rounds : HonestRounds
   pub producer-writes : ProducerWrites
-  -- a clear that is taken leaves what such a list starts from
-  pub clear-taken : ClearTaken
-  -- no step of such a list meets 31 but for wrong phase or round
-  pub stays-valid : StaysValid
-  pub only-phase-or-round : OnlyPhaseOrRound
+  -- no call of such a list meets 31 but for wrong phase or round
+  pub stays-valid : HostStaysValid
+  pub only-phase-or-round : HostOnlyPhaseOrRound
   -- without host writing, the ballots admitted and not withdrawn are the batch
   pub roll-is-batch : RollIsBatch
   pub own-register : OwnRegister

@@ -1,66 +1,65 @@
 -- A step over an image, from the step over the session that the image holds. Assumes nothing.
-use mathlib.Core.Path.{_≡_, refl, sym, ap, _∙_}
+use mathlib.Core.Path.{_≡_, refl, sym, ap, subst, _∙_}
 use mathlib.Core.Logic.{_≢_}
+use Prim.Native.Nat.{ℕ}
 use lib.ListN.{length}
 use borrow.Author.Tests.{eq-eqb, ne-eqb}
-use Rattle.codec.specs.Bytes.{Bytes, Octets}
-use Rattle.codec.specs.Reply.{leaves}
+use Rattle.codec.specs.Bytes.{Bytes}
+use Rattle.codec.specs.Reply.{packed}
 use Rattle.codec.specs.declared.Reply.{Reply}
-use Rattle.codec.specs.declared.Reply.the-variants.{Taken, Refused}
-use Rattle.call.specs.Call.{swept}
+use Rattle.codec.specs.declared.Reply.the-variants.{Refused}
 use Rattle.session.specs.declared.Session.{Session}
+use Rattle.session.specs.declared.Stepped.{Stepped}
+use Rattle.call.specs.Call.{swept}
+use Rattle.checking.specs.Check.{Inputs}
+use Rattle.session.specs.Machine.{Step, check, State, state, reply, after, Done, Checked}
 use Rattle.image.specs.Image.{imageLength, encode, decode}
-use Rattle.image.proofs.Law.{store-load}
-use Rattle.session_calls.specs.Images.{lentReply, imageLeft}
+use Rattle.session_calls.specs.Images.{Host, host, lentReply, hostReply, hostAfter, Called, CheckCalled}
 
-module _ (image : Bytes) (R : Session → Reply) where
-  -- an image of another length is refused 1, and everything is left
-  module _ (short : length image ≢ imageLength) where
-    pub wrong-reply : lentReply image R ≡ Refused 1 0
-    wrong-reply = rw (ne-eqb (length image) imageLength short)
+module _ (image : Bytes) (asked : Session → Reply) where
+  -- an image of another length is refused 1
+  pub wrong-reply : length image ≢ imageLength → lentReply image asked ≡ Refused 1 0
+  wrong-reply short = rw (ne-eqb (length image) imageLength short)
 
-    pub wrong-left : {A : Type 0} (new old : A) → old ≡ leaves (lentReply image R) new old
-    unfolding leaves
-    wrong-left new old = rw wrong-reply refl
+  -- one of the right length holds the session that is asked
+  pub held-reply : length image ≡ imageLength → lentReply image asked ≡ asked (decode image)
+  held-reply long = rw (eq-eqb (length image) imageLength long)
 
-  -- one of the right length holds the session s, which the step is given
-  module _ (long : length image ≡ imageLength) (s : Session) (held : s ≡ decode image) where
-    pub held-reply : lentReply image R ≡ R s
-    held-reply = rw (eq-eqb (length image) imageLength long) (ap R (sym held))
+module _ (x : Step) (h : Host) where
+  -- everything is left
+  pub wrong : length (h .image) ≢ imageLength → Called x h 1 h
+  unfolding hostReply hostAfter
+  wrong short = let e = ne-eqb (length (h .image)) imageLength short in record { replied = rw e; image-left = rw e; register-left = rw e }
 
-    pub reply-over : {r : Reply} → r ≡ R s → r ≡ lentReply image R
-    reply-over e = e ∙ sym held-reply
+  -- the session that the step leaves is stored
+  pub over : length (h .image) ≡ imageLength → {s : Session} → s ≡ decode (h .image) → {r : Stepped} {register image : Bytes} {answer : ℕ} → Done x (state s (h .register)) r register
+      → (answer ≡ packed (r .reply)) × (image ≡ encode (r .session)) → Called x h answer (host image register)
+  unfolding hostReply hostAfter
+  over long held d k =
+      let e = eq-eqb (length (h .image)) imageLength long in
+      let at = ap (λ (z : Session). state z (h .register)) held in
+      record {
+        replied = rw e (k .0 ∙ ap packed (d .replied ∙ ap (reply x) at));
+        image-left = rw e (k .1 ∙ ap encode (d .session ∙ ap (λ (z : State). after x z .session) at));
+        register-left = rw e (d .register-left ∙ ap (λ (z : State). after x z .register) at);
+      }
 
-    -- what is left beside the image
-    pub left-over : {A : Type 0} (new : Session → A) (old : A) {after : A} → after ≡ leaves (R s) (new s) old → after ≡ leaves (lentReply image R) (new (decode image)) old
-    left-over new old e = e ∙ ap (λ (r : Reply). leaves r (new s) old) (sym held-reply) ∙ ap (λ (t : Session). leaves (lentReply image R) (new t) old) held
+-- ---- a check, with scratch
 
-    -- the image, where the session t that the step leaves is kept if it is taken
-    pub image-over : (next : Session → Session) (r : Reply) (t : Session) {after : Bytes} → r ≡ R s → t ≡ leaves (R s) (next s) s → after ≡ imageLeft r image t
-        → after ≡ imageLeft (lentReply image R) image (next (decode image))
-    image-over next r t e f g =
-        left-over (λ u. encode (next u)) image (g ∙ ap (λ (q : Reply). imageLeft q image t) e ∙ ap (imageLeft (R s) image) f ∙ kept (R s))
-      where
-        kept : (q : Reply) → imageLeft q image (leaves q (next s) s) ≡ imageLeft q image (next s)
-        kept Taken = unfold leaves in refl
-        kept (Refused number place) = unfold leaves in refl
+module _ (round : ℕ) (x : Inputs) (image : Bytes) where
+  pub wrong-check : length image ≢ imageLength → CheckCalled round x image 1 image (x .scratch)
+  unfolding hostReply swept
+  wrong-check short = record {
+    called = λ register. wrong (check round x) (host image register) short;
+    cleared = λ register. rw (ne-eqb (length image) imageLength short);
+  }
 
--- ---- a check, which stores the session that it leaves in every case: where it leaves the session of the image, it stores the image's own bytes
-
-module _ (image : Bytes) (octets : Octets image) (E : Session → Reply) (next : Session → Session) (long : length image ≡ imageLength) where
-  abbrev after-check : Session → Session
-  after-check s = leaves (E s) (next s) s
-
-  again : (q : Reply) → encode (leaves q (next (decode image)) (decode image)) ≡ imageLeft q image (leaves q (next (decode image)) (decode image))
-  again Taken = unfold leaves in refl
-  again (Refused number place) = unfold leaves in store-load image long octets
-
-  pub stored-image : (s t : Session) {after : Bytes} → s ≡ decode image → t ≡ after-check s → after ≡ encode t → after ≡ imageLeft (lentReply image E) image (after-check (decode image))
-  stored-image s t held e f =
-      f ∙ ap encode (e ∙ ap after-check held) ∙ again (E (decode image))
-      ∙ ap (λ (q : Reply). imageLeft q image (after-check (decode image))) (sym (held-reply image E long (decode image) refl))
-
--- a call that is refused 1 leaves scratch
-pub unswept : (w : Bytes) → w ≡ swept (Refused 1 0) w
-unfolding swept
-unswept w = refl
+  pub over-check : length image ≡ imageLength → {s : Session} → s ≡ decode image → {r : Stepped} {scratch image' : Bytes} {answer : ℕ} → Checked round x s r scratch
+      → (answer ≡ packed (r .reply)) × (image' ≡ encode (r .session)) → CheckCalled round x image answer image' scratch
+  unfolding hostReply
+  over-check long held d k = record {
+    called = λ register. over (check round x) (host image register) long held (d .done register) k;
+    cleared = λ register. d .cleared
+        ∙ ap (λ (q : Reply). swept q (x .scratch))
+        (d .done register .replied ∙ ap (λ (z : Session). reply (check round x) (state z register)) held ∙ sym (held-reply image (λ (z : Session). reply (check round x) (state z register)) long));
+  }

@@ -1,73 +1,80 @@
--- The steps of a session over its lent image (document 01, "Register and session"): their replies and what they leave. An image of another length
--- is refused 1 before all else. Assumes nothing.
+-- The calls of a session over its lent image (document 01, "Register and session"): the length of the image first, then the step over the session that it holds, whose session the
+-- image holds afterwards. Assumes nothing.
+use mathlib.Core.Path.{_≡_}
 use mathlib.Core.Bool.{cond}
 use Prim.Native.Nat.{ℕ, _*_}
 use lib.Dec.{eqb}
 use lib.ListN.{length}
 use Rattle.codec.specs.Bytes.{Bytes}
-use Rattle.codec.specs.Reply.{first, leaves}
+use Rattle.codec.specs.Reply.{first, leaves, packed}
 use Rattle.codec.specs.declared.Reply.{Reply}
 use Rattle.codec.specs.declared.Reply.the-variants.{Refused}
+use Rattle.call.specs.Call.{swept}
 use Rattle.register.specs.Register as entries
 use Rattle.checking.specs.Check.{Inputs}
 use Rattle.session.specs.declared.Session.{Session}
 use Rattle.session.specs.declared.Turnout.{Turnout}
 use Rattle.session.specs.declared.Turnout.the-variants as turnout
 use Rattle.session.specs.declared.Turnout.the-variants.{Counted}
-use Rattle.session.specs.Steps.{clearTests, admitTests, withdrawTests, closeTests, claimTests, commitTests, drawTests, checkEarly, checkTests, checkedBy, challengesTests, turnoutTests, turnoutBy}
+use Rattle.session.specs.Steps.{challengesTests, challengesOut, turnoutTests, turnoutBy}
+use Rattle.session.specs.Machine.{Step, check, State, state, reply, after}
 use Rattle.image.specs.Image.{imageLength, encode, decode}
 
--- the reply of a call that is lent an image
-abbrev pub lentReply : (image : Bytes) → (Session → Reply) → Reply
-lentReply image step = cond (eqb (length image) imageLength) (step (decode image)) (Refused 1 0)
+-- what the host keeps between two calls
+pub record Host : Type 0 where
+  pub image : Bytes
+  pub register : Bytes
 
--- the number for the C host of a turnout: the thousandths are the value
+abbrev pub host : Bytes → Bytes → Host
+host image register = record { image = image; register = register }
+
+-- ---- the wrapper
+
+-- the reply of a call that is lent an image: 1 for one of another length, before all else
+abbrev pub lentReply : (image : Bytes) → (Session → Reply) → Reply
+lentReply image asked = cond (eqb (length image) imageLength) (asked (decode image)) (Refused 1 0)
+
+unfoldable pub hostReply : Step → Host → Reply
+hostReply x h = lentReply (h .image) (λ s. reply x (state s (h .register)))
+
+-- the session and the register that a step leaves, as the host keeps them
+unfoldable pub hostAfter : Step → Host → Host
+hostAfter x h =
+    let st = after x (state (decode (h .image)) (h .register)) in
+    cond (eqb (length (h .image)) imageLength) (host (encode (st .session)) (st .register)) h
+
+-- ---- what a call promises: the number that it answers, and the image and the register that it leaves
+
+pub record Called (x : Step) (h : Host) (answer : ℕ) (h' : Host) : Type 0 where
+  pub replied : answer ≡ packed (hostReply x h)
+  pub image-left : h' .image ≡ hostAfter x h .image
+  pub register-left : h' .register ≡ hostAfter x h .register
+
+-- the same of a step that is lent no register: with any, which it leaves
+abbrev pub CalledAlone : Step → (image : Bytes) (answer : ℕ) (image' : Bytes) → Type 0
+CalledAlone x image answer image' = (register : Bytes) → Called x (host image register) answer (host image' register)
+
+-- and of a check, with what it leaves in scratch
+pub record CheckCalled (round : ℕ) (x : Inputs) (image : Bytes) (answer : ℕ) (image' scratch' : Bytes) : Type 0 where
+  pub called : CalledAlone (check round x) image answer image'
+  pub cleared : (register : Bytes) → scratch' ≡ swept (hostReply (check round x) (host image register)) (x .scratch)
+
+-- ---- the two that leave the session as it is
+
+unfoldable pub challengesReply : (image : Bytes) (round : ℕ) (out : Bytes) → Reply
+challengesReply image round out = lentReply image (λ s. first (challengesTests s round out))
+
+pub record ChallengesCalled (image : Bytes) (round answer : ℕ) (out out' : Bytes) : Type 0 where
+  pub replied : answer ≡ packed (challengesReply image round out)
+  pub written : out' ≡ leaves (challengesReply image round out) (challengesOut (decode image) round) out
+
+unfoldable pub turnoutReply : (image reg : Bytes) (enrolled : ℕ) → Reply
+turnoutReply image reg enrolled = lentReply image (λ s. first (turnoutTests s reg enrolled))
+
+-- the thousandths are the value of a count that is taken
 abbrev pub countedAnswer : Turnout → ℕ
 countedAnswer (Counted thousandths) = 256 * thousandths
 countedAnswer (turnout.Refused number) = number
 
--- the image after a step that leaves this session if it is taken, and else everything
-abbrev pub imageLeft : Reply → (image : Bytes) → Session → Bytes
-imageLeft reply image session = leaves reply (encode session) image
-
-module _ (image : Bytes) where
-  abbrev lent : Session
-  lent = decode image
-
-  unfoldable pub clearReply : (reg text : Bytes) → Reply
-  clearReply reg text = lentReply image (λ s. first (clearTests reg text))
-
-  unfoldable pub admitReply : (reg ballot : Bytes) → Reply
-  admitReply reg ballot = lentReply image (λ s. first (admitTests s reg ballot))
-
-  unfoldable pub withdrawReply : (reg : Bytes) (mark : ℕ) → Reply
-  withdrawReply reg mark = lentReply image (λ s. first (withdrawTests s reg mark))
-
-  unfoldable pub closeReply : (reg : Bytes) → Reply
-  closeReply reg = lentReply image (λ s. first (closeTests s reg))
-
-  unfoldable pub claimReply : (claims : Bytes) → Reply
-  claimReply claims = lentReply image (λ s. first (claimTests s claims))
-
-  unfoldable pub commitReply : (round : ℕ) (head shares0 shares1 : Bytes) → Reply
-  commitReply round head shares0 shares1 = lentReply image (λ s. first (commitTests s round head shares0 shares1))
-
-  unfoldable pub drawReply : (seed : Bytes) → Reply
-  drawReply seed = lentReply image (λ s. first (drawTests s seed))
-
-  unfoldable pub checkReply : (round : ℕ) → Inputs → Reply
-  checkReply round x = lentReply image (λ s. first (checkTests s round x))
-
-  -- a refusal before the round is looked at leaves the image; one listed after 16 ends the session refused
-  unfoldable pub checkImage : (round : ℕ) → Inputs → Bytes
-  checkImage round x = imageLeft (lentReply image (λ s. first (checkEarly s round x))) image (checkedBy lent round x)
-
-  unfoldable pub challengesReply : (round : ℕ) (out : Bytes) → Reply
-  challengesReply round out = lentReply image (λ s. first (challengesTests s round out))
-
-  unfoldable pub turnoutReply : (reg : Bytes) (enrolled : ℕ) → Reply
-  turnoutReply reg enrolled = lentReply image (λ s. first (turnoutTests s reg enrolled))
-
-  -- the thousandths are the value of a count that is taken
-  unfoldable pub turnoutAnswer : (reg : Bytes) (enrolled : ℕ) → ℕ
-  turnoutAnswer reg enrolled = countedAnswer (turnoutBy (turnoutReply reg enrolled) (entries.turnout reg (lent .progress .used) enrolled))
+unfoldable pub turnoutAnswer : (image reg : Bytes) (enrolled : ℕ) → ℕ
+turnoutAnswer image reg enrolled = countedAnswer (turnoutBy (turnoutReply image reg enrolled) (entries.turnout reg (decode image .progress .used) enrolled))

@@ -1,15 +1,10 @@
 // The check of a round over a lent image, and the two calls that leave the session as it is: challenges and turnout.
-use crate::refused;
-use codec::Reply;
+use crate::keep;
 use session::Turnout;
 ghost use mathlib.Core.Path.{_≡_};
-ghost use Rattle.codec.specs.Reply.{leaves};
-ghost use Rattle.call.specs.Call.{swept};
-ghost use Rattle.checking.specs.Check.{inputsOf};
-ghost use Rattle.register.specs.Register as entries;
-ghost use Rattle.session.specs.Steps.{challengesOut, turnoutBy};
-ghost use Rattle.image.specs.Image.{decode};
-ghost use Rattle.session_calls.specs.Images.{checkReply, checkImage, challengesReply, turnoutReply, countedAnswer};
+ghost use Rattle.codec.specs.Slices.{given, left};
+ghost use Rattle.checking.specs.Check.{inputsIn};
+ghost use Rattle.session_calls.specs.Images.{CheckCalled, ChallengesCalled, turnoutAnswer, countedAnswer};
 
 // Checks a round.
 pub fn check(
@@ -24,17 +19,12 @@ pub fn check(
     opening: &[u8],
     answers: &[u8],
     scratch: &mut [u8],
-) -> Reply
-    ensures { λ r. ⌜ r ≡ checkReply (now (image .entry)) round (inputsOf (now (sheet .entry)) (now (ballots .entry)) (now (claims .entry))
-        (now (head .entry)) (now (shares0 .entry)) (now (shares1 .entry)) (now (opening .entry)) (now (answers .entry))
-        (now (scratch .entry))) ⌝ }
-    ensures { λ _. ⌜ now (image .exit) ≡ checkImage (now (image .entry)) round (inputsOf (now (sheet .entry)) (now (ballots .entry))
-        (now (claims .entry)) (now (head .entry)) (now (shares0 .entry)) (now (shares1 .entry)) (now (opening .entry))
-        (now (answers .entry)) (now (scratch .entry))) ⌝ }
-    ensures { λ r. ⌜ now (scratch .exit) ≡ swept r (now (scratch .entry)) ⌝ }
+) -> u64
+    ensures { λ answer. let x = inputsIn sheet ballots claims head shares0 shares1 opening answers scratch in
+        ⌜ CheckCalled round x (given image) answer (left image) (left scratch) ⌝ }
 {
     if image.len() != image::IMAGE {
-        return refused();
+        return 1;
     }
     let session = image::load(image);
     let stepped = session.check(
@@ -49,42 +39,37 @@ pub fn check(
         answers,
         scratch,
     );
-    let left = stepped.session;
-    image::store(left, image);
-    stepped.reply
+    keep(stepped, image)
 }
 
 // Writes the side and the challenges that were drawn for a round.
-pub fn challenges(image: &[u8], round: u64, out: &mut [u8]) -> Reply
-    ensures { λ r. ⌜ r ≡ challengesReply (now (image .entry)) round (now (out .entry)) ⌝ }
-    ensures { λ _. ⌜ now (out .exit) ≡ leaves (challengesReply (now (image .entry)) round (now (out .entry)))
-        (challengesOut (decode (now (image .entry))) round) (now (out .entry)) ⌝ }
+pub fn challenges(image: &[u8], round: u64, out: &mut [u8]) -> u64
+    ensures { λ answer. ⌜ ChallengesCalled (given image) round answer (given out) (left out) ⌝ }
 {
     if image.len() != image::IMAGE {
-        return refused();
+        return 1;
     }
     let session = image::load(image);
-    session.challenges(round, out)
+    codec::pack(session.challenges(round, out))
 }
 
-// Counts the standing entries in thousandths of the enrolled.
-pub fn turnout(image: &[u8], reg: &[u8], enrolled: u64) -> Turnout
-    ensures { λ r. ⌜ r ≡ turnoutBy (turnoutReply (now (image .entry)) (now (reg .entry)) enrolled) (entries.turnout (now (reg .entry))
-        (decode (now (image .entry)) .progress .used) enrolled) ⌝ }
-{
-    if image.len() != image::IMAGE {
-        return Turnout::Refused { number: 1 };
-    }
-    let session = image::load(image);
-    session.turnout(reg, enrolled)
-}
-
-// The answer as the one number that the C host is answered.
-pub fn pack(answer: Turnout) -> u64
+// The answer of a turnout as the one number that the C host is given.
+fn pack(answer: Turnout) -> u64
     ensures { λ r. ⌜ r ≡ countedAnswer answer ⌝ }
 {
     match answer {
         Turnout::Counted(thousandths) => 256 * (thousandths as u64),
         Turnout::Refused { number } => number as u64,
     }
+}
+
+// Counts the standing entries in thousandths of the enrolled.
+pub fn turnout(image: &[u8], reg: &[u8], enrolled: u64) -> u64
+    ensures { λ answer. ⌜ answer ≡ turnoutAnswer (given image) (given reg) enrolled ⌝ }
+{
+    if image.len() != image::IMAGE {
+        return 1;
+    }
+    let session = image::load(image);
+    pack(session.turnout(reg, enrolled))
 }

@@ -1,33 +1,14 @@
 -- `draw` meets its contract. Assumes nothing.
-use mathlib.Core.Path.{sym, _∙_}
 use borrow.Author.Needs.{needs}
-use Rattle.codec.specs.Reply.{first}
-use Rattle.codec.specs.declared.Reply.{Reply}
-use Rattle.session.specs.declared.Session.{Session}
-use Rattle.session.specs.Steps.{drawTests, drawnBy}
-use Rattle.session_calls.specs.Images.{drawReply}
-use Rattle.session_calls.proofs.Over.{wrong-reply, wrong-left, reply-over, image-over}
+use Rattle.session_calls.proofs.Over.{wrong, over}
 use Rattle.session_calls.proofs.draw.Statement.{statement}
 use Rattle.session_calls.proofs.draw.Tie as tie
 
 returns : tie.Need-returns
-unfolding drawReply
-returns c =
-    let a = c .before .before .before .before .args in
-    let R : Session → Reply = λ s. first (drawTests s (a .seed .now)) in
-    let short = c .before .if1 .taken in
-    (c .refused .ensures ∙ sym (wrong-reply (a .image .now) R short), wrong-left (a .image .now) R short _ _)
+returns c = λ register. wrong _ _ (c .if1 .taken)
 
 returns-2 : tie.Need-returns-2
-unfolding drawReply
-returns-2 c =
-    let a = c .before .before .before .before .before .before .before .before .before .before .args in
-    let R : Session → Reply = λ s. first (drawTests s (a .seed .now)) in
-    let long = c .before .before .before .before .before .before .before .if1 .left in
-    let held = c .before .before .before .before .before .load .ensures in
-    let d = c .before .before .before .before .draw .ensures in
-    let k = c .before .before .keep .ensures in
-    (reply-over (a .image .now) R long _ held (k .0 ∙ d .0), image-over (a .image .now) R long _ held (λ s. drawnBy s (a .seed .now)) _ _ (d .0) (d .1) (k .1))
+returns-2 c = λ register. over _ _ (c .before .before .before .before .before .before .before .if1 .left) (c .before .before .before .before .before .load .ensures) (c .before .before .before .before .draw .ensures register) (c .before .before .keep .ensures)
 
 pub draw-spec : {M : Type 1} → statement M
-draw-spec = tie.close (tie.spec (λ c κs. search needs) returns (λ c κs. search needs) (λ c κs. search needs) (λ c κs. search needs) (λ c. search needs) returns-2)
+draw-spec = tie.close (tie.spec returns (λ c κs. search needs) (λ c κs. search needs) (λ c κs. search needs) (λ c. search needs) returns-2)

@@ -5,29 +5,29 @@ use Rattle.codec.specs.Reply.{first}
 use Rattle.codec.specs.declared.Reply.{Reply}
 use Rattle.register.specs.Register as entries
 use Rattle.session.specs.declared.Session.{Session}
+use Rattle.session.specs.declared.Turnout.{Turnout}
 use Rattle.session.specs.Steps.{turnoutTests, turnoutBy}
 use Rattle.image.specs.Image.{decode}
-use Rattle.session_calls.specs.Images.{turnoutReply}
+use Rattle.session_calls.specs.Images.{turnoutReply, turnoutAnswer, countedAnswer}
 use Rattle.session_calls.proofs.Over.{wrong-reply, held-reply}
 use Rattle.session_calls.proofs.checks.turnout.Statement.{statement}
 use Rattle.session_calls.proofs.checks.turnout.Tie as tie
 
 returns : tie.Need-returns
-unfolding turnoutReply
+unfolding turnoutReply turnoutAnswer
 returns c =
     let a = c .before .before .before .args in
-    let R : Session → Reply = λ s. first (turnoutTests s (a .reg .now) (a .enrolled)) in
-    sym (ap (λ (r : Reply). turnoutBy r (entries.turnout (a .reg .now) (decode (a .image .now) .progress .used) (a .enrolled))) (wrong-reply (a .image .now) R (c .if1 .taken)))
+    rw (wrong-reply (a .image .now) (λ (s : Session). first (turnoutTests s (a .reg .now) (a .enrolled))) (c .if1 .taken))
 
 returns-2 : tie.Need-returns-2
-unfolding turnoutReply
+unfolding turnoutReply turnoutAnswer
 returns-2 c =
-    let a = c .before .before .before .before .before .args in
-    let R : Session → Reply = λ s. first (turnoutTests s (a .reg .now) (a .enrolled)) in
-    let held = c .before .load .ensures in
-    c .turnout .ensures
-    ∙ ap (λ (r : Reply). turnoutBy r (entries.turnout (a .reg .now) (c .before .load .result .progress .used) (a .enrolled))) (sym (held-reply (a .image .now) R (c .before .before .if1 .left) _ held))
-    ∙ ap (λ (s : Session). turnoutBy (turnoutReply (a .image .now) (a .reg .now) (a .enrolled)) (entries.turnout (a .reg .now) (s .progress .used) (a .enrolled))) held
+    let a = c .before .before .before .before .before .before .args in
+    let asked : Session → Reply = λ s. first (turnoutTests s (a .reg .now) (a .enrolled)) in
+    let counted : Session → Reply → Turnout = λ s r. turnoutBy r (entries.turnout (a .reg .now) (s .progress .used) (a .enrolled)) in
+    let held = c .before .before .load .ensures in
+    c .pack .ensures
+    ∙ ap countedAnswer (c .before .turnout .ensures ∙ ap (λ (s : Session). counted s (asked s)) held ∙ ap (counted (decode (a .image .now))) (sym (held-reply (a .image .now) asked (c .before .before .before .if1 .left))))
 
 pub turnout-spec : {M : Type 1} → statement M
-turnout-spec = tie.close (tie.spec returns (λ c κs. search needs) (λ c κs. search needs) returns-2)
+turnout-spec = tie.close (tie.spec returns (λ c κs. search needs) (λ c κs. search needs) (λ c κs. search needs) returns-2)
