@@ -1,16 +1,12 @@
 -- The second and the third demand: `demand2` and `demand3` of specs/Demands.antt. Assumes nothing.
 use mathlib.Core.Path.{_≡_, ap}
-use mathlib.Core.Bool.{_&&_}
-use Prim.Native.Nat.{ℕ, _^_, _*_, _≤_, _<_}
+use Prim.Native.Nat.{ℕ, _*_, _<_}
 use native.Mathlib.Omega.{arith}
-use lib.Dec.{leb}
 use lib.ListN.{length-replicate}
-use borrow.Author.Tests.{not-false}
 use Rattle.codec.specs.Bytes.{Bytes, zeros}
 use Rattle.codec.specs.Reply.{first}
 use Rattle.codec.specs.declared.Reply.{Reply}
 use Rattle.codec.specs.declared.Reply.the-variants.{Taken}
-use Rattle.codec.proofs.Laws.{both}
 use Rattle.codec.proofs.Replies.{taken-exactly}
 use Rattle.sheet.specs.Reader.{sheetOf}
 use Rattle.sheet.specs.Sheet.{order, readingBy, reading}
@@ -18,18 +14,14 @@ use Rattle.sheet.specs.declared.Reading.the-variants as reading
 use Rattle.call.specs.Call.{scratchLength}
 use Rattle.bgv.proofs.Sheets.{sheet-sound}
 use Rattle.bgv.proofs.Ballot.{honest-noise, honest-decrypts}
-use Rattle.transcript.specs.Extractor.{extractRoom}
-use Rattle.transcript.proofs.Many.{append-none}
 use Rattle.transcript.proofs.Passed.{producer-exactly}
 use Rattle.transcript.proofs.Honest.{honest-round}
+use Rattle.transcript.proofs.OpeningsAccepted.{openings-exactly}
 use Rattle.transcript.proofs.Extraction.{extraction}
 use Rattle.transcript.proofs.ExtractionHashed.{hashed}
 use Rattle.transcript.proofs.ExtractionOutput.{output, lowest}
 use Rattle.transcript.proofs.Refuses.{parts-exactly, refuses-exactly, takes-accepted, refuses-alike, lending}
-use Rattle.lengths.specs.Calls.{openingsTests}
 use Rattle.lengths.specs.Sheets.{parametersOf, ballotsIn}
-use Rattle.verification.proofs.Tested.{lent-message, lent-openings, extract-lengths}
-use Rattle.verification_calls.specs.Replies.{extractReply}
 use Rattle.session.specs.Machine.{state, reply}
 use Rattle.image.specs.Image.{decode}
 use Rattle.session_calls.specs.Images.{hostReply}
@@ -41,8 +33,9 @@ use Rattle.jackdawnail.proofs.HostSteps.{over-images}
 use Rattle.jackdawnail.proofs.HostClaims.{host-stays-out, host-rounds-checked, host-ended-accepted, host-honest-accepted, host-stays-valid, host-only-phase-or-round}
 use Rattle.jackdawnail.proofs.Images.{over-image}
 use Rattle.jackdawnail.proofs.Yields.{extractor-takes}
-use Rattle.jackdawnail.proofs.Produces.{first-exactly, second-call-exactly}
-use Rattle.jackdawnail.specs.Demands.{SheetExactly, StepExactly, HonestBallots, Demand2, Extracts, AcceptedYields, RefusesAsChecks, ProducerWrites, HonestRounds, Demand3}
+use Rattle.jackdawnail.proofs.Produces.{positive, fits, first-exactly, second-call-exactly}
+use Rattle.jackdawnail.proofs.Extracts.{extractor-exactly}
+use Rattle.jackdawnail.specs.Demands.{SheetExactly, StepExactly, HonestBallots, Demand2, ExtractorExactly, Extracts, AcceptedYields, RefusesAsChecks, ProducerWrites, HonestRounds, Demand3}
 
 -- ---- over an image
 
@@ -81,27 +74,25 @@ honest-rounds text sheet m x sized suitable side low challenges size valid =
 producer-writes : ProducerWrites
 producer-writes text x = (first-exactly text x, second-call-exactly text x)
 
+extractor : ExtractorExactly
+extractor text x out scratch octets = extractor-exactly text x out scratch octets
+
 extracts : Extracts
-unfolding extractReply openingsTests
 extracts text x out scratch octets o1 o2 o3 e =
     let P = parametersOf text in
     let m = ballotsIn text (x .ballots) in
-    let parts = append-none (order text) (openingsTests P x (extractRoom out scratch)) (taken-exactly _ .0 e) in
-    let sheet = taken-exactly (order text) .1 (parts .0) in
-    let r = sheet-exactly text .0 (parts .0) .inside in
-    let message = lent-message P x (extractRoom out scratch) m in
-    let openings = lent-openings P x (extractRoom out scratch) m in
-    let sized = both message openings (both (leb m 4096) (message && openings) (not-false (leb m 4096 && (message && openings)) (parts .1 .0)) .1) in
+    let t = extractor-exactly text x out scratch octets .0 e in
+    let r = t .sheet .inside in
     let three : 2 < P .q = omega (arith, r .modulus-low) in
-    let fits : P .q ≤ 2 ^ 64 = omega (arith, r .modulus-high) in
-    let lent = extract-lengths P x (extractRoom out scratch) m octets (sized .0) (sized .1) .0 in
-    let ok = sheet-sound text (sheetOf text .numbers) (read text sheet) in
-    (extraction P m x three fits lent (parts .1 .1) ok, hashed P m x o1 o2 o3, lowest P m x (omega arith) fits, output P m x three fits lent (parts .1 .1) ok)
+    let high = fits text (t .sheet) in
+    let none = openings-exactly P m x (positive text (t .sheet)) high (t .lengths) .1 (t .accepted) in
+    let ok = sheet-sound text (sheetOf text .numbers) (read text (taken-exactly (order text) .1 (sheet-exactly text .1 (t .sheet)))) in
+    (extraction P m x three high (t .lengths) none ok, hashed P m x o1 o2 o3, lowest P m x (omega arith) high, output P m x three high (t .lengths) none ok)
 
 -- its findings do not depend on output or scratch: any of the right lengths serve
 accepted-yields : AcceptedYields
 accepted-yields text x octets b1 b2 b3 o0 o1 a1 a2 a3 =
-    let taken = extractor-takes text x o0 o1 a1 a2 a3 in
+    let taken = extractor-takes text x o0 o1 a1 a2 a3 octets in
     let n = 24 * parametersOf text .N in
     (extracts text x (zeros n) (zeros scratchLength) octets b1 b2 b3 (taken (zeros n) (zeros scratchLength) (length-replicate {A = ℕ} n 0) (length-replicate {A = ℕ} scratchLength 0)), taken)
 
@@ -126,6 +117,7 @@ pub demand3 : Demand3
 demand3 = record {
   accepted-yields = accepted-yields;
   extracts = extracts;
+  extractor-exactly = extractor;
   refuses-as-checks = refuses-as-checks;
   check-parts = parts-exactly;
   lent-rounds = lending;

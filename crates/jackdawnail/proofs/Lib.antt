@@ -4,5 +4,6 @@ pub mod Typed
 pub mod HostSteps
 pub mod HostClaims
 pub mod Produces
+pub mod Extracts
 pub mod Yields
 pub mod Demands

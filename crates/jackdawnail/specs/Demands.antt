@@ -34,6 +34,7 @@ use Rattle.histories.specs.Conditions.{SheetTaken, Lent, Takes}
 use Rattle.histories.specs.Claims.{RollIsBatch, OwnRegister}
 use Rattle.histories.specs.Examples.{all-rows}
 use Rattle.jackdawnail.specs.Produces.{WritesFirst, WritesSecond}
+use Rattle.jackdawnail.specs.Extracts.{TakesOpenings}
 use Rattle.jackdawnail.specs.HostSteps.{OverImages}
 use Rattle.jackdawnail.specs.HostClaims.{HostStaysOut, HostRoundsChecked, HostEndedAccepted, HostHonestAccepted, HostStaysValid, HostOnlyPhaseOrRound}
 
@@ -83,6 +84,10 @@ Yields text x =
     let P = parametersOf text in
     let m = ballotsIn text (x .ballots) in
     Found P m x (kind P m x) × Hashed P m x × Lowest P m x (kind P m x) × Output P m x (kind P m x) (extracted P m x)
+
+-- the extractor takes what it is lent exactly if all of `TakesOpenings` holds
+abbrev pub ExtractorExactly : Type 0
+ExtractorExactly = (text : Bytes) (x : Openings) (out scratch : Bytes) → Octets (x .head) → (extractReply text x (extractRoom out scratch) ≡ Taken) ↔ TakesOpenings text x out scratch
 
 -- where the extractor does not refuse, it finds one of the three
 abbrev pub Extracts : Type 0
@@ -154,6 +159,7 @@ HonestRounds = (text : Bytes) → first (order text) ≡ Taken
 pub record Demand3 : Type 0 where
   pub accepted-yields : AcceptedYields
   pub extracts : Extracts
+  pub extractor-exactly : ExtractorExactly
   pub refuses-as-checks : RefusesAsChecks
   pub check-parts : CheckParts
   pub lent-rounds : LentRounds
