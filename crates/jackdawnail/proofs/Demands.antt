@@ -1,18 +1,13 @@
 -- The second and the third demand: `demand2` and `demand3` of specs/Demands.antt. Assumes nothing.
-use mathlib.Core.Path.{_≡_, ap}
 use Prim.Native.Nat.{ℕ, _*_, _<_}
 use native.Mathlib.Omega.{arith}
 use lib.ListN.{length-replicate}
-use Rattle.codec.specs.Bytes.{Bytes, zeros}
+use Rattle.codec.specs.Bytes.{zeros}
 use Rattle.codec.specs.Reply.{first}
-use Rattle.codec.specs.declared.Reply.{Reply}
-use Rattle.codec.specs.declared.Reply.the-variants.{Taken}
 use Rattle.codec.proofs.Replies.{taken-exactly}
-use Rattle.sheet.specs.Reader.{sheetOf}
-use Rattle.sheet.specs.Sheet.{order, readingBy, reading}
+use Rattle.sheet.specs.Sheet.{order}
 use Rattle.sheet.specs.declared.Reading.the-variants as reading
 use Rattle.call.specs.Call.{scratchLength}
-use Rattle.bgv.proofs.Sheets.{sheet-sound}
 use Rattle.bgv.proofs.Ballot.{honest-noise, honest-decrypts}
 use Rattle.transcript.proofs.Passed.{producer-exactly}
 use Rattle.transcript.proofs.Honest.{honest-round}
@@ -31,6 +26,7 @@ use Rattle.histories.proofs.Checked.{step-exactly}
 use Rattle.histories.proofs.Roll.{roll-is-batch, own-register}
 use Rattle.jackdawnail.proofs.HostSteps.{over-images}
 use Rattle.jackdawnail.proofs.HostClaims.{host-stays-out, host-rounds-checked, host-ended-accepted, host-honest-accepted, host-stays-valid, host-only-phase-or-round}
+use Rattle.jackdawnail.proofs.Papers.{sound, distributed, digest-of-bits}
 use Rattle.jackdawnail.proofs.Images.{over-image}
 use Rattle.jackdawnail.proofs.Yields.{extractor-takes}
 use Rattle.jackdawnail.proofs.Produces.{positive, fits, first-exactly, second-call-exactly}
@@ -51,15 +47,10 @@ sheets text =
     let s = sheet-exactly text in
     (λ e. s .0 (t .0 e), λ h. t .1 (s .1 h))
 
-module _ (text : Bytes) (sheet : first (order text) ≡ Taken) where
-  read : reading text ≡ reading.Taken (sheetOf text .numbers)
-  unfolding reading
-  read = ap (λ (r : Reply). readingBy r (sheetOf text .numbers)) sheet
-
 honest-ballots : HonestBallots
 honest-ballots text sheet s e r e1 e2 m ss se sr s1 s2 message matches =
     let P = parametersOf text in
-    let ok = sheet-sound text (sheetOf text .numbers) (read text sheet) in (
+    let ok = sound text sheet in (
       honest-noise ok (omega arith) (P .a) (P .b) s e r e1 e2 m ss se sr s1 s2 message matches,
       honest-decrypts ok (omega arith) (P .a) (P .b) s e r e1 e2 m ss se sr s1 s2 message matches,
     )
@@ -68,7 +59,7 @@ honest-rounds : HonestRounds
 honest-rounds text sheet m x sized suitable side low challenges size valid =
     let r = sheet-exactly text .0 (taken-exactly (order text) .0 sheet) .inside in
     let none = producer-exactly (parametersOf text) m x (omega (arith, r .modulus-low)) (omega (arith, r .modulus-high)) .1 suitable in
-    honest-round (parametersOf text) m x (sheet-sound text (sheetOf text .numbers) (read text sheet)) (omega (arith, r .modulus-low)) (omega (arith, r .modulus-high)) sized none side low
+    honest-round (parametersOf text) m x (sound text sheet) (omega (arith, r .modulus-low)) (omega (arith, r .modulus-high)) sized none side low
     challenges size valid
 
 producer-writes : ProducerWrites
@@ -86,7 +77,7 @@ extracts text x out scratch octets o1 o2 o3 e =
     let three : 2 < P .q = omega (arith, r .modulus-low) in
     let high = fits text (t .sheet) in
     let none = openings-exactly P m x (positive text (t .sheet)) high (t .lengths) .1 (t .accepted) in
-    let ok = sheet-sound text (sheetOf text .numbers) (read text (taken-exactly (order text) .1 (sheet-exactly text .1 (t .sheet)))) in
+    let ok = sound text (taken-exactly (order text) .1 (sheet-exactly text .1 (t .sheet))) in
     (extraction P m x three high (t .lengths) none ok, hashed P m x o1 o2 o3, lowest P m x (omega arith) high, output P m x three high (t .lengths) none ok)
 
 -- its findings do not depend on output or scratch: any of the right lengths serve
@@ -109,6 +100,8 @@ demand2 = record {
   ended-accepted = host-ended-accepted;
   withdrawn-stays-out = host-stays-out;
   honest-ballots = honest-ballots;
+  distributed = distributed;
+  digest-of-bits = digest-of-bits;
   examples = all-examples;
   over-images = over-images;
 }
