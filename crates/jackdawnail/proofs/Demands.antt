@@ -27,6 +27,7 @@ use Rattle.histories.proofs.Roll.{roll-is-batch, own-register}
 use Rattle.jackdawnail.proofs.HostSteps.{over-images}
 use Rattle.jackdawnail.proofs.HostClaims.{host-stays-out, host-rounds-checked, host-ended-accepted, host-honest-accepted, host-stays-valid, host-only-phase-or-round}
 use Rattle.jackdawnail.proofs.Papers.{sound, distributed, digest-of-bits}
+use Rattle.jackdawnail.proofs.Replies.{replies-told}
 use Rattle.jackdawnail.proofs.Images.{over-image}
 use Rattle.jackdawnail.proofs.Yields.{extractor-takes}
 use Rattle.jackdawnail.proofs.Produces.{positive, fits, first-exactly, second-call-exactly}
@@ -104,6 +105,9 @@ demand2 = record {
   digest-of-bits = digest-of-bits;
   examples = all-examples;
   over-images = over-images;
+  replies-told = replies-told;
+  host-stays-out = host-stays-out;
+  host-ended-accepted = host-ended-accepted;
 }
 
 pub demand3 : Demand3

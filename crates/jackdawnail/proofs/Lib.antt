@@ -7,4 +7,5 @@ pub mod Papers
 pub mod Produces
 pub mod Extracts
 pub mod Yields
+pub mod Replies
 pub mod Demands

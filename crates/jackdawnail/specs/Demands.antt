@@ -38,6 +38,7 @@ use Rattle.jackdawnail.specs.Produces.{WritesFirst, WritesSecond}
 use Rattle.jackdawnail.specs.Extracts.{TakesOpenings}
 use Rattle.jackdawnail.specs.HostSteps.{OverImages}
 use Rattle.jackdawnail.specs.HostClaims.{HostStaysOut, HostRoundsChecked, HostEndedAccepted, HostHonestAccepted, HostStaysValid, HostOnlyPhaseOrRound}
+use Rattle.jackdawnail.specs.Replies.{RepliesTold}
 
 -- ---- 2. Everything equals the papers, a round is accepted exactly if every listed check holds, and a withdrawn mark is in no closed batch.
 
@@ -79,6 +80,10 @@ pub record Demand2 : Type 0 where
   pub examples : Examples
   -- what is shown of steps and of lists of steps over sessions holds of the exported calls over images
   pub over-images : OverImages
+  -- of every reply that a call gives, the remainder by 256 is 0 exactly if the call is taken, and else the number of the refusal
+  pub replies-told : RepliesTold
+  pub host-stays-out : HostStaysOut
+  pub host-ended-accepted : HostEndedAccepted
 
 -- ---- 3. Two accepted openings and three accepted answers yield a hash collision, a short commitment vector or the key, and every honest round is accepted whatever is drawn.
 
