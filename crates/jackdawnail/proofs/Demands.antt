@@ -28,6 +28,7 @@ use Rattle.jackdawnail.proofs.HostSteps.{over-images}
 use Rattle.jackdawnail.proofs.HostClaims.{host-stays-out, host-rounds-checked, host-ended-accepted, host-honest-accepted, host-stays-valid, host-only-phase-or-round}
 use Rattle.jackdawnail.proofs.Papers.{sound, distributed, digest-of-bits}
 use Rattle.jackdawnail.proofs.Replies.{replies-told}
+use Rattle.jackdawnail.proofs.AnySession.{any-session}
 use Rattle.jackdawnail.proofs.Images.{over-image}
 use Rattle.jackdawnail.proofs.Yields.{extractor-takes}
 use Rattle.jackdawnail.proofs.Produces.{positive, fits, first-exactly, second-call-exactly}
@@ -121,6 +122,7 @@ demand3 = record {
   takes-accepted = takes-accepted;
   honest-accepted = host-honest-accepted;
   honest-rounds = honest-rounds;
+  any-session = any-session;
   producer-writes = producer-writes;
   stays-valid = host-stays-valid;
   only-phase-or-round = host-only-phase-or-round;

@@ -3,6 +3,7 @@ pub mod Images
 pub mod Typed
 pub mod HostSteps
 pub mod HostClaims
+pub mod AnySession
 pub mod Papers
 pub mod Produces
 pub mod Extracts

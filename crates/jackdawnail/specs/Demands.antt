@@ -39,6 +39,8 @@ use Rattle.jackdawnail.specs.Extracts.{TakesOpenings}
 use Rattle.jackdawnail.specs.HostSteps.{OverImages}
 use Rattle.jackdawnail.specs.HostClaims.{HostStaysOut, HostRoundsChecked, HostEndedAccepted, HostHonestAccepted, HostStaysValid, HostOnlyPhaseOrRound}
 use Rattle.jackdawnail.specs.Replies.{RepliesTold}
+use Rattle.jackdawnail.specs.AnySession.{AnySession}
+use Rattle.jackdawnail.specs.HostClaims.{HostStaysOut, HostEndedAccepted, HostHonestAccepted}
 
 -- ---- 2. Everything equals the papers, a round is accepted exactly if every listed check holds, and a withdrawn mark is in no closed batch.
 
@@ -176,6 +178,8 @@ pub record Demand3 : Type 0 where
   -- over every list of calls from a clear that is taken, each lent any register: a round of the producer's that is lodged is accepted at its turn
   pub honest-accepted : HostHonestAccepted
   pub honest-rounds : HonestRounds
+  -- nor does it in any session, whatever bytes the image is
+  pub any-session : AnySession
   pub producer-writes : ProducerWrites
   -- no call of such a list meets 31 but for wrong phase or round
   pub stays-valid : HostStaysValid
