@@ -1,6 +1,6 @@
 -- The third demand's last sentence: a round that the producer wrote for the session's sheet and batch, lodged, is accepted at its turn. Assumes nothing.
 use mathlib.Core.Path.{_≡_, sym, ap, subst, _∙_}
-use Prim.Native.Nat.{ℕ, _<_}
+use Prim.Native.Nat.{ℕ}
 use native.Mathlib.Omega.{arith}
 use lib.ListN.{length}
 use Rattle.codec.specs.Bytes.{Bytes}
@@ -8,14 +8,11 @@ use Rattle.codec.specs.Reply.{None, first}
 use Rattle.codec.specs.declared.Reply.{Reply}
 use Rattle.codec.specs.declared.Reply.the-variants.{Taken}
 use Rattle.codec.proofs.Replies.{taken-exactly}
-use Rattle.modular.specs.Division.{Coprime}
 use Rattle.sha3.specs.Sponge.{sha3}
 use Rattle.sheet.specs.Reader.{sheetOf}
-use Rattle.sheet_numbers.specs.Bounds.{noise, mask}
 use Rattle.sheet.specs.Sheet.{order, readingBy, reading}
 use Rattle.sheet_numbers.specs.declared.Numbers.{Numbers}
 use Rattle.sheet.specs.declared.Reading.the-variants as reading
-use Rattle.bgv.specs.Scheme.{Sound}
 use Rattle.bgv.proofs.Sheets.{sheet-sound}
 use Rattle.transcript.specs.Layout.{ballotLength}
 use Rattle.transcript.specs.Round.{Parameters}
@@ -39,7 +36,7 @@ use Rattle.histories.specs.Conditions.{SheetTaken}
 use Rattle.histories.specs.Claims.{Produced, Turn, HonestAccepted}
 use Rattle.histories.proofs.Valid.{sheet-exactly}
 use Rattle.histories.proofs.Kept.{Kept, messageDigest, kept}
-use Rattle.histories.proofs.Checked.{early-none}
+use Rattle.histories.proofs.Checked.{reaches-exactly}
 
 reads : (text : Bytes) → SheetTaken text → reading text ≡ reading.Taken (sheetOf text .numbers)
 unfolding reading
@@ -145,7 +142,7 @@ module _ (l : Trace) (k : Kept (l .session) (l .history)) (material : Material) 
       let next = k .next (turn .phase) in
       let due = turn .due in
       taken-exactly (checkTests s round x) .1
-      (none-append (checkEarly s round x) (checkLate s round x) (early-none s round x (k .sound) (turn .phase) due (omega arith) sheet-taken lengths matches)
+      (none-append (checkEarly s round x) (checkLate s round x) (reaches-exactly s round x .1 (record { sound = k .sound; phase = turn .phase; due = due; within = omega arith; sheet = sheet-taken; lengths = lengths; matches = matches }))
       (late-none s material round x sheet-taken numbers (subst (λ (n : ℕ). Produced Q n material (s .seed) round x) (sym closed) made)))
 
 pub honest-accepted : HonestAccepted

@@ -10,3 +10,4 @@ pub mod Honest
 pub mod Withdrawn
 pub mod Roll
 pub mod Rounds
+pub mod Ended
