@@ -136,9 +136,9 @@ module _ (l : Trace) (k : Kept (l .session) (l .history)) (material : Material) 
         message = ap (messageDigest (s .claim) round) (turn .first-message) ∙ sym (k .trail (omega arith) round (omega arith));
       }
 
-  accepted : first (checkTests s round x) ≡ Taken
+  pub turn-accepted : first (checkTests s round x) ≡ Taken
   unfolding checkTests
-  accepted =
+  turn-accepted =
       let next = k .next (turn .phase) in
       let due = turn .due in
       taken-exactly (checkTests s round x) .1
@@ -147,4 +147,4 @@ module _ (l : Trace) (k : Kept (l .session) (l .history)) (material : Material) 
 
 pub honest-accepted : HonestAccepted
 unfolding reply
-honest-accepted b cs e register material round x turn = accepted (trace cs (initial b)) (kept b cs e) material round x turn
+honest-accepted b cs e register material round x turn = turn-accepted (trace cs (initial b)) (kept b cs e) material round x turn

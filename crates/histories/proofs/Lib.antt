@@ -11,3 +11,4 @@ pub mod Withdrawn
 pub mod Roll
 pub mod Rounds
 pub mod Ended
+pub mod Lodged
