@@ -16,7 +16,7 @@ use Rattle.checking.proofs.Laws.{early-exactly}
 use Rattle.session.specs.declared.Session.{Session}
 use Rattle.session.specs.Steps.{storedFor, checkEarly, checkLate, checkTests}
 use Rattle.session.specs.Machine.{clear, admit, withdraw, close, claim, commit, draw, check, reply}
-use Rattle.histories.specs.Conditions.{Valid, SheetTaken, Checks}
+use Rattle.histories.specs.Conditions.{Reaches, Checks}
 use Rattle.histories.specs.Claims.{StepExactly}
 use Rattle.histories.proofs.Exact.{cleared-exactly, admitted-exactly, withdrawn-exactly, closed-exactly, claimed-exactly, committed-exactly, drawn-exactly}
 use Rattle.histories.proofs.Valid.{ready, is-ready, on-turn, is-turn, sheet-exactly}

@@ -1,14 +1,15 @@
 -- The producer's round is refused by none of its own tests, in any session (specs/AnySession.antt). Assumes nothing.
-use mathlib.Core.Path.{_≡_, refl, sym, subst, _∙_}
+use mathlib.Core.Path.{_≡_, refl, sym, ap, subst, _∙_}
 use mathlib.Core.Logic.{_≢_}
 use mathlib.Core.Bool.{Bool, true, false, cond}
 use mathlib.Core.List.{List, [], _∷_, _++_}
 use Prim.Native.Nat.{ℕ, _*_}
 use native.Mathlib.Nat.{div-eq-of-eq-mul-right}
 use native.Mathlib.Omega.{arith}
+use borrow.Author.Tests.{eqb-true}
 use lib.Dec.{eqb}
 use lib.ListN.{length}
-use Rattle.codec.specs.Bytes.{Bytes}
+use Rattle.codec.specs.Bytes.{Bytes, Octets}
 use Rattle.codec.specs.Reply.{Test, test, first, None, leaves}
 use Rattle.codec.specs.declared.Reply.{Reply}
 use Rattle.codec.specs.declared.Reply.the-variants.{Taken, Refused}
@@ -21,9 +22,11 @@ use Rattle.lengths.specs.Sheets.{parametersOf, ballotsIn}
 use Rattle.checking.specs.Check.{Inputs, storedTests, earlyTests}
 use Rattle.checking.proofs.Laws.{early-exactly}
 use Rattle.session.specs.declared.Session.{Session}
-use Rattle.session.specs.Steps.{storedFor, checkEarly, checkLate, checkTests, checkedBy}
+use Rattle.session.specs.Steps.{storedFor, checkEarly, checkLate, checkTests, refusedBy}
 use Rattle.image.specs.Image.{imageLength, encode, decode}
-use Rattle.session_calls.specs.Images.{checkReply, checkImage}
+use Rattle.image.proofs.Law.{store-load}
+use Rattle.session.specs.Machine.{check, State, state, next, reply, after}
+use Rattle.session_calls.specs.Images.{host, hostReply, hostAfter}
 use Rattle.histories.specs.Claims.{Produced}
 use Rattle.histories.proofs.Valid.{sheet-exactly}
 use Rattle.histories.proofs.Honest.{late-none}
@@ -83,26 +86,33 @@ module _ (s : Session) (round : ℕ) (x : Inputs) where
             first-append (checkEarly s round x) (checkLate s round x) n ∙ taken-exactly (checkLate s round x) .1 (late material made n) ∙ sym e
         go (Refused number place) e = first-refused (checkEarly s round x) (checkLate s round x) number place e ∙ sym e
 
--- a call that is not taken leaves what was there
-kept : (r : Reply) (written was : Bytes) → r ≢ Taken → leaves r written was ≡ was
-unfolding leaves
-kept Taken written was h = absurd (h refl)
-kept (Refused number place) written was h = refl
+    -- and one that is not taken leaves the session
+    left-early : (reg : Bytes) → reply (check round x) (state s reg) ≢ Taken → after (check round x) (state s reg) ≡ state s reg
+    unfolding reply after leaves
+    left-early reg h = go (first (checkTests s round x)) refl (first (checkEarly s round x)) refl
+      where
+        go : (r : Reply) → first (checkTests s round x) ≡ r → (e : Reply) → first (checkEarly s round x) ≡ e
+            → leaves r (next (check round x) (state s reg)) (leaves e (state (refusedBy s) reg) (state s reg)) ≡ state s reg
+        go Taken f e g = absurd (h f)
+        go (Refused number place) f Taken g = absurd (h (reply-early ∙ g))
+        go (Refused number place) f (Refused number' place') g = refl
+
+-- ---- over an image
 
 pub any-session : AnySession
-unfolding checkReply checkImage
-any-session image round x material made = (told (eqb (length image) imageLength), left (eqb (length image) imageLength))
+unfolding hostReply hostAfter reply
+any-session h round x material made = (told (eqb (length (h .image)) imageLength), λ octets. left octets (eqb (length (h .image)) imageLength) refl)
   where
     s : Session
-    s = decode image
-
-    same : first (checkTests s round x) ≡ first (checkEarly s round x)
-    same = reply-early s round x material made
+    s = decode (h .image)
 
     told : (b : Bool) → BeforeTheRound (x .sheet) (cond b (first (checkTests s round x)) (Refused 1 0))
-    told true = rw same (early s round x)
+    told true = rw (reply-early s round x material made) (early s round x)
     told false = wrong-length
 
-    left : (b : Bool) → cond b (first (checkTests s round x)) (Refused 1 0) ≢ Taken → leaves (cond b (first (checkEarly s round x)) (Refused 1 0)) (encode (checkedBy s round x)) image ≡ image
-    left true h = kept (first (checkEarly s round x)) (encode (checkedBy s round x)) image (λ e. h (same ∙ e))
-    left false h = kept (Refused 1 0) (encode (checkedBy s round x)) image h
+    left : Octets (h .image) → (b : Bool) → eqb (length (h .image)) imageLength ≡ b → cond b (first (checkTests s round x)) (Refused 1 0) ≢ Taken
+        → let st = after (check round x) (state s (h .register)) in cond b (host (encode (st .session)) (st .register)) h ≡ h
+    left octets true e n =
+        ap (λ (z : State). host (encode (z .session)) (z .register)) (left-early s round x material made (h .register) n)
+        ∙ ap (λ (image : Bytes). host image (h .register)) (store-load (h .image) (eqb-true (length (h .image)) imageLength e) octets)
+    left octets false e n = refl

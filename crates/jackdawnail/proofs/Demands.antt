@@ -3,7 +3,6 @@ use Prim.Native.Nat.{ℕ, _*_, _<_}
 use native.Mathlib.Omega.{arith}
 use lib.ListN.{length-replicate}
 use Rattle.codec.specs.Bytes.{zeros}
-use Rattle.codec.specs.Reply.{first}
 use Rattle.codec.proofs.Replies.{taken-exactly}
 use Rattle.sheet.specs.Sheet.{order}
 use Rattle.sheet.specs.declared.Reading.the-variants as reading
@@ -29,6 +28,7 @@ use Rattle.jackdawnail.proofs.HostClaims.{host-stays-out, host-rounds-c
 use Rattle.jackdawnail.proofs.Papers.{sound, distributed, digest-of-bits}
 use Rattle.jackdawnail.proofs.Replies.{replies-told}
 use Rattle.jackdawnail.proofs.AnySession.{any-session}
+use Rattle.jackdawnail.proofs.Endings.{refusal-ends}
 use Rattle.jackdawnail.proofs.Images.{over-image}
 use Rattle.jackdawnail.proofs.Yields.{extractor-takes}
 use Rattle.jackdawnail.proofs.Produces.{positive, fits, first-exactly, second-call-exactly}
@@ -101,14 +101,13 @@ demand2 = record {
   rounds-checked = host-rounds-checked;
   ended-accepted = host-ended-accepted;
   withdrawn-stays-out = host-stays-out;
+  refusal-ends = refusal-ends;
   honest-ballots = honest-ballots;
   distributed = distributed;
   digest-of-bits = digest-of-bits;
   examples = all-examples;
   over-images = over-images;
   replies-told = replies-told;
-  host-stays-out = host-stays-out;
-  host-ended-accepted = host-ended-accepted;
 }
 
 pub demand3 : Demand3

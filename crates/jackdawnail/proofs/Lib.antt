@@ -4,6 +4,7 @@ pub mod Typed
 pub mod HostSteps
 pub mod HostClaims
 pub mod AnySession
+pub mod Endings
 pub mod Papers
 pub mod Produces
 pub mod Extracts

@@ -35,9 +35,8 @@ use Rattle.session.specs.declared.Session.{Session}
 use Rattle.session.specs.Session.{valid}
 use Rattle.session.specs.Steps.{clearTests, admitTests, withdrawTests, closeTests, claimTests, commitTests, drawTests, checkEarly, checkLate, checkTests, challengesTests, turnoutTests, turnoutBy}
 use Rattle.image.specs.Image.{imageLength, decode}
-use Rattle.session_calls.specs.Images.{lentReply, clearReply, admitReply, withdrawReply, closeReply, claimReply, commitReply, drawReply, checkReply, challengesReply, turnoutReply, turnoutAnswer, countedAnswer}
-use Rattle.histories.specs.Runs.{Step, clear, admit, withdraw, close, claim, commit, draw, check, State, state, reply}
-use Rattle.jackdawnail.specs.HostSteps.{Host, hostReply}
+use Rattle.session_calls.specs.Images.{Host, lentReply, hostReply, challengesReply, turnoutReply, turnoutAnswer, countedAnswer}
+use Rattle.session.specs.Machine.{Step, clear, admit, withdraw, close, claim, commit, draw, check, State, state, reply}
 use Rattle.jackdawnail.specs.Replies.{Told, Packed, RepliesTold}
 
 -- ---- orders
@@ -148,7 +147,7 @@ in-check s round x = in-round (parametersOf (x .sheet)) (s .progress .closed) _
 
 step-told : (x : Step) (st : State) → Packed (reply x st)
 unfolding reply clearTests admitTests withdrawTests closeTests claimTests commitTests drawTests
-step-told (clear text) st = told (clearTests (st .register) text) refl
+step-told (clear b) st = told (clearTests (st .register) b) refl
 step-told (admit ballot) st = told (admitTests (st .session) (st .register) ballot) refl
 step-told (withdraw mark) st = told (withdrawTests (st .session) (st .register) mark) refl
 step-told close st = told (closeTests (st .session) (st .register)) refl
@@ -158,15 +157,8 @@ step-told (draw seed) st = told (drawTests (st .session) seed) refl
 step-told (check k x) st = told (checkTests (st .session) k x) (in-check (st .session) k x)
 
 host-told : (x : Step) (h : Host) → Packed (hostReply x h)
-unfolding hostReply reply clearReply admitReply withdrawReply closeReply claimReply commitReply drawReply checkReply
-host-told (clear text) h = lent (h .image) (λ s. reply (clear text) (state s (h .register))) (λ s. step-told (clear text) (state s (h .register)))
-host-told (admit ballot) h = lent (h .image) (λ s. reply (admit ballot) (state s (h .register))) (λ s. step-told (admit ballot) (state s (h .register)))
-host-told (withdraw mark) h = lent (h .image) (λ s. reply (withdraw mark) (state s (h .register))) (λ s. step-told (withdraw mark) (state s (h .register)))
-host-told close h = lent (h .image) (λ s. reply close (state s (h .register))) (λ s. step-told close (state s (h .register)))
-host-told (claim claims) h = lent (h .image) (λ s. reply (claim claims) (state s (h .register))) (λ s. step-told (claim claims) (state s (h .register)))
-host-told (commit k head shares0 shares1) h = lent (h .image) (λ s. reply (commit k head shares0 shares1) (state s (h .register))) (λ s. step-told (commit k head shares0 shares1) (state s (h .register)))
-host-told (draw seed) h = lent (h .image) (λ s. reply (draw seed) (state s (h .register))) (λ s. step-told (draw seed) (state s (h .register)))
-host-told (check k x) h = lent (h .image) (λ s. reply (check k x) (state s (h .register))) (λ s. step-told (check k x) (state s (h .register)))
+unfolding hostReply
+host-told x h = lent (h .image) (λ s. reply x (state s (h .register))) (λ s. step-told x (state s (h .register)))
 
 -- a count that is refused names no place, and none of its tests has one
 turnout-told : (image reg : Bytes) (enrolled : ℕ) → Told (turnoutReply image reg enrolled) (turnoutAnswer image reg enrolled)

@@ -3,7 +3,7 @@
 use mathlib.Core.Path.{_≡_}
 use mathlib.Core.Logic.{_≢_}
 use Prim.Native.Nat.{ℕ}
-use Rattle.codec.specs.Bytes.{Bytes}
+use Rattle.codec.specs.Bytes.{Bytes, Octets}
 use Rattle.codec.specs.Reply.{first}
 use Rattle.codec.specs.declared.Reply.{Reply}
 use Rattle.codec.specs.declared.Reply.the-variants.{Taken, Refused}
@@ -12,7 +12,8 @@ use Rattle.transcript.specs.Producer.{Material}
 use Rattle.lengths.specs.Sheets.{parametersOf, ballotsIn}
 use Rattle.checking.specs.Check.{Inputs}
 use Rattle.image.specs.Image.{decode}
-use Rattle.session_calls.specs.Images.{checkReply, checkImage}
+use Rattle.session.specs.Machine.{check}
+use Rattle.session_calls.specs.Images.{Host, hostReply, hostAfter}
 use Rattle.histories.specs.Claims.{Produced}
 
 -- taken, or refused for what comes before the round itself: 31, the lent sheet's own 1 to 5, 1 or 16
@@ -24,8 +25,9 @@ pub data BeforeTheRound (sheet : Bytes) : Reply → Type 0 where
   differs : BeforeTheRound sheet (Refused 16 0)
 
 -- a check of any image that is lent what the producer makes of material for the lent sheet and as many ballots as are lent, for the side and the challenges that the seed in the
--- image draws for the round: the round itself is never refused, and never ends the session
+-- image draws for the round: the round itself is never refused, and never ends the session, that is, a check that is not taken changes nothing
 abbrev pub AnySession : Type 0
-AnySession = (image : Bytes) (round : ℕ) (x : Inputs) (material : Material)
-    → Produced (parametersOf (x .sheet)) (ballotsIn (x .sheet) (x .ballots)) material (decode image .seed) round x
-    → BeforeTheRound (x .sheet) (checkReply image round x) × (checkReply image round x ≢ Taken → checkImage image round x ≡ image)
+AnySession = (h : Host) (round : ℕ) (x : Inputs) (material : Material)
+    → Produced (parametersOf (x .sheet)) (ballotsIn (x .sheet) (x .ballots)) material (decode (h .image) .seed) round x
+    → BeforeTheRound (x .sheet) (hostReply (check round x) h)
+    × (Octets (h .image) → hostReply (check round x) h ≢ Taken → hostAfter (check round x) h ≡ h)

@@ -40,7 +40,7 @@ use Rattle.jackdawnail.specs.HostSteps.{OverImages}
 use Rattle.jackdawnail.specs.HostClaims.{HostStaysOut, HostRoundsChecked, HostEndedAccepted, HostHonestAccepted, HostStaysValid, HostOnlyPhaseOrRound}
 use Rattle.jackdawnail.specs.Replies.{RepliesTold}
 use Rattle.jackdawnail.specs.AnySession.{AnySession}
-use Rattle.jackdawnail.specs.HostClaims.{HostStaysOut, HostEndedAccepted, HostHonestAccepted}
+use Rattle.jackdawnail.specs.Endings.{RefusalEnds}
 
 -- ---- 2. Everything equals the papers, a round is accepted exactly if every listed check holds, and a withdrawn mark is in no closed batch.
 
@@ -75,6 +75,8 @@ pub record Demand2 : Type 0 where
   pub rounds-checked : HostRoundsChecked
   pub ended-accepted : HostEndedAccepted
   pub withdrawn-stays-out : HostStaysOut
+  -- a check that is refused for its round ends the session, after which no step but clear is taken
+  pub refusal-ends : RefusalEnds
   pub honest-ballots : HonestBallots
   -- split keys add up, a mask worked out is the mask, reconstruction of two shares equals decryption; and SHA3-256 is FIPS 202's over bits
   pub distributed : Distributed
@@ -84,8 +86,6 @@ pub record Demand2 : Type 0 where
   pub over-images : OverImages
   -- of every reply that a call gives, the remainder by 256 is 0 exactly if the call is taken, and else the number of the refusal
   pub replies-told : RepliesTold
-  pub host-stays-out : HostStaysOut
-  pub host-ended-accepted : HostEndedAccepted
 
 -- ---- 3. Two accepted openings and three accepted answers yield a hash collision, a short commitment vector or the key, and every honest round is accepted whatever is drawn.
 

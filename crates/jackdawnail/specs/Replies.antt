@@ -17,9 +17,8 @@ use Rattle.scheme_calls.specs.Orders.{keygenOrder, encryptOrder, decryptOrder, 
 use Rattle.verification.specs.Extraction.{answered}
 use Rattle.round_calls.specs.Replies.{firstReply, secondReply}
 use Rattle.verification_calls.specs.Replies.{extractReply, extractFound}
-use Rattle.session_calls.specs.Images.{challengesReply, turnoutReply, turnoutAnswer}
-use Rattle.histories.specs.Runs.{Step}
-use Rattle.jackdawnail.specs.HostSteps.{Host, hostReply}
+use Rattle.session.specs.Machine.{Step}
+use Rattle.session_calls.specs.Images.{Host, hostReply, challengesReply, turnoutReply, turnoutAnswer}
 
 -- what C reads off an answer: its remainder by 256 is 0 exactly if the call is taken, and else the number of the refusal; the quotient is then its place
 pub record Told (reply : Reply) (answer : ℕ) : Type 0 where
