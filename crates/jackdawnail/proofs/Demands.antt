@@ -29,6 +29,7 @@ use Rattle.jackdawnail.proofs.Papers.{sound, distributed, digest-of-bit
 use Rattle.jackdawnail.proofs.Replies.{replies-told}
 use Rattle.jackdawnail.proofs.AnySession.{any-session}
 use Rattle.jackdawnail.proofs.Endings.{refusal-ends}
+use Rattle.jackdawnail.proofs.Decided.{first-decides, orders-as-written}
 use Rattle.jackdawnail.proofs.Images.{over-image}
 use Rattle.jackdawnail.proofs.Yields.{extractor-takes}
 use Rattle.jackdawnail.proofs.Produces.{positive, fits, first-exactly, second-call-exactly}
@@ -102,6 +103,8 @@ demand2 = record {
   ended-accepted = host-ended-accepted;
   withdrawn-stays-out = host-stays-out;
   refusal-ends = refusal-ends;
+  first-decides = first-decides;
+  orders-as-written = orders-as-written;
   honest-ballots = honest-ballots;
   distributed = distributed;
   digest-of-bits = digest-of-bits;

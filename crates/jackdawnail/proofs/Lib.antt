@@ -5,6 +5,7 @@ pub mod HostSteps
 pub mod HostClaims
 pub mod AnySession
 pub mod Endings
+pub mod Decided
 pub mod Papers
 pub mod Produces
 pub mod Extracts

@@ -41,6 +41,7 @@ use Rattle.jackdawnail.specs.HostClaims.{HostStaysOut, HostRoundsChecked
 use Rattle.jackdawnail.specs.Replies.{RepliesTold}
 use Rattle.jackdawnail.specs.AnySession.{AnySession}
 use Rattle.jackdawnail.specs.Endings.{RefusalEnds}
+use Rattle.jackdawnail.specs.Decided.{FirstDecides, OrdersAsWritten}
 
 -- ---- 2. Everything equals the papers, a round is accepted exactly if every listed check holds, and a withdrawn mark is in no closed batch.
 
@@ -77,6 +78,9 @@ pub record Demand2 : Type 0 where
   pub withdrawn-stays-out : HostStaysOut
   -- a check that is refused for its round ends the session, after which no step but clear is taken
   pub refusal-ends : RefusalEnds
+  -- of every call the first case that holds in its order decides number and place, and no refusal comes otherwise
+  pub first-decides : FirstDecides
+  pub orders-as-written : OrdersAsWritten
   pub honest-ballots : HonestBallots
   -- split keys add up, a mask worked out is the mask, reconstruction of two shares equals decryption; and SHA3-256 is FIPS 202's over bits
   pub distributed : Distributed
