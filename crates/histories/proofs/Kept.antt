@@ -274,10 +274,14 @@ kept-trace [] l k = k
 kept-trace (c ∷ cs) l k = kept-trace cs (extend c l) (kept-step (c .register) (l .session) (l .history) k (c .step))
 
 -- the same with the register that each step left
-kept-steps : (xs : List Step) (t : OwnTrace) → Kept (t .now .session) (t .history) → Kept (ownTrace xs t .now .session) (ownTrace xs t .history)
-unfolding ownTrace ownExtend
+pub kept-extend : (x : Step) (t : OwnTrace) → Kept (t .now .session) (t .history) → Kept (ownExtend x t .now .session) (ownExtend x t .history)
+unfolding ownExtend
+kept-extend x t k = kept-step (t .now .register) (t .now .session) (t .history) k x
+
+pub kept-steps : (xs : List Step) (t : OwnTrace) → Kept (t .now .session) (t .history) → Kept (ownTrace xs t .now .session) (ownTrace xs t .history)
+unfolding ownTrace
 kept-steps [] t k = k
-kept-steps (x ∷ xs) t k = kept-steps xs (ownExtend x t) (kept-step (t .now .register) (t .now .session) (t .history) k x)
+kept-steps (x ∷ xs) t k = kept-steps xs (ownExtend x t) (kept-extend x t k)
 
 pub kept : (b : Beginning) (cs : List Call) → Begins b → Kept (trace cs (initial b) .session) (trace cs (initial b) .history)
 unfolding initial

@@ -12,3 +12,4 @@ pub mod Roll
 pub mod Rounds
 pub mod Ended
 pub mod Lodged
+pub mod OwnTurn

@@ -1,12 +1,11 @@
 -- The claims of specs/Decided.antt, from the law of every order. Assumes nothing.
-use mathlib.Core.Path.{_≡_, refl}
+use mathlib.Core.Path.{refl}
 use mathlib.Core.Bool.{Bool, true, false, cond, not}
 use mathlib.Core.List.{List, _∷_}
 use lib.Dec.{eqb}
 use lib.ListN.{length}
 use Rattle.codec.specs.Bytes.{Bytes}
 use Rattle.codec.specs.Reply.{Test, test, first}
-use Rattle.codec.specs.declared.Reply.{Reply}
 use Rattle.codec.specs.declared.Reply.the-variants.{Refused}
 use Rattle.codec.proofs.Replies.{taken-exactly, refused-exactly}
 use Rattle.sha3.specs.Digest.{digestReply}
@@ -16,9 +15,9 @@ use Rattle.verification_calls.specs.Replies.{extractReply}
 use Rattle.checking.specs.Check.{storedTests, earlyTests}
 use Rattle.session.specs.declared.Session.{Session}
 use Rattle.session.specs.Steps.{admitTests, withdrawTests, closeTests, claimTests, commitTests, drawTests, checkEarly, challengesTests, turnoutTests}
-use Rattle.session.specs.Machine.{Step, state, tests, reply}
+use Rattle.session.specs.Machine.{state, tests, reply}
 use Rattle.image.specs.Image.{imageLength, decode}
-use Rattle.session_calls.specs.Images.{Host, lentReply, hostReply, challengesReply, turnoutReply}
+use Rattle.session_calls.specs.Images.{lentReply, hostReply, challengesReply, turnoutReply}
 use Rattle.jackdawnail.specs.Decided.{Decided, imageTest, FirstDecides, OrdersAsWritten}
 
 decided : (ts : List Test) → Decided (first ts) ts

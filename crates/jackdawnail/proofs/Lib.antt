@@ -6,6 +6,7 @@ pub mod HostClaims
 pub mod AnySession
 pub mod Endings
 pub mod Decided
+pub mod FromCalls
 pub mod Papers
 pub mod Produces
 pub mod Extracts

@@ -14,7 +14,6 @@ use Rattle.codec.specs.declared.Reply.the-variants.{Taken, Refused}
 use Rattle.sheet.specs.Sheet.{order}
 use Rattle.sha3.specs.Digest.{digestReply}
 use Rattle.sheet_calls.specs.Calls.{describeReply}
-use Rattle.transcript.specs.Round.{Parameters, maskTest, claimTest}
 use Rattle.transcript.specs.Producer.{Material}
 use Rattle.transcript.specs.Writes.{FirstRoom, SecondRoom}
 use Rattle.transcript.specs.Extractor.{Openings, ExtractRoom}
@@ -24,7 +23,7 @@ use Rattle.scheme_calls.specs.Orders.{keygenOrder, encryptOrder, decryptOrder, 
 use Rattle.round_calls.specs.Replies.{firstReply, secondReply}
 use Rattle.verification_calls.specs.Replies.{extractReply}
 use Rattle.checking.specs.Check.{Inputs}
-use Rattle.session.specs.Steps.{Beginning, challengesTests, turnoutTests, checkEarly}
+use Rattle.session.specs.Steps.{challengesTests, turnoutTests, checkEarly}
 use Rattle.session.specs.Machine.{Step, admit, withdraw, close, claim, commit, draw, State, state, tests}
 use Rattle.session.specs.declared.Session.{Session}
 use Rattle.image.specs.Image.{imageLength, decode}

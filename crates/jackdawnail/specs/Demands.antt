@@ -42,6 +42,7 @@ use Rattle.jackdawnail.specs.Replies.{RepliesTold}
 use Rattle.jackdawnail.specs.AnySession.{AnySession}
 use Rattle.jackdawnail.specs.Endings.{RefusalEnds}
 use Rattle.jackdawnail.specs.Decided.{FirstDecides, OrdersAsWritten}
+use Rattle.jackdawnail.specs.FromCalls.{FromCalls}
 
 -- ---- 2. Everything equals the papers, a round is accepted exactly if every listed check holds, and a withdrawn mark is in no closed batch.
 
@@ -181,6 +182,8 @@ pub record Demand3 : Type 0 where
   pub takes-accepted : TakesAccepted
   -- over every list of calls from a clear that is taken, each lent any register: a round of the producer's that is lodged is accepted at its turn
   pub honest-accepted : HostHonestAccepted
+  -- and where the host writes no register: from the producer's two calls, claim, commit, draw and challenges to the check
+  pub from-calls : FromCalls
   pub honest-rounds : HonestRounds
   -- nor does it in any session, whatever bytes the image is
   pub any-session : AnySession
