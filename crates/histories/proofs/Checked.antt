@@ -1,7 +1,7 @@
 -- A check is taken exactly if its conditions hold, in every round, and so is every step. Assumes nothing.
 use mathlib.Core.Path.{_≡_}
 use mathlib.Core.Logic.{_↔_}
-use Prim.Native.Nat.{ℕ, _<_}
+use Prim.Native.Nat.{ℕ}
 use native.Mathlib.Omega.{arith}
 use Rattle.codec.specs.Bytes.{Octets}
 use Rattle.codec.specs.Reply.{None, first}
@@ -12,12 +12,11 @@ use Rattle.transcript.proofs.Many.{none-append, append-none}
 use Rattle.transcript.proofs.Accepted.{none-exactly}
 use Rattle.lengths.specs.Sheets.{parametersOf}
 use Rattle.checking.specs.Check.{Inputs, lateTests, drawnRound}
-use Rattle.checking.specs.Equations.{Sized, Held}
 use Rattle.checking.proofs.Laws.{early-exactly}
 use Rattle.session.specs.declared.Session.{Session}
 use Rattle.session.specs.Steps.{storedFor, checkEarly, checkLate, checkTests}
 use Rattle.session.specs.Machine.{clear, admit, withdraw, close, claim, commit, draw, check, reply}
-use Rattle.histories.specs.Conditions.{Valid, SheetTaken, Checks}
+use Rattle.histories.specs.Conditions.{Reaches, Checks}
 use Rattle.histories.specs.Claims.{StepExactly}
 use Rattle.histories.proofs.Exact.{cleared-exactly, admitted-exactly, withdrawn-exactly, closed-exactly, claimed-exactly, committed-exactly, drawn-exactly}
 use Rattle.histories.proofs.Valid.{ready, is-ready, on-turn, is-turn, sheet-exactly}
@@ -25,50 +24,34 @@ use Rattle.histories.proofs.Valid.{ready, is-ready, on-turn, is-turn, s
 module _ (s : Session) (round : ℕ) (x : Inputs) where
   -- ---- before the round is looked at
 
-  pub early-none : Valid s → s .progress .phase ≡ 3 → round ≡ s .progress .checked → round < s .numbers .rounds → SheetTaken (x .sheet) → Sized (storedFor s round) x → Held (storedFor s round) x
-      → None (checkEarly s round x)
+  pub reaches-exactly : None (checkEarly s round x) ↔ Reaches s round x
   unfolding checkEarly
-  early-none sound phase due within sheet lengths matches = (
-    is-ready s sound (is-turn phase due within),
-    early-exactly (storedFor s round) x .1 (sheet-exactly (x .sheet) .1 sheet, lengths, matches),
+  reaches-exactly = (
+    λ n.
+        let r = ready s _ (n .0) in
+        let t = on-turn (s .progress .phase) 3 round (s .progress .checked) (s .numbers .rounds) (r .1) in
+        let h = early-exactly (storedFor s round) x .0 (n .1) in
+        record { sound = r .0; phase = t .0; due = t .1; within = t .2; sheet = sheet-exactly (x .sheet) .0 (h .0); lengths = h .1; matches = h .2 },
+    λ r. (is-ready s (r .sound) (is-turn (r .phase) (r .due) (r .within)), early-exactly (storedFor s round) x .1 (sheet-exactly (x .sheet) .1 (r .sheet), r .lengths, r .matches)),
   )
 
   -- the parameters of a sheet in range are those that the round's theorem asks for
   module _ (octets : Octets (x .head)) where
-    abbrev Round : Type 0
-    Round = Accepted (parametersOf (x .sheet)) (s .progress .closed) (drawnRound (storedFor s round) x)
-
-    late-exactly : SheetTaken (x .sheet) → Sized (storedFor s round) x → Held (storedFor s round) x → None (checkLate s round x) ↔ Round
+    late-exactly : Reaches s round x → None (checkLate s round x) ↔ Accepted (parametersOf (x .sheet)) (s .progress .closed) (drawnRound (storedFor s round) x)
     unfolding checkLate lateTests
-    late-exactly sheet lengths matches =
-        let r = sheet .inside in
+    late-exactly reaches =
+        let r = reaches .sheet .inside in
         none-exactly (parametersOf (x .sheet)) (s .progress .closed) (omega (arith, r .modulus-low)) (omega (arith, r .modulus-high)) (drawnRound (storedFor s round) x)
-        (rw (matches .numbers) (lengths .head)) octets
-
-    checks-says : None (checkEarly s round x) → None (checkLate s round x) → Checks s round x
-    unfolding checkEarly
-    checks-says n late =
-        let r = ready s _ (n .0) in
-        let t = on-turn (s .progress .phase) 3 round (s .progress .checked) (s .numbers .rounds) (r .1) in
-        let h = early-exactly (storedFor s round) x .0 (n .1) in
-        let sheet = sheet-exactly (x .sheet) .0 (h .0) in
-        record {
-          sound = r .0;
-          phase = t .0;
-          due = t .1;
-          within = t .2;
-          sheet = sheet;
-          lengths = h .1;
-          matches = h .2;
-          accepted = late-exactly sheet (h .1) (h .2) .0 late;
-        }
+        (rw (reaches .matches .numbers) (reaches .lengths .head)) octets
 
     checks-exactly : None (checkTests s round x) ↔ Checks s round x
     unfolding checkTests
     checks-exactly = (
-      λ n. let h = append-none (checkEarly s round x) (checkLate s round x) n in checks-says (h .0) (h .1),
-      λ c. none-append (checkEarly s round x) (checkLate s round x) (early-none (c .sound) (c .phase) (c .due) (c .within) (c .sheet) (c .lengths) (c .matches))
-          (late-exactly (c .sheet) (c .lengths) (c .matches) .1 (c .accepted)),
+      λ n.
+          let h = append-none (checkEarly s round x) (checkLate s round x) n in
+          let reaches = reaches-exactly .0 (h .0) in
+          record { reaches = reaches; accepted = late-exactly reaches .0 (h .1) },
+      λ c. none-append (checkEarly s round x) (checkLate s round x) (reaches-exactly .1 (c .reaches)) (late-exactly (c .reaches) .1 (c .accepted)),
     )
 
 pub accepted-exactly : (s : Session) (round : ℕ) (x : Inputs) → Octets (x .head) → (first (checkTests s round x) ≡ Taken) ↔ Checks s round x

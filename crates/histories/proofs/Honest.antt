@@ -1,6 +1,6 @@
 -- The third demand's last sentence: a round that the producer wrote for the session's sheet and batch, lodged, is accepted at its turn. Assumes nothing.
-use mathlib.Core.Path.{_≡_, sym, ap, _∙_}
-use Prim.Native.Nat.{ℕ, _<_}
+use mathlib.Core.Path.{_≡_, sym, ap, subst, _∙_}
+use Prim.Native.Nat.{ℕ}
 use native.Mathlib.Omega.{arith}
 use lib.ListN.{length}
 use Rattle.codec.specs.Bytes.{Bytes}
@@ -8,14 +8,11 @@ use Rattle.codec.specs.Reply.{None, first}
 use Rattle.codec.specs.declared.Reply.{Reply}
 use Rattle.codec.specs.declared.Reply.the-variants.{Taken}
 use Rattle.codec.proofs.Replies.{taken-exactly}
-use Rattle.modular.specs.Division.{Coprime}
 use Rattle.sha3.specs.Sponge.{sha3}
 use Rattle.sheet.specs.Reader.{sheetOf}
-use Rattle.sheet_numbers.specs.Bounds.{noise, mask}
 use Rattle.sheet.specs.Sheet.{order, readingBy, reading}
 use Rattle.sheet_numbers.specs.declared.Numbers.{Numbers}
 use Rattle.sheet.specs.declared.Reading.the-variants as reading
-use Rattle.bgv.specs.Scheme.{Sound}
 use Rattle.bgv.proofs.Sheets.{sheet-sound}
 use Rattle.transcript.specs.Layout.{ballotLength}
 use Rattle.transcript.specs.Round.{Parameters}
@@ -39,21 +36,21 @@ use Rattle.histories.specs.Conditions.{SheetTaken}
 use Rattle.histories.specs.Claims.{Produced, Turn, HonestAccepted}
 use Rattle.histories.proofs.Valid.{sheet-exactly}
 use Rattle.histories.proofs.Kept.{Kept, messageDigest, kept}
-use Rattle.histories.proofs.Checked.{early-none}
+use Rattle.histories.proofs.Checked.{reaches-exactly}
 
 reads : (text : Bytes) → SheetTaken text → reading text ≡ reading.Taken (sheetOf text .numbers)
 unfolding reading
 reads text t = ap (λ (r : Reply). readingBy r (sheetOf text .numbers)) (taken-exactly (order text) .1 (sheet-exactly text .1 t))
 
-module _ (l : Trace) (k : Kept (l .session) (l .history)) (material : Material) (round : ℕ) (x : Inputs) (turn : Turn l material round x) where
-  abbrev s : Session
-  s = l .session
+-- ---- the round's own tests, in any session whose numbers are the sheet's and whose closed count is that of the ballots
 
+module _ (s : Session) (material : Material) (round : ℕ) (x : Inputs) (sheet-taken : SheetTaken (x .sheet)) (numbers : sheetOf (x .sheet) .numbers ≡ s .numbers)
+    (made : Produced (parametersOf (x .sheet)) (s .progress .closed) material (s .seed) round x) where
   abbrev P : Parameters
   P = parametersOf (x .sheet)
 
   abbrev m : ℕ
-  m = length (l .history .batch)
+  m = s .progress .closed
 
   abbrev side : ℕ
   side = drawnSide (s .seed) round
@@ -61,7 +58,41 @@ module _ (l : Trace) (k : Kept (l .session) (l .history)) (material : Material) 
   abbrev challenges : Bytes
   challenges = drawnChallenges (s .seed) round (P .repeats)
 
-  abbrev made : Produced P m material (s .seed) round x
+  round-is : drawnRound (storedFor s round) x ≡ producedRound P m material side challenges
+  round-is = λ d. record {
+    side = side;
+    challenges = ap (λ (n : Numbers). drawnChallenges (s .seed) round (n .repeats)) (sym numbers) d;
+    ballots = made .ballots d;
+    claims = made .claims d;
+    head = made .head d;
+    shares0 = made .shares0 d;
+    shares1 = made .shares1 d;
+    opening = made .opening d;
+    answers = made .answers d;
+  }
+
+  pub late-none : None (checkLate s round x)
+  unfolding checkLate lateTests
+  late-none =
+      let r = sheet-taken .inside in
+      rw round-is
+      (honest-round P m material (sheet-sound (x .sheet) (sheetOf (x .sheet) .numbers) (reads (x .sheet) sheet-taken)) (omega (arith, r .modulus-low)) (omega (arith, r .modulus-high)) (made .sized)
+      (producer-exactly P m material (omega (arith, r .modulus-low)) (omega (arith, r .modulus-high)) .1 (made .suitable))
+      side (side-range (s .seed) round) challenges (length-challenges (s .seed) round (P .repeats)) (challenge-range (s .seed) round (P .repeats)))
+
+-- ---- at its turn
+
+module _ (l : Trace) (k : Kept (l .session) (l .history)) (material : Material) (round : ℕ) (x : Inputs) (turn : Turn l material round x) where
+  abbrev s : Session
+  s = l .session
+
+  abbrev Q : Parameters
+  Q = parametersOf (x .sheet)
+
+  abbrev count : ℕ
+  count = length (l .history .batch)
+
+  abbrev made : Produced Q count material (s .seed) round x
   made = turn .made
 
   sheet-taken : SheetTaken (x .sheet)
@@ -70,20 +101,20 @@ module _ (l : Trace) (k : Kept (l .session) (l .history)) (material : Material) 
   numbers : sheetOf (x .sheet) .numbers ≡ s .numbers
   numbers = rw (turn .sheet) (sym (k .numbers))
 
-  closed : s .progress .closed ≡ m
+  closed : s .progress .closed ≡ count
   closed = let phase = turn .phase in k .closed (omega arith)
 
   -- ---- the lengths
 
   lengths : Sized (storedFor s round) x
   lengths = rw (closed, ← numbers) (record {
-    head = ap length (made .head) ∙ length-producedHead P m material;
-    shares0 = ap length (made .shares0) ∙ length-producedShares P m material 0;
-    shares1 = ap length (made .shares1) ∙ length-producedShares P m material 1;
+    head = ap length (made .head) ∙ length-producedHead Q count material;
+    shares0 = ap length (made .shares0) ∙ length-producedShares Q count material 0;
+    shares1 = ap length (made .shares1) ∙ length-producedShares Q count material 1;
     ballots = ap length (made .ballots) ∙ made .sized .ballots;
-    claims = ap length (made .claims) ∙ length-producedClaims P m material;
-    opening = ap length (made .opening) ∙ length-producedOpening P m material (made .sized) side (side-range (s .seed) round);
-    answers = ap length (made .answers) ∙ length-producedAnswers P m material (made .sized) challenges (length-challenges (s .seed) round (P .repeats));
+    claims = ap length (made .claims) ∙ length-producedClaims Q count material;
+    opening = ap length (made .opening) ∙ length-producedOpening Q count material (made .sized) (drawnSide (s .seed) round) (side-range (s .seed) round);
+    answers = ap length (made .answers) ∙ length-producedAnswers Q count material (made .sized) (drawnChallenges (s .seed) round (Q .repeats)) (length-challenges (s .seed) round (Q .repeats));
     scratch = turn .scratch;
   })
 
@@ -105,38 +136,15 @@ module _ (l : Trace) (k : Kept (l .session) (l .history)) (material : Material) 
         message = ap (messageDigest (s .claim) round) (turn .first-message) ∙ sym (k .trail (omega arith) round (omega arith));
       }
 
-  -- ---- the round
-
-  round-is : drawnRound (storedFor s round) x ≡ producedRound P m material side challenges
-  round-is = λ d. record {
-    side = side;
-    challenges = ap (λ (n : Numbers). drawnChallenges (s .seed) round (n .repeats)) (sym numbers) d;
-    ballots = made .ballots d;
-    claims = made .claims d;
-    head = made .head d;
-    shares0 = made .shares0 d;
-    shares1 = made .shares1 d;
-    opening = made .opening d;
-    answers = made .answers d;
-  }
-
-  late-none : None (checkLate s round x)
-  unfolding checkLate lateTests
-  late-none =
-      let r = sheet-taken .inside in
-      rw (closed, round-is)
-      (honest-round P m material (sheet-sound (x .sheet) (sheetOf (x .sheet) .numbers) (reads (x .sheet) sheet-taken)) (omega (arith, r .modulus-low)) (omega (arith, r .modulus-high)) (made .sized)
-      (producer-exactly P m material (omega (arith, r .modulus-low)) (omega (arith, r .modulus-high)) .1 (made .suitable))
-      side (side-range (s .seed) round) challenges (length-challenges (s .seed) round (P .repeats)) (challenge-range (s .seed) round (P .repeats)))
-
-  accepted : first (checkTests s round x) ≡ Taken
+  pub turn-accepted : first (checkTests s round x) ≡ Taken
   unfolding checkTests
-  accepted =
+  turn-accepted =
       let next = k .next (turn .phase) in
       let due = turn .due in
       taken-exactly (checkTests s round x) .1
-      (none-append (checkEarly s round x) (checkLate s round x) (early-none s round x (k .sound) (turn .phase) due (omega arith) sheet-taken lengths matches) late-none)
+      (none-append (checkEarly s round x) (checkLate s round x) (reaches-exactly s round x .1 (record { sound = k .sound; phase = turn .phase; due = due; within = omega arith; sheet = sheet-taken; lengths = lengths; matches = matches }))
+      (late-none s material round x sheet-taken numbers (subst (λ (n : ℕ). Produced Q n material (s .seed) round x) (sym closed) made)))
 
 pub honest-accepted : HonestAccepted
 unfolding reply
-honest-accepted b cs e register material round x turn = accepted (trace cs (initial b)) (kept b cs e) material round x turn
+honest-accepted b cs e register material round x turn = turn-accepted (trace cs (initial b)) (kept b cs e) material round x turn

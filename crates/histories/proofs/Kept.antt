@@ -25,7 +25,7 @@ use Rattle.progress.specs.declared.Progress.{Progress}
 use Rattle.session.specs.Session.{changed}
 use Rattle.session.specs.Steps.{Beginning, cleared, admittedBy, closedBy, claimedBy, committedBy, drawnBy, acceptedBy, refusedBy}
 use Rattle.session.specs.Machine.{Step, clear, admit, withdraw, close, claim, commit, draw, check, State, state, next, reply, after}
-use Rattle.histories.specs.Runs.{Message, message, Call, History, Begins, emptyHistory, historyAfter, Trace, extend, trace, initial}
+use Rattle.histories.specs.Runs.{Message, message, Call, History, Begins, emptyHistory, historyAfter, Trace, extend, trace, initial, OwnTrace, ownInitial, ownExtend, ownTrace}
 use Rattle.histories.specs.Conditions.{SheetTaken, Valid, Admits, Closes, Claims, Commits, Draws}
 use Rattle.histories.proofs.Valid.{sheet-exactly}
 use Rattle.histories.proofs.Stepped.{taken-turn, stepped-with}
@@ -273,6 +273,20 @@ unfolding trace extend
 kept-trace [] l k = k
 kept-trace (c ∷ cs) l k = kept-trace cs (extend c l) (kept-step (c .register) (l .session) (l .history) k (c .step))
 
+-- the same with the register that each step left
+pub kept-extend : (x : Step) (t : OwnTrace) → Kept (t .now .session) (t .history) → Kept (ownExtend x t .now .session) (ownExtend x t .history)
+unfolding ownExtend
+kept-extend x t k = kept-step (t .now .register) (t .now .session) (t .history) k x
+
+pub kept-steps : (xs : List Step) (t : OwnTrace) → Kept (t .now .session) (t .history) → Kept (ownTrace xs t .now .session) (ownTrace xs t .history)
+unfolding ownTrace
+kept-steps [] t k = k
+kept-steps (x ∷ xs) t k = kept-steps xs (ownExtend x t) (kept-extend x t k)
+
 pub kept : (b : Beginning) (cs : List Call) → Begins b → Kept (trace cs (initial b) .session) (trace cs (initial b) .history)
 unfolding initial
 kept b cs e = kept-trace cs (initial b) (kept-clear b (sheet-exactly (b .sheet) .0 (taken-exactly (order (b .sheet)) .0 e)))
+
+pub kept-own : (b : Beginning) (xs : List Step) → Begins b → Kept (ownTrace xs (ownInitial b) .now .session) (ownTrace xs (ownInitial b) .history)
+unfolding ownInitial
+kept-own b xs e = kept-steps xs (ownInitial b) (kept-clear b (sheet-exactly (b .sheet) .0 (taken-exactly (order (b .sheet)) .0 e)))

@@ -10,3 +10,6 @@ pub mod Honest
 pub mod Withdrawn
 pub mod Roll
 pub mod Rounds
+pub mod Ended
+pub mod Lodged
+pub mod OwnTurn

@@ -96,8 +96,8 @@ pub record Draws (s : Session) (seed : Bytes) : Type 0 where
   pub all : s .progress .committed ≡ s .numbers .rounds  -- 31
   pub size : length seed ≡ 32  -- 1
 
--- all that an accepted check has found, in any round; what a round is accepted for, in propositions: transcript, specs/Accepted.antt; lengths and digests, in equations: checking, specs/Equations.antt
-pub record Checks (s : Session) (round : ℕ) (x : Inputs) : Type 0 where
+-- a check that looks at the round itself: nothing that comes before it in the order of check holds. Lengths and digests, in equations: checking, specs/Equations.antt
+pub record Reaches (s : Session) (round : ℕ) (x : Inputs) : Type 0 where
   pub sound : Valid s  -- 31
   pub phase : s .progress .phase ≡ drawn  -- 31
   pub due : round ≡ s .progress .checked  -- 31
@@ -105,6 +105,10 @@ pub record Checks (s : Session) (round : ℕ) (x : Inputs) : Type 0 where
   pub sheet : SheetTaken (x .sheet)  -- 1 to 5
   pub lengths : Sized (storedFor s round) x  -- 1, by the session's numbers and closed count
   pub matches : Held (storedFor s round) x  -- 16, what is lent is what the session holds the digests of
+
+-- all that an accepted check has found, in any round; what a round is accepted for, in propositions: transcript, specs/Accepted.antt
+pub record Checks (s : Session) (round : ℕ) (x : Inputs) : Type 0 where
+  pub reaches : Reaches s round x  -- 31, the sheet's 1 to 5, 1, 16
   pub accepted : Accepted (parametersOf (x .sheet)) (s .progress .closed) (drawnRound (storedFor s round) x)  -- 5 to 13
 
 -- ---- by the step

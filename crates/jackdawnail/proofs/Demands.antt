@@ -1,35 +1,21 @@
 -- The second and the third demand: `demand2` and `demand3` of specs/Demands.antt. Assumes nothing.
-use mathlib.Core.Path.{_≡_, ap}
-use mathlib.Core.Bool.{_&&_}
-use Prim.Native.Nat.{ℕ, _^_, _*_, _≤_, _<_}
+use Prim.Native.Nat.{ℕ, _*_, _<_}
 use native.Mathlib.Omega.{arith}
-use lib.Dec.{leb}
 use lib.ListN.{length-replicate}
-use borrow.Author.Tests.{not-false}
-use Rattle.codec.specs.Bytes.{Bytes, zeros}
-use Rattle.codec.specs.Reply.{first}
-use Rattle.codec.specs.declared.Reply.{Reply}
-use Rattle.codec.specs.declared.Reply.the-variants.{Taken}
-use Rattle.codec.proofs.Laws.{both}
+use Rattle.codec.specs.Bytes.{zeros}
 use Rattle.codec.proofs.Replies.{taken-exactly}
-use Rattle.sheet.specs.Reader.{sheetOf}
-use Rattle.sheet.specs.Sheet.{order, readingBy, reading}
+use Rattle.sheet.specs.Sheet.{order}
 use Rattle.sheet.specs.declared.Reading.the-variants as reading
 use Rattle.call.specs.Call.{scratchLength}
-use Rattle.bgv.proofs.Sheets.{sheet-sound}
 use Rattle.bgv.proofs.Ballot.{honest-noise, honest-decrypts}
-use Rattle.transcript.specs.Extractor.{extractRoom}
-use Rattle.transcript.proofs.Many.{append-none}
 use Rattle.transcript.proofs.Passed.{producer-exactly}
 use Rattle.transcript.proofs.Honest.{honest-round}
+use Rattle.transcript.proofs.OpeningsAccepted.{openings-exactly}
 use Rattle.transcript.proofs.Extraction.{extraction}
 use Rattle.transcript.proofs.ExtractionHashed.{hashed}
 use Rattle.transcript.proofs.ExtractionOutput.{output, lowest}
 use Rattle.transcript.proofs.Refuses.{parts-exactly, refuses-exactly, takes-accepted, refuses-alike, lending}
-use Rattle.lengths.specs.Calls.{openingsTests}
 use Rattle.lengths.specs.Sheets.{parametersOf, ballotsIn}
-use Rattle.verification.proofs.Tested.{lent-message, lent-openings, extract-lengths}
-use Rattle.verification_calls.specs.Replies.{extractReply}
 use Rattle.session.specs.Machine.{state, reply}
 use Rattle.image.specs.Image.{decode}
 use Rattle.session_calls.specs.Images.{hostReply}
@@ -39,10 +25,17 @@ use Rattle.histories.proofs.Checked.{step-exactly}
 use Rattle.histories.proofs.Roll.{roll-is-batch, own-register}
 use Rattle.jackdawnail.proofs.HostSteps.{over-images}
 use Rattle.jackdawnail.proofs.HostClaims.{host-stays-out, host-rounds-checked, host-ended-accepted, host-honest-accepted, host-stays-valid, host-only-phase-or-round}
+use Rattle.jackdawnail.proofs.Papers.{sound, distributed, digest-of-bits}
+use Rattle.jackdawnail.proofs.Replies.{replies-told}
+use Rattle.jackdawnail.proofs.AnySession.{any-session}
+use Rattle.jackdawnail.proofs.Endings.{refusal-ends}
+use Rattle.jackdawnail.proofs.Decided.{first-decides, orders-as-written}
+use Rattle.jackdawnail.proofs.FromCalls.{from-calls}
 use Rattle.jackdawnail.proofs.Images.{over-image}
 use Rattle.jackdawnail.proofs.Yields.{extractor-takes}
-use Rattle.jackdawnail.proofs.Produces.{first-exactly, second-call-exactly}
-use Rattle.jackdawnail.specs.Demands.{SheetExactly, StepExactly, HonestBallots, Demand2, Extracts, AcceptedYields, RefusesAsChecks, ProducerWrites, HonestRounds, Demand3}
+use Rattle.jackdawnail.proofs.Produces.{positive, fits, first-exactly, second-call-exactly}
+use Rattle.jackdawnail.proofs.Extracts.{extractor-exactly}
+use Rattle.jackdawnail.specs.Demands.{SheetExactly, StepExactly, HonestBallots, Demand2, ExtractorExactly, Extracts, AcceptedYields, RefusesAsChecks, ProducerWrites, HonestRounds, Demand3}
 
 -- ---- over an image
 
@@ -58,15 +51,10 @@ sheets text =
     let s = sheet-exactly text in
     (λ e. s .0 (t .0 e), λ h. t .1 (s .1 h))
 
-module _ (text : Bytes) (sheet : first (order text) ≡ Taken) where
-  read : reading text ≡ reading.Taken (sheetOf text .numbers)
-  unfolding reading
-  read = ap (λ (r : Reply). readingBy r (sheetOf text .numbers)) sheet
-
 honest-ballots : HonestBallots
 honest-ballots text sheet s e r e1 e2 m ss se sr s1 s2 message matches =
     let P = parametersOf text in
-    let ok = sheet-sound text (sheetOf text .numbers) (read text sheet) in (
+    let ok = sound text sheet in (
       honest-noise ok (omega arith) (P .a) (P .b) s e r e1 e2 m ss se sr s1 s2 message matches,
       honest-decrypts ok (omega arith) (P .a) (P .b) s e r e1 e2 m ss se sr s1 s2 message matches,
     )
@@ -75,33 +63,31 @@ honest-rounds : HonestRounds
 honest-rounds text sheet m x sized suitable side low challenges size valid =
     let r = sheet-exactly text .0 (taken-exactly (order text) .0 sheet) .inside in
     let none = producer-exactly (parametersOf text) m x (omega (arith, r .modulus-low)) (omega (arith, r .modulus-high)) .1 suitable in
-    honest-round (parametersOf text) m x (sheet-sound text (sheetOf text .numbers) (read text sheet)) (omega (arith, r .modulus-low)) (omega (arith, r .modulus-high)) sized none side low
+    honest-round (parametersOf text) m x (sound text sheet) (omega (arith, r .modulus-low)) (omega (arith, r .modulus-high)) sized none side low
     challenges size valid
 
 producer-writes : ProducerWrites
 producer-writes text x = (first-exactly text x, second-call-exactly text x)
 
+extractor : ExtractorExactly
+extractor text x out scratch octets = extractor-exactly text x out scratch octets
+
 extracts : Extracts
-unfolding extractReply openingsTests
 extracts text x out scratch octets o1 o2 o3 e =
     let P = parametersOf text in
     let m = ballotsIn text (x .ballots) in
-    let parts = append-none (order text) (openingsTests P x (extractRoom out scratch)) (taken-exactly _ .0 e) in
-    let sheet = taken-exactly (order text) .1 (parts .0) in
-    let r = sheet-exactly text .0 (parts .0) .inside in
-    let message = lent-message P x (extractRoom out scratch) m in
-    let openings = lent-openings P x (extractRoom out scratch) m in
-    let sized = both message openings (both (leb m 4096) (message && openings) (not-false (leb m 4096 && (message && openings)) (parts .1 .0)) .1) in
+    let t = extractor-exactly text x out scratch octets .0 e in
+    let r = t .sheet .inside in
     let three : 2 < P .q = omega (arith, r .modulus-low) in
-    let fits : P .q ≤ 2 ^ 64 = omega (arith, r .modulus-high) in
-    let lent = extract-lengths P x (extractRoom out scratch) m octets (sized .0) (sized .1) .0 in
-    let ok = sheet-sound text (sheetOf text .numbers) (read text sheet) in
-    (extraction P m x three fits lent (parts .1 .1) ok, hashed P m x o1 o2 o3, lowest P m x (omega arith) fits, output P m x three fits lent (parts .1 .1) ok)
+    let high = fits text (t .sheet) in
+    let none = openings-exactly P m x (positive text (t .sheet)) high (t .lengths) .1 (t .accepted) in
+    let ok = sound text (taken-exactly (order text) .1 (sheet-exactly text .1 (t .sheet))) in
+    (extraction P m x three high (t .lengths) none ok, hashed P m x o1 o2 o3, lowest P m x (omega arith) high, output P m x three high (t .lengths) none ok)
 
 -- its findings do not depend on output or scratch: any of the right lengths serve
 accepted-yields : AcceptedYields
 accepted-yields text x octets b1 b2 b3 o0 o1 a1 a2 a3 =
-    let taken = extractor-takes text x o0 o1 a1 a2 a3 in
+    let taken = extractor-takes text x o0 o1 a1 a2 a3 octets in
     let n = 24 * parametersOf text .N in
     (extracts text x (zeros n) (zeros scratchLength) octets b1 b2 b3 (taken (zeros n) (zeros scratchLength) (length-replicate {A = ℕ} n 0) (length-replicate {A = ℕ} scratchLength 0)), taken)
 
@@ -117,21 +103,30 @@ demand2 = record {
   rounds-checked = host-rounds-checked;
   ended-accepted = host-ended-accepted;
   withdrawn-stays-out = host-stays-out;
+  refusal-ends = refusal-ends;
+  first-decides = first-decides;
+  orders-as-written = orders-as-written;
   honest-ballots = honest-ballots;
+  distributed = distributed;
+  digest-of-bits = digest-of-bits;
   examples = all-examples;
   over-images = over-images;
+  replies-told = replies-told;
 }
 
 pub demand3 : Demand3
 demand3 = record {
   accepted-yields = accepted-yields;
   extracts = extracts;
+  extractor-exactly = extractor;
   refuses-as-checks = refuses-as-checks;
   check-parts = parts-exactly;
   lent-rounds = lending;
   takes-accepted = takes-accepted;
   honest-accepted = host-honest-accepted;
+  from-calls = from-calls;
   honest-rounds = honest-rounds;
+  any-session = any-session;
   producer-writes = producer-writes;
   stays-valid = host-stays-valid;
   only-phase-or-round = host-only-phase-or-round;

@@ -24,11 +24,11 @@ use Rattle.jackdawnail.proofs.HostSteps.{over-images}
 
 -- ---- with the register that was left
 
-record Keeps (h : Host) (st : State) : Type 0 where
-  image : Holds (h .image) (st .session)
-  register : h .register ≡ st .register
+pub record Keeps (h : Host) (st : State) : Type 0 where
+  pub image : Holds (h .image) (st .session)
+  pub register : h .register ≡ st .register
 
-over-step : (x : Step) (h : Host) (st : State) → Keeps h st → (hostReply x h ≡ reply x st) × Keeps (hostAfter x h) (after x st)
+pub over-step : (x : Step) (h : Host) (st : State) → Keeps h st → (hostReply x h ≡ reply x st) × Keeps (hostAfter x h) (after x st)
 over-step x h st k =
     let e = over-images .one-step x (h .image) (h .register) (st .session) (k .image) in
     subst (λ (reg : Bytes). (hostReply x h ≡ reply x (state (st .session) reg)) × Keeps (hostAfter x h) (after x (state (st .session) reg)))
@@ -39,7 +39,7 @@ over-run xs h st k =
     let e = over-images .own-register xs (h .image) (h .register) (st .session) (k .image) in
     subst (λ (reg : Bytes). Keeps (hostRun xs h) (run xs (state (st .session) reg))) (k .register) (record { image = e .0; register = e .1 })
 
-uncleared : (xs : List Step) (h : Host) (st : State) → Keeps h st → HostUncleared xs h → Uncleared xs st
+pub uncleared : (xs : List Step) (h : Host) (st : State) → Keeps h st → HostUncleared xs h → Uncleared xs st
 unfolding HostUncleared
 uncleared [] h st k u = none
 uncleared (x ∷ xs) h st k u =
@@ -49,19 +49,19 @@ uncleared (x ∷ xs) h st k u =
 -- ---- from a clear that is taken
 
 module _ (start : Host) (b : Beginning) (s : Starts start b) where
-  abbrev st : State
+  abbrev pub st : State
   st = state (decode (start .image)) (start .register)
 
   keeps : Keeps start st
   keeps = record { image = over-images .bytes-hold (start .image) (s .sized) (s .octets); register = λ i. start .register }
 
-  taken : reply (clear b) st ≡ Taken
+  pub taken : reply (clear b) st ≡ Taken
   taken = sym (over-step (clear b) start st keeps .0) ∙ s .taken
 
-  readable : Begins b
+  pub readable : Begins b
   readable = clear-taken st b taken .0
 
-  newly : Keeps (hostAfter (clear b) start) (after (clear b) st)
+  pub newly : Keeps (hostAfter (clear b) start) (after (clear b) st)
   newly = over-step (clear b) start st keeps .1
 
   begins : Holds (hostAfter (clear b) start .image) (initial b .session)

@@ -1,5 +1,5 @@
 -- The steps over images do to the session in the image what the steps over sessions do, one by one and in lists: `OverImages` of specs/HostSteps.antt. Assumes nothing.
-use mathlib.Core.Path.{_≡_, refl, ap, subst, _∙_}
+use mathlib.Core.Path.{_≡_, refl, ap, subst}
 use mathlib.Core.List.{[], _∷_}
 use lib.ListN.{length}
 use borrow.Author.Tests.{eq-eqb}

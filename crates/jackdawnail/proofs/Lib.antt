@@ -3,6 +3,13 @@ pub mod Images
 pub mod Typed
 pub mod HostSteps
 pub mod HostClaims
+pub mod AnySession
+pub mod Endings
+pub mod Decided
+pub mod FromCalls
+pub mod Papers
 pub mod Produces
+pub mod Extracts
 pub mod Yields
+pub mod Replies
 pub mod Demands

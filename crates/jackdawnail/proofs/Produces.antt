@@ -26,8 +26,15 @@ use Rattle.histories.specs.Conditions.{SheetTaken}
 use Rattle.histories.proofs.Valid.{sheet-exactly}
 use Rattle.jackdawnail.specs.Produces.{WritesFirst, WritesSecond}
 
+-- the modulus of a sheet that is taken
+pub positive : (text : Bytes) → SheetTaken text → 0 < parametersOf text .q
+positive text t = omega (arith, t .inside .modulus-low)
+
+pub fits : (text : Bytes) → SheetTaken text → parametersOf text .q ≤ 2 ^ 64
+fits text t = omega (arith, t .inside .modulus-high)
+
 -- no test of a call refuses: the sheet is taken, the lengths are right, and the rest refuses nothing
-call-none : (text : Bytes) (m : ℕ) (a b : Bool) (ts : List Test) → None (order text ++ (lengthsTest m (a && b) ∷ ts)) → SheetTaken text × (m ≤ 4096) × (a ≡ true) × (b ≡ true) × None ts
+pub call-none : (text : Bytes) (m : ℕ) (a b : Bool) (ts : List Test) → None (order text ++ (lengthsTest m (a && b) ∷ ts)) → SheetTaken text × (m ≤ 4096) × (a ≡ true) × (b ≡ true) × None ts
 call-none text m a b ts none =
     let parts = append-none (order text) (lengthsTest m (a && b) ∷ ts) none in
     let h = both (leb m 4096) (a && b) (not-false _ (parts .1 .0)) in
@@ -44,13 +51,6 @@ module _ (text : Bytes) (x : Material) where
 
   abbrev m : ℕ
   m = ballotsIn text (x .ballots)
-
-  -- the modulus of a sheet that is taken
-  positive : SheetTaken text → 0 < P .q
-  positive t = omega (arith, t .inside .modulus-low)
-
-  fits : SheetTaken text → P .q ≤ 2 ^ 64
-  fits t = omega (arith, t .inside .modulus-high)
 
   abbrev material : Bool
   material = materialSized (P .N) (P .repeats) m x
@@ -74,13 +74,13 @@ module _ (text : Bytes) (x : Material) where
             shares1-size = z .2;
             claims-size = z .3;
             scratch-size = z .4;
-            suitable = producer-exactly P m x (positive (c .0)) (fits (c .0)) .0 (c .4);
+            suitable = producer-exactly P m x (positive text (c .0)) (fits text (c .0)) .0 (c .4);
           },
       λ w.
           taken-exactly _ .1
           (none-call text m material room (producerTests P m x true) (w .sheet) (w .few) (material-exactly P m x .1 (w .sized))
           (first-sized (P .N) (P .repeats) m (firstRoom head shares0 shares1 claims scratch) (w .head-size) (w .shares0-size) (w .shares1-size) (w .claims-size) (w .scratch-size))
-          (producer-exactly P m x (positive (w .sheet)) (fits (w .sheet)) .1 (w .suitable))),
+          (producer-exactly P m x (positive text (w .sheet)) (fits text (w .sheet)) .1 (w .suitable))),
     )
 
   module _ (side : ℕ) (challenges opening answers scratch : Bytes) where
@@ -93,7 +93,7 @@ module _ (text : Bytes) (x : Material) where
       λ e.
           let c = call-none text m material asked-room (producerTests P m x (askedRanged P m x side challenges)) (taken-exactly _ .0 e) in
           let z = second-sizes (P .N) (P .repeats) challenges opening answers scratch (c .3) in
-          let r = second-exactly P m x (positive (c .0)) (fits (c .0)) side challenges .0 (c .4) in
+          let r = second-exactly P m x (positive text (c .0)) (fits text (c .0)) side challenges .0 (c .4) in
           record {
             sheet = c .0;
             few = c .1;
@@ -109,5 +109,5 @@ module _ (text : Bytes) (x : Material) where
           taken-exactly _ .1
           (none-call text m material asked-room (producerTests P m x (askedRanged P m x side challenges)) (w .sheet) (w .few) (material-exactly P m x .1 (w .sized))
           (second-sized (P .N) (P .repeats) challenges opening answers scratch (w .challenges-size) (w .opening-size) (w .answers-size) (w .scratch-size))
-          (second-exactly P m x (positive (w .sheet)) (fits (w .sheet)) side challenges .1 (w .asked, w .suitable))),
+          (second-exactly P m x (positive text (w .sheet)) (fits text (w .sheet)) side challenges .1 (w .asked, w .suitable))),
     )

@@ -1,14 +1,14 @@
 -- The extractor takes two openings and three answers that checks accepted (`AcceptedYields`, specs/Demands.antt): what an accepted check found of its round, and from that
 -- the lengths and the tests of the extractor. Assumes nothing.
-use mathlib.Core.Path.{_≡_, sym, ap, ap₂, subst, _∙_}
-use mathlib.Core.Bool.{true, cond, _&&_}
+use mathlib.Core.Path.{_≡_, sym, ap, subst, _∙_}
+use mathlib.Core.Bool.{cond}
 use Prim.Native.Nat.{ℕ, zero, suc, _*_, _≤_, _<_}
 use native.Mathlib.Nat.{div-eq-of-eq-mul-right}
 use native.Mathlib.Decide.{decLt}
 use native.Mathlib.Omega.{arith}
 use lib.Dec.{eqb}
 use lib.ListN.{length, take, getD, List·getD-eq-default}
-use Rattle.codec.specs.Bytes.{Bytes}
+use Rattle.codec.specs.Bytes.{Bytes, Octets}
 use Rattle.codec.specs.Reply.{first, None}
 use Rattle.codec.specs.declared.Reply.the-variants.{Taken}
 use Rattle.codec.proofs.Laws.{length-part}
@@ -18,13 +18,11 @@ use Rattle.call.specs.Call.{scratchLength}
 use Rattle.stern.specs.Shortness.{answerLength}
 use Rattle.transcript.specs.Layout.{answersLength}
 use Rattle.transcript.specs.Round.{Parameters, Round, Lengths, challengeAt, roundTests}
-use Rattle.transcript.specs.Extractor.{Openings, extractRoom, extractTests}
+use Rattle.transcript.specs.Extractor.{Openings, extractRoom, Lent, extractTests}
 use Rattle.transcript.specs.Refuses.{openingBy, answerBy, OfLent, OpensLent, AnswersLent}
 use Rattle.transcript.proofs.Answers.{answersLength-more, prefix-le}
 use Rattle.transcript.proofs.Many.{for-sides, for-challenges, append-none}
 use Rattle.transcript.proofs.Refuses.{takes-accepted}
-use Rattle.transcript.proofs.Tests.{equal-same}
-use Rattle.lengths.specs.Calls.{messageSized, openingsSized, openingsTests}
 use Rattle.lengths.specs.Sheets.{parametersOf, ballotsIn}
 use Rattle.verification_calls.specs.Replies.{extractReply}
 use Rattle.checking.specs.Check.{Inputs, drawnRound, lateTests}
@@ -36,7 +34,7 @@ use Rattle.session.specs.Machine.{reply}
 use Rattle.session_calls.specs.Images.{hostReply}
 use Rattle.histories.proofs.Valid.{ready, sheet-exactly}
 use Rattle.jackdawnail.proofs.Images.{lent-exactly}
-use Rattle.jackdawnail.proofs.Produces.{none-call}
+use Rattle.jackdawnail.proofs.Extracts.{lent-takes}
 use Rattle.jackdawnail.specs.Demands.{AcceptedCheck, roundOf, AcceptedOpening, AcceptedAnswer}
 
 -- ---- what an accepted check found, for m ballots
@@ -132,29 +130,25 @@ module _ (text : Bytes) (x : Openings) (o0 : AcceptedOpening text x 0) (o1 : Acc
       (omega (arith, answersLength-more (P .N) (r .challenges) i inside, prefix-le (P .N) (r .challenges) (suc i), l .answers))
       ∙ ap (answerLength (P .N)) (answers c low high .challenge)
 
-  message-right : messageSized (P .N) (P .repeats) m (x .head) (x .shares0) (x .shares1) (x .ballots) (x .claims) ≡ true
-  unfolding messageSized
-  message-right =
+  lengths-right : Octets (x .head) → Lent P m x
+  lengths-right octets =
       let e = o0 .opens .of-lent in
       let l = opens-passed 0 (omega arith) .lengths in
-      equal-same
-      (cc (
-        sym (ap length (e .head)) ∙ l .head,
-        sym (ap length (e .shares0)) ∙ l .shares0,
-        sym (ap length (e .shares1)) ∙ l .shares1,
-        sym (ap length (e .ballots)) ∙ l .ballots,
-        sym (ap length (e .claims)) ∙ l .claims,
-      ))
+      record {
+        head = sym (ap length (e .head)) ∙ l .head;
+        octets = octets;
+        shares0 = sym (ap length (e .shares0)) ∙ l .shares0;
+        shares1 = sym (ap length (e .shares1)) ∙ l .shares1;
+        ballots = sym (ap length (e .ballots)) ∙ l .ballots;
+        claims = sym (ap length (e .claims)) ∙ l .claims;
+        opening0 = opening-size 0 (omega arith);
+        opening1 = opening-size 1 (omega arith);
+        answer1 = answer-size 1 (omega arith) (omega arith);
+        answer2 = answer-size 2 (omega arith) (omega arith);
+        answer3 = answer-size 3 (omega arith) (omega arith);
+      }
 
-  openings-right : (out scratch : Bytes) → length out ≡ 24 * P .N → length scratch ≡ scratchLength
-      → openingsSized (P .N) (x .opening0) (x .opening1) (x .answer1) (x .answer2) (x .answer3) out scratch ≡ true
-  unfolding openingsSized
-  openings-right out scratch e f =
-      ap₂ _&&_ (equal-same (cc (opening-size 0 (omega arith), opening-size 1 (omega arith), e, f)))
-      (equal-same (cc (answer-size 1 (omega arith) (omega arith), answer-size 2 (omega arith) (omega arith), answer-size 3 (omega arith) (omega arith))))
-
-  pub extractor-takes : (out scratch : Bytes) → length out ≡ 24 * P .N → length scratch ≡ scratchLength → extractReply text x (extractRoom out scratch) ≡ Taken
-  unfolding extractReply openingsTests
-  extractor-takes out scratch e f =
+  pub extractor-takes : Octets (x .head) → (out scratch : Bytes) → length out ≡ 24 * P .N → length scratch ≡ scratchLength → extractReply text x (extractRoom out scratch) ≡ Taken
+  extractor-takes octets out scratch e f =
       let first-opened = opens-passed 0 (omega arith) in
-      taken-exactly _ .1 (none-call text m _ _ (extractTests P m x) (sheet-exactly text .0 (first-opened .sheet)) (first-opened .few) message-right (openings-right out scratch e f) none)
+      lent-takes text x out scratch (sheet-exactly text .0 (first-opened .sheet)) (first-opened .few) (lengths-right octets) e f none

@@ -33,9 +33,16 @@ use Rattle.session_calls.specs.Images.{host, hostReply}
 use Rattle.histories.specs.Conditions.{SheetTaken, Lent, Takes}
 use Rattle.histories.specs.Claims.{RollIsBatch, OwnRegister}
 use Rattle.histories.specs.Examples.{all-rows}
+use Rattle.jackdawnail.specs.Papers.{Distributed, DigestOfBits}
 use Rattle.jackdawnail.specs.Produces.{WritesFirst, WritesSecond}
+use Rattle.jackdawnail.specs.Extracts.{TakesOpenings}
 use Rattle.jackdawnail.specs.HostSteps.{OverImages}
 use Rattle.jackdawnail.specs.HostClaims.{HostStaysOut, HostRoundsChecked, HostEndedAccepted, HostHonestAccepted, HostStaysValid, HostOnlyPhaseOrRound}
+use Rattle.jackdawnail.specs.Replies.{RepliesTold}
+use Rattle.jackdawnail.specs.AnySession.{AnySession}
+use Rattle.jackdawnail.specs.Endings.{RefusalEnds}
+use Rattle.jackdawnail.specs.Decided.{FirstDecides, OrdersAsWritten}
+use Rattle.jackdawnail.specs.FromCalls.{FromCalls}
 
 -- ---- 2. Everything equals the papers, a round is accepted exactly if every listed check holds, and a withdrawn mark is in no closed batch.
 
@@ -70,10 +77,20 @@ pub record Demand2 : Type 0 where
   pub rounds-checked : HostRoundsChecked
   pub ended-accepted : HostEndedAccepted
   pub withdrawn-stays-out : HostStaysOut
+  -- a check that is refused for its round ends the session, after which no step but clear is taken
+  pub refusal-ends : RefusalEnds
+  -- of every call the first case that holds in its order decides number and place, and no refusal comes otherwise
+  pub first-decides : FirstDecides
+  pub orders-as-written : OrdersAsWritten
   pub honest-ballots : HonestBallots
+  -- split keys add up, a mask worked out is the mask, reconstruction of two shares equals decryption; and SHA3-256 is FIPS 202's over bits
+  pub distributed : Distributed
+  pub digest-of-bits : DigestOfBits
   pub examples : Examples
   -- what is shown of steps and of lists of steps over sessions holds of the exported calls over images
   pub over-images : OverImages
+  -- of every reply that a call gives, the remainder by 256 is 0 exactly if the call is taken, and else the number of the refusal
+  pub replies-told : RepliesTold
 
 -- ---- 3. Two accepted openings and three accepted answers yield a hash collision, a short commitment vector or the key, and every honest round is accepted whatever is drawn.
 
@@ -83,6 +100,10 @@ Yields text x =
     let P = parametersOf text in
     let m = ballotsIn text (x .ballots) in
     Found P m x (kind P m x) × Hashed P m x × Lowest P m x (kind P m x) × Output P m x (kind P m x) (extracted P m x)
+
+-- the extractor takes what it is lent exactly if all of `TakesOpenings` holds
+abbrev pub ExtractorExactly : Type 0
+ExtractorExactly = (text : Bytes) (x : Openings) (out scratch : Bytes) → Octets (x .head) → (extractReply text x (extractRoom out scratch) ≡ Taken) ↔ TakesOpenings text x out scratch
 
 -- where the extractor does not refuse, it finds one of the three
 abbrev pub Extracts : Type 0
@@ -154,13 +175,18 @@ HonestRounds = (text : Bytes) → first (order text) ≡ Taken
 pub record Demand3 : Type 0 where
   pub accepted-yields : AcceptedYields
   pub extracts : Extracts
+  pub extractor-exactly : ExtractorExactly
   pub refuses-as-checks : RefusesAsChecks
   pub check-parts : CheckParts
   pub lent-rounds : LentRounds
   pub takes-accepted : TakesAccepted
   -- over every list of calls from a clear that is taken, each lent any register: a round of the producer's that is lodged is accepted at its turn
   pub honest-accepted : HostHonestAccepted
+  -- and where the host writes no register: from the producer's two calls, claim, commit, draw and challenges to the check
+  pub from-calls : FromCalls
   pub honest-rounds : HonestRounds
+  -- nor does it in any session, whatever bytes the image is
+  pub any-session : AnySession
   pub producer-writes : ProducerWrites
   -- no call of such a list meets 31 but for wrong phase or round
   pub stays-valid : HostStaysValid

@@ -13,7 +13,7 @@ use Rattle.keccak_bits.proofs.Steps.{theta-bits, rho-bits, pi-bits, chi
 pub record Agree (A B : Bits) : Type 0 where
   pub same : (x y z : ℕ) → x < 5 → y < 5 → z < 64 → A x y z ≡ B x y z
 
-chain : {A B C : Bits} → Agree A B → Agree B C → Agree A C
+pub chain : {A B C : Bits} → Agree A B → Agree B C → Agree A C
 chain f g = record { same = λ x y z hx hy hz. f .same x y z hx hy hz ∙ g .same x y z hx hy hz }
 
 -- ---- a step mapping goes by the bits of the state
@@ -52,6 +52,11 @@ module _ {A B : Bits} (e : Agree A B) where
 round-agree : {A B : Bits} → Agree A B → (c : ℕ) → Agree (round A c) (round B c)
 unfolding round
 round-agree e c = iota-agree (chi-agree (pi-agree (rho-agree (theta-agree e)))) c
+
+pub rounds-agree : {A B : Bits} (n : ℕ) → Agree A B → Agree (rounds n A) (rounds n B)
+unfolding rounds
+rounds-agree zero e = e
+rounds-agree (suc n) e = round-agree (rounds-agree n e) (getD constants n 0)
 
 -- ---- a round
 

@@ -1,2 +1,3 @@
 pub mod Lanes
 pub mod Steps
+pub mod Sponge

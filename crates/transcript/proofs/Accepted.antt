@@ -3,31 +3,30 @@
 use mathlib.Core.Path.{_≡_, ap}
 use mathlib.Core.Logic.{_↔_}
 use mathlib.Core.Bool.{true, not}
-use Prim.Native.Nat.{ℕ, _+_, _^_, _≤_, _<_}
+use Prim.Native.Nat.{ℕ, _^_, _≤_, _<_}
 use native.Mathlib.Omega.{arith}
 use borrow.Author.Tests.{not-false}
 use lib.ListN.{length, getD}
 use Rattle.codec.specs.Bytes.{Bytes, Octets}
 use Rattle.codec.specs.Reply.{None, first}
 use Rattle.codec.specs.declared.Reply.the-variants.{Taken}
-use Rattle.codec.proofs.Laws.{same-equal}
 use Rattle.codec.proofs.Replies.{taken-exactly}
-use Rattle.ring.specs.Poly.{Alike}
-use Rattle.bgv.specs.Scheme.{key, Sound}
-use Rattle.commitment.specs.Commitment.{threeOf, pairOf, Opens}
-use Rattle.transcript.specs.Layout.{Opening, each, headLength, keyAt, pairsOf, pairAt, digestsAt, openingOf, answerAt}
-use Rattle.transcript.specs.Round.{Parameters, Round, challengeAt, headRanged, ranged, opensKey, opensPairs, roundTests}
-use Rattle.transcript.specs.Accepted.{Answered, InRange, Accepted}
+use Rattle.bgv.specs.Scheme.{Sound}
+use Rattle.transcript.specs.Layout.{Opening, each, headLength, pairsOf, digestsAt, openingOf, answerAt}
+use Rattle.transcript.specs.Round.{Parameters, Round, challengeAt, sharesOf, ranged, roundTests}
+use Rattle.transcript.specs.Accepted.{Answered, InRange, SideOpened, Accepted}
+use Rattle.transcript.specs.Extractor.{sideTests}
 use Rattle.transcript.specs.Producer.{Material, Sized, producerTests, producedRound}
 use Rattle.transcript.proofs.Many.{none-append, append-none, each-none, none-each}
 use Rattle.transcript.proofs.Produced.{length-producedHead, octets-producedHead}
-use Rattle.transcript.proofs.Ranged.{head-exactly, ranged-exactly}
+use Rattle.transcript.proofs.Ranged.{ranged-exactly}
 use Rattle.transcript.proofs.Answered.{answered-exactly}
-use Rattle.transcript.proofs.Tests.{answer-tests, ballot-tests, equal-same, within-sound, within-complete, splits-exactly, key-exactly, pairs-exactly}
+use Rattle.transcript.proofs.Tests.{answer-tests, ballot-tests, splits-exactly}
+use Rattle.transcript.proofs.Sides.{side-exactly}
 use Rattle.transcript.proofs.Honest.{honest-round}
 
 module _ (P : Parameters) (m : ℕ) (positive : 0 < P .q) (fits : P .q ≤ 2 ^ 64) (r : Round) where
-  open Parameters P using (q, N, p, B, repeats, a, k)
+  open Parameters P using (q, N, repeats, k)
 
   abbrev head : Bytes
   head = r .head
@@ -39,15 +38,9 @@ module _ (P : Parameters) (m : ℕ) (positive : 0 < P .q) (fits : P .q ≤ 2 ^ 6
     -- ---- a round in range
 
     module _ (in-range : InRange P m r) where
-      head-ranged : headRanged (P .q) (P .N) head ≡ true
-      head-ranged = head-exactly P m head .1 (in-range .head)
-
-      key-means : (opensKey P head (r .side) opening ≡ true) ↔ Alike q N (keyAt N head (r .side)) (key q N p a (opening .s) (opening .e))
-      key-means = key-exactly P m positive fits head sized octets head-ranged (r .side) (in-range .side) opening
-
-      pairs-mean : (opensPairs P head (r .side) opening ≡ true)
-          ↔ (Opens q N k (pairOf N (pairAt N head (r .side))) (threeOf q N (opening .rs)) (opening .s) × Opens q N k (pairOf N (pairAt N head (2 + r .side))) (threeOf q N (opening .re)) (opening .e))
-      pairs-mean = pairs-exactly P m positive fits head sized octets head-ranged (r .side) (in-range .side) opening
+      side-means : None (sideTests P m head (r .ballots) (r .claims) (r .shares0) (r .shares1) (r .side) (sharesOf r (r .side)) opening)
+          ↔ SideOpened P m (r .ballots) (r .claims) head (r .shares0) (r .shares1) (r .side) opening
+      side-means = side-exactly P m positive fits (r .ballots) (r .claims) head (r .shares0) (r .shares1) sized octets (in-range .message .in-head) (r .side) (in-range .side) opening
 
       answer-means : (i : ℕ) → i < repeats
           → None (answer-tests P m r i) ↔ Answered q N k (pairsOf N head) (digestsAt N head i) (challengeAt r i) (answerAt N (r .challenges) (r .answers) i)
@@ -62,34 +55,30 @@ module _ (P : Parameters) (m : ℕ) (positive : 0 < P .q) (fits : P .q ≤ 2 ^ 6
     accepted none =
         let in-range = ranged-exactly P m r .0 (not-false (ranged P m r) (none .0)) in
         let rest = append-none (each repeats (answer-tests P m r)) (each m (ballot-tests P m r)) (none .1 .1 .1 .1) in
-        let pairs = pairs-mean in-range .0 (not-false _ (none .1 .1 .1 .0)) in
         record {
           in-range = in-range;
           key-splits = splits-exactly P m positive fits head .0 (not-false _ (none .1 .0));
-          key-opened = key-means in-range .0 (not-false _ (none .1 .1 .0));
-          s-committed = pairs .0;
-          e-committed = pairs .1;
+          opened = side-means in-range .0 (none .1 .1 .0, (none .1 .1 .1 .0, rest .1));
           answered = λ i l. answer-means in-range i l .0 (none-each repeats (answer-tests P m r) (rest .0) i l);
-          masked = λ j l. within-sound B N _ (not-false _ (none-each m (ballot-tests P m r) (rest .1) j l .0));
-          claimed = λ j l. same-equal _ _ (not-false _ (none-each m (ballot-tests P m r) (rest .1) j l .1 .0));
         }
 
     tests-pass : Accepted P m r → None (roundTests P m r)
     unfolding roundTests
-    tests-pass c = (
-      ap not (ranged-exactly P m r .1 (c .in-range)),
-      (
-        ap not (splits-exactly P m positive fits head .1 (c .key-splits)),
-        (
-          ap not (key-means (c .in-range) .1 (c .key-opened)),
+    tests-pass c =
+        let side = side-means (c .in-range) .1 (c .opened) in (
+          ap not (ranged-exactly P m r .1 (c .in-range)),
           (
-            ap not (pairs-mean (c .in-range) .1 (c .s-committed, c .e-committed)),
-            none-append (each repeats (answer-tests P m r)) (each m (ballot-tests P m r)) (each-none repeats (answer-tests P m r) (λ i l. answer-means (c .in-range) i l .1 (c .answered i l)))
-                (each-none m (ballot-tests P m r) (λ j l. (ap not (within-complete B N _ (c .masked j l)), (ap not (equal-same (c .claimed j l)), tt)))),
+            ap not (splits-exactly P m positive fits head .1 (c .key-splits)),
+            (
+              side .0,
+              (
+                side .1 .0,
+                none-append (each repeats (answer-tests P m r)) (each m (ballot-tests P m r)) (each-none repeats (answer-tests P m r) (λ i l. answer-means (c .in-range) i l .1 (c .answered i l)))
+                    (side .1 .1),
+              ),
+            ),
           ),
-        ),
-      ),
-    )
+        )
 
     -- no test of the round holds exactly if it is accepted
     pub none-exactly : None (roundTests P m r) ↔ Accepted P m r

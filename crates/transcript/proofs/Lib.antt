@@ -11,11 +11,13 @@ pub mod ExtractionVectors
 pub mod ExtractionWritten
 pub mod Honest
 pub mod Many
+pub mod OpeningsAccepted
 pub mod Orders
 pub mod Passed
 pub mod Produced
 pub mod Ranged
 pub mod Refuses
+pub mod Sides
 pub mod Tests
 pub mod Walk
 pub mod Written

@@ -1,7 +1,7 @@
 -- What the range tests of a round mean (5), in propositions on its coefficients and bytes: `ranged` passes exactly if the round is `InRange`. Assumes nothing.
 use mathlib.Core.Path.{_≡_, refl, sym, ap, ap₂, _∙_}
 use mathlib.Core.Logic.{_⊎_, inl, inr, _↔_}
-use mathlib.Core.Bool.{true, _&&_}
+use mathlib.Core.Bool.{Bool, true, _&&_}
 use mathlib.Core.List.{List, [], _∷_, _++_}
 use Prim.Native.Nat.{ℕ, zero, suc, _+_, _-_, _*_, _≤_, _<_}
 use native.Mathlib.Nat.{mul-suc, mul-assoc}
@@ -20,8 +20,9 @@ use Rattle.vector.specs.Vector.{vector}
 use Rattle.stern.specs.Shortness.{inRange, answer1Of, answer2Of, answer3Of}
 use Rattle.transcript.specs.Layout.{uAt, pairAt, openingOf, answerAt}
 use Rattle.transcript.specs.Round.{Parameters, Round, challengeAt, isChallenge, ballotsRanged, openingRanged, headRanged, answersRanged, ranged}
-use Rattle.transcript.specs.Accepted.{EachBelow, AnswerRanged, BallotsRanged, HeadRanged, OpeningRanged, InRange}
+use Rattle.transcript.specs.Accepted.{EachBelow, AnswerRanged, BallotsRanged, HeadRanged, OpeningRanged, MessageRanged, InRange}
 use Rattle.transcript.proofs.Many.{for-challenges, stretch}
+use Rattle.transcript.proofs.Orders.{front}
 use Rattle.transcript.proofs.Written.{slot-part, below-slot, below-append}
 use Rattle.transcript.proofs.Compared.{first-below, second-below}
 
@@ -96,6 +97,9 @@ module _ (q N : ℕ) (answer : Bytes) where
   answer-complete =
       for-challenges (λ c. AnswerRanged q N c answer → inRange q N c answer ≡ true) (λ r. ap₂ _&&_ (each-exactly 3 _ .1 (r .ternary refl)) (each-exactly q _ .1 (r .to1 refl)))
       (λ r. each-exactly q _ .1 (r .to2 refl)) (λ r. each-exactly q _ .1 (r .to3 refl))
+
+  pub answer-exactly : (c : ℕ) → 1 ≤ c → c ≤ 3 → (inRange q N c answer ≡ true) ↔ AnswerRanged q N c answer
+  answer-exactly c low high = (answer-sound c, answer-complete c low high)
 
 module _ (P : Parameters) (m : ℕ) where
   open Parameters P using (q, N, p, repeats)
@@ -175,6 +179,37 @@ module _ (P : Parameters) (m : ℕ) where
           ap₂ _&&_ (below-complete q (2 * N) (poly o) (below-poly q o (2 * N) (rw two at (beside q o 0 N N (r .s) (moved q o N (omega arith) (r .e))))))
           (ap (allBelow 3) hiding ∙ below-append 3 (part o (16 * N) (3 * N)) (part o (19 * N) (3 * N)) (each-exactly 3 _ .1 (r .rs)) (each-exactly 3 _ .1 (r .re)))
 
+  -- ---- ballots, claims and the first message
+
+  module _ (ballots claims head shares0 shares1 : Bytes) where
+    abbrev pub message : Bool
+    message = ballotsRanged P m ballots && (allBelow p claims && (headRanged (P .q) (P .N) head && (allBelow q (vector shares0) && allBelow q (vector shares1))))
+
+    -- with one test more behind them
+    pub message-and : (f : Bool)
+        → (ballotsRanged P m ballots && (allBelow p claims && (headRanged (P .q) (P .N) head && (allBelow q (vector shares0) && (allBelow q (vector shares1) && f))))) ≡ (message && f)
+    message-and f = front (ballotsRanged P m ballots) (allBelow p claims) (headRanged (P .q) (P .N) head) (allBelow q (vector shares0)) (allBelow q (vector shares1)) f
+
+    pub message-exactly : (message ≡ true) ↔ MessageRanged P m ballots claims head shares0 shares1
+    message-exactly = (
+      λ e.
+          let after-ballots = both (ballotsRanged P m ballots) _ e in
+          let after-claims = both (allBelow p claims) _ (after-ballots .1) in
+          let after-head = both (headRanged (P .q) (P .N) head) _ (after-claims .1) in
+          let shares = both (allBelow q (vector shares0)) (allBelow q (vector shares1)) (after-head .1) in
+          record {
+            in-ballots = ballots-exactly ballots .0 (after-ballots .0);
+            in-claims = each-exactly p claims .0 (after-claims .0);
+            in-head = head-exactly head .0 (after-head .0);
+            in-shares0 = each-exactly q (vector shares0) .0 (shares .0);
+            in-shares1 = each-exactly q (vector shares1) .0 (shares .1);
+          },
+      λ r.
+          ap₂ _&&_ (ballots-exactly ballots .1 (r .in-ballots))
+          (ap₂ _&&_ (each-exactly p claims .1 (r .in-claims))
+          (ap₂ _&&_ (head-exactly head .1 (r .in-head)) (ap₂ _&&_ (each-exactly q (vector shares0) .1 (r .in-shares0)) (each-exactly q (vector shares1) .1 (r .in-shares1))))),
+    )
+
   -- ---- challenges and answers
 
   module _ (r : Round) where
@@ -205,21 +240,14 @@ module _ (P : Parameters) (m : ℕ) where
     in-range h =
         let after-side = both (ltb (r .side) 2) _ h in
         let after-answers = both (answersRanged (P .q) (P .N) (P .repeats) (r .challenges) (r .answers)) _ (after-side .1) in
-        let after-ballots = both (ballotsRanged P m (r .ballots)) _ (after-answers .1) in
-        let after-claims = both (allBelow p (r .claims)) _ (after-ballots .1) in
-        let after-head = both (headRanged (P .q) (P .N) (r .head)) _ (after-claims .1) in
-        let after-shares0 = both (allBelow q (vector (r .shares0))) _ (after-head .1) in
-        let after-shares1 = both (allBelow q (vector (r .shares1))) (openingRanged (P .q) (P .N) (r .opening)) (after-shares0 .1) in
+        let opened = openingRanged (P .q) (P .N) (r .opening) in
+        let rest = both (message (r .ballots) (r .claims) (r .head) (r .shares0) (r .shares1)) opened (sym (message-and (r .ballots) (r .claims) (r .head) (r .shares0) (r .shares1) opened) ∙ after-answers .1) in
         record {
           side = ltb-true (r .side) 2 (after-side .0);
           challenges = λ i l. answers-sound (after-answers .0) i l .0;
           answers = λ i l. answers-sound (after-answers .0) i l .1;
-          ballots = ballots-exactly (r .ballots) .0 (after-ballots .0);
-          claims = each-exactly p (r .claims) .0 (after-claims .0);
-          head = head-exactly (r .head) .0 (after-head .0);
-          shares0 = each-exactly q (vector (r .shares0)) .0 (after-shares0 .0);
-          shares1 = each-exactly q (vector (r .shares1)) .0 (after-shares1 .0);
-          opening = opening-exactly (r .opening) .0 (after-shares1 .1);
+          message = message-exactly (r .ballots) (r .claims) (r .head) (r .shares0) (r .shares1) .0 (rest .0);
+          opening = opening-exactly (r .opening) .0 (rest .1);
         }
 
     range-passes : InRange P m r → ranged P m r ≡ true
@@ -227,11 +255,8 @@ module _ (P : Parameters) (m : ℕ) where
     range-passes s =
         ap₂ _&&_ (lt-ltb (r .side) 2 (s .side))
         (ap₂ _&&_ (answers-complete s)
-        (ap₂ _&&_ (ballots-exactly (r .ballots) .1 (s .ballots))
-        (ap₂ _&&_ (each-exactly p (r .claims) .1 (s .claims))
-        (ap₂ _&&_ (head-exactly (r .head) .1 (s .head))
-        (ap₂ _&&_ (each-exactly q (vector (r .shares0)) .1 (s .shares0))
-        (ap₂ _&&_ (each-exactly q (vector (r .shares1)) .1 (s .shares1)) (opening-exactly (r .opening) .1 (s .opening))))))))
+        (message-and (r .ballots) (r .claims) (r .head) (r .shares0) (r .shares1) (openingRanged (P .q) (P .N) (r .opening))
+        ∙ ap₂ _&&_ (message-exactly (r .ballots) (r .claims) (r .head) (r .shares0) (r .shares1) .1 (s .message)) (opening-exactly (r .opening) .1 (s .opening))))
 
     pub ranged-exactly : (ranged P m r ≡ true) ↔ InRange P m r
     ranged-exactly = (in-range, range-passes)

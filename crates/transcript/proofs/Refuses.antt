@@ -4,7 +4,7 @@ use mathlib.Core.Path.{_≡_, refl, sym, ap, ap₂, _∙_}
 use mathlib.Core.Logic.{_↔_}
 use mathlib.Core.Bool.{Bool, true, not, _&&_}
 use mathlib.Core.List.{List, _∷_, _++_}
-use Prim.Native.Nat.{ℕ, zero, suc, _+_, _≤_, _<_}
+use Prim.Native.Nat.{ℕ, zero, suc, _≤_, _<_}
 use native.Mathlib.Omega.{arith}
 use borrow.Author.Tests.{ltb-true, ltb-false, lt-ltb, le-leb, not-false}
 use lib.Dec.{ltb}
@@ -12,16 +12,15 @@ use lib.ListN.{length, getD, replicate, length-replicate, getD-replicate}
 use Rattle.codec.specs.Reply.{Test, test, first, None}
 use Rattle.codec.specs.declared.Reply.the-variants.{Refused}
 use Rattle.codec.proofs.Laws.{both}
-use Rattle.codec.specs.Lists.{allBelow}
 use Rattle.codec.proofs.Lists.{all-sound, all-complete}
-use Rattle.vector.specs.Vector.{vector}
 use Rattle.stern.specs.Shortness.{answerLength, inRange, answerTests}
 use Rattle.transcript.specs.Layout.{each, answerAt}
-use Rattle.transcript.specs.Round.{Parameters, Round, challengeAt, isChallenge, ballotsRanged, openingRanged, headRanged, answersRanged, ranged, splits, roundTests}
+use Rattle.transcript.specs.Round.{Parameters, Round, challengeAt, isChallenge, openingRanged, answersRanged, ranged, splits, roundTests}
 use Rattle.transcript.specs.Extractor.{Openings, Lent, pairs, digests, open0, open1, lentRanged, sideTests, extractTests}
 use Rattle.transcript.specs.Refuses.{openedRanged, openingTests, repetitionTests, openingBy, answerBy, OfLent, OpensLent, AnswersLent, lentRound, Lending, ChecksTake, ChecksRefuse, no-repetition, opening, answer}
 use Rattle.transcript.proofs.Answers.{answers-at}
-use Rattle.transcript.proofs.Orders.{swap, front, opening-order, answer-order, one-order, order-parts, parts-order, order-first}
+use Rattle.transcript.proofs.Ranged.{message, message-and}
+use Rattle.transcript.proofs.Orders.{swap, opening-order, answer-order, one-order, order-parts, parts-order, order-first}
 use Rattle.transcript.proofs.Tests.{answer-tests, ballot-tests}
 use Rattle.transcript.proofs.Many.{for-challenges, none-append, append-none, each-none, none-each}
 
@@ -73,12 +72,8 @@ module _ (P : Parameters) (m : ℕ) (x : Openings) where
   abbrev in-repeats : Bool
   in-repeats = ltb (x .repetition) repeats
 
-  abbrev message : Bool
-  message = ballotsRanged P m (x .ballots) && (allBelow p (x .claims) && (headRanged (P .q) (P .N) (x .head) && (allBelow q (vector (x .shares0)) && allBelow q (vector (x .shares1)))))
-
-  message-and : (f : Bool)
-      → (ballotsRanged P m (x .ballots) && (allBelow p (x .claims) && (headRanged (P .q) (P .N) (x .head) && (allBelow q (vector (x .shares0)) && (allBelow q (vector (x .shares1)) && f))))) ≡ (message && f)
-  message-and f = front (ballotsRanged P m (x .ballots)) (allBelow p (x .claims)) (headRanged (P .q) (P .N) (x .head)) (allBelow q (vector (x .shares0))) (allBelow q (vector (x .shares1))) f
+  abbrev lent-message : Bool
+  lent-message = message P m (x .ballots) (x .claims) (x .head) (x .shares0) (x .shares1)
 
   abbrev adds : Bool
   adds = splits P (x .head)
@@ -96,21 +91,21 @@ module _ (P : Parameters) (m : ℕ) (x : Openings) where
   abbrev answer-tests-of : ℕ → List Test
   answer-tests-of c = answerTests q N k (pairs P m x) (digests P m x) (x .repetition) c (answerBy x c)
 
-  extract-order : extractTests P m x ≡ one-order in-repeats message adds opening-ranged answer-ranged side-tests answer-tests-of
+  extract-order : extractTests P m x ≡ one-order in-repeats lent-message adds opening-ranged answer-ranged side-tests answer-tests-of
   unfolding extractTests lentRanged
   extract-order =
       ap (λ (b : Bool). test 5 0 (not (in-repeats && b)) ∷ test 6 0 (not adds) ∷ (side-tests 0 ++ (side-tests 1 ++ (answer-tests-of 1 ++ (answer-tests-of 2 ++ answer-tests-of 3)))))
-      (message-and (opening-ranged 0 && (opening-ranged 1 && (answer-ranged 1 && (answer-ranged 2 && answer-ranged 3)))))
+      (message-and P m (x .ballots) (x .claims) (x .head) (x .shares0) (x .shares1) (opening-ranged 0 && (opening-ranged 1 && (answer-ranged 1 && (answer-ranged 2 && answer-ranged 3)))))
 
   -- a check that opens a side as lent
-  opens-lent : (i : ℕ) → i < 2 → (r : Round) → OpensLent x i r → openingTests P m r ≡ opening-order message adds (opening-ranged i) (side-tests i)
+  opens-lent : (i : ℕ) → i < 2 → (r : Round) → OpensLent x i r → openingTests P m r ≡ opening-order lent-message adds (opening-ranged i) (side-tests i)
   unfolding openingTests openedRanged
   opens-lent zero l r o =
       let e = o .of-lent in
-      rw (o .side-is, o .opening, e .head, e .shares0, e .shares1, e .ballots, e .claims, message-and (opening-ranged 0))
+      rw (o .side-is, o .opening, e .head, e .shares0, e .shares1, e .ballots, e .claims, message-and P m (x .ballots) (x .claims) (x .head) (x .shares0) (x .shares1) (opening-ranged 0))
   opens-lent (suc zero) l r o =
       let e = o .of-lent in
-      rw (o .side-is, o .opening, e .head, e .shares0, e .shares1, e .ballots, e .claims, message-and (opening-ranged 1))
+      rw (o .side-is, o .opening, e .head, e .shares0, e .shares1, e .ballots, e .claims, message-and P m (x .ballots) (x .claims) (x .head) (x .shares0) (x .shares1) (opening-ranged 1))
   opens-lent (suc (suc i)) l r o = absurd (omega arith)
 
   -- a check that answers a challenge as lent
@@ -121,9 +116,9 @@ module _ (P : Parameters) (m : ℕ) (x : Openings) where
   -- ---- what the extractor takes, every such check of a side or an answer takes
 
   module _ (none : None (extractTests P m x)) where
-    parts : (in-repeats ≡ true) × ((i : ℕ) → i < 2 → None (opening-order message adds (opening-ranged i) (side-tests i)))
+    parts : (in-repeats ≡ true) × ((i : ℕ) → i < 2 → None (opening-order lent-message adds (opening-ranged i) (side-tests i)))
         × ((c : ℕ) → 1 ≤ c → c ≤ 3 → None (answer-order (answer-ranged c) (answer-tests-of c)))
-    parts = order-parts in-repeats message adds opening-ranged answer-ranged side-tests answer-tests-of (rw extract-order at none)
+    parts = order-parts in-repeats lent-message adds opening-ranged answer-ranged side-tests answer-tests-of (rw extract-order at none)
 
     pub opening-taken : (i : ℕ) → i < 2 → (r : Round) → OpensLent x i r → None (openingTests P m r)
     opening-taken i l r o = rw (opens-lent i l r o) (parts .1 i l)
@@ -134,7 +129,7 @@ module _ (P : Parameters) (m : ℕ) (x : Openings) where
   -- ---- both ways, for rounds that open each side and answer each challenge as lent
 
   module _ (opened answered : ℕ → Round) (lent : Lending P m x opened answered) where
-    opening-is : (i : ℕ) → i < 2 → openingTests P m (opened i) ≡ opening-order message adds (opening-ranged i) (side-tests i)
+    opening-is : (i : ℕ) → i < 2 → openingTests P m (opened i) ≡ opening-order lent-message adds (opening-ranged i) (side-tests i)
     opening-is i l = opens-lent i l (opened i) (lent .sides i l)
 
     answer-is : (c : ℕ) → 1 ≤ c → c ≤ 3 → repetitionTests P m (answered c) (x .repetition) ≡ answer-order (answer-ranged c) (answer-tests-of c)
@@ -150,7 +145,7 @@ module _ (P : Parameters) (m : ℕ) (x : Openings) where
     extractor-takes : ChecksTake P m x opened answered → None (extractTests P m x)
     extractor-takes t =
         rw extract-order
-        (parts-order in-repeats message adds opening-ranged answer-ranged side-tests answer-tests-of (lt-ltb (x .repetition) repeats (t .repetition)) (λ i l. rw (opening-is i l) at (t .openings i l))
+        (parts-order in-repeats lent-message adds opening-ranged answer-ranged side-tests answer-tests-of (lt-ltb (x .repetition) repeats (t .repetition)) (λ i l. rw (opening-is i l) at (t .openings i l))
         (λ c low high. rw (answer-is c low high) at (t .answers c low high)))
 
     -- the extractor refuses nothing exactly if the repetition is in range and the checks refuse nothing of those openings and answers
@@ -169,7 +164,7 @@ module _ (P : Parameters) (m : ℕ) (x : Openings) where
     -- and where it refuses, with a number and a place, the check of one of them does so too
     pub refuses-alike : (number place : ℕ) → first (extractTests P m x) ≡ Refused number place → ChecksRefuse P m x opened answered number place
     refuses-alike number place e =
-        order-first in-repeats message adds opening-ranged answer-ranged side-tests answer-tests-of (λ r f. no-repetition (ltb-false (x .repetition) repeats r) f)
+        order-first in-repeats lent-message adds opening-ranged answer-ranged side-tests answer-tests-of (λ r f. no-repetition (ltb-false (x .repetition) repeats r) f)
         (λ i l f. opening i l (rw (opening-is i l) f)) (λ c low high f. answer c low high (rw (answer-is c low high) f)) (rw extract-order at e)
 
 -- there are such rounds

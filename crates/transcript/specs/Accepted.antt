@@ -1,5 +1,6 @@
 -- What an accepted round is (document 01, "One round" and refusals 5 to 13), in propositions to hold against the paper: no test stands in them, and the numbers
--- beside them are those of the refusals that they exclude. The lengths (1) stand apart: `Lengths`, specs/Round.antt. Assumes nothing.
+-- beside them are those of the refusals that they exclude. The extractor asks for the same parts (specs/OpeningsAccepted.antt). The lengths (1) stand apart: `Lengths`,
+-- specs/Round.antt. Assumes nothing.
 use mathlib.Core.Path.{_≡_}
 use mathlib.Core.List.{List}
 use Prim.Native.Nat.{ℕ, _+_, _*_, _≤_, _<_}
@@ -16,7 +17,7 @@ use Rattle.vector.specs.Permutation.{Permutes, entries}
 use Rattle.stern.specs.Argument.{Setting, Answer1, Answer2, Answer3, one-by2, one-by3, two-by1, two-by3, three-by1, three-by2}
 use Rattle.stern.specs.Shortness.{setting, firstOf, answer1Of, answer2Of, answer3Of}
 use Rattle.transcript.specs.Layout.{Opening, uAt, vAt, shareAt, claimAt, keyAt, pairsOf, pairAt, digestsAt, openingOf, answerAt}
-use Rattle.transcript.specs.Round.{Parameters, Round, challengeAt, sharesOf}
+use Rattle.transcript.specs.Round.{Parameters, Round, challengeAt, ofSide}
 
 -- each number of a list is below v
 abbrev pub EachBelow : ℕ → List ℕ → Type 0
@@ -82,31 +83,44 @@ module _ (P : Parameters) (m : ℕ) where
     pub rs : EachBelow 3 (o .rs)
     pub re : EachBelow 3 (o .re)
 
+  -- ballots, claims, the head of the first message, and the shares of both sides
+  pub record MessageRanged (ballots claims head shares0 shares1 : Bytes) : Type 0 where
+    pub in-ballots : BallotsRanged ballots
+    pub in-claims : EachBelow p claims
+    pub in-head : HeadRanged head
+    pub in-shares0 : EachBelow q (vector shares0)
+    pub in-shares1 : EachBelow q (vector shares1)
+
   pub record InRange (r : Round) : Type 0 where
     pub side : r .side < 2
     pub challenges : (i : ℕ) → i < repeats → (1 ≤ challengeAt r i) × (challengeAt r i ≤ 3)
     pub answers : (i : ℕ) → i < repeats → AnswerRanged q N (challengeAt r i) (answerAt N (r .challenges) (r .answers) i)
-    pub ballots : BallotsRanged (r .ballots)
-    pub claims : EachBelow p (r .claims)
-    pub head : HeadRanged (r .head)
-    pub shares0 : EachBelow q (vector (r .shares0))
-    pub shares1 : EachBelow q (vector (r .shares1))
+    pub message : MessageRanged (r .ballots) (r .claims) (r .head) (r .shares0) (r .shares1)
     pub opening : OpeningRanged (openingOf N (r .opening))
+
+  -- ---- 6: b0 + b1 is b
+
+  abbrev pub KeySplits : (head : Bytes) → Type 0
+  KeySplits head = Alike q N (plus (keyAt N head 0) (keyAt N head 1)) b
+
+  -- ---- the opening of a side, against the first message, the ballots and the claims
+
+  pub record SideOpened (ballots claims head shares0 shares1 : Bytes) (side : ℕ) (o : Opening) : Type 0 where
+    -- 7: the opened b_i is a s_i + p e_i
+    pub key-opened : Alike q N (keyAt N head side) (key q N p a (o .s) (o .e))
+    -- 8: the pairs of s_i and e_i are those of the opening
+    pub s-committed : Opens q N k (pairOf N (pairAt N head side)) (threeOf q N (o .rs)) (o .s)
+    pub e-committed : Opens q N k (pairOf N (pairAt N head (2 + side))) (threeOf q N (o .re)) (o .e)
+    -- 12: the mask of each ballot, worked out from the opened side's share, is at most B
+    pub masked : (j : ℕ) → j < m → Bounded N B (worked q N p (o .s) (uAt N ballots j) (shareAt N (ofSide side shares0 shares1) j))
+    -- 13: the claim of each ballot is the vote
+    pub claimed : (j : ℕ) → j < m → claimAt N claims j ≡ list N (reconstructed q p (vAt N ballots j) (shareAt N shares0 j) (shareAt N shares1 j))
 
   -- ---- all of it
 
   pub record Accepted (r : Round) : Type 0 where
     pub in-range : InRange r  -- 5
-    -- 6: b0 + b1 is b
-    pub key-splits : Alike q N (plus (keyAt N (r .head) 0) (keyAt N (r .head) 1)) b
-    -- 7: the opened b_i is a s_i + p e_i
-    pub key-opened : Alike q N (keyAt N (r .head) (r .side)) (key q N p a (openingOf N (r .opening) .s) (openingOf N (r .opening) .e))
-    -- 8: the pairs of s_i and e_i are those of the opening
-    pub s-committed : Opens q N k (pairOf N (pairAt N (r .head) (r .side))) (threeOf q N (openingOf N (r .opening) .rs)) (openingOf N (r .opening) .s)
-    pub e-committed : Opens q N k (pairOf N (pairAt N (r .head) (2 + r .side))) (threeOf q N (openingOf N (r .opening) .re)) (openingOf N (r .opening) .e)
+    pub key-splits : KeySplits (r .head)  -- 6
+    pub opened : SideOpened (r .ballots) (r .claims) (r .head) (r .shares0) (r .shares1) (r .side) (openingOf N (r .opening))  -- 7, 8, 12, 13
     -- 9, 10, 11: each repetition is answered
     pub answered : (i : ℕ) → i < repeats → Answered q N k (pairsOf N (r .head)) (digestsAt N (r .head) i) (challengeAt r i) (answerAt N (r .challenges) (r .answers) i)
-    -- 12: the mask of each ballot, worked out from the opened side's share, is at most B
-    pub masked : (j : ℕ) → j < m → Bounded N B (worked q N p (openingOf N (r .opening) .s) (uAt N (r .ballots) j) (shareAt N (sharesOf r (r .side)) j))
-    -- 13: the claim of each ballot is the vote
-    pub claimed : (j : ℕ) → j < m → claimAt N (r .claims) j ≡ list N (reconstructed q p (vAt N (r .ballots) j) (shareAt N (r .shares0) j) (shareAt N (r .shares1) j))

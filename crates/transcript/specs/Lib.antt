@@ -8,5 +8,6 @@ pub mod Writes
 pub mod Lent
 pub mod Suitable
 pub mod Extractor
+pub mod OpeningsAccepted
 pub mod Refuses
 pub mod RoundSlices

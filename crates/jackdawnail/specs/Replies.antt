@@ -1,0 +1,52 @@
+-- The one number that C is answered (document 01, "The host program .. calls the case through plain numbers", and "A refusal carries number and place"), for every reply that
+-- an exported call gives. Assumes nothing.
+use mathlib.Core.Path.{_≡_}
+use mathlib.Core.Logic.{_↔_}
+use Prim.Native.Nat.{ℕ, _/_, _%_}
+use Rattle.codec.specs.Bytes.{Bytes}
+use Rattle.codec.specs.Reply.{first, packed}
+use Rattle.codec.specs.declared.Reply.{Reply}
+use Rattle.codec.specs.declared.Reply.the-variants.{Taken, Refused}
+use Rattle.opened_share.specs.Opened.{openedReply}
+use Rattle.sha3.specs.Digest.{digestReply}
+use Rattle.sheet_calls.specs.Calls.{describeReply}
+use Rattle.transcript.specs.Producer.{Material}
+use Rattle.transcript.specs.Writes.{FirstRoom, SecondRoom}
+use Rattle.transcript.specs.Extractor.{Openings, ExtractRoom}
+use Rattle.scheme_calls.specs.Orders.{keygenOrder, encryptOrder, decryptOrder, splitOrder, shareOrder, reconstructOrder, commitmentOrder}
+use Rattle.verification.specs.Extraction.{answered}
+use Rattle.round_calls.specs.Replies.{firstReply, secondReply}
+use Rattle.verification_calls.specs.Replies.{extractReply, extractFound}
+use Rattle.session.specs.Machine.{Step}
+use Rattle.session_calls.specs.Images.{Host, hostReply, challengesReply, turnoutReply, turnoutAnswer}
+
+-- what C reads off an answer: its remainder by 256 is 0 exactly if the call is taken, and else the number of the refusal; the quotient is then its place
+pub record Told (reply : Reply) (answer : ℕ) : Type 0 where
+  pub taken : (answer % 256 ≡ 0) ↔ (reply ≡ Taken)
+  pub refused : (number place : ℕ) → reply ≡ Refused number place → (answer % 256 ≡ number) × (answer / 256 ≡ place)
+
+abbrev pub Packed : Reply → Type 0
+Packed reply = Told reply (packed reply)
+
+-- call by call, as the contracts have their answers (src/)
+pub record RepliesTold : Type 0 where
+  pub digest : (out : Bytes) → Packed (digestReply out)
+  pub sheet : (text out : Bytes) → Packed (describeReply text out)
+  pub keygen : (text s e b scratch : Bytes) → Packed (first (keygenOrder text s e b scratch))
+  pub encrypt : (text r e1 e2 m ciphertext scratch : Bytes) → Packed (first (encryptOrder text r e1 e2 m ciphertext scratch))
+  pub decrypt : (text s ciphertext vote scratch : Bytes) → Packed (first (decryptOrder text s ciphertext vote scratch))
+  pub split : (text s e s0 e0 out scratch : Bytes) → Packed (first (splitOrder text s e s0 e0 out scratch))
+  pub share : (text half u mask t scratch : Bytes) → Packed (first (shareOrder text half u mask t scratch))
+  pub reconstruct : (text v t0 t1 vote scratch : Bytes) → Packed (first (reconstructOrder text v t0 t1 vote scratch))
+  pub commitment : (text m r pair scratch : Bytes) → Packed (first (commitmentOrder text m r pair scratch))
+  pub produce-first : (text : Bytes) (x : Material) (room : FirstRoom) → Packed (firstReply text x room)
+  pub produce-second : (text : Bytes) (x : Material) (side : ℕ) (challenges : Bytes) (room : SecondRoom) → Packed (secondReply text x side challenges room)
+  -- its value is the kind of what was found
+  pub extract : (text : Bytes) (x : Openings) (room : ExtractRoom) → Told (extractReply text x room) (answered (extractFound text x room))
+  -- it refuses nothing: its value is a place, or 0
+  pub opened-share : (side N length0 length1 j : ℕ) → openedReply side N length0 length1 j % 256 ≡ 0
+  -- the eight steps
+  pub step : (x : Step) (h : Host) → Packed (hostReply x h)
+  pub challenges : (image : Bytes) (round : ℕ) (out : Bytes) → Packed (challengesReply image round out)
+  -- its value is the thousandths
+  pub turnout : (image reg : Bytes) (enrolled : ℕ) → Told (turnoutReply image reg enrolled) (turnoutAnswer image reg enrolled)
