@@ -30,11 +30,12 @@ returns : tie.Need-returns
 returns c =
     let a = c .before .before .before .before .before .before .before .before .args in
     let n = a .k .ring in
-    let t = c .before .before .test-at in (
-      t .ensures .replied
-          ∙ ap (λ (s : Bytes). first (answerTests (a .k .modulus) n (keysOf n (keyBytes (a .k) (a .public .now))) (pairsOf n (a .head .now)) (part (a .head .now) (a .digests) 96) (a .place) (a .challenge) s)) (part-whole (a .answer .now)),
-      t .ensures .cleared,
-    )
+    let t = c .before .before .test-at in
+    record {
+      replied = t .ensures .replied
+          ∙ ap (λ (s : Bytes). first (answerTests (a .k .modulus) n (keysOf n (keyBytes (a .k) (a .public .now))) (pairsOf n (a .head .now)) (part (a .head .now) (a .digests) 96) (a .place) (a .challenge) s)) (part-whole (a .answer .now));
+      cleared = t .ensures .cleared;
+    }
 
 pub test-answer-spec : {M : Type 1} → statement M
 test-answer-spec = tie.close (tie.spec test-at-requires (λ c. search needs) returns)
