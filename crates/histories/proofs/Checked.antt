@@ -1,5 +1,5 @@
 -- A check is taken exactly if its conditions hold, in every round, and so is every step. Assumes nothing.
-use mathlib.Core.Path.{_≡_}
+use mathlib.Core.Path.{_≡_, refl}
 use mathlib.Core.Logic.{_↔_}
 use Prim.Native.Nat.{ℕ}
 use native.Mathlib.Omega.{arith}
@@ -15,9 +15,8 @@ use Rattle.checking.specs.Check.{Inputs, lateTests, drawnRound}
 use Rattle.checking.proofs.Laws.{early-exactly}
 use Rattle.session.specs.declared.Session.{Session}
 use Rattle.session.specs.Steps.{storedFor, checkEarly, checkLate, checkTests}
-use Rattle.session.specs.Machine.{clear, admit, withdraw, close, claim, commit, draw, check, reply}
-use Rattle.histories.specs.Conditions.{Reaches, Checks}
-use Rattle.histories.specs.Claims.{StepExactly}
+use Rattle.session.specs.Machine.{Step, clear, admit, withdraw, close, claim, commit, draw, check, State, reply}
+use Rattle.histories.specs.Conditions.{Reaches, Checks, Lent, Takes}
 use Rattle.histories.proofs.Exact.{cleared-exactly, admitted-exactly, withdrawn-exactly, closed-exactly, claimed-exactly, committed-exactly, drawn-exactly}
 use Rattle.histories.proofs.Valid.{ready, is-ready, on-turn, is-turn, sheet-exactly}
 
@@ -60,7 +59,7 @@ accepted-exactly s round x octets =
     let c = checks-exactly s round x octets in
     (λ e. c .0 (t .0 e), λ h. t .1 (c .1 h))
 
-pub step-exactly : StepExactly
+pub step-exactly : (x : Step) (st : State) → Lent x → (reply x st ≡ Taken) ↔ Takes x st
 unfolding reply
 step-exactly (clear b) st lent = cleared-exactly (st .register) b
 step-exactly (admit ballot) st lent = admitted-exactly (st .session) (st .register) ballot
@@ -69,4 +68,4 @@ step-exactly close st lent = closed-exactly (st .session) (st .register)
 step-exactly (claim claims) st lent = claimed-exactly (st .session) claims
 step-exactly (commit k head shares0 shares1) st lent = committed-exactly (st .session) k head shares0 shares1
 step-exactly (draw seed) st lent = drawn-exactly (st .session) seed
-step-exactly (check k x) st lent = accepted-exactly (st .session) k x lent
+step-exactly (check k x) st lent = accepted-exactly (st .session) k x (lent k x refl)

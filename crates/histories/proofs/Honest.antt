@@ -1,5 +1,6 @@
 -- The third demand's last sentence: a round that the producer wrote for the session's sheet and batch, lodged, is accepted at its turn. Assumes nothing.
 use mathlib.Core.Path.{_≡_, sym, ap, subst, _∙_}
+use mathlib.Core.List.{List}
 use Prim.Native.Nat.{ℕ}
 use native.Mathlib.Omega.{arith}
 use lib.ListN.{length}
@@ -29,11 +30,11 @@ use Rattle.checking.specs.Check.{Inputs, lateTests, drawnRound}
 use Rattle.checking.specs.Equations.{Sized, Held}
 use Rattle.session.specs.declared.Session.{Session}
 use Rattle.session.specs.Session.{trailAt}
-use Rattle.session.specs.Steps.{storedFor, checkEarly, checkLate, checkTests}
-use Rattle.session.specs.Machine.{reply}
-use Rattle.histories.specs.Runs.{Trace, trace, initial}
+use Rattle.session.specs.Steps.{Beginning, storedFor, checkEarly, checkLate, checkTests}
+use Rattle.session.specs.Machine.{check, state, reply}
+use Rattle.histories.specs.Runs.{Trace, Call, Begins, trace, initial}
 use Rattle.histories.specs.Conditions.{SheetTaken}
-use Rattle.histories.specs.Claims.{Produced, Turn, HonestAccepted}
+use Rattle.histories.specs.Claims.{Produced, Turn}
 use Rattle.histories.proofs.Valid.{sheet-exactly}
 use Rattle.histories.proofs.Kept.{Kept, messageDigest, kept}
 use Rattle.histories.proofs.Checked.{reaches-exactly}
@@ -145,6 +146,9 @@ module _ (l : Trace) (k : Kept (l .session) (l .history)) (material : Material) 
       (none-append (checkEarly s round x) (checkLate s round x) (reaches-exactly s round x .1 (record { sound = k .sound; phase = turn .phase; due = due; within = omega arith; sheet = sheet-taken; lengths = lengths; matches = matches }))
       (late-none s material round x sheet-taken numbers (subst (λ (n : ℕ). Produced Q n material (s .seed) round x) (sym closed) made)))
 
-pub honest-accepted : HonestAccepted
+-- a round that the producer wrote for the session's sheet and batch, lodged, is accepted at its turn, whatever was drawn
+pub honest-accepted : (b : Beginning) (cs : List Call) → Begins b
+    → let l = trace cs (initial b) in
+    (register : Bytes) (material : Material) (round : ℕ) (x : Inputs) → Turn l material round x → reply (check round x) (state (l .session) register) ≡ Taken
 unfolding reply
 honest-accepted b cs e register material round x turn = turn-accepted (trace cs (initial b)) (kept b cs e) material round x turn

@@ -12,8 +12,8 @@ use Rattle.codec.specs.declared.Reply.the-variants.{Taken}
 use Rattle.session.specs.declared.Session.{Session}
 use Rattle.session.specs.Steps.{committedBy, drawnBy, acceptedBy, refusedBy}
 use Rattle.session.specs.Machine.{Step, clear, admit, withdraw, close, claim, commit, draw, check, State, state, next, reply}
-use Rattle.histories.specs.Runs.{History, historyAfter, rollAfter, clears, OwnTrace, ownExtend, ownTrace, Uncleared, none, more}
-use Rattle.histories.proofs.Stepped.{stepped-all}
+use Rattle.histories.specs.Runs.{History, historyAfter, rollAfter, clears, OwnTrace, ownExtend, ownTrace}
+use Rattle.histories.proofs.Stepped.{Uncleared, none, more, stepped-all}
 use Rattle.histories.proofs.Exact.{admitted-exactly, withdrawn-exactly, closed-exactly, claimed-exactly, committed-exactly}
 
 -- from a claim on, and with the first message of a round once it is committed

@@ -21,8 +21,9 @@ use Rattle.checking.specs.Check.{Inputs}
 use Rattle.progress.specs.Progress.{drawn}
 use Rattle.session.specs.Steps.{Beginning, claimedBy, committedBy}
 use Rattle.session.specs.Machine.{Step, clear, admit, withdraw, close, claim, commit, draw, check, next, reply, after}
-use Rattle.histories.specs.Runs.{History, historyAfter, rollAfter, clears, message, Trace, OwnTrace, Begins, ownInitial, ownExtend, ownTrace, Uncleared, none, more}
+use Rattle.histories.specs.Runs.{History, historyAfter, rollAfter, clears, message, Trace, OwnTrace, Begins, ownInitial, ownExtend, ownTrace}
 use Rattle.histories.specs.Claims.{Produced, Turn}
+use Rattle.histories.proofs.Stepped.{Uncleared, none, more}
 use Rattle.histories.proofs.Exact.{claimed-exactly, committed-exactly}
 use Rattle.histories.proofs.Kept.{Kept, kept-extend, kept-steps, kept-own}
 use Rattle.histories.proofs.Roll.{roll-is-batch}

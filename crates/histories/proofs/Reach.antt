@@ -7,28 +7,33 @@ use native.Mathlib.Omega.{arith}
 use borrow.Author.Tests.{eqb-false, not-true}
 use Rattle.codec.specs.Bytes.{Bytes}
 use Rattle.codec.specs.Reply.{Test, test, first}
-use Rattle.codec.specs.declared.Reply.the-variants.{Refused}
+use Rattle.codec.specs.declared.Reply.the-variants.{Taken, Refused}
 use Rattle.codec.proofs.Replies.{taken-exactly}
+use Rattle.sheet.specs.Reader.{sheetOf}
 use Rattle.sheet.specs.Sheet.{order}
 use Rattle.lengths.specs.Sheets.{parametersOf}
 use Rattle.lengths.proofs.Swept.{later-round}
 use Rattle.checking.specs.Check.{Inputs, inputsSized, storedTests, earlyTests, lateTests, drawnRound}
 use Rattle.session.specs.declared.Session.{Session}
 use Rattle.session.specs.Session.{valid}
-use Rattle.session.specs.Steps.{dueTest, storedFor, clearTests, admitTests, withdrawTests, closeTests, claimTests, commitTests, drawTests, checkEarly, checkLate, checkTests}
-use Rattle.session.specs.Machine.{Step, clear, admit, withdraw, close, claim, commit, draw, check, state, reply}
-use Rattle.histories.specs.Runs.{ownInitial, initial, trace}
-use Rattle.histories.specs.Claims.{Undue, ClearTaken, StaysValid, OnlyPhaseOrRound}
+use Rattle.session.specs.Steps.{Beginning, dueTest, storedFor, clearTests, admitTests, withdrawTests, closeTests, claimTests, commitTests, drawTests, checkEarly, checkLate, checkTests}
+use Rattle.session.specs.Machine.{Step, clear, admit, withdraw, close, claim, commit, draw, check, State, state, reply, after}
+use Rattle.histories.specs.Runs.{Call, Begins, ownInitial, initial, trace}
+use Rattle.histories.specs.Conditions.{Valid}
+use Rattle.histories.specs.Claims.{Undue}
 use Rattle.histories.proofs.Replies.{Others, others, others-append, later-others, head-holds}
 use Rattle.histories.proofs.Valid.{off-both, off-turn, valid-holds, sheet-exactly}
 use Rattle.histories.proofs.Stepped.{after-taken}
 use Rattle.histories.proofs.Exact.{cleared-exactly}
 use Rattle.histories.proofs.Kept.{kept}
 
-pub reachable-valid : StaysValid
+pub reachable-valid : (b : Beginning) (cs : List Call) → Begins b
+    → let l = trace cs (initial b) in
+    Valid (l .session) × (l .session .numbers ≡ sheetOf (l .history .sheet) .numbers)
 reachable-valid b cs e = let k = kept b cs e in (k .sound, k .numbers)
 
-pub clear-taken : ClearTaken
+-- a clear that is taken leaves what a list of steps starts from
+pub clear-taken : (start : State) (b : Beginning) → reply (clear b) start ≡ Taken → Begins b × (after (clear b) start ≡ ownInitial b .now)
 unfolding reply ownInitial
 clear-taken st b e = (
   taken-exactly (order (b .sheet)) .1 (sheet-exactly (b .sheet) .1 (cleared-exactly (st .register) b .0 e .sheet)),
@@ -64,7 +69,11 @@ module _ (s : Session) (reg : Bytes) (place : ℕ) (v : valid s ≡ true) where
   only-31 (draw seed) e = off-both _ _ _ _ (not-due _ _ (omega arith) e)
   only-31 (check k x) e = off-turn _ _ _ _ _ (not-due _ (earlyTests (storedFor s k) x ++ checkLate s k x) (check-others k x) e)
 
-pub only-phase-or-round : OnlyPhaseOrRound
+-- so 31 is only ever met for wrong phase or round
+pub only-phase-or-round : (b : Beginning) (cs : List Call) → Begins b
+    → (x : Step) (register : Bytes) (place : ℕ)
+    → let s = trace cs (initial b) .session in
+    reply x (state s register) ≡ Refused 31 place → Undue x s
 only-phase-or-round b cs e x reg place r =
     let s = trace cs (initial b) .session in
     only-31 s reg place (valid-holds s (reachable-valid b cs e .0)) x r

@@ -18,7 +18,7 @@ use Rattle.session.specs.Session.{trailAt}
 use Rattle.session.specs.Steps.{Beginning, storedFor, cleared, admittedBy, closedBy, claimedBy, committedBy, drawnBy, acceptedBy, refusedBy}
 use Rattle.session.specs.Machine.{Step, clear, admit, withdraw, close, claim, commit, draw, check, State, state, next, reply, after}
 use Rattle.histories.specs.Runs.{Begins, Trace, Call, call, lent, clears, NoClear, extend, trace, initial}
-use Rattle.histories.specs.Claims.{Checked, RoundsChecked, EndedAccepted}
+use Rattle.histories.specs.Claims.{Checked}
 use Rattle.histories.proofs.Stepped.{clears-refused, stepped, taken-turn}
 use Rattle.histories.proofs.Exact.{closed-exactly, claimed-exactly, committed-exactly, drawn-exactly}
 use Rattle.histories.proofs.Checked.{accepted-exactly}
@@ -174,10 +174,14 @@ module _ (b : Beginning) (readable : Begins b) where
   every : (cs : List Call) → All cs
   every cs = all [] cs (record { of = λ k l. absurd (unfold trace initial cleared in omega arith) })
 
-pub rounds-checked : RoundsChecked
+-- every round that a session counts as checked was checked
+pub rounds-checked : (b : Beginning) (cs : List Call) → Begins b → (k : ℕ) → k < trace cs (initial b) .session .progress .checked → Checked b cs k
 rounds-checked b cs e = every b e cs .of
 
-pub ended-accepted : EndedAccepted
+-- and of a session that ended accepted every round was
+pub ended-accepted : (b : Beginning) (cs : List Call) → Begins b
+    → let s = trace cs (initial b) .session in
+    s .progress .phase ≡ 5 → (k : ℕ) → k < s .numbers .rounds → Checked b cs k
 ended-accepted b cs e ended k l =
     let all : Complete (trace cs (initial b) .session) = complete-trace cs (initial b) (λ w. absurd (unfold initial cleared in omega arith)) in
     every b e cs .of k (omega (arith, all ended))

@@ -1,6 +1,7 @@
 -- What holds after a step, from what holds of a step taken and of what was there before. Assumes nothing.
 use mathlib.Core.Path.{_≡_, refl, sym, _∙_}
 use mathlib.Core.Bool.{false}
+use mathlib.Core.List.{List, [], _∷_}
 use Prim.Native.Nat.{ℕ, _<_}
 use native.Mathlib.Omega.{arith}
 use Rattle.codec.specs.Reply.{first, leaves}
@@ -47,6 +48,11 @@ clears-refused (claim claims) r number place e = refl
 clears-refused (commit k head shares0 shares1) r number place e = refl
 clears-refused (draw seed) r number place e = refl
 clears-refused (check k x) r number place e = refl
+
+-- no clear is taken
+pub data Uncleared : List Step → State → Type 0 where
+  none : {st : State} → Uncleared [] st
+  more : {x : Step} {xs : List Step} {st : State} → clears x (reply x st) ≡ false → Uncleared xs (after x st) → Uncleared (x ∷ xs) st
 
 module _ (st : State) where
   -- what a refused step leaves: what was there, or of a check whose round was due a session that is ended

@@ -14,10 +14,10 @@ use Rattle.register.specs.Register.{registerLength, markAt, stateAt, digestAt, 
 use Rattle.register.proofs.Entries.{stands, admitted-marks, admitted-states, admitted-mark, withdrawn-marks, withdrawn-state, withdrawn-states}
 use Rattle.session.specs.Steps.{Beginning, cleared, admittedBy, closedBy, claimedBy, committedBy, drawnBy, acceptedBy, refusedBy}
 use Rattle.session.specs.Machine.{Step, clear, admit, withdraw, close, claim, commit, draw, check, State, next, reply, after}
-use Rattle.histories.specs.Runs.{clears, run, Uncleared, none, more}
+use Rattle.histories.specs.Runs.{clears, run}
 use Rattle.histories.specs.Conditions.{Admits, Withdraws}
-use Rattle.histories.specs.Claims.{ClosedWithout, StaysOut}
-use Rattle.histories.proofs.Stepped.{stepped, after-taken}
+use Rattle.histories.specs.Claims.{ClosedWithout}
+use Rattle.histories.proofs.Stepped.{Uncleared, none, more, stepped, after-taken}
 use Rattle.histories.proofs.Exact.{here, admitted-exactly, withdrawn-exactly}
 
 clears-taken : (b : Beginning) (r : Reply) → r ≡ Taken → clears (clear b) r ≡ true
@@ -182,7 +182,15 @@ closed-without mark st e others =
     let reg = st .register in
     rw (after-taken st close e) (record { out = others; count = length-map (standing reg (s .progress .used)) (digestAt reg); digest = refl })
 
-pub withdrawn-stays-out : StaysOut
+-- run any steps after a clear taken, then a withdrawal that is taken, then any steps among which no clear is taken: what a close taken then leaves is a batch without that mark
+pub withdrawn-stays-out : (start : State) (b : Beginning) (before between : List Step) (mark : ℕ)
+    → reply (clear b) start ≡ Taken
+    → let found = run before (after (clear b) start) in
+    let last = run between (after (withdraw mark) found) in
+    reply (withdraw mark) found ≡ Taken
+    → Uncleared between (after (withdraw mark) found)
+    → reply close last ≡ Taken
+    → ClosedWithout mark (last .register) (after close last .session)
 withdrawn-stays-out start b before between mark c e u d =
     let found = run before (after (clear b) start) in
     let single = single-run before (after (clear b) start) (single-clear start b c) in

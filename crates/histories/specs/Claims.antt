@@ -1,12 +1,12 @@
--- What is claimed of a session's steps (the second and the third demand; document 01, the paragraph on demand 3's last sentence): that each step
--- is taken exactly under its conditions, and what holds of lists of steps. Assumes nothing.
+-- What the claims about lists of steps speak of (the second and the third demand; document 01, the paragraph on demand 3's last sentence). The claims themselves stand over the
+-- exported calls: jackdawnail, specs/HostClaims.antt. Assumes nothing.
 use mathlib.Core.Path.{_≡_}
-use mathlib.Core.Logic.{_↔_, _≢_, _⊎_}
+use mathlib.Core.Logic.{_≢_, _⊎_}
 use mathlib.Core.List.{List, _∷_, _++_, List·Memᴰ, map}
 use Prim.Native.Nat.{ℕ, _≤_, _<_}
 use lib.ListN.{length}
 use Rattle.codec.specs.Bytes.{Bytes, Octets}
-use Rattle.codec.specs.declared.Reply.the-variants.{Taken, Refused}
+use Rattle.codec.specs.declared.Reply.the-variants.{Taken}
 use Rattle.sha3.specs.Sponge.{sha3}
 use Rattle.sheet.specs.Reader.{sheetOf}
 use Rattle.call.specs.Call.{scratchLength}
@@ -20,15 +20,15 @@ use Rattle.digests.specs.Digests.{concatenated, ballotDigests, closingDigest}
 use Rattle.drawing.specs.Draw.{drawnSide, drawnChallenges}
 use Rattle.checking.specs.Check.{Inputs}
 use Rattle.session.specs.declared.Session.{Session}
-use Rattle.progress.specs.Progress.{gathering, closed, claimed, drawn, ended-accepted}
+use Rattle.progress.specs.Progress.{gathering, closed, claimed, drawn}
 use Rattle.session.specs.Steps.{Beginning, storedFor}
-use Rattle.session.specs.Machine.{Step, clear, admit, withdraw, close, claim, commit, draw, check, State, state, reply, after}
-use Rattle.histories.specs.Runs.{message, Trace, Call, call, Begins, initial, ownInitial, run, Uncleared, NoClear, ownTrace, extend, trace, calls}
-use Rattle.histories.specs.Conditions.{Valid, Lent, Takes, Checks}
+use Rattle.session.specs.Machine.{Step, clear, admit, withdraw, close, claim, commit, draw, check, state, reply}
+use Rattle.histories.specs.Runs.{message, Trace, Call, call, initial, ownInitial, NoClear, ownTrace, extend, trace, calls}
+use Rattle.histories.specs.Conditions.{Checks}
 
 -- the phase or the round is not that of the step
 unfoldable pub Undue : Step → Session → Type 0
-Undue (clear text) s = ⊥
+Undue (clear b) s = ⊥
 Undue (admit ballot) s = s .progress .phase ≢ gathering
 Undue (withdraw mark) s = s .progress .phase ≢ gathering
 Undue close s = s .progress .phase ≢ gathering
@@ -56,24 +56,6 @@ module _ (P : Parameters) (m : ℕ) (material : Material) (seed : Bytes) (k : �
     pub opening : x .opening ≡ producedOpening P m material (drawnSide seed k)
     pub answers : x .answers ≡ producedAnswers P m material (drawnChallenges seed k (P .repeats))
 
--- ---- the second demand: each step is taken exactly if its conditions hold, the check in every round; what is lent is bytes
-
-abbrev pub StepExactly : Type 0
-StepExactly = (x : Step) (st : State) → Lent x → (reply x st ≡ Taken) ↔ Takes x st
-
--- ---- the second demand: withdrawn stays out
-
--- run any steps after a clear taken, then a withdrawal that is taken, then any steps among which no clear is taken: what a close taken then leaves is a batch without that mark
-abbrev pub StaysOut : Type 0
-StaysOut = (start : State) (b : Beginning) (before between : List Step) (mark : ℕ)
-    → reply (clear b) start ≡ Taken
-    → let found = run before (after (clear b) start) in
-    let last = run between (after (withdraw mark) found) in
-    reply (withdraw mark) found ≡ Taken
-    → Uncleared between (after (withdraw mark) found)
-    → reply close last ≡ Taken
-    → ClosedWithout mark (last .register) (after close last .session)
-
 -- ---- the second demand: no round is waved by. Lists of steps from a newly cleared session, each lent any register
 
 -- a check of a round that was taken, since the last clear taken: `before` are the calls before it, `later` those behind it
@@ -90,34 +72,7 @@ pub record Checked (b : Beginning) (cs : List Call) (round : ℕ) : Type 0 where
   -- what it was held against is what the session holds at the end: numbers, closed count, the digests of sheet, closing, claims and the round's first message, and the seed
   pub stored : storedFor (trace before (initial b) .session) round ≡ storedFor (trace cs (initial b) .session) round
 
--- every round that a session counts as checked was checked
-abbrev pub RoundsChecked : Type 0
-RoundsChecked = (b : Beginning) (cs : List Call) → Begins b → (k : ℕ) → k < trace cs (initial b) .session .progress .checked → Checked b cs k
-
--- and of a session that ended accepted every round was
-abbrev pub EndedAccepted : Type 0
-EndedAccepted = (b : Beginning) (cs : List Call) → Begins b
-    → let s = trace cs (initial b) .session in
-    s .progress .phase ≡ ended-accepted → (k : ℕ) → k < s .numbers .rounds → Checked b cs k
-
 -- ---- the third demand: lists of steps from a newly cleared session, each lent any register
-
--- a clear that is taken leaves what such a list starts from
-abbrev pub ClearTaken : Type 0
-ClearTaken = (start : State) (b : Beginning) → reply (clear b) start ≡ Taken
-    → Begins b × (after (clear b) start ≡ ownInitial b .now)
-
-abbrev pub StaysValid : Type 0
-StaysValid = (b : Beginning) (cs : List Call) → Begins b
-    → let l = trace cs (initial b) in
-    Valid (l .session) × (l .session .numbers ≡ sheetOf (l .history .sheet) .numbers)
-
--- so 31 is only ever met for wrong phase or round
-abbrev pub OnlyPhaseOrRound : Type 0
-OnlyPhaseOrRound = (b : Beginning) (cs : List Call) → Begins b
-    → (x : Step) (register : Bytes) (place : ℕ)
-    → let s = trace cs (initial b) .session in
-    reply x (state s register) ≡ Refused 31 place → Undue x s
 
 -- a round's turn: the check of the round next due after draw, lent the session's sheet and batch, the claims and the first message that were lodged (taken since the last clear), all of it
 -- the producer's, and scratch
@@ -130,12 +85,6 @@ pub record Turn (l : Trace) (material : Material) (round : ℕ) (x : Inputs) : T
   pub first-message : message (x .head) (x .shares0) (x .shares1) ≡ l .history .firsts round
   pub made : Produced (parametersOf (x .sheet)) (length (l .history .batch)) material (l .session .seed) round x
   pub scratch : length (x .scratch) ≡ scratchLength
-
--- the last sentence: a round that the producer wrote for the session's sheet and batch, lodged, is accepted at its turn, whatever was drawn
-abbrev pub HonestAccepted : Type 0
-HonestAccepted = (b : Beginning) (cs : List Call) → Begins b
-    → let l = trace cs (initial b) in
-    (register : Bytes) (material : Material) (round : ℕ) (x : Inputs) → Turn l material round x → reply (check round x) (state (l .session) register) ≡ Taken
 
 -- without host writing, the ballots admitted and not withdrawn are the batch: its digests are theirs, in order, and each has a ballot's length
 abbrev pub RollIsBatch : Type 0

@@ -123,13 +123,6 @@ Takes (commit k head shares0 shares1) st = Commits (st .session) k head shares0 
 Takes (draw seed) st = Draws (st .session) seed
 Takes (check k x) st = Checks (st .session) k x
 
--- what is lent is bytes, where that is needed
+-- what a check is lent is bytes
 abbrev pub Lent : Step → Type 0
-Lent (clear b) = Unit
-Lent (admit ballot) = Unit
-Lent (withdraw mark) = Unit
-Lent close = Unit
-Lent (claim claims) = Unit
-Lent (commit k head shares0 shares1) = Unit
-Lent (draw seed) = Unit
-Lent (check k x) = Octets (x .head)
+Lent x = (k : ℕ) (y : Inputs) → x ≡ check k y → Octets (y .head)

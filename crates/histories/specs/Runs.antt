@@ -119,11 +119,6 @@ unfoldable pub run : List Step → State → State
 run [] st = st
 run (x ∷ xs) st = run xs (after x st)
 
--- no clear is taken
-pub data Uncleared : List Step → State → Type 0 where
-  none : {st : State} → Uncleared [] st
-  more : {x : Step} {xs : List Step} {st : State} → clears x (reply x st) ≡ false → Uncleared xs (after x st) → Uncleared (x ∷ xs) st
-
 -- the same with the history and the roll
 unfoldable pub ownExtend : Step → OwnTrace → OwnTrace
 ownExtend x t = record {

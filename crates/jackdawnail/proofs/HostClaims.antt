@@ -10,9 +10,10 @@ use Rattle.session.specs.declared.Session.{Session}
 use Rattle.image.specs.Image.{decode}
 use Rattle.session.specs.Steps.{Beginning}
 use Rattle.session.specs.Machine.{Step, clear, withdraw, close, check, State, state, reply, after}
-use Rattle.histories.specs.Runs.{Call, clears, Begins, initial, ownInitial, run, Uncleared, none, more, trace}
+use Rattle.histories.specs.Runs.{Call, clears, Begins, initial, ownInitial, run, trace}
 use Rattle.histories.specs.Conditions.{Valid}
 use Rattle.histories.specs.Claims.{Checked, Undue}
+use Rattle.histories.proofs.Stepped.{Uncleared, none, more}
 use Rattle.histories.proofs.Withdrawn.{withdrawn-stays-out}
 use Rattle.histories.proofs.Reach.{clear-taken, reachable-valid, only-phase-or-round}
 use Rattle.histories.proofs.Honest.{honest-accepted}
