@@ -33,7 +33,7 @@ use Rattle.session_calls.specs.Images.{host, hostReply}
 use Rattle.histories.specs.Conditions.{SheetTaken, Lent, Takes}
 use Rattle.histories.specs.Claims.{RollIsBatch, OwnRegister}
 use Rattle.histories.specs.Examples.{all-rows}
-use Rattle.jackdawnail.specs.Papers.{Distributed, DigestOfBits}
+use Rattle.jackdawnail.specs.Papers.{Distributed, DecryptsTogether, DigestOfBits}
 use Rattle.jackdawnail.specs.Produces.{WritesFirst, WritesSecond}
 use Rattle.jackdawnail.specs.Extracts.{TakesOpenings}
 use Rattle.jackdawnail.specs.HostSteps.{OverImages}
@@ -85,6 +85,7 @@ pub record Demand2 : Type 0 where
   pub honest-ballots : HonestBallots
   -- split keys add up, a mask worked out is the mask, reconstruction of two shares equals decryption; and SHA3-256 is FIPS 202's over bits
   pub distributed : Distributed
+  pub decrypts-together : DecryptsTogether
   pub digest-of-bits : DigestOfBits
   pub examples : Examples
   -- what is shown of steps and of lists of steps over sessions holds of the exported calls over images
