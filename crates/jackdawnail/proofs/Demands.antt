@@ -31,7 +31,7 @@ use Rattle.jackdawnail.proofs.Replies.{replies-told}
 use Rattle.jackdawnail.proofs.AnySession.{any-session}
 use Rattle.jackdawnail.proofs.Endings.{refusal-ends}
 use Rattle.jackdawnail.proofs.Decided.{first-decides, orders-as-written}
-use Rattle.jackdawnail.proofs.FromCalls.{from-calls}
+use Rattle.jackdawnail.proofs.FromCalls.{from-calls, turns-come}
 use Rattle.jackdawnail.proofs.Images.{over-image}
 use Rattle.jackdawnail.proofs.Yields.{extractor-takes}
 use Rattle.jackdawnail.proofs.Produces.{positive, fits, first-exactly, second-call-exactly}
@@ -127,6 +127,7 @@ demand3 = record {
   takes-accepted = takes-accepted;
   honest-accepted = host-honest-accepted;
   from-calls = from-calls;
+  turns-come = turns-come;
   honest-rounds = honest-rounds;
   any-session = any-session;
   producer-writes = producer-writes;

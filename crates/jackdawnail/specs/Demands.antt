@@ -42,7 +42,7 @@ use Rattle.jackdawnail.specs.Replies.{RepliesTold}
 use Rattle.jackdawnail.specs.AnySession.{AnySession}
 use Rattle.jackdawnail.specs.Endings.{RefusalEnds}
 use Rattle.jackdawnail.specs.Decided.{FirstDecides, OrdersAsWritten}
-use Rattle.jackdawnail.specs.FromCalls.{FromCalls}
+use Rattle.jackdawnail.specs.FromCalls.{FromCalls, TurnsCome}
 
 -- ---- 2. Everything equals the papers, a round is accepted exactly if every listed check holds, and a withdrawn mark is in no closed batch.
 
@@ -185,6 +185,8 @@ pub record Demand3 : Type 0 where
   pub honest-accepted : HostHonestAccepted
   -- and where the host writes no register: from the producer's two calls, claim, commit, draw and challenges to the check
   pub from-calls : FromCalls
+  -- there are such lists: over suitable material every round comes to its turn, and the session ends accepted
+  pub turns-come : TurnsCome
   pub honest-rounds : HonestRounds
   -- nor does it in any session, whatever bytes the image is
   pub any-session : AnySession
