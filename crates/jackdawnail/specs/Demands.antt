@@ -188,7 +188,7 @@ pub record Demand3 : Type 0 where
   -- there are such lists: over suitable material every round comes to its turn, and the session ends accepted
   pub turns-come : TurnsCome
   pub honest-rounds : HonestRounds
-  -- nor does it in any session, whatever bytes the image is
+  -- and the check refuses it for none of those in any session, whatever bytes the image is
   pub any-session : AnySession
   pub producer-writes : ProducerWrites
   -- no call of such a list meets 31 but for wrong phase or round
