@@ -1,14 +1,17 @@
 -- The parts of an answer as its tests are lent them, and two digests that were compared. Assumes nothing.
 use mathlib.Core.Path.{_≡_, sym, ap, ap₂, _∙_}
 use mathlib.Core.Bool.{Bool, not, _&&_}
+use mathlib.Core.Logic.{_≢_}
 use mathlib.Core.List.{List}
 use Prim.Native.Nat.{ℕ, _+_, _*_}
 use lib.ListN.{take, drop}
 use Rattle.codec.specs.Bytes.{Bytes, same}
 use Rattle.codec.specs.Reply.{Test, first}
 use Rattle.codec.specs.declared.Reply.{Reply}
+use Rattle.call.specs.Call.{Judged}
 use Rattle.commitment.specs.Commitment.{Keys}
-use Rattle.stern.specs.Shortness.{answer1Of, answer2Of, answer3Of, tests1, tests2, tests3}
+use Rattle.stern.specs.Shortness.{answer1Of, answer2Of, answer3Of, tests1, tests2, tests3, answerTests}
+use Rattle.stern.proofs.Answered.{chosen1, chosen2, chosen3}
 
 -- two digests that were compared
 pub compared : (one other a b c d : Bytes) (r t : Bool) → r ≡ (same one a && same other b) → a ≡ c → b ≡ d → r ≡ t → not (same one c && same other d) ≡ not t
@@ -25,17 +28,38 @@ module _ (q n place : ℕ) (k : Keys) (c d answer : Bytes) where
   lent1 a b e f ea eb ee ef er =
       er ∙ ap₂ (λ (x y : ℕ). first (with1 x y e f)) ea eb ∙ ap₂ (λ (x y : ℕ). first (with1 (42 * n) (336 * n) x y)) ee ef
 
-  -- answers 2 and 3 are cut alike
-  abbrev cut : (a b e f : ℕ) → (Bytes → Bytes → Bytes → Bytes → List Test) → Reply
-  cut a b e f tests = first (tests (take a answer) (take b (drop (168 * n) answer)) (take e (drop (504 * n) answer)) (take f (drop (504 * n + 32) answer)))
+-- answers 2 and 3 are cut alike
+module _ (n : ℕ) (answer : Bytes) (tests : (p x salt1 salt : Bytes) → List Test) where
+  abbrev cut : (a b e f : ℕ) → Reply
+  cut a b e f = first (tests (take a answer) (take b (drop (168 * n) answer)) (take e (drop (504 * n) answer)) (take f (drop (504 * n + 32) answer)))
 
-  cut-alike : (tests : Bytes → Bytes → Bytes → Bytes → List Test) (a b e f : ℕ) → a ≡ 168 * n → b ≡ 336 * n → e ≡ 32 → f ≡ 32 → {r : Reply} → r ≡ cut a b e f tests → r ≡ cut (168 * n) (336 * n) 32 32 tests
-  cut-alike tests a b e f ea eb ee ef er = er ∙ ap₂ (λ (x y : ℕ). cut x y e f tests) ea eb ∙ ap₂ (λ (x y : ℕ). cut (168 * n) (336 * n) x y tests) ee ef
+  pub cut-alike : (a b e f : ℕ) → a ≡ 168 * n → b ≡ 336 * n → e ≡ 32 → f ≡ 32 → {r : Reply} → r ≡ cut a b e f → r ≡ cut (168 * n) (336 * n) 32 32
+  cut-alike a b e f ea eb ee ef er = er ∙ ap₂ (λ (x y : ℕ). cut x y e f) ea eb ∙ ap₂ (cut (168 * n) (336 * n)) ee ef
 
-  pub lent2 : (a b e f : ℕ) → a ≡ 168 * n → b ≡ 336 * n → e ≡ 32 → f ≡ 32 → {r : Reply}
-      → r ≡ cut a b e f (λ p u s t. tests2 q n k c d place (record { p = p; u = u; salt1 = s; salt3 = t })) → r ≡ first (tests2 q n k c d place (answer2Of n answer))
-  lent2 = cut-alike (λ p u s t. tests2 q n k c d place (record { p = p; u = u; salt1 = s; salt3 = t }))
+-- ---- the tests of the answer to a challenge
 
-  pub lent3 : (a b e f : ℕ) → a ≡ 168 * n → b ≡ 336 * n → e ≡ 32 → f ≡ 32 → {r : Reply}
-      → r ≡ cut a b e f (λ p r s t. tests3 q n k c d place (record { p = p; r = r; salt1 = s; salt2 = t })) → r ≡ first (tests3 q n k c d place (answer3Of n answer))
-  lent3 = cut-alike (λ p r s t. tests3 q n k c d place (record { p = p; r = r; salt1 = s; salt2 = t }))
+-- tests that are others by another name
+pub retold : {ts us : List Test} {r : Reply} {w w' : Bytes} → us ≡ ts → Judged ts r w w' → Judged us r w w'
+retold e j = record { replied = j .replied ∙ ap first (sym e); cleared = j .cleared }
+
+module _ (q n place challenge : ℕ) (k : Keys) (c d answer : Bytes) where
+  abbrev one : List Test
+  one = tests1 q n k c d place (answer1Of n answer)
+
+  abbrev two : List Test
+  two = tests2 q n k c d place (answer2Of n answer)
+
+  abbrev three : List Test
+  three = tests3 q n k c d place (answer3Of n answer)
+
+  abbrev chosen : List Test
+  chosen = answerTests q n k c d place challenge answer
+
+  pub judged1 : challenge ≡ 1 → {r : Reply} {w w' : Bytes} → Judged one r w w' → Judged chosen r w w'
+  judged1 e = retold (chosen1 challenge one two three e)
+
+  pub judged2 : challenge ≡ 2 → {r : Reply} {w w' : Bytes} → Judged two r w w' → Judged chosen r w w'
+  judged2 e = retold (chosen2 challenge one two three e)
+
+  pub judged3 : challenge ≢ 1 → challenge ≢ 2 → {r : Reply} {w w' : Bytes} → Judged three r w w' → Judged chosen r w w'
+  judged3 e f = retold (chosen3 challenge one two three e f)

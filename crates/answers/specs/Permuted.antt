@@ -1,4 +1,4 @@
--- The tests that answers 2 and 3 have in common: 9, 11. Assumes nothing.
+-- The tests of an answer by its parts: 10, 11 for answer 1, and 9, 11, which answers 2 and 3 have in common. Assumes nothing.
 use mathlib.Core.Bool.{Bool, cond, not, _&&_}
 use mathlib.Core.List.{List, [], _∷_, _++_}
 use Prim.Native.Nat.{ℕ, _*_}
@@ -7,10 +7,17 @@ use Rattle.codec.specs.Bytes.{Bytes, words, same}
 use Rattle.codec.specs.Reply.{Test, test}
 use Rattle.sha3.specs.Sponge.{sha3}
 use Rattle.commitment.specs.Commitment.{Keys}
-use Rattle.vector.specs.Vector.{vector, subtract}
-use Rattle.vector.specs.Permutation.{entries, apply, permutes}
-use Rattle.stern.specs.Argument.{string1}
+use Rattle.vector.specs.Vector.{vector, ternaries, add, subtract}
+use Rattle.vector.specs.Permutation.{entries, apply, permutes, balanced}
+use Rattle.stern.specs.Argument.{string1, string2, string3}
 use Rattle.stern.specs.Shortness.{equations, sides}
+
+-- w has as many of each, `two` is the digest of t = P(R), and `three` that of w + t
+abbrev pub balancedTests : (q n : ℕ) (two three w t salt2 salt3 : Bytes) (place : ℕ) → List Test
+balancedTests q n two three w t salt2 salt3 place =
+    test 10 place (not (balanced (14 * n) w))
+    ∷ test 11 place (not (same two (sha3 (string2 salt2 t)) && same three (sha3 (string3 salt3 (add q (ternaries q w) (vector t))))))
+    ∷ []
 
 -- p is a permutation; `one` is the digest of the equations of x, less the right-hand sides or not, and `other` that of p applied to x
 abbrev pub permutedTests : (q n : ℕ) → Keys → (c : Bytes) (less : Bool) (one : Bytes) (lead : ℕ) (other p x salt1 salt : Bytes) (place : ℕ) → List Test

@@ -4,23 +4,18 @@ use stern::digests::equations_digest;
 use stern::digests::gathered_digest;
 use stern::digests::tagged;
 ghost use mathlib.Core.Path.{_≡_};
-ghost use mathlib.Core.Bool.{true, not, _&&_};
-ghost use mathlib.Core.List.{[], _∷_};
+ghost use mathlib.Core.Bool.{true, _&&_};
+ghost use mathlib.Core.List.{[]};
 ghost use Prim.Native.Nat.{_+_, _*_, _≤_, _<_, _^_};
 ghost use lib.ListN.{length};
-ghost use Rattle.codec.specs.Bytes.{same, zeros};
+ghost use Rattle.codec.specs.Bytes.{same};
 ghost use Rattle.codec.specs.Slices.{given, left};
-ghost use Rattle.codec.specs.Reply.{test, first};
 ghost use Rattle.codec.specs.Lists.{allBelow};
-ghost use Rattle.sha3.specs.Sponge.{sha3};
-ghost use Rattle.call.specs.Call.{scratchLength};
+ghost use Rattle.call.specs.Call.{scratchLength, Judged, Tried};
 ghost use Rattle.commitment.specs.Commitment.{keysOf, PublicKeys};
-ghost use Rattle.vector.specs.Vector.{vector, ternaries, add};
-ghost use Rattle.vector.specs.Permutation.{balanced};
-ghost use Rattle.stern.specs.Argument.{string2, string3};
-ghost use Rattle.stern.specs.Shortness.{answer1Of, answer2Of, answer3Of, tests1, tests2, tests3, answerLength};
-ghost use Rattle.stern.specs.Shortness.{answerTests, inRange};
-ghost use Rattle.answers.specs.Permuted.{permutedTests};
+ghost use Rattle.vector.specs.Vector.{vector};
+ghost use Rattle.stern.specs.Shortness.{answer1Of, answer2Of, tests1, answerLength, answerTests, inRange};
+ghost use Rattle.answers.specs.Permuted.{balancedTests, permutedTests};
 
 // Answer 1: there are L of each, and digests 2 and 3 are those of P(R) and of P(extended) + P(R).
 fn test_balanced(
@@ -37,10 +32,8 @@ fn test_balanced(
 ) -> Reply
     requires { ⌜ (n ≤ 2048) × (3 ≤ q) × (q < 2 ^ 56) × (length (now work) ≡ scratchLength) × (length (now w) ≡ 42 * n)
         × (length (now t) ≡ 336 * n) × (length (now salt2) ≡ 32) × (length (now salt3) ≡ 32) × (allBelow q (vector (now t)) ≡ true) ⌝ }
-    ensures { λ reply. ⌜ reply ≡ first (test 10 place (not (balanced (14 * n) (given w)))
-        ∷ test 11 place (not (same (given two) (sha3 (string2 (given salt2) (given t)))
-        && same (given three) (sha3 (string3 (given salt3) (add q (ternaries q (given w)) (vector (given t))))))) ∷ []) ⌝ }
-    ensures { λ _. ⌜ length (left work) ≡ length (given work) ⌝ }
+    ensures { λ reply. ⌜ Tried (balancedTests q n (given two) (given three) (given w) (given t) (given salt2) (given salt3) place) reply
+        (given work) (left work) ⌝ }
 {
     if !vector_tests::is_balanced(w, 14 * n) {
         return Reply::Refused { number: 10, place };
@@ -87,9 +80,8 @@ fn test_permuted(
     requires { ⌜ PublicKeys n q (now k) × (length (now work) ≡ scratchLength) × (length (now p) ≡ 168 * n) × (length (now x) ≡ 336 * n)
         × (length (now salt1) ≡ 32) × (length (now salt) ≡ 32) × (allBelow q (vector (now x)) ≡ true) × (length (now c) ≡ 64 * n)
         × (allBelow q (vector (now c)) ≡ true) ⌝ }
-    ensures { λ reply. ⌜ reply ≡ first (permutedTests q n (keysOf n (given k)) (given c) less (given one) lead (given other) (given p)
-        (given x) (given salt1) (given salt) place) ⌝ }
-    ensures { λ _. ⌜ length (left work) ≡ length (given work) ⌝ }
+    ensures { λ reply. ⌜ Tried (permutedTests q n (keysOf n (given k)) (given c) less (given one) lead (given other) (given p) (given x)
+        (given salt1) (given salt) place) reply (given work) (left work) ⌝ }
 {
     if !vector_tests::is_permutation(p, work, 0, 42 * n) {
         return Reply::Refused { number: 9, place };
@@ -107,8 +99,7 @@ fn test_permuted(
 fn test_first(work: &mut [u8], d: &[u8], answer: &[u8], place: u32, n: usize, q: u64) -> Reply
     requires { ⌜ (n ≤ 2048) × (3 ≤ q) × (q < 2 ^ 56) × (length (now work) ≡ scratchLength) × (length (now d) ≡ 96)
         × (length (now answer) ≡ 378 * n + 64) × (allBelow q (vector (answer1Of n (now answer) .t)) ≡ true) ⌝ }
-    ensures { λ reply. ⌜ reply ≡ first (tests1 q n (keysOf n []) [] (given d) place (answer1Of n (given answer))) ⌝ }
-    ensures { λ _. ⌜ left work ≡ zeros (length (given work)) ⌝ }
+    ensures { λ reply. ⌜ Judged (tests1 q n (keysOf n []) [] (given d) place (answer1Of n (given answer))) reply (given work) (left work) ⌝ }
 {
     let reply = test_balanced(
         work,
@@ -126,68 +117,34 @@ fn test_first(work: &mut [u8], d: &[u8], answer: &[u8], place: u32, n: usize, q:
     reply
 }
 
-// Answer 2 from its bytes.
-fn test_second(
+// Answers 2 and 3 from their bytes, which are cut alike, and scratch zeroed.
+fn test_bytes(
     work: &mut [u8],
     k: &[u8],
     c: &[u8],
-    d: &[u8],
+    less: bool,
+    one: &[u8],
+    lead: u8,
+    other: &[u8],
     answer: &[u8],
     place: u32,
     n: usize,
     q: u64,
 ) -> Reply
-    requires { ⌜ PublicKeys n q (now k) × (length (now work) ≡ scratchLength) × (length (now d) ≡ 96)
-        × (length (now answer) ≡ 504 * n + 64) × (length (now c) ≡ 64 * n) × (allBelow q (vector (now c)) ≡ true)
-        × (allBelow q (vector (answer2Of n (now answer) .u)) ≡ true) ⌝ }
-    ensures { λ reply. ⌜ reply ≡ first (tests2 q n (keysOf n (given k)) (given c) (given d) place (answer2Of n (given answer))) ⌝ }
-    ensures { λ _. ⌜ left work ≡ zeros (length (given work)) ⌝ }
+    requires { ⌜ PublicKeys n q (now k) × (length (now work) ≡ scratchLength) × (length (now answer) ≡ 504 * n + 64)
+        × (length (now c) ≡ 64 * n) × (allBelow q (vector (now c)) ≡ true) × (allBelow q (vector (answer2Of n (now answer) .u)) ≡ true) ⌝ }
+    ensures { λ reply. let x = answer2Of n (given answer) in
+        ⌜ Judged (permutedTests q n (keysOf n (given k)) (given c) less (given one) lead (given other) (x .p) (x .u) (x .salt1) (x .salt3)
+        place) reply (given work) (left work) ⌝ }
 {
     let reply = test_permuted(
         work,
         k,
         c,
-        true,
-        &d[0..32],
-        3,
-        &d[64..96],
-        &answer[0..168 * n],
-        &answer[168 * n..504 * n],
-        &answer[504 * n..504 * n + 32],
-        &answer[504 * n + 32..504 * n + 64],
-        place,
-        n,
-        q,
-    );
-    codec::wipe(work);
-    reply
-}
-
-// Answer 3 from its bytes.
-fn test_third(
-    work: &mut [u8],
-    k: &[u8],
-    c: &[u8],
-    d: &[u8],
-    answer: &[u8],
-    place: u32,
-    n: usize,
-    q: u64,
-) -> Reply
-    requires { ⌜ PublicKeys n q (now k) × (length (now work) ≡ scratchLength) × (length (now d) ≡ 96)
-        × (length (now answer) ≡ 504 * n + 64) × (length (now c) ≡ 64 * n) × (allBelow q (vector (now c)) ≡ true)
-        × (allBelow q (vector (answer3Of n (now answer) .r)) ≡ true) ⌝ }
-    ensures { λ reply. ⌜ reply ≡ first (tests3 q n (keysOf n (given k)) (given c) (given d) place (answer3Of n (given answer))) ⌝ }
-    ensures { λ _. ⌜ left work ≡ zeros (length (given work)) ⌝ }
-{
-    let reply = test_permuted(
-        work,
-        k,
-        c,
-        false,
-        &d[0..32],
-        2,
-        &d[32..64],
+        less,
+        one,
+        lead,
+        other,
         &answer[0..168 * n],
         &answer[168 * n..504 * n],
         &answer[504 * n..504 * n + 32],
@@ -215,14 +172,38 @@ pub fn test_answer(
     requires { ⌜ PublicKeys n q (now k) × (length (now work) ≡ scratchLength) × (length (now d) ≡ 96) × (length (now c) ≡ 64 * n)
         × (allBelow q (vector (now c)) ≡ true) × (length (now answer) ≡ answerLength n challenge)
         × (inRange q n challenge (now answer) ≡ true) ⌝ }
-    ensures { λ reply. ⌜ reply ≡ first (answerTests q n (keysOf n (given k)) (given c) (given d) place challenge (given answer)) ⌝ }
-    ensures { λ _. ⌜ left work ≡ zeros (length (given work)) ⌝ }
+    ensures { λ reply. ⌜ Judged (answerTests q n (keysOf n (given k)) (given c) (given d) place challenge (given answer)) reply
+        (given work) (left work) ⌝ }
 {
     if challenge == 1 {
         return test_first(work, d, answer, place, n, q);
     }
     if challenge == 2 {
-        return test_second(work, k, c, d, answer, place, n, q);
+        return test_bytes(
+            work,
+            k,
+            c,
+            true,
+            &d[0..32],
+            3,
+            &d[64..96],
+            answer,
+            place,
+            n,
+            q,
+        );
     }
-    test_third(work, k, c, d, answer, place, n, q)
+    test_bytes(
+        work,
+        k,
+        c,
+        false,
+        &d[0..32],
+        2,
+        &d[32..64],
+        answer,
+        place,
+        n,
+        q,
+    )
 }

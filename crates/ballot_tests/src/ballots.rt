@@ -5,13 +5,12 @@ use sheet_numbers::Numbers;
 ghost use mathlib.Core.Path.{_≡_};
 ghost use Prim.Native.Nat.{_+_, _*_, _≤_};
 ghost use lib.ListN.{length};
-ghost use Rattle.codec.specs.Bytes.{part, zeros};
+ghost use Rattle.codec.specs.Bytes.{part};
 ghost use Rattle.codec.specs.Slices.{given, left};
-ghost use Rattle.codec.specs.Reply.{first};
 ghost use Rattle.ring.specs.Slots.{poly, slot};
 ghost use Rattle.sheet_numbers.specs.Plain.{plain, maskOf};
 ghost use Rattle.sheet_numbers.specs.Usable.{Usable};
-ghost use Rattle.call.specs.Call.{scratchLength, Polynomial};
+ghost use Rattle.call.specs.Call.{scratchLength, Polynomial, Judged, Tried};
 ghost use Rattle.transcript.specs.Round.{votesTests};
 ghost use Rattle.transcript.specs.Method.{Batch, Shares};
 ghost use Rattle.ballot_tests.specs.Vote.{voteTests, BallotAt};
@@ -33,10 +32,9 @@ fn test_at(
 ) -> Reply
     requires { ⌜ Polynomial (k .ring) (k .modulus) (now s) × Usable k × (length (now work) ≡ scratchLength)
         × BallotAt (k .modulus) (k .ring) (now ballots) at (now claims) claim (now shares0) (now shares1) (now opened) share ⌝ }
-    ensures { λ reply. ⌜ (reply ≡ first (voteTests (k .modulus) (k .ring) (plain k) (maskOf k) place (poly (given s))
-        (slot (given ballots) (at + 4)) (slot (given opened) share) (part (given claims) claim (k .ring))
-        (slot (given ballots) (at + 4 + 8 * k .ring)) (slot (given shares0) share) (slot (given shares1) share)))
-        × (length (left work) ≡ length (given work)) ⌝ }
+    ensures { λ reply. ⌜ Tried (voteTests (k .modulus) (k .ring) (plain k) (maskOf k) place (poly (given s)) (slot (given ballots) (at + 4))
+        (slot (given opened) share) (part (given claims) claim (k .ring)) (slot (given ballots) (at + 4 + 8 * k .ring))
+        (slot (given shares0) share) (slot (given shares1) share)) reply (given work) (left work) ⌝ }
 {
     let n = k.ring as usize;
     let end = share + 8 * n;
@@ -54,8 +52,8 @@ fn test_at(
     )
 }
 
-// Every ballot, in order.
-fn each_ballot(
+// Every ballot, in order, and scratch zeroed: `opened` is the opened side's shares.
+pub fn test_ballots(
     work: &mut [u8],
     k: Numbers,
     s: &[u8],
@@ -69,8 +67,8 @@ fn each_ballot(
     requires { ⌜ Polynomial (k .ring) (k .modulus) (now s) × Usable k × (length (now work) ≡ scratchLength) × (count ≤ 4096)
         × Batch (k .modulus) (k .ring) count (now ballots) (now claims) × Shares (k .modulus) (k .ring) count (now shares0)
         × Shares (k .modulus) (k .ring) count (now shares1) × Shares (k .modulus) (k .ring) count (now opened) ⌝ }
-    ensures { λ reply. ⌜ (reply ≡ first (votesTests (k .modulus) (k .ring) (plain k) (maskOf k) count (poly (given s)) (given ballots)
-        (given claims) (given shares0) (given shares1) (given opened))) × (length (left work) ≡ length (given work)) ⌝ }
+    ensures { λ reply. ⌜ Judged (votesTests (k .modulus) (k .ring) (plain k) (maskOf k) count (poly (given s)) (given ballots) (given claims)
+        (given shares0) (given shares1) (given opened)) reply (given work) (left work) ⌝ }
 {
     let n = k.ring as usize;
     let mut j = 0;
@@ -95,6 +93,7 @@ fn each_ballot(
         match reply {
             Reply::Taken => {}
             Reply::Refused { number, place } => {
+                codec::wipe(work);
                 return Reply::Refused { number, place };
             }
         }
@@ -103,28 +102,6 @@ fn each_ballot(
         claim += n;
         share += 8 * n;
     }
-    Reply::Taken
-}
-
-// Every ballot, in order, and scratch zeroed: `opened` is the opened side's shares.
-pub fn test_ballots(
-    work: &mut [u8],
-    k: Numbers,
-    s: &[u8],
-    ballots: &[u8],
-    claims: &[u8],
-    shares0: &[u8],
-    shares1: &[u8],
-    opened: &[u8],
-    count: usize,
-) -> Reply
-    requires { ⌜ Polynomial (k .ring) (k .modulus) (now s) × Usable k × (length (now work) ≡ scratchLength) × (count ≤ 4096)
-        × Batch (k .modulus) (k .ring) count (now ballots) (now claims) × Shares (k .modulus) (k .ring) count (now shares0)
-        × Shares (k .modulus) (k .ring) count (now shares1) × Shares (k .modulus) (k .ring) count (now opened) ⌝ }
-    ensures { λ reply. ⌜ (reply ≡ first (votesTests (k .modulus) (k .ring) (plain k) (maskOf k) count (poly (given s)) (given ballots)
-        (given claims) (given shares0) (given shares1) (given opened))) × (left work ≡ zeros (length (given work))) ⌝ }
-{
-    let reply = each_ballot(work, k, s, ballots, claims, shares0, shares1, opened, count);
     codec::wipe(work);
-    reply
+    Reply::Taken
 }

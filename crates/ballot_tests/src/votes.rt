@@ -6,13 +6,12 @@ ghost use Prim.Native.Nat.{_*_, _≤_};
 ghost use lib.ListN.{length};
 ghost use Rattle.codec.specs.Bytes.{same};
 ghost use Rattle.codec.specs.Slices.{given, left};
-ghost use Rattle.codec.specs.Reply.{first};
 ghost use Rattle.codec.specs.Lists.{list};
 ghost use Rattle.ring.specs.Poly.{Below};
 ghost use Rattle.ring.specs.Slots.{poly};
 ghost use Rattle.sheet_numbers.specs.Plain.{plain, maskOf};
 ghost use Rattle.sheet_numbers.specs.Usable.{Usable};
-ghost use Rattle.call.specs.Call.{scratchLength, Polynomial};
+ghost use Rattle.call.specs.Call.{scratchLength, Polynomial, Tried};
 ghost use Rattle.bgv.specs.Scheme as scheme;
 ghost use Rattle.bgv.specs.Scheme.{rebuilt};
 ghost use Rattle.ballot_tests.specs.Vote.{voteTests};
@@ -65,9 +64,8 @@ pub fn test_ballot(
         × Polynomial (k .ring) (k .modulus) (now v) × Polynomial (k .ring) (k .modulus) (now t0)
         × Polynomial (k .ring) (k .modulus) (now t1) × Polynomial (k .ring) (k .modulus) (now t) × (length (now work) ≡ scratchLength)
         × (length (now claim) ≡ k .ring) ⌝ }
-    ensures { λ reply. ⌜ (reply ≡ first (voteTests (k .modulus) (k .ring) (plain k) (maskOf k) place (poly (given s)) (poly (given u))
-        (poly (given t)) (given claim) (poly (given v)) (poly (given t0)) (poly (given t1))))
-        × (length (left work) ≡ length (given work)) ⌝ }
+    ensures { λ reply. ⌜ Tried (voteTests (k .modulus) (k .ring) (plain k) (maskOf k) place (poly (given s)) (poly (given u)) (poly (given t))
+        (given claim) (poly (given v)) (poly (given t0)) (poly (given t1))) reply (given work) (left work) ⌝ }
 {
     let p = sheet_numbers::plain(k);
     let bound = sheet_numbers::mask_bound(k);

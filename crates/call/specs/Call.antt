@@ -33,6 +33,18 @@ pub record Called (tests : List Test) (writes : Bytes) (reply : Reply) (out out'
   pub written : out' ≡ leaves reply writes out
   pub cleared : scratch' ≡ swept reply scratch
 
+-- ---- functions that test what they are lent
+
+-- the reply is that of the tests, and scratch is given back zeroed
+pub record Judged (tests : List Test) (reply : Reply) (scratch scratch' : Bytes) : Type 0 where
+  pub replied : reply ≡ first tests
+  pub cleared : scratch' ≡ zeros (length scratch)
+
+-- an inner step, whose caller zeroes scratch: what stands in it is free, and it is as long as before
+pub record Tried (tests : List Test) (reply : Reply) (scratch scratch' : Bytes) : Type 0 where
+  pub replied : reply ≡ first tests
+  pub kept : length scratch' ≡ length scratch
+
 -- ---- tests of lent slices
 
 -- 1: the lengths are not those that are wanted

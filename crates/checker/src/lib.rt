@@ -13,13 +13,12 @@ ghost use mathlib.Core.Path.{_≡_};
 ghost use mathlib.Core.List.{_++_};
 ghost use Prim.Native.Nat.{_*_, _≤_};
 ghost use lib.ListN.{length};
-ghost use Rattle.codec.specs.Bytes.{Bytes, zeros};
+ghost use Rattle.codec.specs.Bytes.{Bytes};
 ghost use Rattle.codec.specs.Slices.{given, left};
-ghost use Rattle.codec.specs.Reply.{first};
 ghost use Rattle.ring.specs.Slots.{slot};
 ghost use Rattle.sheet_numbers.specs.Plain.{plain, maskOf};
 ghost use Rattle.sheet_numbers.specs.Usable.{Usable};
-ghost use Rattle.call.specs.Call.{scratchLength};
+ghost use Rattle.call.specs.Call.{scratchLength, Judged};
 ghost use Rattle.commitment.specs.Loaded.{Loaded};
 ghost use Rattle.transcript.specs.Layout.{ballotLength, answersLength};
 ghost use Rattle.transcript.specs.Round.{Lengths, roundOf, ofSide, ranged, answersTests, votesTests, roundLater, roundTests};
@@ -75,9 +74,8 @@ fn check_votes(
     requires { ⌜ Usable k × Opened (k .modulus) (k .ring) (now opening) × (length (now work) ≡ scratchLength) × (count ≤ 4096)
         × Batch (k .modulus) (k .ring) count (now ballots) (now claims) × Shares (k .modulus) (k .ring) count (now shares0)
         × Shares (k .modulus) (k .ring) count (now shares1) ⌝ }
-    ensures { λ reply. ⌜ (reply ≡ first (votesTests (k .modulus) (k .ring) (plain k) (maskOf k) count (slot (given opening) 0)
-        (given ballots) (given claims) (given shares0) (given shares1) (ofSide side (given shares0) (given shares1))))
-        × (left work ≡ zeros (length (given work))) ⌝ }
+    ensures { λ reply. ⌜ Judged (votesTests (k .modulus) (k .ring) (plain k) (maskOf k) count (slot (given opening) 0)
+        (given ballots) (given claims) (given shares0) (given shares1) (ofSide side (given shares0) (given shares1))) reply (given work) (left work) ⌝ }
 {
     if side == 0 {
         return test_votes(
@@ -124,9 +122,9 @@ fn check_answers(
     requires { ⌜ Loaded k (now public) × (length (now work) ≡ scratchLength) × (count ≤ 4096)
         × RoundInRange (k .modulus) (k .ring) count (k .repeats)
         (roundOf side (now challenges) (now ballots) (now claims) (now head) (now shares0) (now shares1) (now opening) (now answers)) ⌝ }
-    ensures { λ reply. ⌜ (reply ≡ first (answersTests (parameters k (given public)) (given head) (given challenges) (given answers)
+    ensures { λ reply. ⌜ Judged (answersTests (parameters k (given public)) (given head) (given challenges) (given answers)
         ++ votesTests (k .modulus) (k .ring) (plain k) (maskOf k) count (slot (given opening) 0) (given ballots) (given claims)
-        (given shares0) (given shares1) (ofSide side (given shares0) (given shares1)))) × (left work ≡ zeros (length (given work))) ⌝ }
+        (given shares0) (given shares1) (ofSide side (given shares0) (given shares1))) reply (given work) (left work) ⌝ }
 {
     let answered = test_repetitions(work, k, public, head, challenges, answers);
     let Reply::Taken = answered else {
@@ -165,7 +163,7 @@ fn check_ranged(
         × RoundInRange (k .modulus) (k .ring) count (k .repeats)
         (roundOf side (now challenges) (now ballots) (now claims) (now head) (now shares0) (now shares1) (now opening) (now answers)) ⌝ }
     ensures { λ reply. let x = roundIn side challenges ballots claims head shares0 shares1 opening answers in
-        ⌜ (reply ≡ first (roundLater (parameters k (given public)) count x)) × (left work ≡ zeros (length (given work))) ⌝ }
+        ⌜ Judged (roundLater (parameters k (given public)) count x) reply (given work) (left work) ⌝ }
 {
     if !splits(work, k, public, head) {
         return refused(6);
@@ -211,7 +209,7 @@ pub fn check_round(
         × Lengths (parameters k (now public)) count
         (roundOf side (now challenges) (now ballots) (now claims) (now head) (now shares0) (now shares1) (now opening) (now answers)) ⌝ }
     ensures { λ reply. let x = roundIn side challenges ballots claims head shares0 shares1 opening answers in
-        ⌜ (reply ≡ first (roundTests (parameters k (given public)) count x)) × (left work ≡ zeros (length (given work))) ⌝ }
+        ⌜ Judged (roundTests (parameters k (given public)) count x) reply (given work) (left work) ⌝ }
 {
     if !round_ranged(
         k,

@@ -16,10 +16,12 @@ use Rattle.commitment.specs.Commitment.{Keys, Pair, pairBytes, PairStands}
 use Rattle.vector.specs.Vector.{Vector, vector, ternaries, add, subtract}
 use Rattle.vector.specs.Permutation.{entries, apply}
 use Rattle.vector.proofs.Vectors.{each-length, add-vector, apply-each, allBelow-each, vector-sound, words-injective, length-entries, ternaries-vector}
+use Rattle.stern.specs.Argument.{Setting, Answer1, Answer2, Answer3, one-by2, one-by3, two-by1, two-by3, three-by1, three-by2}
 use Rattle.stern.specs.Shortness.{equations, sides}
 use Rattle.stern.proofs.Honest.{length-pairBytes}
 use Rattle.stern.proofs.Sound.{parts}
 use Rattle.stern.proofs.Strings.{stands-bytes}
+use Rattle.collisions.specs.Collision.{Ground, ComparedBy, lowestOf, differing}
 
 -- ---- strings, part by part
 
@@ -54,14 +56,20 @@ halved s n =
 
 -- ---- a pair that is kept in room, and the equations
 
+-- scratch and the room after use
+pub still-ground : {q n : ℕ} {k c w w' d d' : Bytes} → Ground q n k c w d → length w' ≡ length w → length d' ≡ length d → Ground q n k c w' d'
+still-ground g ew ed =
+    record { keys = g .keys; sized-work = ew ∙ g .sized-work; sized-room = rw ed (g .sized-room); sized-pairs = g .sized-pairs; below-pairs = g .below-pairs }
+
 module _ (q n : ℕ) (d : Bytes) {d' w w' : Bytes} (p : Pair) (room : 16 * n ≤ length d) (h : PairStands q n p w w') (e : d' ≡ put d 0 (part w' 0 (8 * n) ++ part w' 49152 (8 * n))) where
   kept-pair : part d' 0 (16 * n) ≡ pairBytes q n p
   kept-pair =
       ap₂ (λ (s : Bytes) (k : ℕ). part s 0 k) (e ∙ ap (put d 0) (stands-bytes q n p w w' h)) (sym (length-pairBytes q n p)) ∙ part-put d 0 (pairBytes q n p) (omega (arith, length-pairBytes q n p))
 
   -- compared with one that stands in scratch
-  pub pairs-compared : (t : Pair) {v v' : Bytes} {r : Bool} → PairStands q n t v v' → r ≡ same (part d' 0 (16 * n)) (part v' 0 (8 * n) ++ part v' 49152 (8 * n)) → r ≡ same (pairBytes q n p) (pairBytes q n t)
-  pairs-compared t {v} {v'} g f = f ∙ ap₂ same kept-pair (stands-bytes q n t v v' g)
+  pub pairs-compared : (t : Pair) {v' : Bytes} {r : Bool} → PairStands q n t w' v' → r ≡ same (part d' 0 (16 * n)) (part v' 0 (8 * n) ++ part v' 49152 (8 * n)) → length d' ≡ length d
+      → ComparedBy (pairBytes q n p) (pairBytes q n t) r w v' d d'
+  pairs-compared t {v'} g f l = record { told = f ∙ ap₂ same kept-pair (stands-bytes q n t w' v' g); kept-work = g .sized ∙ h .sized; kept-room = l }
 
 -- ---- the strings
 
@@ -115,3 +123,10 @@ pub permuted-vector : (q n : ℕ) (p u : Bytes) → length p ≡ 4 * n → lengt
 permuted-vector q n p u lp lu ep eu =
     let f : length (entries p) ≡ n = length-entries p ∙ omega arith in
     apply-each (rw f at (allBelow-each n (entries p) ep)) (sized-vector q n u lu eu)
+
+-- ---- all three
+
+pub three-compared : (s : Setting) (a : Answer1) (b : Answer2) (c : Answer3) {one two three : Bool} → one ≡ same (one-by2 s b) (one-by3 s c) → two ≡ same (two-by1 s a) (two-by3 s c) → three ≡ same (three-by1 s a) (three-by2 s b)
+    → lowestOf one two three ≡ differing s a b c
+unfolding differing
+three-compared s a b c e f g = λ i. lowestOf (e i) (f i) (g i)

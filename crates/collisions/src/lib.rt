@@ -6,17 +6,17 @@ ghost use mathlib.Core.Bool.{true, false};
 ghost use mathlib.Core.List.{_++_};
 ghost use Prim.Native.Nat.{_+_, _*_, _≤_, _<_, _^_};
 ghost use lib.ListN.{length, take};
-ghost use Rattle.codec.specs.Bytes.{part, put, words, same, zeros};
+ghost use Rattle.codec.specs.Bytes.{part, put, words, same};
 ghost use Rattle.codec.specs.Slices.{given, left};
 ghost use Rattle.codec.specs.Lists.{allBelow};
 ghost use Rattle.call.specs.Call.{scratchLength};
-ghost use Rattle.commitment.specs.Commitment.{keysOf, pairBytes, PublicKeys};
+ghost use Rattle.commitment.specs.Commitment.{keysOf, pairBytes};
 ghost use Rattle.vector.specs.Vector.{vector, ternaries, add, subtract};
 ghost use Rattle.vector.specs.Permutation.{entries, apply};
 ghost use Rattle.stern.specs.Argument.{string2, string3, one-by2, one-by3};
 ghost use Rattle.stern.specs.Shortness.{equations, sides, setting, answer1Of, answer2Of, answer3Of};
 ghost use Rattle.stern.specs.Method.{equationPair};
-ghost use Rattle.collisions.specs.Collision.{Answers, differing};
+ghost use Rattle.collisions.specs.Collision.{Answers, Ground, Masked, Compared, ComparedBy, lowestOf, Searched};
 
 // ---- string 1: P and the equations
 
@@ -61,13 +61,11 @@ fn pairs_agree(
     n: usize,
     q: u64,
 ) -> bool
-    requires { ⌜ PublicKeys n q (now k) × (length (now work) ≡ scratchLength) × (16 * n ≤ length (now room)) × (length (now u) ≡ 336 * n)
-        × (length (now r) ≡ 336 * n) × (length (now c) ≡ 64 * n) ⌝ }
-    requires { ⌜ (first + 6 * n ≤ 42 * n) × (message + n ≤ 42 * n) × (from + 4 * n ≤ 8 * n) × (allBelow q (vector (now u)) ≡ true)
-        × (allBelow q (vector (now r)) ≡ true) × (allBelow q (vector (now c)) ≡ true) ⌝ }
-    ensures { λ yes. ⌜ yes ≡ same (pairBytes q n (equationPair q n (keysOf n (given k)) (given c) true (given u) first message from))
-        (pairBytes q n (equationPair q n (keysOf n (given k)) (given c) false (given r) first message from)) ⌝ }
-    ensures { λ _. ⌜ (length (left work) ≡ length (given work)) × (length (left room) ≡ length (given room)) ⌝ }
+    requires { ⌜ Ground q n (now k) (now c) (now work) (now room) × Masked q n (now u) (now r) × (first + 6 * n ≤ 42 * n)
+        × (message + n ≤ 42 * n) × (from + 4 * n ≤ 8 * n) ⌝ }
+    ensures { λ yes. let pair = equationPair q n (keysOf n (given k)) (given c) in
+        ⌜ ComparedBy (pairBytes q n (pair true (given u) first message from)) (pairBytes q n (pair false (given r) first message from)) yes
+        (given work) (left work) (given room) (left room) ⌝ }
 {
     equation_pair(work, k, c, true, u, first, message, from, n, q);
     keep_pair(room, work, n);
@@ -86,12 +84,10 @@ fn equations_agree(
     n: usize,
     q: u64,
 ) -> bool
-    requires { ⌜ PublicKeys n q (now k) × (length (now work) ≡ scratchLength) × (16 * n ≤ length (now room)) × (length (now u) ≡ 336 * n)
-        × (length (now r) ≡ 336 * n) × (length (now c) ≡ 64 * n) ⌝ }
-    requires { ⌜ (allBelow q (vector (now u)) ≡ true) × (allBelow q (vector (now r)) ≡ true) × (allBelow q (vector (now c)) ≡ true) ⌝ }
-    ensures { λ yes. ⌜ yes ≡ same (words (subtract q (equations q n (keysOf n (given k)) (take (14 * n) (vector (given u))))
-        (sides q n (given c)))) (words (equations q n (keysOf n (given k)) (take (14 * n) (vector (given r))))) ⌝ }
-    ensures { λ _. ⌜ (length (left work) ≡ length (given work)) × (length (left room) ≡ length (given room)) ⌝ }
+    requires { ⌜ Ground q n (now k) (now c) (now work) (now room) × Masked q n (now u) (now r) ⌝ }
+    ensures { λ yes. ⌜ ComparedBy (words (subtract q (equations q n (keysOf n (given k)) (take (14 * n) (vector (given u))))
+        (sides q n (given c)))) (words (equations q n (keysOf n (given k)) (take (14 * n) (vector (given r))))) yes (given work) (left work)
+        (given room) (left room) ⌝ }
 {
     if !pairs_agree(work, room, k, c, u, r, 2 * n, 0, 0, n, q) {
         return false;
@@ -123,13 +119,12 @@ fn first_agrees(
     n: usize,
     q: u64,
 ) -> bool
-    requires { ⌜ PublicKeys n q (now k) × (length (now work) ≡ scratchLength) × (16 * n ≤ length (now room))
-        × (length (now answer2) ≡ 504 * n + 64) × (length (now answer3) ≡ 504 * n + 64) × (length (now c) ≡ 64 * n) ⌝ }
-    requires { ⌜ (allBelow q (vector (answer2Of n (now answer2) .u)) ≡ true) × (allBelow q (vector (answer3Of n (now answer3) .r)) ≡ true)
-        × (allBelow q (vector (now c)) ≡ true) ⌝ }
-    ensures { λ yes. ⌜ yes ≡ same (one-by2 (setting q n (keysOf n (given k)) (given c)) (answer2Of n (given answer2)))
-        (one-by3 (setting q n (keysOf n (given k)) (given c)) (answer3Of n (given answer3))) ⌝ }
-    ensures { λ _. ⌜ (length (left work) ≡ length (given work)) × (length (left room) ≡ length (given room)) ⌝ }
+    requires { ⌜ Ground q n (now k) (now c) (now work) (now room) × (length (now answer2) ≡ 504 * n + 64)
+        × (length (now answer3) ≡ 504 * n + 64) × (allBelow q (vector (answer2Of n (now answer2) .u)) ≡ true)
+        × (allBelow q (vector (answer3Of n (now answer3) .r)) ≡ true) ⌝ }
+    ensures { λ yes. let s = setting q n (keysOf n (given k)) (given c) in
+        ⌜ ComparedBy (one-by2 s (answer2Of n (given answer2))) (one-by3 s (answer3Of n (given answer3))) yes (given work) (left work)
+        (given room) (left room) ⌝ }
 {
     if !starts_agree(answer2, answer3, n) {
         return false;
@@ -152,8 +147,7 @@ fn first_agrees(
 fn is_gathered(work: &mut [u8], p: &[u8], x: &[u8], t: &[u8], n: usize) -> bool
     requires { ⌜ (n ≤ 2048) × (length (now work) ≡ scratchLength) × (length (now p) ≡ 168 * n) × (length (now x) ≡ 336 * n)
         × (allBelow (42 * n) (entries (now p)) ≡ true) ⌝ }
-    ensures { λ yes. ⌜ yes ≡ same (given t) (words (apply (entries (given p)) (vector (given x)))) ⌝ }
-    ensures { λ _. ⌜ length (left work) ≡ length (given work) ⌝ }
+    ensures { λ yes. ⌜ Compared (given t) (words (apply (entries (given p)) (vector (given x)))) yes (given work) (left work) ⌝ }
 {
     vector::gather(work, 0, p, x, 42 * n);
     codec::equal(t, &work[0..336 * n])
@@ -163,10 +157,9 @@ fn is_gathered(work: &mut [u8], p: &[u8], x: &[u8], t: &[u8], n: usize) -> bool
 fn second_agrees(work: &mut [u8], answer1: &[u8], answer3: &[u8], n: usize) -> bool
     requires { ⌜ (n ≤ 2048) × (length (now work) ≡ scratchLength) × (length (now answer1) ≡ 378 * n + 64)
         × (length (now answer3) ≡ 504 * n + 64) × (allBelow (42 * n) (entries (answer3Of n (now answer3) .p)) ≡ true) ⌝ }
-    ensures { λ yes. ⌜ yes ≡ same (string2 (answer1Of n (given answer1) .salt2) (answer1Of n (given answer1) .t))
-        (string2 (answer3Of n (given answer3) .salt2)
-        (words (apply (entries (answer3Of n (given answer3) .p)) (vector (answer3Of n (given answer3) .r))))) ⌝ }
-    ensures { λ _. ⌜ length (left work) ≡ length (given work) ⌝ }
+    ensures { λ yes. let one = answer1Of n (given answer1) in let three = answer3Of n (given answer3) in
+        ⌜ Compared (string2 (one .salt2) (one .t)) (string2 (three .salt2) (words (apply (entries (three .p)) (vector (three .r))))) yes
+        (given work) (left work) ⌝ }
 {
     let one = 378 * n;
     let three = 504 * n + 32;
@@ -209,10 +202,9 @@ fn third_agrees(answer1: &[u8], answer2: &[u8], n: usize, q: u64) -> bool
     requires { ⌜ (n ≤ 2048) × (1 < q) × (q < 2 ^ 56) × (length (now answer1) ≡ 378 * n + 64) × (length (now answer2) ≡ 504 * n + 64) ⌝ }
     requires { ⌜ (allBelow q (vector (answer1Of n (now answer1) .t)) ≡ true) × (allBelow q (vector (answer2Of n (now answer2) .u)) ≡ true)
         × (allBelow (42 * n) (entries (answer2Of n (now answer2) .p)) ≡ true) ⌝ }
-    ensures { λ yes. ⌜ yes ≡ same (string3 (answer1Of n (given answer1) .salt3)
-        (add q (ternaries q (answer1Of n (given answer1) .w)) (vector (answer1Of n (given answer1) .t))))
-        (string3 (answer2Of n (given answer2) .salt3)
-        (apply (entries (answer2Of n (given answer2) .p)) (vector (answer2Of n (given answer2) .u)))) ⌝ }
+    ensures { λ yes. let one = answer1Of n (given answer1) in let two = answer2Of n (given answer2) in
+        ⌜ yes ≡ same (string3 (one .salt3) (add q (ternaries q (one .w)) (vector (one .t))))
+        (string3 (two .salt3) (apply (entries (two .p)) (vector (two .u)))) ⌝ }
 {
     let one = 378 * n + 32;
     let two = 504 * n + 32;
@@ -231,38 +223,24 @@ fn third_agrees(answer1: &[u8], answer2: &[u8], n: usize, q: u64) -> bool
 
 // ---- all three
 
-// The lowest digest whose two strings differ, 0 if there is none. The first pair of equations is kept in the room for the second to be
-// compared with.
-fn lowest(
-    work: &mut [u8],
-    room: &mut [u8],
-    k: &[u8],
-    c: &[u8],
-    answer1: &[u8],
-    answer2: &[u8],
-    answer3: &[u8],
-    n: usize,
-    q: u64,
-) -> u8
-    requires { ⌜ PublicKeys n q (now k) × (length (now work) ≡ scratchLength) × (16 * n ≤ length (now room)) × (length (now c) ≡ 64 * n)
-        × (allBelow q (vector (now c)) ≡ true) × Answers q n (now answer1) (now answer2) (now answer3) ⌝ }
-    ensures { λ digest. ⌜ digest ≡ differing (setting q n (keysOf n (given k)) (given c)) (answer1Of n (given answer1))
-        (answer2Of n (given answer2)) (answer3Of n (given answer3)) ⌝ }
-    ensures { λ _. ⌜ (length (left work) ≡ length (given work)) × (length (left room) ≡ length (given room)) ⌝ }
+// The lowest of three comparisons that failed, 0 if none did.
+fn lowest(one: bool, two: bool, three: bool) -> u8
+    ensures { λ digest. ⌜ digest ≡ lowestOf one two three ⌝ }
 {
-    if !first_agrees(work, room, k, c, answer2, answer3, n, q) {
+    if !one {
         return 1;
     }
-    if !second_agrees(work, answer1, answer3, n) {
+    if !two {
         return 2;
     }
-    if !third_agrees(answer1, answer2, n, q) {
+    if !three {
         return 3;
     }
     0
 }
 
-// The same, with scratch and the room zeroed.
+// The lowest digest whose two strings differ, 0 if there is none; with scratch and the room zeroed. The first pair of equations is kept
+// in the room for the second to be compared with.
 pub fn collision(
     work: &mut [u8],
     room: &mut [u8],
@@ -274,14 +252,15 @@ pub fn collision(
     n: usize,
     q: u64,
 ) -> u8
-    requires { ⌜ PublicKeys n q (now k) × (length (now work) ≡ scratchLength) × (16 * n ≤ length (now room)) × (length (now c) ≡ 64 * n)
-        × (allBelow q (vector (now c)) ≡ true) × Answers q n (now answer1) (now answer2) (now answer3) ⌝ }
-    ensures { λ digest. ⌜ digest ≡ differing (setting q n (keysOf n (given k)) (given c)) (answer1Of n (given answer1))
-        (answer2Of n (given answer2)) (answer3Of n (given answer3)) ⌝ }
-    ensures { λ _. ⌜ (left work ≡ zeros (length (given work))) × (left room ≡ zeros (length (given room))) ⌝ }
+    requires { ⌜ Ground q n (now k) (now c) (now work) (now room) × Answers q n (now answer1) (now answer2) (now answer3) ⌝ }
+    ensures { λ digest. let s = setting q n (keysOf n (given k)) (given c) in
+        ⌜ Searched s (answer1Of n (given answer1)) (answer2Of n (given answer2)) (answer3Of n (given answer3)) digest (given work) (left work)
+        (given room) (left room) ⌝ }
 {
-    let digest = lowest(work, room, k, c, answer1, answer2, answer3, n, q);
+    let one = first_agrees(work, room, k, c, answer2, answer3, n, q);
+    let two = second_agrees(work, answer1, answer3, n);
+    let three = third_agrees(answer1, answer2, n, q);
     codec::wipe(work);
     codec::wipe(room);
-    digest
+    lowest(one, two, three)
 }

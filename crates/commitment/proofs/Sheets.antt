@@ -6,18 +6,16 @@ use native.Mathlib.Omega.{arith}
 use lib.ListN.{length, take, drop, replicate, length-replicate}
 use Rattle.codec.specs.Bytes.{Bytes, part, put}
 use Rattle.codec.proofs.Laws.{length-part, part-part, part-put}
-use Rattle.ring.specs.Slots.{poly}
 use Rattle.sheet.specs.Sheet.{reading, loaded, filled, polynomials}
 use Rattle.sheet.specs.declared.Reading.{Reading}
 use Rattle.sheet.specs.declared.Reading.the-variants.{Taken}
 use Rattle.sheet.proofs.Taken.{taken, length-polynomials}
-use Rattle.sheet_numbers.specs.Plain.{plain, noiseOf, maskOf}
 use Rattle.sheet_numbers.specs.declared.Numbers.{Numbers}
 use Rattle.call.specs.Call.{Polynomial}
 use Rattle.call.proofs.Lent.{Lent, lent}
-use Rattle.commitment.specs.Commitment.{keysOf, PublicKeys}
+use Rattle.commitment.specs.Commitment.{PublicKeys}
 use Rattle.commitment.specs.Loaded.{aOf, bOf, keyBytes, Loaded}
-use Rattle.commitment.specs.Parameters.{Parameters, parameters, parametersOf}
+use Rattle.commitment.specs.Parameters.{parameters, parametersBy, parametersOf}
 
 -- ---- the sheet's k1, k2, k3 in a part of the bytes
 
@@ -78,20 +76,7 @@ module _ (text : Bytes) {public : Bytes} {r : Reading} {k : Numbers} (load : (r 
 
   pub parameters-are : parameters k public ≡ parametersOf text
   parameters-are =
-      ap (λ (x : Bytes). made x (bOf k public) (keyBytes k public)) (lent-part 0 (8 * k .ring) (omega arith))
-      ∙ ap (λ (x : Bytes). made (aOf k (polynomials text)) x (keyBytes k public)) (lent-part (8 * k .ring) (8 * k .ring) (omega arith))
-      ∙ ap (λ (x : Bytes). made (aOf k (polynomials text)) (bOf k (polynomials text)) x) (lent-part (16 * k .ring) (24 * k .ring) (omega arith))
+      ap (λ (x : Bytes). parametersBy k x (bOf k public) (keyBytes k public)) (lent-part 0 (8 * k .ring) (omega arith))
+      ∙ ap (λ (x : Bytes). parametersBy k (aOf k (polynomials text)) x (keyBytes k public)) (lent-part (8 * k .ring) (8 * k .ring) (omega arith))
+      ∙ ap (parametersBy k (aOf k (polynomials text)) (bOf k (polynomials text))) (lent-part (16 * k .ring) (24 * k .ring) (omega arith))
       ∙ ap (λ (x : Numbers). parameters x (polynomials text)) (sym (lent text load e .numbers))
-    where
-      made : (a b keys : Bytes) → Parameters
-      made a b keys = record {
-        q = k .modulus;
-        N = k .ring;
-        p = plain k;
-        B = maskOf k;
-        D = noiseOf k;
-        repeats = k .repeats;
-        a = poly a;
-        b = poly b;
-        k = keysOf (k .ring) keys;
-      }

@@ -22,19 +22,23 @@ pub record Parameters : Type 0 where
   pub b : Poly
   pub k : Keys
 
--- from its numbers and the bytes that its polynomials were put into
-abbrev pub parameters : (k : Numbers) (public : Bytes) → Parameters
-parameters k public = record {
+-- from its numbers and the bytes of a, of b and of the three keys
+abbrev pub parametersBy : (k : Numbers) (a b keys : Bytes) → Parameters
+parametersBy k a b keys = record {
   q = k .modulus;
   N = k .ring;
   p = plain k;
   B = maskOf k;
   D = noiseOf k;
   repeats = k .repeats;
-  a = poly (aOf k public);
-  b = poly (bOf k public);
-  k = keysOf (k .ring) (keyBytes k public);
+  a = poly a;
+  b = poly b;
+  k = keysOf (k .ring) keys;
 }
+
+-- from its numbers and the bytes that its polynomials were put into
+abbrev pub parameters : (k : Numbers) (public : Bytes) → Parameters
+parameters k public = parametersBy k (aOf k public) (bOf k public) (keyBytes k public)
 
 -- those of a sheet's text
 abbrev pub parametersOf : (text : Bytes) → Parameters

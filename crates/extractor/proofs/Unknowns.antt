@@ -24,7 +24,8 @@ use Rattle.vector.proofs.Vectors.{length-vector}
 use Rattle.vector.proofs.Gathers.{component-lt}
 use Rattle.stern.specs.Shortness.{polynomial}
 use Rattle.transcript.specs.Extractor.{threeBytes, isZero, ternaryBytes}
-use Rattle.extractor.specs.Method.{Masked, unknownsOf, lessUnknowns, from, excess}
+use Rattle.collisions.specs.Collision.{Masked}
+use Rattle.extractor.specs.Method.{unknownsOf, lessUnknowns, from, excess}
 
 -- ---- one number of the unknowns
 

@@ -1,11 +1,9 @@
 -- What inner functions work out: the unknowns, and what they leave of two openings. No public contract cites this file. Assumes nothing.
-use mathlib.Core.Path.{_≡_}
-use mathlib.Core.Bool.{true, cond, not}
+use mathlib.Core.Bool.{cond, not}
 use mathlib.Core.List.{List, _++_}
 use Prim.Native.Nat.{ℕ, _+_, _*_}
-use lib.ListN.{length, getD, take}
+use lib.ListN.{getD, take}
 use Rattle.codec.specs.Bytes.{Bytes, part, zeros}
-use Rattle.codec.specs.Lists.{allBelow}
 use Rattle.ring.specs.Poly.{Poly, plus, minus}
 use Rattle.ring.specs.Ternary.{ternary}
 use Rattle.commitment.specs.Commitment.{Three, threeOf, plus3, minus3}
@@ -14,13 +12,6 @@ use Rattle.stern.specs.Shortness.{polynomial, threeFrom}
 use Rattle.transcript.specs.Extractor.{threeBytes, isZero, ternaryBytes}
 
 -- ---- the unknowns
-
--- extended + R and R, in range
-pub record Masked (q N : ℕ) (u r : Bytes) : Type 0 where
-  pub sized-u : length u ≡ 336 * N
-  pub sized-r : length r ≡ 336 * N
-  pub below-u : allBelow q (vector u) ≡ true
-  pub below-r : allBelow q (vector r) ≡ true
 
 -- what they give
 abbrev pub unknownsOf : (q N : ℕ) (u r : Bytes) → List ℕ

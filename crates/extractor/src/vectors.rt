@@ -12,7 +12,8 @@ ghost use Rattle.ring.specs.Slots.{encode};
 ghost use Rattle.call.specs.Call.{scratchLength};
 ghost use Rattle.stern.specs.Shortness.{polynomial};
 ghost use Rattle.transcript.specs.Extractor.{ternaryBytes};
-ghost use Rattle.extractor.specs.Method.{Masked, unknownsOf, from, excess, solvedBy, writtenBy};
+ghost use Rattle.collisions.specs.Collision.{Masked};
+ghost use Rattle.extractor.specs.Method.{unknownsOf, from, excess, solvedBy, writtenBy};
 
 // Number i of the unknowns: that of extended + R less that of R.
 fn unknown(u: &[u8], r: &[u8], i: usize, n: usize, q: u64) -> u64

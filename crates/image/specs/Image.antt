@@ -1,65 +1,119 @@
 -- The byte image of a session (document 01, "Register and session"): its fields one after the other, little-endian. Assumes nothing.
 use mathlib.Core.Path.{_≡_}
+use mathlib.Core.Bool.{cond}
 use mathlib.Core.List.{List, [], _∷_, _++_}
-use Prim.Native.Nat.{ℕ, _<_, _^_}
+use Prim.Native.Nat.{ℕ, _+_, _<_, _^_}
+use Prim.Native.String.{String}
+use lib.Text.{eqt}
 use lib.ListN.{length, getD}
 use Rattle.codec.specs.Bytes.{Bytes, bytes, number, part}
 use Rattle.digests.specs.Digests.{concatenated}
 use Rattle.session.specs.declared.Session.{Session}
 
-abbrev pub imageLength : ℕ
-imageLength = 4297
+-- ---- the fields in order: their names, their widths in bytes and what stands in them. All else follows from these lists
 
--- ---- the fields in order
+pub record Field : Type 0 where
+  pub name : String
+  pub width : ℕ
+  pub contents : Session → Bytes
 
--- the phase, the sheet's numbers before a, and the sheet's digest: 73 bytes
-abbrev pub head : Session → List Bytes
-head s =
-    (s .progress .phase ∷ [])
-    ∷ bytes 8 (s .numbers .ring)
-    ∷ bytes 8 (s .numbers .modulus)
-    ∷ bytes 8 (s .numbers .drown)
-    ∷ bytes 8 (s .numbers .rounds)
-    ∷ bytes 8 (s .numbers .repeats)
-    ∷ s .sheet
+abbrev field : String → ℕ → (Session → Bytes) → Field
+field name width contents = record { name = name; width = width; contents = contents }
+
+-- a number in eight bytes, the least first
+abbrev word : String → (Session → ℕ) → Field
+word name value = field name 8 (λ s. bytes 8 (value s))
+
+-- the phase, the sheet's numbers before a, and the sheet's digest
+abbrev pub head : List Field
+head =
+    field "phase" 1 (λ s. s .progress .phase ∷ [])
+    ∷ word "ring" (λ s. s .numbers .ring)
+    ∷ word "modulus" (λ s. s .numbers .modulus)
+    ∷ word "drown" (λ s. s .numbers .drown)
+    ∷ word "rounds" (λ s. s .numbers .rounds)
+    ∷ word "repeats" (λ s. s .numbers .repeats)
+    ∷ field "sheet" 32 (λ s. s .sheet)
     ∷ []
 
--- entries used, ballots closed, closing digest and claim digest: 80 bytes
-abbrev pub batch : Session → List Bytes
-batch s = bytes 8 (s .progress .used) ∷ bytes 8 (s .progress .closed) ∷ s .closing ∷ s .claim ∷ []
+-- entries used, ballots closed, closing digest and claim digest
+abbrev pub batch : List Field
+batch =
+    word "used" (λ s. s .progress .used)
+    ∷ word "closed" (λ s. s .progress .closed)
+    ∷ field "closing" 32 (λ s. s .closing)
+    ∷ field "claim" 32 (λ s. s .claim)
+    ∷ []
 
--- rounds committed, seed, rounds checked, and the digests of the first messages: 4,144 bytes
-abbrev pub rounds : Session → List Bytes
-rounds s = bytes 8 (s .progress .committed) ∷ s .seed ∷ bytes 8 (s .progress .checked) ∷ s .trail ∷ []
+-- rounds committed, seed, rounds checked, and the digests of the first messages
+abbrev pub rounds : List Field
+rounds =
+    word "committed" (λ s. s .progress .committed)
+    ∷ field "seed" 32 (λ s. s .seed)
+    ∷ word "checked" (λ s. s .progress .checked)
+    ∷ field "trail" 4096 (λ s. s .trail)
+    ∷ []
+
+abbrev pub fields : List Field
+fields = head ++ (batch ++ rounds)
+
+-- ---- what follows from a list of fields
+
+-- how many bytes they have
+abbrev pub size : List Field → ℕ
+size [] = 0
+size (f ∷ fs) = f .width + size fs
+
+-- what stands in them
+abbrev pub values : List Field → Session → List Bytes
+values [] s = []
+values (f ∷ fs) s = f .contents s ∷ values fs s
+
+-- where a field begins, and its width
+abbrev pub start : List Field → String → ℕ
+start [] name = 0
+start (f ∷ fs) name = cond (eqt (f .name) name) 0 (f .width + start fs name)
+
+abbrev pub width : List Field → String → ℕ
+width [] name = 0
+width (f ∷ fs) name = cond (eqt (f .name) name) (f .width) (width fs name)
+
+-- 4,297 bytes
+abbrev pub imageLength : ℕ
+imageLength = size fields
+
+-- the bytes of a field in an image
+abbrev pub at : Bytes → String → Bytes
+at b name = part b (start fields name) (width fields name)
 
 -- ---- to bytes and back
 
 -- the image of a session
 unfoldable pub encode : Session → Bytes
-encode s = concatenated (head s ++ (batch s ++ rounds s))
+encode s = concatenated (values fields s)
 
 -- the session that an image holds
 unfoldable pub decode : Bytes → Session
 decode b = record {
   progress = record {
-    phase = getD b 0 0;
-    used = number (part b 73 8);
-    closed = number (part b 81 8);
-    committed = number (part b 153 8);
-    checked = number (part b 193 8);
+    phase = getD b (start fields "phase") 0;
+    used = number (at b "used");
+    closed = number (at b "closed");
+    committed = number (at b "committed");
+    checked = number (at b "checked");
   };
   numbers = record {
-    ring = number (part b 1 8);
-    modulus = number (part b 9 8);
-    drown = number (part b 17 8);
-    rounds = number (part b 25 8);
-    repeats = number (part b 33 8);
+    ring = number (at b "ring");
+    modulus = number (at b "modulus");
+    drown = number (at b "drown");
+    rounds = number (at b "rounds");
+    repeats = number (at b "repeats");
   };
-  sheet = part b 41 32;
-  closing = part b 89 32;
-  claim = part b 121 32;
-  seed = part b 161 32;
-  trail = part b 201 4096;
+  sheet = at b "sheet";
+  closing = at b "closing";
+  claim = at b "claim";
+  seed = at b "seed";
+  trail = at b "trail";
 }
 
 -- what the types of the fields say

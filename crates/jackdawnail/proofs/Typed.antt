@@ -2,6 +2,7 @@
 use mathlib.Core.Path.{_≡_, _∙_}
 use mathlib.Core.Bool.{Bool, true, false, cond}
 use Prim.Native.Nat.{ℕ, _+_, _*_, _^_, _≤_, _<_}
+use Prim.Native.String.{String}
 use native.Mathlib.Omega.{arith}
 use lib.Dec.{eqb}
 use lib.ListN.{length, length-map, length-replicate}
@@ -20,34 +21,34 @@ use Rattle.session.specs.declared.Session.{Session}
 use Rattle.session.specs.Session.{changed}
 use Rattle.session.specs.Steps.{Beginning, cleared, admittedBy, closedBy, claimedBy, committedBy, drawnBy, acceptedBy, refusedBy}
 use Rattle.session.specs.Machine.{Step, clear, admit, withdraw, close, claim, commit, draw, check, State, next, reply, after}
-use Rattle.image.specs.Image.{imageLength, decode, Typed}
+use Rattle.image.specs.Image.{imageLength, fields, start, decode, Typed}
 use Rattle.histories.specs.Conditions.{Clears, Admits, Closes, Commits, Draws}
 use Rattle.histories.proofs.Stepped.{stepped, taken-turn}
 use Rattle.histories.proofs.Exact.{cleared-exactly, admitted-exactly, closed-exactly, committed-exactly, drawn-exactly}
 
 module _ (b : Bytes) (l : length b ≡ imageLength) (o : Octets b) where
-  eight : (at : ℕ) → at + 8 ≤ length b → number (part b at 8) < 2 ^ 64
-  eight at h = rw (length-part b at 8 h) at (number-lt (part b at 8) (octets-part b at 8 o))
+  eight : (name : String) → start fields name + 8 ≤ length b → number (part b (start fields name) 8) < 2 ^ 64
+  eight name h = let i = start fields name in rw (length-part b i 8 h) at (number-lt (part b i 8) (octets-part b i 8 o))
 
   -- of a session that is read from bytes they do
   pub typed-decode : Typed (decode b)
   unfolding decode
   typed-decode = record {
     phase-fits = o 0 (omega arith);
-    ring-fits = eight 1 (omega arith);
-    modulus-fits = eight 9 (omega arith);
-    drown-fits = eight 17 (omega arith);
-    rounds-fits = eight 25 (omega arith);
-    repeats-fits = eight 33 (omega arith);
-    sheet-long = length-part b 41 32 (omega arith);
-    used-fits = eight 73 (omega arith);
-    closed-fits = eight 81 (omega arith);
-    closing-long = length-part b 89 32 (omega arith);
-    claim-long = length-part b 121 32 (omega arith);
-    committed-fits = eight 153 (omega arith);
-    seed-long = length-part b 161 32 (omega arith);
-    checked-fits = eight 193 (omega arith);
-    trail-long = length-part b 201 4096 (omega arith);
+    ring-fits = eight "ring" (omega arith);
+    modulus-fits = eight "modulus" (omega arith);
+    drown-fits = eight "drown" (omega arith);
+    rounds-fits = eight "rounds" (omega arith);
+    repeats-fits = eight "repeats" (omega arith);
+    sheet-long = length-part b (start fields "sheet") 32 (omega arith);
+    used-fits = eight "used" (omega arith);
+    closed-fits = eight "closed" (omega arith);
+    closing-long = length-part b (start fields "closing") 32 (omega arith);
+    claim-long = length-part b (start fields "claim") 32 (omega arith);
+    committed-fits = eight "committed" (omega arith);
+    seed-long = length-part b (start fields "seed") 32 (omega arith);
+    checked-fits = eight "checked" (omega arith);
+    trail-long = length-part b (start fields "trail") 4096 (omega arith);
   }
 
 -- of one that a step changes they do if what is changed fits

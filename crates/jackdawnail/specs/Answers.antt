@@ -1,12 +1,25 @@
--- What an exported call with one output comes to, for an order of tests and what it writes: the one number that the host is answered, and what it leaves in each slice. Assumes nothing.
+-- What an exported call with one output comes to: the one number that the host is answered, and what it leaves in each slice. Assumes nothing.
 use mathlib.Core.Path.{_≡_}
 use mathlib.Core.List.{List}
 use Prim.Native.Nat.{ℕ}
 use Rattle.codec.specs.Bytes.{Bytes}
 use Rattle.codec.specs.Reply.{Test, first, leaves, packed}
+use Rattle.sha3.specs.Digest.{digestReply, digestOut}
 use Rattle.call.specs.Call.{swept}
+use Rattle.sheet_calls.specs.Calls.{describeReply, describeOut}
 
+-- for an order of tests and what is written
 pub record Answered (tests : List Test) (writes : Bytes) (answer : ℕ) (out out' scratch scratch' : Bytes) : Type 0 where
   pub replied : answer ≡ packed (first tests)
   pub written : out' ≡ leaves (first tests) writes out
   pub cleared : scratch' ≡ swept (first tests) scratch
+
+-- the plain digest of a message
+pub record Digested (message : Bytes) (answer : ℕ) (out out' : Bytes) : Type 0 where
+  pub replied : answer ≡ packed (digestReply out)
+  pub written : out' ≡ digestOut message out
+
+-- a sheet that is read for its numbers
+pub record Described (sheet : Bytes) (answer : ℕ) (out out' : Bytes) : Type 0 where
+  pub replied : answer ≡ packed (describeReply sheet out)
+  pub written : out' ≡ describeOut sheet out

@@ -3,20 +3,16 @@
 pub mod round;
 pub mod steps;
 
-ghost use mathlib.Core.Path.{_≡_};
-ghost use Rattle.codec.specs.Reply.{packed};
 ghost use Rattle.codec.specs.Slices.{given, left};
 ghost use Rattle.scheme_calls.specs.Orders.{keygenOrder, encryptOrder, decryptOrder, splitOrder, shareOrder, reconstructOrder};
 ghost use Rattle.scheme_calls.specs.Orders.{commitmentOrder};
 ghost use Rattle.scheme_calls.specs.Orders.{keyOf, ciphertextOf, voteOf, splitOf, shareOf, voteOfShares, pairOf};
-ghost use Rattle.sha3.specs.Digest.{digestReply, digestOut};
-ghost use Rattle.sheet_calls.specs.Calls.{describeReply, describeOut};
-ghost use Rattle.jackdawnail.specs.Answers.{Answered};
+ghost use Rattle.jackdawnail.specs.Answers.{Answered, Digested, Described};
 
 // SHA3-256 of a message into 32 lent bytes.
 #[no_mangle]
 pub extern "C" fn jdn_digest(message: &[u8], out: &mut [u8]) -> u64
-    ensures { λ answer. ⌜ (answer ≡ packed (digestReply (given out))) × (left out ≡ digestOut (given message) (given out)) ⌝ }
+    ensures { λ answer. ⌜ Digested (given message) answer (given out) (left out) ⌝ }
 {
     codec::pack(sha3::digest(message, out))
 }
@@ -24,8 +20,7 @@ pub extern "C" fn jdn_digest(message: &[u8], out: &mut [u8]) -> u64
 // Reads a sheet, and writes N, D, B and L into 32 lent bytes.
 #[no_mangle]
 pub extern "C" fn jdn_sheet(sheet: &[u8], out: &mut [u8]) -> u64
-    ensures { λ answer. ⌜ (answer ≡ packed (describeReply (given sheet) (given out))) × (left out ≡ describeOut (given sheet)
-        (given out)) ⌝ }
+    ensures { λ answer. ⌜ Described (given sheet) answer (given out) (left out) ⌝ }
 {
     codec::pack(sheet_calls::describe(sheet, out))
 }

@@ -15,7 +15,7 @@ use Rattle.bgv.specs.Scheme.{decrypted, other, lentMask, share}
 use Rattle.transcript.specs.Layout.{joined, ballotLength, uAt, vAt}
 use Rattle.transcript.specs.Producer.{sharesBytes, claimsBytes}
 use Rattle.transcript.proofs.Many.{stretch, length-joined}
-use Rattle.message_shares.specs.Method.{Masked}
+use Rattle.message_shares.specs.Method.{Masked, BallotAt, Fits, roomOf}
 use Rattle.message_head.proofs.Joining.{Filled, filled-first, filled-more, filled-all}
 
 module _ (q n p count : ℕ) (secrets s0 masks0 masks1 ballots : Bytes) where
@@ -72,19 +72,27 @@ module _ (q n p count : ℕ) (secrets s0 masks0 masks1 ballots : Bytes) where
       claim-place : claim ≡ n * j
       claim-place = omega (arith, r .votes .place, claims-long j)
 
-      pub ballot-asks : (at + 4 + 16 * n ≤ length ballots) × Below q (2 * n) (slot ballots (at + 4))
-      ballot-asks = (omega (arith, r .ballot, m .ballots-sized, stretch (ballotLength n) j count h), rw (r .ballot) (m .below j h))
-
-      pub places-asks : (sent + 8 * n ≤ length masks0) × (sent + 8 * n ≤ length masks1) × (sent + 8 * n ≤ length shares0) × (sent + 8 * n ≤ length shares1) × (claim + n ≤ length claims)
-      places-asks =
+      pub ballot-stands : BallotAt q n at sent ballots masks0 masks1
+      ballot-stands =
           let s = stretch (8 * n) j count h in
-          let p = sent-place in (
-            omega (arith, m .masks0-sized),
-            omega (arith, m .masks1-sized),
-            omega (arith, r .lent .long, l0),
-            omega (arith, r .others .long, l1),
-            omega (arith, claim-place, r .votes .long, lc, stretch n j count h),
-          )
+          let p = sent-place in
+          record {
+            ballot-ends = omega (arith, r .ballot, m .ballots-sized, stretch (ballotLength n) j count h);
+            below = rw (r .ballot) (m .below j h);
+            ends0 = omega (arith, m .masks0-sized);
+            ends1 = omega (arith, m .masks1-sized);
+          }
+
+      pub room-fits : Fits n sent claim (roomOf shares0 shares1 claims w)
+      room-fits =
+          let s = stretch (8 * n) j count h in
+          let p = sent-place in
+          record {
+            shares0 = omega (arith, r .lent .long, l0);
+            shares1 = omega (arith, r .others .long, l1);
+            claims = omega (arith, claim-place, r .votes .long, lc, stretch n j count h);
+            scratch = r .long;
+          }
 
       -- the places are far below 2^64
       pub places-fit : n ≤ 2048 → count ≤ 4096 → (at + (4 + 16 * n) ≤ 134234112) × (claim + n ≤ 8388608) × (sent + 8 * n ≤ 67108864)
@@ -109,18 +117,18 @@ module _ (q n p count : ℕ) (secrets s0 masks0 masks1 ballots : Bytes) where
           → claims' ≡ put claims claim (list n (decrypted q n p (ternary q (part secrets 0 n)) (slot ballots (at + 4)) (slot ballots (at + 4 + 8 * n))))
           → Sent shares0₀ shares1₀ claims₀ (j + 1) (at + (4 + 16 * n)) (claim + n) (sent + 8 * n) shares0' shares1' claims' w'
       sent-more shares0' shares1' claims' w' k0 k1 kc kw e0 e1 ec =
-          let a = places-asks in
+          let a = room-fits in
           record {
             long = kw ∙ r .long;
             within = omega arith;
             ballot = omega (arith, r .ballot, mul-add (ballotLength n) j 1, mul-one (ballotLength n));
             lent =
-                filled-more (shareOf lent-half masks0) shares0₀ 0 j sent (8 * n) shares0 shares0' (r .lent) (share-sized lent-half masks0 j) (omega (arith, a .2, r .lent .long)) k0
+                filled-more (shareOf lent-half masks0) shares0₀ 0 j sent (8 * n) shares0 shares0' (r .lent) (share-sized lent-half masks0 j) (omega (arith, a .shares0, r .lent .long)) k0
                 (e0 ∙ ap (put shares0 sent) (share-there lent-half masks0));
             others =
-                filled-more (shareOf other-half masks1) shares1₀ 0 j sent (8 * n) shares1 shares1' (r .others) (share-sized other-half masks1 j) (omega (arith, a .3, r .others .long)) k1
+                filled-more (shareOf other-half masks1) shares1₀ 0 j sent (8 * n) shares1 shares1' (r .others) (share-sized other-half masks1 j) (omega (arith, a .shares1, r .others .long)) k1
                 (e1 ∙ ap (put shares1 sent) (share-there other-half masks1));
-            votes = filled-more claimOf claims₀ 0 j claim n claims claims' (r .votes) (claim-sized j) (omega (arith, a .4, r .votes .long)) kc (ec ∙ ap (put claims claim) claim-there);
+            votes = filled-more claimOf claims₀ 0 j claim n claims claims' (r .votes) (claim-sized j) (omega (arith, a .claims, r .votes .long)) kc (ec ∙ ap (put claims claim) claim-there);
           }
 
     module _ (l0 : length shares0₀ ≡ 8 * n * count) (l1 : length shares1₀ ≡ 8 * n * count) (lc : length claims₀ ≡ n * count) (j at claim sent : ℕ) (shares0 shares1 claims w : Bytes)

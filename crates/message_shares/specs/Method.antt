@@ -6,7 +6,7 @@ use lib.ListN.{length}
 use Rattle.codec.specs.Bytes.{Bytes, part, put, zeros}
 use Rattle.codec.specs.Lists.{list}
 use Rattle.ring.specs.Poly.{Poly, plus, scale, modulo, Below}
-use Rattle.ring.specs.Slots.{coefficientBytes, encode}
+use Rattle.ring.specs.Slots.{coefficientBytes, encode, slot}
 use Rattle.sheet_numbers.specs.Plain.{plain}
 use Rattle.sheet_numbers.specs.declared.Numbers.{Numbers}
 use Rattle.call.specs.Call.{scratchLength}
@@ -41,6 +41,13 @@ module _ (shares0 shares1 claims scratch : Slice) where
 
   abbrev pub roomOut : Room
   roomOut = roomOf (left shares0) (left shares1) (left claims) (left scratch)
+
+-- one ballot at a place, in range, and E of both sides at another
+pub record BallotAt (q n at sent : ℕ) (ballots masks0 masks1 : Bytes) : Type 0 where
+  pub ballot-ends : at + 4 + 16 * n ≤ length ballots
+  pub below : Below q (2 * n) (slot ballots (at + 4))
+  pub ends0 : sent + 8 * n ≤ length masks0
+  pub ends1 : sent + 8 * n ≤ length masks1
 
 -- the shares of one ballot fit at a place, its claim at another
 pub record Fits (n at claim : ℕ) (room : Room) : Type 0 where

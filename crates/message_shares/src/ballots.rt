@@ -5,14 +5,13 @@ ghost use mathlib.Core.Path.{_≡_};
 ghost use Prim.Native.Nat.{_+_, _*_, _≤_};
 ghost use lib.ListN.{length};
 ghost use Rattle.codec.specs.Bytes.{part};
-ghost use Rattle.ring.specs.Poly.{Below};
 ghost use Rattle.ring.specs.Slots.{poly, slot};
 ghost use Rattle.ring.specs.Ternary.{ternary};
 ghost use Rattle.call.specs.Call.{scratchLength, Polynomial};
 ghost use Rattle.codec.specs.Slices.{given};
 ghost use Rattle.transcript.specs.Producer.{sIn};
 ghost use Rattle.sheet_numbers.specs.Usable.{Usable};
-ghost use Rattle.message_shares.specs.Method.{Masked, roomNow, roomIn, roomOut, Fits, BallotWritten, BallotsWritten};
+ghost use Rattle.message_shares.specs.Method.{Masked, BallotAt, roomNow, roomIn, roomOut, Fits, BallotWritten, BallotsWritten};
 
 // One ballot where it stands, with its masks at the place of its shares.
 fn ballot_at(
@@ -31,8 +30,7 @@ fn ballot_at(
     at: usize,
 )
     requires { let n = k .ring in ⌜ Usable k × Polynomial n (k .modulus) (now s0) × (length (now secrets) ≡ 14 * n)
-        × (at + 4 + 16 * n ≤ length (now ballots)) × Below (k .modulus) (2 * n) (slot (now ballots) (at + 4))
-        × (sent + 8 * n ≤ length (now masks0)) × (sent + 8 * n ≤ length (now masks1))
+        × BallotAt (k .modulus) n at sent (now ballots) (now masks0) (now masks1)
         × Fits n sent claim (roomNow shares0 shares1 claims work) ⌝ }
     ensures { λ _. let n = k .ring in let s = ternary (k .modulus) (sIn n (given secrets)) in
         let u = slot (given ballots) (at + 4) in let v = slot (given ballots) (at + 4 + 8 * n) in

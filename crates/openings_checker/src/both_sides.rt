@@ -12,9 +12,8 @@ use sheet_numbers::Numbers;
 ghost use mathlib.Core.Path.{_≡_};
 ghost use Prim.Native.Nat.{_*_, _≤_};
 ghost use lib.ListN.{length};
-ghost use Rattle.codec.specs.Bytes.{Bytes, zeros};
-ghost use Rattle.codec.specs.Reply.{first};
-ghost use Rattle.call.specs.Call.{scratchLength};
+ghost use Rattle.codec.specs.Bytes.{Bytes};
+ghost use Rattle.call.specs.Call.{scratchLength, Judged};
 ghost use Rattle.commitment.specs.Loaded.{Loaded};
 ghost use Rattle.transcript.specs.Extractor.{Lent, openingsOf, lentRanged, extractLater, extractTests};
 ghost use Rattle.codec.specs.Slices.{given, left};
@@ -82,7 +81,7 @@ fn test_ranged(
         (openingsOf (now head) (now shares0) (now shares1) (now ballots) (now claims) (now opening0) (now opening1) repetition
         (now answer1) (now answer2) (now answer3)) ⌝ }
     ensures { λ reply. let x = openingsIn head shares0 shares1 ballots claims opening0 opening1 repetition answer1 answer2 answer3 in
-        ⌜ (reply ≡ first (extractLater (parameters k (given public)) count x)) × (left work ≡ zeros (length (given work))) ⌝ }
+        ⌜ Judged (extractLater (parameters k (given public)) count x) reply (given work) (left work) ⌝ }
 {
     if !splits(work, k, public, head) {
         return refused(6);
@@ -146,7 +145,7 @@ pub fn check_openings(
         × Lent (parameters k (now public)) count (openingsOf (now head) (now shares0) (now shares1) (now ballots) (now claims)
         (now opening0) (now opening1) repetition (now answer1) (now answer2) (now answer3)) ⌝ }
     ensures { λ reply. let x = openingsIn head shares0 shares1 ballots claims opening0 opening1 repetition answer1 answer2 answer3 in
-        ⌜ (reply ≡ first (extractTests (parameters k (given public)) count x)) × (left work ≡ zeros (length (given work))) ⌝ }
+        ⌜ Judged (extractTests (parameters k (given public)) count x) reply (given work) (left work) ⌝ }
 {
     if !openings_ranged(
         k,

@@ -6,9 +6,7 @@ use sheet_numbers::Numbers;
 ghost use mathlib.Core.Path.{_≡_};
 ghost use Prim.Native.Nat.{_*_, _≤_, _<_};
 ghost use lib.ListN.{length};
-ghost use Rattle.codec.specs.Bytes.{zeros};
-ghost use Rattle.codec.specs.Reply.{first};
-ghost use Rattle.call.specs.Call.{scratchLength};
+ghost use Rattle.call.specs.Call.{scratchLength, Judged};
 ghost use Rattle.commitment.specs.Loaded.{Loaded};
 ghost use Rattle.transcript.specs.Layout.{openingOf};
 ghost use Rattle.transcript.specs.Extractor.{sideTests};
@@ -36,9 +34,8 @@ pub fn test_side(
         × (80 * k .ring ≤ length (now head)) × (side < 2) × (count ≤ 4096) × Batch (k .modulus) (k .ring) count (now ballots) (now claims)
         × Shares (k .modulus) (k .ring) count (now shares0) × Shares (k .modulus) (k .ring) count (now shares1)
         × Shares (k .modulus) (k .ring) count (now opened) ⌝ }
-    ensures { λ reply. ⌜ (reply ≡ first (sideTests (parameters k (given public)) count (given head) (given ballots) (given claims)
-        (given shares0) (given shares1) side (given opened) (openingOf (k .ring) (given opening))))
-        × (left work ≡ zeros (length (given work))) ⌝ }
+    ensures { λ reply. ⌜ Judged (sideTests (parameters k (given public)) count (given head) (given ballots) (given claims)
+        (given shares0) (given shares1) side (given opened) (openingOf (k .ring) (given opening))) reply (given work) (left work) ⌝ }
 {
     let reply = test_opening(work, k, public, head, side, opening);
     let Reply::Taken = reply else {

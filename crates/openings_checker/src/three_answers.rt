@@ -6,9 +6,8 @@ ghost use mathlib.Core.Path.{_≡_};
 ghost use mathlib.Core.Bool.{_&&_};
 ghost use Prim.Native.Nat.{_+_, _≤_, _<_};
 ghost use lib.ListN.{length};
-ghost use Rattle.codec.specs.Bytes.{part, zeros};
-ghost use Rattle.codec.specs.Reply.{first};
-ghost use Rattle.call.specs.Call.{scratchLength};
+ghost use Rattle.codec.specs.Bytes.{part};
+ghost use Rattle.call.specs.Call.{scratchLength, Judged};
 ghost use Rattle.commitment.specs.Commitment.{keysOf};
 ghost use Rattle.commitment.specs.Loaded.{keyBytes, Loaded};
 ghost use Rattle.stern.specs.Shortness.{answerLength, inRange, answerTests};
@@ -50,9 +49,8 @@ fn test_answer(
 ) -> Reply
     requires { ⌜ Loaded k (now public) × (length (now work) ≡ scratchLength) × Head (k .modulus) (k .ring) (k .repeats) (now head)
         × (digests + 96 ≤ length (now head)) × Answered (k .modulus) (k .ring) challenge (now answer) ⌝ }
-    ensures { λ reply. ⌜ (reply ≡ first (answerTests (k .modulus) (k .ring) (keysOf (k .ring) (keyBytes k (given public)))
-        (pairsOf (k .ring) (given head)) (part (given head) digests 96) place challenge (given answer)))
-        × (left work ≡ zeros (length (given work))) ⌝ }
+    ensures { λ reply. ⌜ Judged (answerTests (k .modulus) (k .ring) (keysOf (k .ring) (keyBytes k (given public)))
+        (pairsOf (k .ring) (given head)) (part (given head) digests 96) place challenge (given answer)) reply (given work) (left work) ⌝ }
 {
     repetitions::test_at(
         work,
@@ -82,8 +80,8 @@ pub fn test_answers(
     requires { ⌜ Loaded k (now public) × (length (now work) ≡ scratchLength) × (repetition < k .repeats)
         × Head (k .modulus) (k .ring) (k .repeats) (now head) × Answered (k .modulus) (k .ring) 1 (now answer1)
         × Answered (k .modulus) (k .ring) 2 (now answer2) × Answered (k .modulus) (k .ring) 3 (now answer3) ⌝ }
-    ensures { λ reply. ⌜ (reply ≡ first (threeTests (parameters k (given public)) (given head) repetition (given answer1) (given answer2)
-        (given answer3))) × (left work ≡ zeros (length (given work))) ⌝ }
+    ensures { λ reply. ⌜ Judged (threeTests (parameters k (given public)) (given head) repetition (given answer1) (given answer2)
+        (given answer3)) reply (given work) (left work) ⌝ }
 {
     let digests = 80 * (k.ring as usize) + 96 * (repetition as usize);
     let place = repetition as u32;

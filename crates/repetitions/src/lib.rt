@@ -5,10 +5,9 @@ ghost use mathlib.Core.Path.{_≡_};
 ghost use mathlib.Core.Bool.{true};
 ghost use Prim.Native.Nat.{_+_, _*_, _≤_};
 ghost use lib.ListN.{length};
-ghost use Rattle.codec.specs.Bytes.{part, zeros};
-ghost use Rattle.codec.specs.Reply.{first};
+ghost use Rattle.codec.specs.Bytes.{part};
 ghost use Rattle.codec.specs.Lists.{allBelow};
-ghost use Rattle.call.specs.Call.{scratchLength};
+ghost use Rattle.call.specs.Call.{scratchLength, Judged};
 ghost use Rattle.commitment.specs.Commitment.{keysOf};
 ghost use Rattle.commitment.specs.Loaded.{keyBytes, Loaded};
 ghost use Rattle.vector.specs.Vector.{vector};
@@ -33,12 +32,12 @@ pub fn test_at(
     place: u32,
 ) -> Reply
     requires { ⌜ Loaded k (now public) × (length (now work) ≡ scratchLength) × (80 * k .ring ≤ length (now head))
-        × (digests + 96 ≤ length (now head)) × (size ≡ answerLength (k .ring) challenge) × (at + size ≤ length (now answers)) ⌝ }
-    requires { ⌜ (allBelow (k .modulus) (vector (pairsOf (k .ring) (now head))) ≡ true)
+        × (digests + 96 ≤ length (now head)) × (size ≡ answerLength (k .ring) challenge) × (at + size ≤ length (now answers))
+        × (allBelow (k .modulus) (vector (pairsOf (k .ring) (now head))) ≡ true)
         × (inRange (k .modulus) (k .ring) challenge (part (now answers) at size) ≡ true) ⌝ }
-    ensures { λ reply. ⌜ (reply ≡ first (answerTests (k .modulus) (k .ring) (keysOf (k .ring) (keyBytes k (given public)))
-        (pairsOf (k .ring) (given head)) (part (given head) digests 96) place challenge (part (given answers) at size)))
-        × (left work ≡ zeros (length (given work))) ⌝ }
+    ensures { λ reply. let keys = keysOf (k .ring) (keyBytes k (given public)) in
+        ⌜ Judged (answerTests (k .modulus) (k .ring) keys (pairsOf (k .ring) (given head)) (part (given head) digests 96) place challenge
+        (part (given answers) at size)) reply (given work) (left work) ⌝ }
 {
     let n = k.ring as usize;
     answers::testing::test_answer(
@@ -54,8 +53,8 @@ pub fn test_at(
     )
 }
 
-// Every repetition, in order.
-fn each_repetition(
+// Every repetition, in order, and scratch zeroed.
+pub fn test_repetitions(
     work: &mut [u8],
     k: Numbers,
     public: &[u8],
@@ -66,8 +65,8 @@ fn each_repetition(
     requires { ⌜ Loaded k (now public) × (length (now work) ≡ scratchLength) × (length (now head) ≡ headLength (k .ring) (k .repeats))
         × (allBelow (k .modulus) (vector (pairsOf (k .ring) (now head))) ≡ true)
         × Answers (k .modulus) (k .ring) (k .repeats) (now challenges) (now answers) ⌝ }
-    ensures { λ reply. ⌜ (reply ≡ first (answersTests (parameters k (given public)) (given head) (given challenges) (given answers)))
-        × (length (left work) ≡ length (given work)) ⌝ }
+    ensures { λ reply. ⌜ Judged (answersTests (parameters k (given public)) (given head) (given challenges) (given answers)) reply
+        (given work) (left work) ⌝ }
 {
     let n = k.ring as usize;
     let repeats = k.repeats as usize;
@@ -97,25 +96,6 @@ fn each_repetition(
         i += 1;
         at += size;
     }
-    Reply::Taken
-}
-
-// Every repetition, in order, and scratch zeroed.
-pub fn test_repetitions(
-    work: &mut [u8],
-    k: Numbers,
-    public: &[u8],
-    head: &[u8],
-    challenges: &[u8],
-    answers: &[u8],
-) -> Reply
-    requires { ⌜ Loaded k (now public) × (length (now work) ≡ scratchLength) × (length (now head) ≡ headLength (k .ring) (k .repeats))
-        × (allBelow (k .modulus) (vector (pairsOf (k .ring) (now head))) ≡ true)
-        × Answers (k .modulus) (k .ring) (k .repeats) (now challenges) (now answers) ⌝ }
-    ensures { λ reply. ⌜ (reply ≡ first (answersTests (parameters k (given public)) (given head) (given challenges) (given answers)))
-        × (left work ≡ zeros (length (given work))) ⌝ }
-{
-    let reply = each_repetition(work, k, public, head, challenges, answers);
     codec::wipe(work);
-    reply
+    Reply::Taken
 }

@@ -10,7 +10,7 @@ ghost use Rattle.codec.specs.declared.Reply.the-variants.{Refused};
 ghost use Rattle.ring.specs.Slots.{slot};
 ghost use Rattle.sheet_numbers.specs.Plain.{plain, maskOf};
 ghost use Rattle.sheet_numbers.specs.Usable.{Usable};
-ghost use Rattle.call.specs.Call.{scratchLength};
+ghost use Rattle.call.specs.Call.{scratchLength, Judged};
 ghost use Rattle.commitment.specs.Loaded.{Loaded};
 ghost use Rattle.transcript.specs.Layout.{openingOf};
 ghost use Rattle.transcript.specs.Round as round;
@@ -111,8 +111,7 @@ pub fn test_opening(
 ) -> Reply
     requires { ⌜ Loaded k (now public) × Opened (k .modulus) (k .ring) (now opening) × (length (now work) ≡ scratchLength)
         × (80 * k .ring ≤ length (now head)) × (side < 2) ⌝ }
-    ensures { λ reply. ⌜ (reply ≡ first (halfTests (parameters k (given public)) (given head) side (openingOf (k .ring) (given opening))))
-        × (left work ≡ zeros (length (given work))) ⌝ }
+    ensures { λ reply. ⌜ Judged (halfTests (parameters k (given public)) (given head) side (openingOf (k .ring) (given opening))) reply (given work) (left work) ⌝ }
 {
     let n = k.ring as usize;
     if !opens_key(work, k, public, head, 8 * n * side, opening) {
@@ -139,8 +138,8 @@ pub fn test_votes(
     requires { ⌜ Usable k × Opened (k .modulus) (k .ring) (now opening) × (length (now work) ≡ scratchLength) × (count ≤ 4096)
         × Batch (k .modulus) (k .ring) count (now ballots) (now claims) × Shares (k .modulus) (k .ring) count (now shares0)
         × Shares (k .modulus) (k .ring) count (now shares1) × Shares (k .modulus) (k .ring) count (now opened) ⌝ }
-    ensures { λ reply. ⌜ (reply ≡ first (votesTests (k .modulus) (k .ring) (plain k) (maskOf k) count (slot (given opening) 0)
-        (given ballots) (given claims) (given shares0) (given shares1) (given opened))) × (left work ≡ zeros (length (given work))) ⌝ }
+    ensures { λ reply. ⌜ Judged (votesTests (k .modulus) (k .ring) (plain k) (maskOf k) count (slot (given opening) 0)
+        (given ballots) (given claims) (given shares0) (given shares1) (given opened)) reply (given work) (left work) ⌝ }
 {
     let n = k.ring as usize;
     ballot_tests::ballots::test_ballots(

@@ -6,8 +6,8 @@ ghost use lib.Dec.{eqb};
 ghost use lib.ListN.{drop, take, getD};
 ghost use Rattle.sheet_lines.specs.Form.{numberKeys, listKeys};
 ghost use Rattle.codec.specs.Lists.{every, allBelow};
-ghost use Rattle.sheet_lines.specs.Reader.{digit, fresh, values, line, rows};
-ghost use Rattle.sheet_lines.specs.Seen.{bigger, summed, scanned, outlined, seen};
+ghost use Rattle.sheet_lines.specs.Reader.{digit, fresh, values, line};
+ghost use Rattle.sheet_lines.specs.Seen.{bigger, summed, scanned, Scanned};
 
 // What stands at a place of the text: a line with how many numbers, the largest, and where the text goes on; or no such line.
 enum Scan {
@@ -19,7 +19,8 @@ enum Scan {
     },
 }
 
-// Five lines: whether they are there, and for each how many numbers it has and the largest; and where the text goes on.
+// Five lines: whether they are all there, and for each how many numbers it has and the largest; and where the text goes on. Where one
+// is not there, both are 0 for it and those after it, and the text goes on where it should stand.
 pub struct Lines {
     pub whole: bool,
     pub counts: [u64; 5],
@@ -140,8 +141,7 @@ fn scan_key(text: &[u8], at: usize, k: usize) -> Scan
 // The lines of five keys, from one on.
 pub fn scan_lines(text: &[u8], at: usize, from: usize) -> Lines
     requires { ⌜ from + 5 ≤ 10 ⌝ }
-    ensures { λ r. ⌜ seen (now (text .entry)) r ≡ outlined (rows (take 5 (drop from (numberKeys ++ listKeys)))
-        (drop at (now (text .entry)))) ⌝ }
+    ensures { λ r. ⌜ Scanned (take 5 (drop from (numberKeys ++ listKeys))) (drop at (now (text .entry))) (now (text .entry)) r ⌝ }
 {
     let mut counts = [0u64; 5];
     let mut tops = [0u64; 5];

@@ -8,13 +8,14 @@ use native.Mathlib.Omega.{arith}
 use lib.Dec.{eqb}
 use lib.ListN.{length}
 use Rattle.codec.specs.Bytes.{Bytes, zeros}
-use Rattle.codec.specs.Reply.{Test, test, first}
+use Rattle.codec.specs.Reply.{Test, test, first, leaves, packed}
 use Rattle.codec.specs.declared.Reply.{Reply}
 use Rattle.codec.specs.declared.Reply.the-variants.{Taken, Refused}
 use Rattle.call.specs.Call.{swept}
 use Rattle.call.proofs.Sweeping.{swept-taken, swept-refused}
 use Rattle.commitment.specs.Commitment.{Keys}
 use Rattle.stern.specs.Shortness.{answer1Of, answer2Of, answer3Of, tests1, tests2, tests3, answerTests}
+use Rattle.stern_calls.specs.Calls.{Sifted, Made, Answered, Told}
 
 module _ (n : ℕ) {r : Reply} (b : Bool) (ts : List Test) {x : Bool} (is : x ≡ b) where
   -- a fact fails
@@ -54,3 +55,14 @@ module _ (r : Reply) (w w' : Bytes) (sized : length w' ≡ length w) where
       go true b' e = used-two 10 place _ _ (λ h. omega arith) (λ h. omega arith) e
       go false true e = used-two 9 place _ _ (λ h. omega arith) (λ h. omega arith) e
       go false false e = used-two 9 place _ _ (λ h. omega arith) (λ h. omega arith) e
+
+-- ---- a call, from its part before the sweep
+
+module _ {is r : Reply} {answer : ℕ} (e : answer ≡ packed r) {w w' w'' : Bytes} (z : w'' ≡ swept r w') where
+  pub answered : {writes out out' : Bytes} → Made is r writes out out' w w' → Answered is writes answer out out' w w''
+  answered {writes} {out} m =
+      let i = m .replied in
+      record { replied = e ∙ ap packed i; written = m .written ∙ ap (λ (x : Reply). leaves x writes out) i; cleared = z ∙ m .used ∙ ap (λ (x : Reply). swept x w) i }
+
+  pub told : Sifted is r w w' → Told is answer w w''
+  told m = let i = m .replied in record { replied = e ∙ ap packed i; cleared = z ∙ m .used ∙ ap (λ (x : Reply). swept x w) i }

@@ -1,15 +1,16 @@
 -- What the calls for tests answer: 0 taken, else the first test that holds, with document 01's numbers. The plain numbers are tested first (5), then lengths (1), then
 -- what stands in the slices (5, and 9 for P). Assumes nothing.
+use mathlib.Core.Path.{_≡_}
 use mathlib.Core.Bool.{Bool, not, _&&_}
 use mathlib.Core.List.{List, [], _∷_}
 use Prim.Native.Nat.{ℕ, _*_, _^_}
 use lib.Dec.{eqb, leb, ltb}
 use lib.ListN.{length}
 use Rattle.codec.specs.Bytes.{Bytes}
-use Rattle.codec.specs.Reply.{Test, test, first}
+use Rattle.codec.specs.Reply.{Test, test, first, leaves, packed}
 use Rattle.codec.specs.declared.Reply.{Reply}
 use Rattle.codec.specs.Lists.{allBelow}
-use Rattle.call.specs.Call.{scratchLength, lengthTest}
+use Rattle.call.specs.Call.{scratchLength, swept, lengthTest}
 use Rattle.commitment.specs.Commitment.{keysOf}
 use Rattle.vector.specs.Vector.{vector}
 use Rattle.vector.specs.Permutation.{entries, permutes}
@@ -55,3 +56,28 @@ testReply n q challenge place k c d answer w =
     ∷ lengthTest (length k ∷ length c ∷ length d ∷ length answer ∷ length w ∷ []) (24 * n ∷ 64 * n ∷ 96 ∷ answerLength n challenge ∷ scratchLength ∷ [])
     ∷ test 5 0 (not (allBelow q (vector k) && (allBelow q (vector c) && inRange q n challenge answer)))
     ∷ answerTests q n (keysOf n k) c d place challenge answer)
+
+-- ---- what the functions come to, for the reply `is` that their tests give
+
+-- the tests: scratch is free where it is swept behind them, and as long as before
+pub record Sifted (is reply : Reply) (scratch scratch' : Bytes) : Type 0 where
+  pub replied : reply ≡ is
+  pub used : swept reply scratch' ≡ swept reply scratch
+  pub kept : length scratch' ≡ length scratch
+
+-- the tests and the writing
+pub record Made (is reply : Reply) (writes out out' scratch scratch' : Bytes) : Type 0 where
+  pub replied : reply ≡ is
+  pub written : out' ≡ leaves reply writes out
+  pub used : swept reply scratch' ≡ swept reply scratch
+
+-- a call: the one number that it answers, and what it leaves in each slice
+pub record Answered (is : Reply) (writes : Bytes) (answer : ℕ) (out out' scratch scratch' : Bytes) : Type 0 where
+  pub replied : answer ≡ packed is
+  pub written : out' ≡ leaves is writes out
+  pub cleared : scratch' ≡ swept is scratch
+
+-- a call that writes nothing
+pub record Told (is : Reply) (answer : ℕ) (scratch scratch' : Bytes) : Type 0 where
+  pub replied : answer ≡ packed is
+  pub cleared : scratch' ≡ swept is scratch

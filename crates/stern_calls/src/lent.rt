@@ -9,10 +9,11 @@ ghost use Rattle.codec.specs.Bytes.{same};
 ghost use Rattle.codec.specs.Reply.{first};
 ghost use Rattle.codec.specs.declared.Reply.the-variants.{Refused};
 ghost use Rattle.codec.specs.Lists.{allBelow};
-ghost use Rattle.call.specs.Call.{scratchLength, swept};
+ghost use Rattle.codec.specs.Slices.{given, left};
+ghost use Rattle.call.specs.Call.{scratchLength};
 ghost use Rattle.vector.specs.Vector.{vector};
 ghost use Rattle.stern.specs.Shortness.{answerLength, inRange};
-ghost use Rattle.stern_calls.specs.Calls.{ringFits, rangeTests, lengths, wanted};
+ghost use Rattle.stern_calls.specs.Calls.{ringFits, rangeTests, lengths, wanted, Sifted};
 
 // A refusal, which names no place.
 pub fn refused(number: u8) -> Reply
@@ -49,8 +50,8 @@ pub fn material_sized(
     n: usize,
 ) -> bool
     requires { ⌜ n ≤ 2048 ⌝ }
-    ensures { λ b. ⌜ b ≡ same (lengths (now (x .entry)) (now (r .entry)) (now (p .entry)) (now (salts .entry)) (now (out .entry))
-        (now (scratch .entry))) (wanted n room) ⌝ }
+    ensures { λ b. ⌜ b ≡ same (lengths (given x) (given r) (given p) (given salts) (given out)
+        (given scratch)) (wanted n room) ⌝ }
 {
     call::sized(
         [
@@ -68,9 +69,7 @@ pub fn material_sized(
 // Whether it is in range, and P a permutation, whose indices are marked in scratch.
 pub fn material_ranged(x: &[u8], r: &[u8], p: &[u8], scratch: &mut [u8], n: usize, q: u64) -> Reply
     requires { ⌜ (n ≤ 2048) × (length (now p) ≡ 168 * n) × (length (now scratch) ≡ scratchLength) ⌝ }
-    ensures { λ reply. ⌜ reply ≡ first (rangeTests q n (now (x .entry)) (now (r .entry)) (now (p .entry))) ⌝ }
-    ensures { λ reply. ⌜ (swept reply (now (scratch .exit)) ≡ swept reply (now (scratch .entry))) × (length (now (scratch .exit)) ≡ length
-        (now (scratch .entry))) ⌝ }
+    ensures { λ reply. ⌜ Sifted (first (rangeTests q n (given x) (given r) (given p))) reply (given scratch) (left scratch) ⌝ }
 {
     if !ring::is_ternary(x) {
         return refused(5);
@@ -95,8 +94,8 @@ pub fn test_sized(
     n: usize,
 ) -> bool
     requires { ⌜ n ≤ 2048 ⌝ }
-    ensures { λ b. ⌜ b ≡ same (length (now (keys .entry)) ∷ length (now (pairs .entry)) ∷ length (now (digests .entry)) ∷ length
-        (now (answer .entry)) ∷ length (now (scratch .entry)) ∷ []) (24 * n ∷ 64 * n ∷ 96 ∷ long ∷ scratchLength ∷ []) ⌝ }
+    ensures { λ b. ⌜ b ≡ same (length (given keys) ∷ length (given pairs) ∷ length (given digests) ∷ length
+        (given answer) ∷ length (given scratch) ∷ []) (24 * n ∷ 64 * n ∷ 96 ∷ long ∷ scratchLength ∷ []) ⌝ }
 {
     call::sized(
         [
@@ -121,8 +120,8 @@ pub fn test_ranged(
     q: u64,
 ) -> bool
     requires { ⌜ (n ≤ 2048) × (length (now answer) ≡ answerLength n challenge) ⌝ }
-    ensures { λ b. ⌜ b ≡ allBelow q (vector (now (keys .entry))) && (allBelow q (vector (now (pairs .entry))) && inRange q n challenge
-        (now (answer .entry))) ⌝ }
+    ensures { λ b. ⌜ b ≡ allBelow q (vector (given keys)) && (allBelow q (vector (given pairs)) && inRange q n challenge
+        (given answer)) ⌝ }
 {
     if !ring::in_range(keys, q) {
         return false;

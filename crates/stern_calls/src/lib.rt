@@ -8,12 +8,10 @@ mod lent;
 mod orders;
 
 use codec::Reply;
-ghost use mathlib.Core.Path.{_≡_};
-ghost use Rattle.codec.specs.Reply.{packed, leaves};
-ghost use Rattle.call.specs.Call.{swept};
+ghost use Rattle.codec.specs.Slices.{given, left};
 ghost use Rattle.commitment.specs.Commitment.{keysOf};
 ghost use Rattle.stern.specs.Shortness.{drawnOf, honestDigests, honestAnswer};
-ghost use Rattle.stern_calls.specs.Calls.{digestsReply, answerReply, testReply};
+ghost use Rattle.stern_calls.specs.Calls.{digestsReply, answerReply, testReply, Made, Answered, Told};
 
 // The digests, where every test is passed.
 fn digests(
@@ -27,11 +25,9 @@ fn digests(
     n: usize,
     q: u64,
 ) -> Reply
-    ensures { λ reply. ⌜ reply ≡ digestsReply n q (now (keys .entry)) (now (x .entry)) (now (r .entry)) (now (p .entry))
-        (now (salts .entry)) (now (out .entry)) (now (scratch .entry)) ⌝ }
-    ensures { λ reply. ⌜ now (out .exit) ≡ leaves reply (honestDigests q n (keysOf n (now (keys .entry))) (now (x .entry))
-        (drawnOf (now (p .entry)) (now (r .entry)) (now (salts .entry)))) (now (out .entry)) ⌝ }
-    ensures { λ reply. ⌜ swept reply (now (scratch .exit)) ≡ swept reply (now (scratch .entry)) ⌝ }
+    ensures { λ reply. let is = digestsReply n q (given keys) (given x) (given r) (given p) (given salts) (given out) (given scratch) in
+        let writes = honestDigests q n (keysOf n (given keys)) (given x) (drawnOf (given p) (given r) (given salts)) in
+        ⌜ Made is reply writes (given out) (left out) (given scratch) (left scratch) ⌝ }
 {
     let reply = orders::digests_tests(keys, x, r, p, salts, out, scratch, n, q);
     match reply {
@@ -62,13 +58,9 @@ pub extern "C" fn stern_digests(
     n: usize,
     q: u64,
 ) -> u64
-    ensures reply { λ v. ⌜ v ≡ packed (digestsReply n q (now (keys .entry)) (now (x .entry)) (now (r .entry)) (now (p .entry))
-        (now (salts .entry)) (now (out .entry)) (now (scratch .entry))) ⌝ }
-    ensures output { λ _. ⌜ now (out .exit) ≡ leaves (digestsReply n q (now (keys .entry)) (now (x .entry)) (now (r .entry))
-        (now (p .entry)) (now (salts .entry)) (now (out .entry)) (now (scratch .entry))) (honestDigests q n (keysOf n (now (keys .entry)))
-        (now (x .entry)) (drawnOf (now (p .entry)) (now (r .entry)) (now (salts .entry)))) (now (out .entry)) ⌝ }
-    ensures swept { λ _. ⌜ now (scratch .exit) ≡ swept (digestsReply n q (now (keys .entry)) (now (x .entry)) (now (r .entry))
-        (now (p .entry)) (now (salts .entry)) (now (out .entry)) (now (scratch .entry))) (now (scratch .entry)) ⌝ }
+    ensures { λ v. let is = digestsReply n q (given keys) (given x) (given r) (given p) (given salts) (given out) (given scratch) in
+        let writes = honestDigests q n (keysOf n (given keys)) (given x) (drawnOf (given p) (given r) (given salts)) in
+        ⌜ Answered is writes v (given out) (left out) (given scratch) (left scratch) ⌝ }
 {
     let reply = digests(keys, x, r, p, salts, out, scratch, n, q);
     call::sweep(reply, scratch);
@@ -87,11 +79,9 @@ fn answer(
     n: usize,
     q: u64,
 ) -> Reply
-    ensures { λ reply. ⌜ reply ≡ answerReply n q challenge (now (x .entry)) (now (r .entry)) (now (p .entry)) (now (salts .entry))
-        (now (out .entry)) (now (scratch .entry)) ⌝ }
-    ensures { λ reply. ⌜ now (out .exit) ≡ leaves reply (honestAnswer q n (now (x .entry)) (drawnOf (now (p .entry)) (now (r .entry))
-        (now (salts .entry))) challenge) (now (out .entry)) ⌝ }
-    ensures { λ reply. ⌜ swept reply (now (scratch .exit)) ≡ swept reply (now (scratch .entry)) ⌝ }
+    ensures { λ reply. let is = answerReply n q challenge (given x) (given r) (given p) (given salts) (given out) (given scratch) in
+        let writes = honestAnswer q n (given x) (drawnOf (given p) (given r) (given salts)) challenge in
+        ⌜ Made is reply writes (given out) (left out) (given scratch) (left scratch) ⌝ }
 {
     let reply = orders::answer_tests(challenge, x, r, p, salts, out, scratch, n, q);
     match reply {
@@ -122,13 +112,9 @@ pub extern "C" fn stern_answer(
     n: usize,
     q: u64,
 ) -> u64
-    ensures reply { λ v. ⌜ v ≡ packed (answerReply n q challenge (now (x .entry)) (now (r .entry)) (now (p .entry)) (now (salts .entry))
-        (now (out .entry)) (now (scratch .entry))) ⌝ }
-    ensures output { λ _. ⌜ now (out .exit) ≡ leaves (answerReply n q challenge (now (x .entry)) (now (r .entry)) (now (p .entry))
-        (now (salts .entry)) (now (out .entry)) (now (scratch .entry))) (honestAnswer q n (now (x .entry)) (drawnOf (now (p .entry))
-        (now (r .entry)) (now (salts .entry))) challenge) (now (out .entry)) ⌝ }
-    ensures swept { λ _. ⌜ now (scratch .exit) ≡ swept (answerReply n q challenge (now (x .entry)) (now (r .entry)) (now (p .entry))
-        (now (salts .entry)) (now (out .entry)) (now (scratch .entry))) (now (scratch .entry)) ⌝ }
+    ensures { λ v. let is = answerReply n q challenge (given x) (given r) (given p) (given salts) (given out) (given scratch) in
+        let writes = honestAnswer q n (given x) (drawnOf (given p) (given r) (given salts)) challenge in
+        ⌜ Answered is writes v (given out) (left out) (given scratch) (left scratch) ⌝ }
 {
     let reply = answer(challenge, x, r, p, salts, out, scratch, n, q);
     call::sweep(reply, scratch);
@@ -151,10 +137,8 @@ pub extern "C" fn stern_test(
     n: usize,
     q: u64,
 ) -> u64
-    ensures reply { λ v. ⌜ v ≡ packed (testReply n q challenge place (now (keys .entry)) (now (pairs .entry)) (now (digests .entry))
-        (now (answer .entry)) (now (scratch .entry))) ⌝ }
-    ensures swept { λ _. ⌜ now (scratch .exit) ≡ swept (testReply n q challenge place (now (keys .entry)) (now (pairs .entry))
-        (now (digests .entry)) (now (answer .entry)) (now (scratch .entry))) (now (scratch .entry)) ⌝ }
+    ensures { λ v. let is = testReply n q challenge place (given keys) (given pairs) (given digests) (given answer) (given scratch) in
+        ⌜ Told is v (given scratch) (left scratch) ⌝ }
 {
     let reply = orders::tested(
         keys,

@@ -7,10 +7,8 @@ use crate::lent::test_ranged;
 use crate::lent::test_sized;
 use answers::layout::answer_length;
 use codec::Reply;
-ghost use mathlib.Core.Path.{_≡_};
-ghost use lib.ListN.{length};
-ghost use Rattle.call.specs.Call.{swept};
-ghost use Rattle.stern_calls.specs.Calls.{digestsReply, answerReply, testReply};
+ghost use Rattle.codec.specs.Slices.{given, left};
+ghost use Rattle.stern_calls.specs.Calls.{digestsReply, answerReply, testReply, Sifted};
 
 // What the call for digests refuses.
 pub fn digests_tests(
@@ -24,10 +22,8 @@ pub fn digests_tests(
     n: usize,
     q: u64,
 ) -> Reply
-    ensures { λ reply. ⌜ reply ≡ digestsReply n q (now (keys .entry)) (now (x .entry)) (now (r .entry)) (now (p .entry))
-        (now (salts .entry)) (now (out .entry)) (now (scratch .entry)) ⌝ }
-    ensures { λ reply. ⌜ (swept reply (now (scratch .exit)) ≡ swept reply (now (scratch .entry))) × (length (now (scratch .exit)) ≡ length
-        (now (scratch .entry))) ⌝ }
+    ensures { λ reply. ⌜ Sifted (digestsReply n q (given keys) (given x) (given r) (given p) (given salts) (given out) (given scratch)) reply
+        (given scratch) (left scratch) ⌝ }
 {
     if !ring_fits(n, q) {
         return refused(5);
@@ -56,10 +52,8 @@ pub fn answer_tests(
     n: usize,
     q: u64,
 ) -> Reply
-    ensures { λ reply. ⌜ reply ≡ answerReply n q challenge (now (x .entry)) (now (r .entry)) (now (p .entry)) (now (salts .entry))
-        (now (out .entry)) (now (scratch .entry)) ⌝ }
-    ensures { λ reply. ⌜ (swept reply (now (scratch .exit)) ≡ swept reply (now (scratch .entry))) × (length (now (scratch .exit)) ≡ length
-        (now (scratch .entry))) ⌝ }
+    ensures { λ reply. ⌜ Sifted (answerReply n q challenge (given x) (given r) (given p) (given salts) (given out) (given scratch)) reply
+        (given scratch) (left scratch) ⌝ }
 {
     if !ring_fits(n, q) {
         return refused(5);
@@ -83,9 +77,8 @@ pub fn tested(
     n: usize,
     q: u64,
 ) -> Reply
-    ensures { λ reply. ⌜ reply ≡ testReply n q challenge place (now (keys .entry)) (now (pairs .entry)) (now (digests .entry))
-        (now (answer .entry)) (now (scratch .entry)) ⌝ }
-    ensures { λ reply. ⌜ swept reply (now (scratch .exit)) ≡ swept reply (now (scratch .entry)) ⌝ }
+    ensures { λ reply. ⌜ Sifted (testReply n q challenge place (given keys) (given pairs) (given digests) (given answer) (given scratch)) reply
+        (given scratch) (left scratch) ⌝ }
 {
     if !ring_fits(n, q) {
         return refused(5);

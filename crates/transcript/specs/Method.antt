@@ -1,20 +1,12 @@
--- The parameters of a round from lent bytes, and what inner functions are given: ballots, claims, shares, challenges and answers that passed the tests of lengths and ranges. Assumes nothing.
+-- What inner functions are given: ballots, claims, shares, challenges and answers that passed the tests of lengths and ranges. Assumes nothing.
 use mathlib.Core.Path.{_≡_}
 use Prim.Native.Nat.{ℕ, _*_, _<_}
 use mathlib.Core.Bool.{true}
 use lib.ListN.{length, getD}
 use Rattle.codec.specs.Bytes.{Bytes}
 use Rattle.ring.specs.Poly.{Below}
-use Rattle.ring.specs.Slots.{poly}
-use Rattle.sheet_numbers.specs.Bounds.{noise}
-use Rattle.commitment.specs.Commitment.{keysOf}
 use Rattle.stern.specs.Shortness.{inRange}
 use Rattle.transcript.specs.Layout.{ballotLength, uAt, shareAt, answersLength, answerAt}
-use Rattle.transcript.specs.Round.{Parameters}
-
--- the parameters that a sheet's numbers and polynomials give
-abbrev pub parameters : (p n q B repeats : ℕ) (a b k : Bytes) → Parameters
-parameters p n q B repeats a b k = record { q = q; N = n; p = p; B = B; D = noise p n; repeats = repeats; a = poly a; b = poly b; k = keysOf n k }
 
 -- the shares of one side for `count` ballots
 pub record Shares (q N count : ℕ) (shares : Bytes) : Type 0 where

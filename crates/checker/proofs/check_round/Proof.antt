@@ -22,7 +22,12 @@ round-ranged-requires c κs =
 
 returns : tie.Need-returns
 unfolding roundTests
-returns c = let t = c .before .before .before .before .before .before .round-ranged in (c .refused .ensures ∙ refuses 5 0 _ _ (ap not (sym (t .ensures (c .before .before .before .before .before .before .before .before .before .before .before .before .before .before .before .before .before .args .public .now)) ∙ not-true (t .result) (c .before .before .before .before .before .if1 .taken))), c .before .before .before .wipe .ensures)
+returns c =
+    let t = c .before .before .before .before .before .before .round-ranged in
+    record {
+      replied = c .refused .ensures ∙ refuses 5 0 _ _ (ap not (sym (t .ensures (c .before .before .before .before .before .before .before .before .before .before .before .before .before .before .before .before .before .args .public .now)) ∙ not-true (t .result) (c .before .before .before .before .before .if1 .taken)));
+      cleared = c .before .before .before .wipe .ensures;
+    }
 
 check-ranged-requires : tie.Need-check-ranged-requires
 check-ranged-requires c κs =
@@ -37,7 +42,10 @@ unfolding roundTests
 returns-2 c =
     let t = c .before .before .before .before .before .round-ranged in
     let v = c .before .before .check-ranged in
-    (v .ensures .0 ∙ sym (passes 5 0 _ _ (ap not (sym (t .ensures (c .before .before .before .before .before .before .before .before .before .before .before .before .before .before .before .before .args .public .now)) ∙ not-false (t .result) (c .before .before .before .before .if1 .left)))), v .ensures .1)
+    record {
+      replied = v .ensures .replied ∙ sym (passes 5 0 _ _ (ap not (sym (t .ensures (c .before .before .before .before .before .before .before .before .before .before .before .before .before .before .before .before .args .public .now)) ∙ not-false (t .result) (c .before .before .before .before .if1 .left))));
+      cleared = v .ensures .cleared;
+    }
 
 pub check-round-spec : {M : Type 1} → statement M
 check-round-spec = tie.close (tie.spec round-ranged-requires (λ c κs. search needs) (λ c κs. search needs) (λ c. search needs) returns check-ranged-requires (λ c. search needs) returns-2)

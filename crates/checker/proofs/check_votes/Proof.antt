@@ -23,7 +23,10 @@ returns c =
     let s = c .before .before .before .before .before .before .before .before .before .before .before in
     let a = s .args in
     let v = c .before .before .test-votes .ensures in
-    (v .0 ∙ ap (told s) (sym (first-side (a .shares0 .now) (a .shares1 .now) (a .side) (c .before .before .before .before .if1 .taken))), v .1)
+    record {
+      replied = v .replied ∙ ap (told s) (sym (first-side (a .shares0 .now) (a .shares1 .now) (a .side) (c .before .before .before .before .if1 .taken)));
+      cleared = v .cleared;
+    }
 
 test-votes-requires-2 : tie.Need-test-votes-requires-2
 test-votes-requires-2 c κs = let p = c .before .before .before .before .before .before .before .before .pre in (p .0, p .1, p .2, p .3, p .4, p .5, p .6, p .6)
@@ -33,7 +36,10 @@ returns-2 c =
     let s = c .before .before .before .before .before .before .before .before .before .before .before in
     let a = s .args in
     let v = c .before .before .test-votes2 .ensures in
-    (v .0 ∙ ap (told s) (sym (second-side (a .shares0 .now) (a .shares1 .now) (a .side) (c .before .before .before .before .if1 .left))), v .1)
+    record {
+      replied = v .replied ∙ ap (told s) (sym (second-side (a .shares0 .now) (a .shares1 .now) (a .side) (c .before .before .before .before .if1 .left)));
+      cleared = v .cleared;
+    }
 
 pub check-votes-spec : {M : Type 1} → statement M
 check-votes-spec = tie.close (tie.spec test-votes-requires (λ c. search needs) returns test-votes-requires-2 (λ c. search needs) returns-2)

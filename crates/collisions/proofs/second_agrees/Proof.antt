@@ -23,12 +23,14 @@ returns c =
     let y = a .answer3 .now in
     let s = answer1Of n x in
     let t = answer3Of n y in
-    let v = words (apply (entries (t .p)) (vector (t .r))) in (
-      by-first (s .salt2) (t .salt2) (s .t) v (c .before .equal .result) (c .before .equal .ensures ∙ lent-same x y (378 * n) (504 * n + 32) (378 * n + 32 - 378 * n) (504 * n + 32 + 32 - (504 * n + 32)) 32 (omega arith) (omega arith))
+    let v = words (apply (entries (t .p)) (vector (t .r))) in
+    record {
+      told =
+          by-first (s .salt2) (t .salt2) (s .t) v (c .before .equal .result) (c .before .equal .ensures ∙ lent-same x y (378 * n) (504 * n + 32) (378 * n + 32 - 378 * n) (504 * n + 32 + 32 - (504 * n + 32)) 32 (omega arith) (omega arith))
           (length-part x (378 * n) 32 (omega (arith, p .2)) ∙ sym (length-part y (504 * n + 32) 32 (omega (arith, p .3)))) (c .if1 .taken)
-          ∙ sym (same-behind (2 ∷ []) (s .salt2 ++ s .t) (t .salt2 ++ v)),
-      refl,
-    )
+          ∙ sym (same-behind (2 ∷ []) (s .salt2 ++ s .t) (t .salt2 ++ v));
+      kept-work = refl;
+    }
 
 is-gathered-requires : tie.Need-is-gathered-requires
 is-gathered-requires c κs =
@@ -47,12 +49,14 @@ returns-2 c =
     let s = answer1Of n x in
     let t = answer3Of n y in
     let v = words (apply (entries (t .p)) (vector (t .r))) in
-    let e = c .before .before .is-gathered .ensures in (
-      by-rest (s .salt2) (t .salt2) (s .t) v (c .before .before .before .before .before .before .before .before .equal .result) (c .before .before .before .before .before .before .before .before .equal .ensures ∙ lent-same x y (378 * n) (504 * n + 32) (378 * n + 32 - 378 * n) (504 * n + 32 + 32 - (504 * n + 32)) 32 (omega arith) (omega arith))
-          (c .before .before .before .before .before .before .before .if1 .left) (c .before .before .is-gathered .result) (e .0 ∙ lent-gathered n x y (378 * n - 42 * n) (168 * n - 0) (504 * n - 168 * n) (omega arith) (omega arith) (omega arith))
-          ∙ sym (same-behind (2 ∷ []) (s .salt2 ++ s .t) (t .salt2 ++ v)),
-      e .1,
-    )
+    let e = c .before .before .is-gathered .ensures in
+    record {
+      told =
+          by-rest (s .salt2) (t .salt2) (s .t) v (c .before .before .before .before .before .before .before .before .equal .result) (c .before .before .before .before .before .before .before .before .equal .ensures ∙ lent-same x y (378 * n) (504 * n + 32) (378 * n + 32 - 378 * n) (504 * n + 32 + 32 - (504 * n + 32)) 32 (omega arith) (omega arith))
+          (c .before .before .before .before .before .before .before .if1 .left) (c .before .before .is-gathered .result) (e .told ∙ lent-gathered n x y (378 * n - 42 * n) (168 * n - 0) (504 * n - 168 * n) (omega arith) (omega arith) (omega arith))
+          ∙ sym (same-behind (2 ∷ []) (s .salt2 ++ s .t) (t .salt2 ++ v));
+      kept-work = e .kept-work;
+    }
 
 pub second-agrees-spec : {M : Type 1} → statement M
 second-agrees-spec = tie.close (tie.spec (λ c. search needs) (λ c. search needs) (λ c. search needs) (λ c. search needs) (λ c. search needs) (λ c. search needs) (λ c. search needs) (λ c. search needs) (λ c. search needs) (λ c. search needs) (λ c. search needs) (λ c κs. search needs) returns (λ c. search needs) (λ c. search needs) (λ c. search needs) (λ c. search needs) (λ c. search needs) (λ c. search needs) (λ c. search needs) (λ c. search needs) (λ c. search needs) (λ c. search needs) (λ c. search needs) (λ c. search needs) (λ c. search needs) (λ c. search needs) is-gathered-requires (λ c. search needs) returns-2)

@@ -17,11 +17,13 @@ collision-requires c κs =
     let a = c .before .before .before .before .before .before .before .before .before .before .before .before .before .args in
     let p = c .before .before .before .before .before .before .before .before .before .before .before .before .before .pre in
     let n = a .k .ring in (
-      keys-lent (a .k) (a .public .now) (p .0),
-      p .1,
-      omega (arith, p .2),
-      lent-length (a .head .now) (16 * n) (80 * n - 16 * n) (64 * n) (omega arith) (omega (arith, p .3)),
-      lent-range (a .k .modulus) (a .head .now) (16 * n) (80 * n - 16 * n) (64 * n) (omega arith) (p .6),
+      record {
+        keys = keys-lent (a .k) (a .public .now) (p .0);
+        sized-work = p .1;
+        sized-room = omega (arith, p .2);
+        sized-pairs = lent-length (a .head .now) (16 * n) (80 * n - 16 * n) (64 * n) (omega arith) (omega (arith, p .3));
+        below-pairs = lent-range (a .k .modulus) (a .head .now) (16 * n) (80 * n - 16 * n) (64 * n) (omega arith) (p .6);
+      },
       p .7,
     )
 
@@ -29,7 +31,7 @@ returns : tie.Need-returns
 returns c =
     let a = c .before .before .before .before .before .before .before .before .before .before .before .before .before .before .before .before .before .before .before .args in
     let e = c .before .before .before .before .before .collision .ensures in
-    (finds-digest (a .k) (a .public .now) (a .head .now) (a .opening0 .now) (a .opening1 .now) (a .answer1 .now) (a .answer2 .now) (a .answer3 .now) (e .0) (c .if1 .taken) (wiped (c .before .before .before .before .before .before .before .before .before .before .before .before .before .before .before .before .before .before .before .pre .2) (e .1 .1)), e .1 .0)
+    (finds-digest (a .k) (a .public .now) (a .head .now) (a .opening0 .now) (a .opening1 .now) (a .answer1 .now) (a .answer2 .now) (a .answer3 .now) (e .found) (c .if1 .taken) (wiped (c .before .before .before .before .before .before .before .before .before .before .before .before .before .before .before .before .before .before .before .pre .2) (e .cleared-room)), e .cleared-work)
 
 solve-requires : tie.Need-solve-requires
 solve-requires c κs =
@@ -37,14 +39,14 @@ solve-requires c κs =
     let p = c .before .before .before .before .before .before .before .before .before .before .before .before .before .before .before .before .before .before .before .before .before .before .before .pre in
     let r = p .7 in
     let n = a .k .ring in
-    let e = c .before .before .before .before .before .before .before .before .before .collision .ensures .1 in
+    let e = c .before .before .before .before .before .before .before .before .before .collision .ensures in
     let l : 504 * n - 168 * n ≡ 336 * n = omega arith in
     let k = p .0 .numbers in (
       k .ring-high,
       k .modulus-low,
       k .modulus-high,
-      still (e .0) ∙ p .1,
-      still (e .1) ∙ p .2,
+      still (e .cleared-work) ∙ p .1,
+      still (e .cleared-room) ∙ p .2,
       p .4,
       p .5,
       record {
@@ -60,8 +62,8 @@ returns-2 c =
     let a = c .before .before .before .before .before .before .before .before .before .before .before .before .before .before .before .before .before .before .before .before .before .before .before .before .before .before .before .before .before .before .before .before .args in
     let e = c .before .before .before .before .before .before .before .before .before .before .before .before .before .before .before .before .before .before .collision .ensures in
     let f = c .before .before .before .before .before .before .before .before .solve .ensures in (
-      finds-solved (a .k) (a .public .now) (a .head .now) (a .opening0 .now) (a .opening1 .now) (a .answer1 .now) (a .answer2 .now) (a .answer3 .now) (e .0) (c .before .before .before .before .before .before .before .before .before .before .before .before .before .if1 .left) (f .0) (f .1 .0),
-      wiped {m = length (c .before .before .before .before .before .before .before .before .before .before .before .before .before .before .before .before .before .before .before .before .before .before .before .before .before .before .before .before .before .before .before .before .args .work .now)} (f .1 .1 ∙ still (e .1 .0)) (c .before .before .wipe .ensures),
+      finds-solved (a .k) (a .public .now) (a .head .now) (a .opening0 .now) (a .opening1 .now) (a .answer1 .now) (a .answer2 .now) (a .answer3 .now) (e .found) (c .before .before .before .before .before .before .before .before .before .before .before .before .before .if1 .left) (f .0) (f .1 .0),
+      wiped {m = length (c .before .before .before .before .before .before .before .before .before .before .before .before .before .before .before .before .before .before .before .before .before .before .before .before .before .before .before .before .before .before .before .before .args .work .now)} (f .1 .1 ∙ still (e .cleared-work)) (c .before .before .wipe .ensures),
     )
 
 pub find-spec : {M : Type 1} → statement M

@@ -22,7 +22,7 @@ returns-3 : tie.Need-returns-3
 returns-3 c =
     let t = c .before .before .before .before .before .before .args .text .now in
     let h = c .before .before .scan-lines in
-    no-form t (c .before .before .before .before .if1 .left) (omega arith) (head-broken t (h .result) (h .ensures) (not-true _ (c .if3 .taken)))
+    no-form t (c .before .before .before .before .if1 .left) (omega arith) (head-broken t (h .result) (h .ensures .told) (not-true _ (c .if3 .taken)))
 
 returns-4 : tie.Need-returns-4
 returns-4 c =
@@ -30,7 +30,7 @@ returns-4 c =
     let h = c .before .before .before .before .before .scan-lines in
     let l = c .before .before .scan-lines2 in
     no-form t (c .before .before .before .before .before .before .before .if1 .left) (omega arith)
-    (tail-broken t (h .result) (h .ensures) (not-false _ (c .before .before .before .if3 .left)) (l .result) (l .ensures) (not-true _ (c .if4 .taken)))
+    (tail-broken t (h .result) (h .ensures .told) (not-false _ (c .before .before .before .if3 .left)) (l .result) (l .ensures .told) (not-true _ (c .if4 .taken)))
 
 returns-5 : tie.Need-returns-5
 returns-5 c =
@@ -38,7 +38,7 @@ returns-5 c =
     let h = c .before .before .before .before .before .before .before .scan-lines in
     let l = c .before .before .before .before .scan-lines2 in
     no-form t (c .before .before .before .before .before .before .before .before .before .if1 .left) (omega arith)
-    (more-text t (h .result) (h .ensures) (not-false _ (c .before .before .before .before .before .if3 .left)) (l .result) (l .ensures) (not-false _ (c .before .before .if4 .left)) (omega arith))
+    (more-text t (h .result) (h .ensures .told) (not-false _ (c .before .before .before .before .before .if3 .left)) (l .result) (l .ensures .told) (not-false _ (c .before .before .if4 .left)) (omega arith))
 
 returns-6 : tie.Need-returns-6
 returns-6 c =
@@ -46,7 +46,7 @@ returns-6 c =
     let h = c .before .before .before .before .before .before .before .before .before .before .scan-lines in
     let l = c .before .before .before .before .before .before .before .scan-lines2 in
     no-form t (c .before .before .before .before .before .before .before .before .before .before .before .before .if1 .left) (omega arith)
-    (not-single t (h .result) (h .ensures) (not-false _ (c .before .before .before .before .before .before .before .before .if3 .left)) (l .result) (l .ensures) (not-false _ (c .before .before .before .before .before .if4 .left)) (omega arith)
+    (not-single t (h .result) (h .ensures .told) (not-false _ (c .before .before .before .before .before .before .before .before .if3 .left)) (l .result) (l .ensures .told) (not-false _ (c .before .before .before .before .before .if4 .left)) (omega arith)
     (sym (c .before .all-are .ensures) ∙ not-true _ (c .if6 .taken)))
 
 returns-7 : tie.Need-returns-7
@@ -59,9 +59,9 @@ returns-7 c =
     let z : length t ≤ l .result .next = omega arith in
     let y = sym (c .before .before .before .before .before .all-are .ensures) ∙ not-false _ (c .before .before .before .before .if6 .left) in
     c .judge .ensures
-    ∙ ap (λ (k : Numbers). judged k (l .result .counts) (l .result .largest)) (numbers-are t (h .result) (h .ensures) w (l .result) (l .ensures) x z y)
-    ∙ judged-is t (c .before .before .before .before .before .before .before .before .before .before .before .before .before .before .before .before .if1 .left) (omega arith) (has-form t (h .result) (h .ensures) w (l .result) (l .ensures) x z y) (l .result .counts) (l .result .largest)
-    (counts-are t (h .result) (h .ensures) w (l .result) (l .ensures) x z y) (largest-are t (h .result) (h .ensures) w (l .result) (l .ensures) x z y)
+    ∙ ap (λ (k : Numbers). judged k (l .result .counts) (l .result .largest)) (numbers-are t (h .result) (h .ensures .told) w (l .result) (l .ensures .told) x z y)
+    ∙ judged-is t (c .before .before .before .before .before .before .before .before .before .before .before .before .before .before .before .before .if1 .left) (omega arith) (has-form t (h .result) (h .ensures .told) w (l .result) (l .ensures .told) x z y) (l .result .counts) (l .result .largest)
+    (counts-are t (h .result) (h .ensures .told) w (l .result) (l .ensures .told) x z y) (largest-are t (h .result) (h .ensures .told) w (l .result) (l .ensures .told) x z y)
 
 pub read-spec : {M : Type 1} → statement M
 read-spec = tie.close (tie.spec returns returns-2 (λ c κs. search needs) returns-3 (λ c κs. search needs) returns-4 returns-5 (λ c κs. search needs) returns-6 (λ c. search needs) (λ c. search needs) (λ c. search needs) (λ c. search needs) (λ c. search needs) (λ c κs. search needs) returns-7)

@@ -23,7 +23,7 @@ abbrev μ-loop : tie.MeasureT-loop
 μ-loop text at from counts₀ tops₀ next₀ i₀ counts tops next i = 5 - i
 
 loop-holds : tie.Need-loop-holds Inv-loop μ-loop
-loop-holds c = (omega arith, refl, refl, starts (keys (c .before .args .from)) (c .before .args .text .now) (c .before .args .at) _ _)
+loop-holds c = (omega arith, refl, refl, starts (keys (c .before .args .from)) (c .before .args .text .now) (c .before .args .at) refl refl)
 
 returns : tie.Need-returns Inv-loop μ-loop
 returns c =
@@ -43,7 +43,7 @@ loop-again c =
       omega arith,
       simp length-set (l .inv .1),
       simp length-set (l .inv .2),
-      goes-on (keys (a .from)) (a .text .now) (a .at) (l .i) (l .next) (l .counts) (l .tops) (l .inv .3) (omega arith) (omega arith) (omega arith) _ _ _
+      goes-on (keys (a .from)) (a .text .now) (a .at) (l .i) (l .next) (l .counts) (l .tops) (l .inv .3) (omega arith) (omega arith) _ _ _
           (rw (key-at (a .from) (s .pre) (l .i) (omega arith)) (sym (ap (scanned (a .text .now)) (c .before .s .given .1)) ∙ c .before .before .before .scan-key .ensures)),
     )
 
@@ -53,7 +53,7 @@ returns-2 c =
     let a = s .args in
     let l = c .before .loop in
     let n = five-keys (a .from) (s .pre) in
-    all (keys (a .from)) (a .text .now) (a .at) (l .i) (l .next) (l .counts) (l .tops) (l .inv .3) (omega arith) (omega arith) (omega arith)
+    all (keys (a .from)) (a .text .now) (a .at) (l .i) (l .next) (l .counts) (l .tops) (l .inv .3) (omega arith) (omega arith)
 
 pub scan-lines-spec : {M : Type 1} → statement M
 scan-lines-spec = tie.close (tie.spec Inv-loop μ-loop loop-holds (λ c. search needs) (λ c κs. search needs) (λ c. search needs) (λ c. search needs) returns (λ c. search needs) (λ c. search needs) (λ c. search needs) (λ c. search needs) (λ c. search needs) (λ c. search needs) loop-again returns-2)

@@ -19,7 +19,7 @@ use Rattle.answers.proofs.testing.test_balanced.Statement.{statement}
 use Rattle.answers.proofs.testing.test_balanced.Tie as tie
 
 returns : tie.Need-returns
-returns c = (first-fails 10 11 (c .before .before .before .before .before .before .before .before .before .args .place) _ _ (ap not (sym (c .before .is-balanced .ensures) ∙ not-true (c .before .is-balanced .result) (c .if1 .taken))), refl)
+returns c = record { replied = first-fails 10 11 (c .before .before .before .before .before .before .before .before .before .args .place) _ _ (ap not (sym (c .before .is-balanced .ensures) ∙ not-true (c .before .is-balanced .result) (c .if1 .taken))); kept = refl }
 
 -- P(extended) + P(R), 336n bytes
 sum-length : (q n : ℕ) (w t : Bytes) → length w ≡ 42 * n → length t ≡ 336 * n → length (words (add q (ternaries q w) (vector t))) ≡ 336 * n
@@ -40,10 +40,11 @@ returns-2 c =
     let p = c .before .before .before .before .before .before .before .before .before .before .before .before .before .before .before .before .before .before .before .before .before .pre in
     let h = p .0 in
     let l = sum-length (a .q) (a .n) (a .w .now) (a .t .now) (p .4) (p .5) in
-    let d3 = c .before .before .before .before .tagged2 .ensures ∙ ap (λ (s : Bytes). sha3 (3 ∷ (a .salt3 .now ++ s))) (head-lent (a .work .now) _ _ (336 * a .n) l (omega (arith, p .3)) (c .before .before .before .before .before .before .before .before .before .sum .ensures)) in (
-      both-hold 10 11 (a .place) _ _ (ap not (sym (c .before .before .before .before .before .before .before .before .before .before .before .before .before .is-balanced .ensures) ∙ not-false (c .before .before .before .before .before .before .before .before .before .before .before .before .before .is-balanced .result) (c .before .before .before .before .before .before .before .before .before .before .before .before .if1 .left))) (compared (a .two .now) (a .three .now) _ _ _ _ (c .before .both-equal .result) _ (c .before .both-equal .ensures) (c .before .before .before .before .before .before .before .before .before .before .before .tagged .ensures) d3 (c .if2 .taken)),
-      head-length (a .work .now) _ _ (336 * a .n) l (omega (arith, p .3)) (c .before .before .before .before .before .before .before .before .before .sum .ensures),
-    )
+    let d3 = c .before .before .before .before .tagged2 .ensures ∙ ap (λ (s : Bytes). sha3 (3 ∷ (a .salt3 .now ++ s))) (head-lent (a .work .now) _ _ (336 * a .n) l (omega (arith, p .3)) (c .before .before .before .before .before .before .before .before .before .sum .ensures)) in
+    record {
+      replied = both-hold 10 11 (a .place) _ _ (ap not (sym (c .before .before .before .before .before .before .before .before .before .before .before .before .before .is-balanced .ensures) ∙ not-false (c .before .before .before .before .before .before .before .before .before .before .before .before .before .is-balanced .result) (c .before .before .before .before .before .before .before .before .before .before .before .before .if1 .left))) (compared (a .two .now) (a .three .now) _ _ _ _ (c .before .both-equal .result) _ (c .before .both-equal .ensures) (c .before .before .before .before .before .before .before .before .before .before .before .tagged .ensures) d3 (c .if2 .taken));
+      kept = head-length (a .work .now) _ _ (336 * a .n) l (omega (arith, p .3)) (c .before .before .before .before .before .before .before .before .before .sum .ensures);
+    }
 
 returns-3 : tie.Need-returns-3
 returns-3 c =
@@ -51,10 +52,11 @@ returns-3 c =
     let p = c .before .before .before .before .before .before .before .before .before .before .before .before .before .before .before .before .before .before .before .before .before .pre in
     let h = p .0 in
     let l = sum-length (a .q) (a .n) (a .w .now) (a .t .now) (p .4) (p .5) in
-    let d3 = c .before .before .before .before .tagged2 .ensures ∙ ap (λ (s : Bytes). sha3 (3 ∷ (a .salt3 .now ++ s))) (head-lent (a .work .now) _ _ (336 * a .n) l (omega (arith, p .3)) (c .before .before .before .before .before .before .before .before .before .sum .ensures)) in (
-      second-fails 10 11 (a .place) _ _ (ap not (sym (c .before .before .before .before .before .before .before .before .before .before .before .before .before .is-balanced .ensures) ∙ not-false (c .before .before .before .before .before .before .before .before .before .before .before .before .before .is-balanced .result) (c .before .before .before .before .before .before .before .before .before .before .before .before .if1 .left))) (compared (a .two .now) (a .three .now) _ _ _ _ (c .before .both-equal .result) _ (c .before .both-equal .ensures) (c .before .before .before .before .before .before .before .before .before .before .before .tagged .ensures) d3 (c .if2 .left)),
-      head-length (a .work .now) _ _ (336 * a .n) l (omega (arith, p .3)) (c .before .before .before .before .before .before .before .before .before .sum .ensures),
-    )
+    let d3 = c .before .before .before .before .tagged2 .ensures ∙ ap (λ (s : Bytes). sha3 (3 ∷ (a .salt3 .now ++ s))) (head-lent (a .work .now) _ _ (336 * a .n) l (omega (arith, p .3)) (c .before .before .before .before .before .before .before .before .before .sum .ensures)) in
+    record {
+      replied = second-fails 10 11 (a .place) _ _ (ap not (sym (c .before .before .before .before .before .before .before .before .before .before .before .before .before .is-balanced .ensures) ∙ not-false (c .before .before .before .before .before .before .before .before .before .before .before .before .before .is-balanced .result) (c .before .before .before .before .before .before .before .before .before .before .before .before .if1 .left))) (compared (a .two .now) (a .three .now) _ _ _ _ (c .before .both-equal .result) _ (c .before .both-equal .ensures) (c .before .before .before .before .before .before .before .before .before .before .before .tagged .ensures) d3 (c .if2 .left));
+      kept = head-length (a .work .now) _ _ (336 * a .n) l (omega (arith, p .3)) (c .before .before .before .before .before .before .before .before .before .sum .ensures);
+    }
 
 pub test-balanced-spec : {M : Type 1} → statement M
 test-balanced-spec = tie.close (tie.spec (λ c. search needs) (λ c κs. search needs) returns (λ c κs. search needs) (λ c. search needs) sum-requires (λ c. search needs) (λ c. search needs) (λ c. search needs) (λ c. search needs) (λ c κs. search needs) (λ c. search needs) (λ c. search needs) (λ c κs. search needs) (λ c. search needs) returns-2 (λ c. search needs) returns-3)

@@ -31,10 +31,11 @@ test-balanced-requires c κs =
 returns : tie.Need-returns
 returns c =
     let a = c .before .before .before .before .before .before .before .before .before .before .before .before .before .before .before .before .before .args in
-    let n = a .n in (
-      lent1 (a .q) n (a .place) (keysOf n []) [] (a .d .now) (a .answer .now) (42 * n - 0) (378 * n - 42 * n) (378 * n + 32 - 378 * n) (378 * n + 64 - (378 * n + 32)) (omega arith) (omega arith) (omega arith) (omega arith) (c .before .before .before .before .before .before .test-balanced .ensures .0),
-      c .before .before .wipe .ensures ∙ ap zeros (c .before .before .before .before .before .before .test-balanced .ensures .1),
-    )
+    let n = a .n in
+    record {
+      replied = lent1 (a .q) n (a .place) (keysOf n []) [] (a .d .now) (a .answer .now) (42 * n - 0) (378 * n - 42 * n) (378 * n + 32 - 378 * n) (378 * n + 64 - (378 * n + 32)) (omega arith) (omega arith) (omega arith) (omega arith) (c .before .before .before .before .before .before .test-balanced .ensures .replied);
+      cleared = c .before .before .wipe .ensures ∙ ap zeros (c .before .before .before .before .before .before .test-balanced .ensures .kept);
+    }
 
 pub test-first-spec : {M : Type 1} → statement M
 test-first-spec = tie.close (tie.spec (λ c. omega arith) (λ c. omega arith) (λ c. omega arith) (λ c. omega arith) (λ c. omega arith) (λ c. omega arith) (λ c. omega arith) (λ c. omega arith) (λ c. omega arith) (λ c. omega arith) (λ c. omega arith) (λ c. omega arith) (λ c. omega arith) (λ c. omega arith) (λ c. omega arith) (λ c. omega arith) (λ c. omega arith) (λ c. omega arith) (λ c. omega arith) (λ c. omega arith) (λ c. omega arith) (λ c. omega arith) (λ c. omega arith) (λ c. omega arith) (λ c. omega arith) (λ c. omega arith) (λ c. omega arith) (λ c. omega arith) test-balanced-requires (λ c κs. search needs) (λ c. search needs) returns)

@@ -20,10 +20,11 @@ returns : tie.Need-returns
 returns c =
     let a = c .before .before .before .before .before .before .before .before .before .before .before .before .before .before .args in
     let p = c .before .before .before .before .before .before .before .before .before .before .before .before .before .before .pre in
-    let h = p .0 .one .ring-high in (
-      first-fails 9 11 (a .place) _ _ (ap not (sym (c .before .before .before .is-permutation .ensures .0) ∙ not-true (c .before .before .before .is-permutation .result) (c .if1 .taken))),
-      written-length (a .work .now) _ (zeros (42 * a .n)) 0 (omega (arith, p .1, length-replicate {A = ℕ} (42 * a .n) 0)) (c .before .before .before .is-permutation .ensures .1),
-    )
+    let h = p .0 .one .ring-high in
+    record {
+      replied = first-fails 9 11 (a .place) _ _ (ap not (sym (c .before .before .before .is-permutation .ensures .0) ∙ not-true (c .before .before .before .is-permutation .result) (c .if1 .taken)));
+      kept = written-length (a .work .now) _ (zeros (42 * a .n)) 0 (omega (arith, p .1, length-replicate {A = ℕ} (42 * a .n) 0)) (c .before .before .before .is-permutation .ensures .1);
+    }
 
 equations-digest-requires : tie.Need-equations-digest-requires
 equations-digest-requires c κs =
@@ -47,20 +48,22 @@ returns-2 c =
     let a = c .before .before .before .before .before .before .before .before .before .before .before .before .before .before .before .before .before .before .before .before .before .before .before .before .before .before .args in
     let p = c .before .before .before .before .before .before .before .before .before .before .before .before .before .before .before .before .before .before .before .before .before .before .before .before .before .before .pre in
     let h = p .0 .one .ring-high in
-    let l = written-length (a .work .now) _ (zeros (42 * a .n)) 0 (omega (arith, p .1, length-replicate {A = ℕ} (42 * a .n) 0)) (c .before .before .before .before .before .before .before .before .before .before .before .before .before .before .before .is-permutation .ensures .1) in (
-      both-hold 9 11 (a .place) _ _ (ap not (sym (c .before .before .before .before .before .before .before .before .before .before .before .before .before .before .before .is-permutation .ensures .0) ∙ not-false (c .before .before .before .before .before .before .before .before .before .before .before .before .before .before .before .is-permutation .result) (c .before .before .before .before .before .before .before .before .before .before .before .before .if1 .left))) (compared (a .one .now) (a .other .now) _ _ _ _ (c .before .both-equal .result) _ (c .before .both-equal .ensures) (c .before .before .before .before .before .before .before .before .before .before .equations-digest .ensures .0) (c .before .before .before .before .before .before .gathered-digest .ensures .0) (c .if2 .taken)),
-      c .before .before .before .before .before .before .gathered-digest .ensures .1 ∙ c .before .before .before .before .before .before .before .before .before .before .equations-digest .ensures .1 ∙ l,
-    )
+    let l = written-length (a .work .now) _ (zeros (42 * a .n)) 0 (omega (arith, p .1, length-replicate {A = ℕ} (42 * a .n) 0)) (c .before .before .before .before .before .before .before .before .before .before .before .before .before .before .before .is-permutation .ensures .1) in
+    record {
+      replied = both-hold 9 11 (a .place) _ _ (ap not (sym (c .before .before .before .before .before .before .before .before .before .before .before .before .before .before .before .is-permutation .ensures .0) ∙ not-false (c .before .before .before .before .before .before .before .before .before .before .before .before .before .before .before .is-permutation .result) (c .before .before .before .before .before .before .before .before .before .before .before .before .if1 .left))) (compared (a .one .now) (a .other .now) _ _ _ _ (c .before .both-equal .result) _ (c .before .both-equal .ensures) (c .before .before .before .before .before .before .before .before .before .before .equations-digest .ensures .0) (c .before .before .before .before .before .before .gathered-digest .ensures .0) (c .if2 .taken));
+      kept = c .before .before .before .before .before .before .gathered-digest .ensures .1 ∙ c .before .before .before .before .before .before .before .before .before .before .equations-digest .ensures .1 ∙ l;
+    }
 
 returns-3 : tie.Need-returns-3
 returns-3 c =
     let a = c .before .before .before .before .before .before .before .before .before .before .before .before .before .before .before .before .before .before .before .before .before .before .before .before .before .before .args in
     let p = c .before .before .before .before .before .before .before .before .before .before .before .before .before .before .before .before .before .before .before .before .before .before .before .before .before .before .pre in
     let h = p .0 .one .ring-high in
-    let l = written-length (a .work .now) _ (zeros (42 * a .n)) 0 (omega (arith, p .1, length-replicate {A = ℕ} (42 * a .n) 0)) (c .before .before .before .before .before .before .before .before .before .before .before .before .before .before .before .is-permutation .ensures .1) in (
-      second-fails 9 11 (a .place) _ _ (ap not (sym (c .before .before .before .before .before .before .before .before .before .before .before .before .before .before .before .is-permutation .ensures .0) ∙ not-false (c .before .before .before .before .before .before .before .before .before .before .before .before .before .before .before .is-permutation .result) (c .before .before .before .before .before .before .before .before .before .before .before .before .if1 .left))) (compared (a .one .now) (a .other .now) _ _ _ _ (c .before .both-equal .result) _ (c .before .both-equal .ensures) (c .before .before .before .before .before .before .before .before .before .before .equations-digest .ensures .0) (c .before .before .before .before .before .before .gathered-digest .ensures .0) (c .if2 .left)),
-      c .before .before .before .before .before .before .gathered-digest .ensures .1 ∙ c .before .before .before .before .before .before .before .before .before .before .equations-digest .ensures .1 ∙ l,
-    )
+    let l = written-length (a .work .now) _ (zeros (42 * a .n)) 0 (omega (arith, p .1, length-replicate {A = ℕ} (42 * a .n) 0)) (c .before .before .before .before .before .before .before .before .before .before .before .before .before .before .before .is-permutation .ensures .1) in
+    record {
+      replied = second-fails 9 11 (a .place) _ _ (ap not (sym (c .before .before .before .before .before .before .before .before .before .before .before .before .before .before .before .is-permutation .ensures .0) ∙ not-false (c .before .before .before .before .before .before .before .before .before .before .before .before .before .before .before .is-permutation .result) (c .before .before .before .before .before .before .before .before .before .before .before .before .if1 .left))) (compared (a .one .now) (a .other .now) _ _ _ _ (c .before .both-equal .result) _ (c .before .both-equal .ensures) (c .before .before .before .before .before .before .before .before .before .before .equations-digest .ensures .0) (c .before .before .before .before .before .before .gathered-digest .ensures .0) (c .if2 .left));
+      kept = c .before .before .before .before .before .before .gathered-digest .ensures .1 ∙ c .before .before .before .before .before .before .before .before .before .before .equations-digest .ensures .1 ∙ l;
+    }
 
 pub test-permuted-spec : {M : Type 1} → statement M
 test-permuted-spec = tie.close (tie.spec (λ c. search needs) (λ c κs. search needs) (λ c. search needs) returns equations-digest-requires gathered-digest-requires (λ c. search needs) (λ c. search needs) (λ c κs. search needs) (λ c. search needs) returns-2 (λ c. search needs) returns-3)

@@ -33,7 +33,7 @@ returns c =
     let a = c .before .before .before .before .before .before .before .before .before .before .before .before .before .before .before .before .before .args in
     let b = c .before .before .before .before .before .before .before .before .before .before .before .before .before .before .before .before .before .pre .3 in
     let t = c .before .before .test-ballot .ensures in
-    (lent-tests (a .k .modulus) (a .k .ring) (plain (a .k)) (maskOf (a .k)) (a .s .now) (a .ballots .now) (a .claims .now) (a .shares0 .now) (a .shares1 .now) (a .opened .now) (a .at) (a .claim) (a .share) (a .place) (b .ballot-ends) (b .ends0) (b .ends1) (b .ends) (t .0), t .1)
+    record { replied = lent-tests (a .k .modulus) (a .k .ring) (plain (a .k)) (maskOf (a .k)) (a .s .now) (a .ballots .now) (a .claims .now) (a .shares0 .now) (a .shares1 .now) (a .opened .now) (a .at) (a .claim) (a .share) (a .place) (b .ballot-ends) (b .ends0) (b .ends1) (b .ends) (t .replied); kept = t .kept }
 
 pub test-at-spec : {M : Type 1} → statement M
 test-at-spec = tie.close (tie.spec (λ c. omega arith) (λ c. omega arith) (λ c. omega arith) (λ c. omega arith) (λ c. omega arith) (λ c. omega arith) (λ c. omega arith) (λ c. omega arith) (λ c. omega arith) (λ c. omega arith) (λ c. omega arith) (λ c. omega arith) (λ c. omega arith) (λ c. omega arith) (λ c. omega arith) (λ c. omega arith) (λ c. omega arith) (λ c. c .before .before .before .before .before .before .before .before .before .pre .3 .ballot-ends) (λ c. omega arith) (λ c. omega arith) (λ c. omega arith) (λ c. c .before .before .before .before .before .before .before .before .before .before .pre .3 .claim-ends) (λ c. omega arith) (λ c. omega arith) (λ c. c .before .before .before .before .before .before .before .before .before .before .before .pre .3 .ends0) (λ c. omega arith) (λ c. omega arith) (λ c. c .before .before .before .before .before .before .before .before .before .before .before .before .pre .3 .ends1) (λ c. omega arith) (λ c. omega arith) (λ c. c .before .before .before .before .before .before .before .before .before .before .before .before .before .pre .3 .ends) test-ballot-requires (λ c. c .before .work .given) returns)

@@ -26,7 +26,7 @@ returns : tie.Need-returns
 returns c =
     let m = c .before .before .before .mask-within in
     let e = m .ensures .0 ∙ ap₂ (masked (c .before .before .before .before .before .before .before .before .before .before .before .before .before .before .before)) (c .before .before .before .before .before .mask-bound .ensures) (c .before .before .before .before .before .before .plain .ensures) in
-    (first-fails 12 13 (c .before .before .before .before .before .before .before .before .before .before .before .before .before .before .before .args .place) _ _ (ap not (sym e ∙ not-true (m .result) (c .if1 .taken))), m .ensures .1)
+    record { replied = first-fails 12 13 (c .before .before .before .before .before .before .before .before .before .before .before .before .before .before .before .args .place) _ _ (ap not (sym e ∙ not-true (m .result) (c .if1 .taken))); kept = m .ensures .1 }
 
 is-claim-requires : tie.Need-is-claim-requires
 is-claim-requires c κs = let p = c .before .before .before .before .before .before .before .before .before .before .before .before .before .before .before .before .pre in (p .0, p .3, p .4, p .5, c .before .before .before .before .mask-within .ensures .1 ∙ p .7, p .8)
@@ -36,14 +36,14 @@ returns-2 c =
     let m = c .before .before .before .before .before .before .before .before .mask-within in
     let k = c .before .before .before .is-claim in
     let e = m .ensures .0 ∙ ap₂ (masked (c .before .before .before .before .before .before .before .before .before .before .before .before .before .before .before .before .before .before .before .before)) (c .before .before .before .before .before .before .before .before .before .before .mask-bound .ensures) (c .before .before .before .before .before .before .before .before .before .before .before .plain .ensures) in
-    (second-fails 12 13 (c .before .before .before .before .before .before .before .before .before .before .before .before .before .before .before .before .before .before .before .before .args .place) _ _ (ap not (sym e ∙ not-false (m .result) (c .before .before .before .before .before .if1 .left))) (ap not (sym (k .ensures .0) ∙ not-true (k .result) (c .if2 .taken))), k .ensures .1 ∙ m .ensures .1)
+    record { replied = second-fails 12 13 (c .before .before .before .before .before .before .before .before .before .before .before .before .before .before .before .before .before .before .before .before .args .place) _ _ (ap not (sym e ∙ not-false (m .result) (c .before .before .before .before .before .if1 .left))) (ap not (sym (k .ensures .0) ∙ not-true (k .result) (c .if2 .taken))); kept = k .ensures .1 ∙ m .ensures .1 }
 
 returns-3 : tie.Need-returns-3
 returns-3 c =
     let m = c .before .before .before .before .before .before .before .before .mask-within in
     let k = c .before .before .before .is-claim in
     let e = m .ensures .0 ∙ ap₂ (masked (c .before .before .before .before .before .before .before .before .before .before .before .before .before .before .before .before .before .before .before .before)) (c .before .before .before .before .before .before .before .before .before .before .mask-bound .ensures) (c .before .before .before .before .before .before .before .before .before .before .before .plain .ensures) in
-    (both-hold 12 13 (c .before .before .before .before .before .before .before .before .before .before .before .before .before .before .before .before .before .before .before .before .args .place) _ _ (ap not (sym e ∙ not-false (m .result) (c .before .before .before .before .before .if1 .left))) (ap not (sym (k .ensures .0) ∙ not-false (k .result) (c .if2 .left))), k .ensures .1 ∙ m .ensures .1)
+    record { replied = both-hold 12 13 (c .before .before .before .before .before .before .before .before .before .before .before .before .before .before .before .before .before .before .before .before .args .place) _ _ (ap not (sym e ∙ not-false (m .result) (c .before .before .before .before .before .if1 .left))) (ap not (sym (k .ensures .0) ∙ not-false (k .result) (c .if2 .left))); kept = k .ensures .1 ∙ m .ensures .1 }
 
 pub test-ballot-spec : {M : Type 1} → statement M
 test-ballot-spec = tie.close (tie.spec (λ c κs. search needs) (λ c κs. search needs) mask-within-requires (λ c. search needs) returns is-claim-requires (λ c. search needs) returns-2 (λ c. search needs) returns-3)

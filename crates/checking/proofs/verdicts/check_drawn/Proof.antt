@@ -36,9 +36,9 @@ returns-2 c =
     let m = a .held .closed in
     let r = drawnRound (a .held) (x s) in
     let e = c .before .before .before .check-round .ensures in
-    let said = e .0 ∙ ap (λ (y : Round). first (roundTests P m y)) (drawn-round (a .held) (x s) (p .3) (p .4)) in
+    let said = e .replied ∙ ap (λ (y : Round). first (roundTests P m y)) (drawn-round (a .held) (x s) (p .3) (p .4)) in
     let v = c .verdict-of .ensures in
-    (judged P m r v said (c .before .before .before .before .before .before .before .test-lent .ensures) (c .before .before .before .before .before .enum-told .given .1), e .1 ∙ sym (judged-swept P m r v said (a .scratch .now)))
+    (judged P m r v said (c .before .before .before .before .before .before .before .test-lent .ensures) (c .before .before .before .before .before .enum-told .given .1), e .cleared ∙ sym (judged-swept P m r v said (a .scratch .now)))
 
 pub check-drawn-spec : {M : Type 1} → statement M
 check-drawn-spec = tie.close (tie.spec test-lent-requires (λ c. search needs) (λ c κs. search needs) (λ c. search needs) check-round-requires (λ c κs. search needs) (λ c. search needs) returns (λ c. search needs) returns-2)

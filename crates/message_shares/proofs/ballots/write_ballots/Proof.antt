@@ -5,7 +5,7 @@ use native.Mathlib.Omega.{arith}
 use borrow.Author.Needs.{needs}
 use Rattle.codec.specs.Bytes.{zeros}
 use Rattle.sheet_numbers.specs.Plain.{plain}
-use Rattle.message_shares.proofs.BallotWriting.{Sent, sent-first, ballot-asks, places-asks, places-fit, sent-more, sent-all}
+use Rattle.message_shares.proofs.BallotWriting.{Sent, sent-first, ballot-stands, room-fits, places-fit, sent-more, sent-all}
 use Rattle.message_shares.proofs.ballots.write_ballots.Statement.{statement}
 use Rattle.message_shares.proofs.ballots.write_ballots.Tie as tie
 
@@ -26,9 +26,9 @@ ballot-at-requires c κs =
     let a = c .before .before .before .before .before .before .before .before .before .before .before .before .before .before .before .args in
     let p = c .before .before .before .before .before .before .before .before .before .before .before .before .before .before .before .pre in
     let l = c .before .before .before .before .before .loop in
-    let x = ballot-asks (a .k .modulus) (a .k .ring) (plain (a .k)) (a .count) (a .secrets .now) (a .s0 .now) (a .masks0 .now) (a .masks1 .now) (a .ballots .now) (a .shares0 .now) (a .shares1 .now) (a .claims .now) (p .4) (p .5) (p .6) (p .7) (l .j) (l .at) (l .claim) (l .sent) (l .shares0) (l .shares1) (l .claims) (l .work) (l .inv) (omega arith) in
-    let y = places-asks (a .k .modulus) (a .k .ring) (plain (a .k)) (a .count) (a .secrets .now) (a .s0 .now) (a .masks0 .now) (a .masks1 .now) (a .ballots .now) (a .shares0 .now) (a .shares1 .now) (a .claims .now) (p .4) (p .5) (p .6) (p .7) (l .j) (l .at) (l .claim) (l .sent) (l .shares0) (l .shares1) (l .claims) (l .work) (l .inv) (omega arith) in
-    (p .0, p .1, p .2, x .0, x .1, y .0, y .1, record { shares0 = y .2; shares1 = y .3; claims = y .4; scratch = l .inv .long })
+    let x = ballot-stands (a .k .modulus) (a .k .ring) (plain (a .k)) (a .count) (a .secrets .now) (a .s0 .now) (a .masks0 .now) (a .masks1 .now) (a .ballots .now) (a .shares0 .now) (a .shares1 .now) (a .claims .now) (p .4) (p .5) (p .6) (p .7) (l .j) (l .at) (l .claim) (l .sent) (l .shares0) (l .shares1) (l .claims) (l .work) (l .inv) (omega arith) in
+    let y = room-fits (a .k .modulus) (a .k .ring) (plain (a .k)) (a .count) (a .secrets .now) (a .s0 .now) (a .masks0 .now) (a .masks1 .now) (a .ballots .now) (a .shares0 .now) (a .shares1 .now) (a .claims .now) (p .4) (p .5) (p .6) (p .7) (l .j) (l .at) (l .claim) (l .sent) (l .shares0) (l .shares1) (l .claims) (l .work) (l .inv) (omega arith) in
+    (p .0, p .1, p .2, x, y)
 
 -- the places of the next ballot
 add-at-2 : tie.Need-add-at-2 Inv-loop μ-loop

@@ -22,7 +22,12 @@ openings-ranged-requires c κs =
 
 returns : tie.Need-returns
 unfolding extractTests
-returns c = let t = c .before .before .before .before .before .before .openings-ranged in (c .refused .ensures ∙ refuses 5 0 _ _ (ap not (sym (t .ensures (c .before .before .before .before .before .before .before .before .before .before .before .before .before .before .before .before .before .before .before .args .public .now)) ∙ not-true (t .result) (c .before .before .before .before .before .if1 .taken))), c .before .before .before .wipe .ensures)
+returns c =
+    let t = c .before .before .before .before .before .before .openings-ranged in
+    record {
+      replied = c .refused .ensures ∙ refuses 5 0 _ _ (ap not (sym (t .ensures (c .before .before .before .before .before .before .before .before .before .before .before .before .before .before .before .before .before .before .before .args .public .now)) ∙ not-true (t .result) (c .before .before .before .before .before .if1 .taken)));
+      cleared = c .before .before .before .wipe .ensures;
+    }
 
 test-ranged-requires : tie.Need-test-ranged-requires
 test-ranged-requires c κs =
@@ -37,7 +42,10 @@ unfolding extractTests
 returns-2 c =
     let t = c .before .before .before .before .before .openings-ranged in
     let v = c .before .before .test-ranged in
-    (v .ensures .0 ∙ sym (passes 5 0 _ _ (ap not (sym (t .ensures (c .before .before .before .before .before .before .before .before .before .before .before .before .before .before .before .before .before .before .args .public .now)) ∙ not-false (t .result) (c .before .before .before .before .if1 .left)))), v .ensures .1)
+    record {
+      replied = v .ensures .replied ∙ sym (passes 5 0 _ _ (ap not (sym (t .ensures (c .before .before .before .before .before .before .before .before .before .before .before .before .before .before .before .before .before .before .args .public .now)) ∙ not-false (t .result) (c .before .before .before .before .if1 .left))));
+      cleared = v .ensures .cleared;
+    }
 
 pub check-openings-spec : {M : Type 1} → statement M
 check-openings-spec = tie.close (tie.spec openings-ranged-requires (λ c κs. search needs) (λ c κs. search needs) (λ c. search needs) returns test-ranged-requires (λ c. search needs) returns-2)

@@ -21,7 +21,10 @@ returns c =
     let n = a .k .ring in
     let q = a .k .modulus in
     let t = c .before .before .test-ballots .ensures in
-    (t .0 ∙ ap first (votes-alike q n (plain (a .k)) (maskOf (a .k)) (a .count) (a .ballots .now) (a .claims .now) (a .shares0 .now) (a .shares1 .now) (a .opened .now) (alike-s n q (a .opening .now) (c .before .before .before .before .before .before .before .before .before .before .before .before .pre .1) (8 * n - 0) (omega arith))), t .1)
+    record {
+      replied = t .replied ∙ ap first (votes-alike q n (plain (a .k)) (maskOf (a .k)) (a .count) (a .ballots .now) (a .claims .now) (a .shares0 .now) (a .shares1 .now) (a .opened .now) (alike-s n q (a .opening .now) (c .before .before .before .before .before .before .before .before .before .before .before .before .pre .1) (8 * n - 0) (omega arith)));
+      cleared = t .cleared;
+    }
 
 pub test-votes-spec : {M : Type 1} → statement M
 test-votes-spec = tie.close (tie.spec (λ c. search needs) (λ c. search needs) (λ c. search needs) (λ c. search needs) test-ballots-requires (λ c. search needs) returns)

@@ -18,7 +18,7 @@ loop-holds : tie.Need-loop-holds Inv-loop μ-loop
 loop-holds c =
     let s = c .before .before .before in
     let a = s .args in
-    (omega arith, refl, begins (a .text .now) (a .n) (a .out .now) (s .pre) (c .scan-lines .result) (c .scan-lines .ensures))
+    (omega arith, refl, begins (a .text .now) (a .n) (a .out .now) (s .pre) (c .scan-lines .result) (c .scan-lines .ensures .told))
 
 add-write-values : tie.Need-add-write-values Inv-loop μ-loop
 add-write-values c =

@@ -15,7 +15,7 @@ use Rattle.stern_calls.proofs.orders.answer_tests.Tie as tie
 
 returns : tie.Need-returns
 unfolding answerReply
-returns c = (stops 5 _ _ (c .before .before .ring-fits .ensures) (c .refused .ensures) (not-true (c .before .before .ring-fits .result) (c .before .if1 .taken)), (refl, refl))
+returns c = record { replied = stops 5 _ _ (c .before .before .ring-fits .ensures) (c .refused .ensures) (not-true (c .before .before .ring-fits .result) (c .before .if1 .taken)); used = refl; kept = refl }
 
 answer-length-requires : tie.Need-answer-length-requires
 answer-length-requires c κs =
@@ -32,7 +32,7 @@ unfolding answerReply
 returns-2 c =
     let a = c .before .before .before .before .before .before .before .before .before .before .before .before .before .args in
     let at : List ℕ = lengths (a .x .now) (a .r .now) (a .p .now) (a .salts .now) (a .out .now) (a .scratch .now) in
-    (goes 5 _ _ (c .before .before .before .before .before .before .ring-fits .ensures) (not-false (c .before .before .before .before .before .before .ring-fits .result) (c .before .before .before .before .before .if1 .left)) (stops 1 _ _ (c .before .before .material-sized .ensures ∙ ap (λ (m : ℕ). same at (wanted (a .n) m)) (c .before .before .before .before .answer-length .ensures)) (c .refused2 .ensures) (not-true (c .before .before .material-sized .result) (c .before .if2 .taken))), (refl, refl))
+    record { replied = goes 5 _ _ (c .before .before .before .before .before .before .ring-fits .ensures) (not-false (c .before .before .before .before .before .before .ring-fits .result) (c .before .before .before .before .before .if1 .left)) (stops 1 _ _ (c .before .before .material-sized .ensures ∙ ap (λ (m : ℕ). same at (wanted (a .n) m)) (c .before .before .before .before .answer-length .ensures)) (c .refused2 .ensures) (not-true (c .before .before .material-sized .result) (c .before .if2 .taken))); used = refl; kept = refl }
 
 material-ranged-requires : tie.Need-material-ranged-requires
 material-ranged-requires c κs =
@@ -47,7 +47,7 @@ unfolding answerReply
 returns-3 c =
     let a = c .before .before .before .before .before .before .before .before .before .before .before .before .before .before .before .before .args in
     let at : List ℕ = lengths (a .x .now) (a .r .now) (a .p .now) (a .salts .now) (a .out .now) (a .scratch .now) in
-    (goes 5 _ _ (c .before .before .before .before .before .before .before .before .before .ring-fits .ensures) (not-false (c .before .before .before .before .before .before .before .before .before .ring-fits .result) (c .before .before .before .before .before .before .before .before .if1 .left)) (goes 1 _ _ (c .before .before .before .before .before .material-sized .ensures ∙ ap (λ (m : ℕ). same at (wanted (a .n) m)) (c .before .before .before .before .before .before .before .answer-length .ensures)) (not-false (c .before .before .before .before .before .material-sized .result) (c .before .before .before .before .if2 .left)) (c .before .before .material-ranged .ensures .0)), c .before .before .material-ranged .ensures .1)
+    record { replied = goes 5 _ _ (c .before .before .before .before .before .before .before .before .before .ring-fits .ensures) (not-false (c .before .before .before .before .before .before .before .before .before .ring-fits .result) (c .before .before .before .before .before .before .before .before .if1 .left)) (goes 1 _ _ (c .before .before .before .before .before .material-sized .ensures ∙ ap (λ (m : ℕ). same at (wanted (a .n) m)) (c .before .before .before .before .before .before .before .answer-length .ensures)) (not-false (c .before .before .before .before .before .material-sized .result) (c .before .before .before .before .if2 .left)) (c .before .before .material-ranged .ensures .replied)); used = c .before .before .material-ranged .ensures .used; kept = c .before .before .material-ranged .ensures .kept }
 
 pub answer-tests-spec : {M : Type 1} → statement M
 answer-tests-spec = tie.close (tie.spec (λ c κs. search needs) (λ c κs. search needs) returns answer-length-requires material-sized-requires (λ c κs. search needs) (λ c. search needs) returns-2 material-ranged-requires (λ c. search needs) returns-3)

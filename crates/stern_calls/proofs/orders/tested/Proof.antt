@@ -21,7 +21,7 @@ use Rattle.stern_calls.proofs.orders.tested.Tie as tie
 
 returns : tie.Need-returns
 unfolding testReply
-returns c = (stops 5 _ _ (c .before .before .ring-fits .ensures) (c .refused .ensures) (not-true (c .before .before .ring-fits .result) (c .before .if1 .taken)), refl)
+returns c = record { replied = stops 5 _ _ (c .before .before .ring-fits .ensures) (c .refused .ensures) (not-true (c .before .before .ring-fits .result) (c .before .if1 .taken)); used = refl; kept = refl }
 
 answer-length-requires : tie.Need-answer-length-requires
 answer-length-requires c κs =
@@ -38,7 +38,7 @@ unfolding testReply
 returns-2 c =
     let a = c .before .before .before .before .before .before .before .before .before .before .before .before .args in
     let at : List ℕ = length (a .keys .now) ∷ length (a .pairs .now) ∷ length (a .digests .now) ∷ length (a .answer .now) ∷ length (a .scratch .now) ∷ [] in
-    (goes 5 _ _ (c .before .before .before .before .before .before .ring-fits .ensures) (not-false (c .before .before .before .before .before .before .ring-fits .result) (c .before .before .before .before .before .if1 .left)) (stops 1 _ _ (c .before .before .test-sized .ensures ∙ ap (λ (m : ℕ). same at (24 * a .n ∷ 64 * a .n ∷ 96 ∷ m ∷ 1048576 ∷ [])) (c .before .before .before .before .answer-length .ensures)) (c .refused2 .ensures) (not-true (c .before .before .test-sized .result) (c .before .if2 .taken))), refl)
+    record { replied = goes 5 _ _ (c .before .before .before .before .before .before .ring-fits .ensures) (not-false (c .before .before .before .before .before .before .ring-fits .result) (c .before .before .before .before .before .if1 .left)) (stops 1 _ _ (c .before .before .test-sized .ensures ∙ ap (λ (m : ℕ). same at (24 * a .n ∷ 64 * a .n ∷ 96 ∷ m ∷ 1048576 ∷ [])) (c .before .before .before .before .answer-length .ensures)) (c .refused2 .ensures) (not-true (c .before .before .test-sized .result) (c .before .if2 .taken))); used = refl; kept = refl }
 
 test-ranged-requires : tie.Need-test-ranged-requires
 test-ranged-requires c κs =
@@ -53,7 +53,7 @@ unfolding testReply
 returns-3 c =
     let a = c .before .before .before .before .before .before .before .before .before .before .before .before .before .before .args in
     let at : List ℕ = length (a .keys .now) ∷ length (a .pairs .now) ∷ length (a .digests .now) ∷ length (a .answer .now) ∷ length (a .scratch .now) ∷ [] in
-    (goes 5 _ _ (c .before .before .before .before .before .before .before .before .ring-fits .ensures) (not-false (c .before .before .before .before .before .before .before .before .ring-fits .result) (c .before .before .before .before .before .before .before .if1 .left)) (goes 1 _ _ (c .before .before .before .before .test-sized .ensures ∙ ap (λ (m : ℕ). same at (24 * a .n ∷ 64 * a .n ∷ 96 ∷ m ∷ 1048576 ∷ [])) (c .before .before .before .before .before .before .answer-length .ensures)) (not-false (c .before .before .before .before .test-sized .result) (c .before .before .before .if2 .left)) (stops 5 _ _ (c .before .before .test-ranged .ensures) (c .refused3 .ensures) (not-true (c .before .before .test-ranged .result) (c .before .if3 .taken)))), refl)
+    record { replied = goes 5 _ _ (c .before .before .before .before .before .before .before .before .ring-fits .ensures) (not-false (c .before .before .before .before .before .before .before .before .ring-fits .result) (c .before .before .before .before .before .before .before .if1 .left)) (goes 1 _ _ (c .before .before .before .before .test-sized .ensures ∙ ap (λ (m : ℕ). same at (24 * a .n ∷ 64 * a .n ∷ 96 ∷ m ∷ 1048576 ∷ [])) (c .before .before .before .before .before .before .answer-length .ensures)) (not-false (c .before .before .before .before .test-sized .result) (c .before .before .before .if2 .left)) (stops 5 _ _ (c .before .before .test-ranged .ensures) (c .refused3 .ensures) (not-true (c .before .before .test-ranged .result) (c .before .if3 .taken)))); used = refl; kept = refl }
 
 test-answer-requires : tie.Need-test-answer-requires
 test-answer-requires c κs =
@@ -73,7 +73,9 @@ unfolding testReply
 returns-4 c =
     let a = c .before .before .before .before .before .before .before .before .before .before .before .before .before .before .before .before .before .args in
     let at : List ℕ = length (a .keys .now) ∷ length (a .pairs .now) ∷ length (a .digests .now) ∷ length (a .answer .now) ∷ length (a .scratch .now) ∷ [] in
-    (goes 5 _ _ (c .before .before .before .before .before .before .before .before .before .before .before .ring-fits .ensures) (not-false (c .before .before .before .before .before .before .before .before .before .before .before .ring-fits .result) (c .before .before .before .before .before .before .before .before .before .before .if1 .left)) (goes 1 _ _ (c .before .before .before .before .before .before .before .test-sized .ensures ∙ ap (λ (m : ℕ). same at (24 * a .n ∷ 64 * a .n ∷ 96 ∷ m ∷ 1048576 ∷ [])) (c .before .before .before .before .before .before .before .before .before .answer-length .ensures)) (not-false (c .before .before .before .before .before .before .before .test-sized .result) (c .before .before .before .before .before .before .if2 .left)) (goes 5 _ _ (c .before .before .before .before .before .test-ranged .ensures) (not-false (c .before .before .before .before .before .test-ranged .result) (c .before .before .before .before .if3 .left)) (c .before .before .test-answer .ensures .0))), used-answer _ _ _ (ap length (c .before .before .test-answer .ensures .1) ∙ length-replicate {A = ℕ} (length (a .scratch .now)) 0) (a .q) (a .n) (keysOf (a .n) (a .keys .now)) (a .pairs .now) (a .digests .now) (a .place) (a .challenge) (a .answer .now) (c .before .before .test-answer .ensures .0))
+    let e = c .before .before .test-answer .ensures in
+    let l = ap length (e .cleared) ∙ length-replicate {A = ℕ} (length (a .scratch .now)) 0 in
+    record { replied = goes 5 _ _ (c .before .before .before .before .before .before .before .before .before .before .before .ring-fits .ensures) (not-false (c .before .before .before .before .before .before .before .before .before .before .before .ring-fits .result) (c .before .before .before .before .before .before .before .before .before .before .if1 .left)) (goes 1 _ _ (c .before .before .before .before .before .before .before .test-sized .ensures ∙ ap (λ (m : ℕ). same at (24 * a .n ∷ 64 * a .n ∷ 96 ∷ m ∷ 1048576 ∷ [])) (c .before .before .before .before .before .before .before .before .before .answer-length .ensures)) (not-false (c .before .before .before .before .before .before .before .test-sized .result) (c .before .before .before .before .before .before .if2 .left)) (goes 5 _ _ (c .before .before .before .before .before .test-ranged .ensures) (not-false (c .before .before .before .before .before .test-ranged .result) (c .before .before .before .before .if3 .left)) (e .replied))); used = used-answer _ _ _ l (a .q) (a .n) (keysOf (a .n) (a .keys .now)) (a .pairs .now) (a .digests .now) (a .place) (a .challenge) (a .answer .now) (e .replied); kept = l }
 
 pub tested-spec : {M : Type 1} → statement M
 tested-spec = tie.close (tie.spec (λ c κs. search needs) (λ c κs. search needs) returns answer-length-requires test-sized-requires (λ c κs. search needs) (λ c. search needs) returns-2 test-ranged-requires (λ c κs. search needs) (λ c. search needs) returns-3 test-answer-requires (λ c. search needs) returns-4)
