@@ -39,7 +39,7 @@ use Rattle.histories.proofs.Valid.{sheet-exactly}
 use Rattle.histories.proofs.Kept.{Kept, messageDigest, kept}
 use Rattle.histories.proofs.Checked.{reaches-exactly}
 
-reads : (text : Bytes) → SheetTaken text → reading text ≡ reading.Taken (sheetOf text .numbers)
+pub reads : (text : Bytes) → SheetTaken text → reading text ≡ reading.Taken (sheetOf text .numbers)
 unfolding reading
 reads text t = ap (λ (r : Reply). readingBy r (sheetOf text .numbers)) (taken-exactly (order text) .1 (sheet-exactly text .1 t))
 

@@ -13,3 +13,6 @@ pub mod Rounds
 pub mod Ended
 pub mod Lodged
 pub mod OwnTurn
+pub mod Stages
+pub mod Gathered
+pub mod Elections

@@ -55,7 +55,7 @@ sheet-run (x ∷ xs) t (more n u) = sheet-run xs (ownExtend x t) u ∙ sheet-ste
 
 -- ---- a step that is taken
 
-extend-taken : (x : Step) (t : OwnTrace) → reply x (t .now) ≡ Taken
+pub extend-taken : (x : Step) (t : OwnTrace) → reply x (t .now) ≡ Taken
     → (ownExtend x t .now ≡ next x (t .now)) × (ownExtend x t .history ≡ historyAfter x (t .now) (t .history)) × (ownExtend x t .roll ≡ rollAfter x (t .roll))
 unfolding ownExtend after leaves
 extend-taken x t e = (rw e, rw e, rw e)

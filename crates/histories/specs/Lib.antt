@@ -3,3 +3,4 @@ pub mod Sheets
 pub mod Conditions
 pub mod Claims
 pub mod Examples
+pub mod Elections

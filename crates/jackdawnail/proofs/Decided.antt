@@ -64,4 +64,11 @@ orders-as-written = record {
   check-early = λ s round x. refl;
   challenges = λ s round out. refl;
   turnout = λ s reg enrolled. refl;
+  keygen = λ k s e b scratch. refl;
+  encrypt = λ k r e1 e2 m ciphertext scratch. refl;
+  decrypt = λ k s ciphertext vote scratch. refl;
+  split = λ k s e s0 e0 out scratch. refl;
+  share = λ k half u mask t scratch. refl;
+  reconstruct = λ k v t0 t1 vote scratch. refl;
+  commitment = λ k m r pair scratch. refl;
 }

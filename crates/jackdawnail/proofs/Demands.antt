@@ -26,11 +26,12 @@ use Rattle.histories.proofs.Roll.{roll-is-batch, own-register}
 use Rattle.jackdawnail.proofs.HostSteps.{over-images}
 use Rattle.jackdawnail.proofs.HostClaims.{host-stays-out, host-rounds-checked, host-ended-accepted, host-honest-accepted, host-stays-valid, host-only-phase-or-round}
 use Rattle.jackdawnail.proofs.Papers.{sound, distributed, digest-of-bits}
+use Rattle.jackdawnail.proofs.Together.{decrypts-together}
 use Rattle.jackdawnail.proofs.Replies.{replies-told}
 use Rattle.jackdawnail.proofs.AnySession.{any-session}
 use Rattle.jackdawnail.proofs.Endings.{refusal-ends}
 use Rattle.jackdawnail.proofs.Decided.{first-decides, orders-as-written}
-use Rattle.jackdawnail.proofs.FromCalls.{from-calls}
+use Rattle.jackdawnail.proofs.FromCalls.{from-calls, turns-come}
 use Rattle.jackdawnail.proofs.Images.{over-image}
 use Rattle.jackdawnail.proofs.Yields.{extractor-takes}
 use Rattle.jackdawnail.proofs.Produces.{positive, fits, first-exactly, second-call-exactly}
@@ -108,6 +109,7 @@ demand2 = record {
   orders-as-written = orders-as-written;
   honest-ballots = honest-ballots;
   distributed = distributed;
+  decrypts-together = decrypts-together;
   digest-of-bits = digest-of-bits;
   examples = all-examples;
   over-images = over-images;
@@ -125,6 +127,7 @@ demand3 = record {
   takes-accepted = takes-accepted;
   honest-accepted = host-honest-accepted;
   from-calls = from-calls;
+  turns-come = turns-come;
   honest-rounds = honest-rounds;
   any-session = any-session;
   producer-writes = producer-writes;

@@ -28,9 +28,12 @@ use Rattle.session_calls.specs.Images.{Host, hostReply, hostAfter, challengesRe
 use Rattle.histories.specs.Runs.{OwnTrace, ownInitial, ownExtend, ownTrace}
 use Rattle.histories.specs.Claims.{Produced}
 use Rattle.histories.proofs.Reach.{clear-taken}
+use Rattle.histories.specs.Elections.{election}
+use Rattle.histories.proofs.Elections.{ends-accepted}
 use Rattle.histories.proofs.OwnTurn.{Lodges, numbers-are, claims-size, own-turn}
 use Rattle.jackdawnail.specs.HostSteps.{hostRun}
-use Rattle.jackdawnail.specs.FromCalls.{at-claim, at-commit, at-draw, at-end, Conducted, FromCalls}
+use Rattle.jackdawnail.specs.HostClaims.{Starts}
+use Rattle.jackdawnail.specs.FromCalls.{at-claim, at-commit, at-draw, at-end, Conducted, FromCalls, TurnsCome}
 use Rattle.jackdawnail.specs.Produces.{WritesFirst}
 use Rattle.jackdawnail.proofs.HostClaims as hosts
 use Rattle.jackdawnail.proofs.HostClaims.{Keeps, over-step, uncleared}
@@ -44,6 +47,19 @@ unfolding hostRun ownTrace ownExtend
 keeps-run [] h t k = k
 keeps-run (x ∷ xs) h t k = keeps-run xs (hostAfter x h) (ownExtend x t) (over-step x h (t .now) k .1)
 
+-- from a clear that is taken
+keeps-initial : (start : Host) (sheet : Bytes) → Starts start (on sheet) → Keeps (hostAfter (clear (on sheet)) start) (ownInitial (on sheet) .now)
+keeps-initial start sheet s =
+    subst (Keeps (hostAfter (clear (on sheet)) start)) (clear-taken (hosts.st start (on sheet) s) (on sheet) (hosts.taken start (on sheet) s) .1) (hosts.newly start (on sheet) s)
+
+pub turns-come : TurnsCome
+turns-come sheet start m ballot material claims seed s c =
+    let steps = election sheet m ballot material claims seed in
+    let kept = keeps-run steps (hostAfter (clear (on sheet)) start) (ownInitial (on sheet)) (keeps-initial start sheet s) in
+    ap (λ (z : Session). z .progress .phase) (kept .image .session) ∙ ends-accepted sheet m ballot material claims seed c (hosts.readable start (on sheet) s)
+
+-- ---- from the producer's calls to the turn
+
 module _ (sheet : Bytes) (start : Host) (before between later last : List Step) (round : ℕ) (seed : Bytes) (wrote : FirstRoom) (c : Conducted sheet start before between later last round seed wrote) where
   abbrev claims : Bytes
   claims = wrote .claims
@@ -52,8 +68,7 @@ module _ (sheet : Bytes) (start : Host) (before between later last : List Step) 
   committing = commit round (wrote .head) (wrote .shares0) (wrote .shares1)
 
   keeps-new : Keeps (hostAfter (clear (on sheet)) start) (ownInitial (on sheet) .now)
-  keeps-new =
-      subst (Keeps (hostAfter (clear (on sheet)) start)) (clear-taken (hosts.st start (on sheet) (c .starts)) (on sheet) (hosts.taken start (on sheet) (c .starts)) .1) (hosts.newly start (on sheet) (c .starts))
+  keeps-new = keeps-initial start sheet (c .starts)
 
   abbrev h1 : Host
   h1 = at-claim sheet start before between later last round seed wrote

@@ -9,6 +9,7 @@ pub mod Decided
 pub mod FromCalls
 pub mod Papers
 pub mod Produces
+pub mod Together
 pub mod Extracts
 pub mod Yields
 pub mod Replies

@@ -19,6 +19,8 @@ use Rattle.transcript.specs.Writes.{FirstRoom, SecondRoom}
 use Rattle.transcript.specs.Extractor.{Openings, ExtractRoom}
 use Rattle.lengths.specs.Calls.{firstTests, secondTests, openingsTests}
 use Rattle.lengths.specs.Sheets.{parametersOf}
+use Rattle.sheet_numbers.specs.declared.Numbers.{Numbers}
+use Rattle.scheme.specs.Calls.{keygenTests, encryptTests, decryptTests, splitTests, shareTests, reconstructTests, commitmentTests}
 use Rattle.scheme_calls.specs.Orders.{keygenOrder, encryptOrder, decryptOrder, splitOrder, shareOrder, reconstructOrder, commitmentOrder}
 use Rattle.round_calls.specs.Replies.{firstReply, secondReply}
 use Rattle.verification_calls.specs.Replies.{extractReply}
@@ -67,7 +69,7 @@ abbrev pub numbers : List Test → List ℕ
 numbers ts = map (λ (t : Test). t .number) ts
 
 -- "Sheet and clear: 1, 2, 3, 4, 5. Admit: 31, 1, 5, 32, 33, 35. Withdraw: 31, 1, 34, 33. Close: 31, 1, 36. Claim: 31, 1, 5. Commit, draw: 31, 1. Turnout (any phase): 31, 1, 3.
--- Check: 31, the sheet's 1 to 5, 1, 16, 5, 6, 7, 8; .. Remaining calls: 1, 5, 12." The five digests and numbers that 16 compares are five tests
+-- Check: 31, the sheet's 1 to 5, 1, 16, 5, 6, 7, 8; .. then by ballot 12, 13. .. Remaining calls: 1, 5, 12." What 16 compares are five tests; only jdn_share is lent a mask
 pub record OrdersAsWritten : Type 0 where
   pub sheet : (text : Bytes) → numbers (order text) ≡ 1 ∷ 2 ∷ 3 ∷ 4 ∷ 5 ∷ []
   pub admit : (ballot : Bytes) (st : State) → numbers (tests (admit ballot) st) ≡ 31 ∷ 1 ∷ 5 ∷ 32 ∷ 33 ∷ 35 ∷ []
@@ -79,3 +81,10 @@ pub record OrdersAsWritten : Type 0 where
   pub check-early : (s : Session) (round : ℕ) (x : Inputs) → numbers (checkEarly s round x) ≡ 31 ∷ 1 ∷ 2 ∷ 3 ∷ 4 ∷ 5 ∷ 1 ∷ 16 ∷ 16 ∷ 16 ∷ 16 ∷ 16 ∷ []
   pub challenges : (s : Session) (round : ℕ) (out : Bytes) → numbers (challengesTests s round out) ≡ 31 ∷ 1 ∷ []
   pub turnout : (s : Session) (reg : Bytes) (enrolled : ℕ) → numbers (turnoutTests s reg enrolled) ≡ 31 ∷ 1 ∷ 3 ∷ []
+  pub keygen : (k : Numbers) (s e b scratch : Bytes) → numbers (keygenTests k s e b scratch) ≡ 1 ∷ 5 ∷ []
+  pub encrypt : (k : Numbers) (r e1 e2 m ciphertext scratch : Bytes) → numbers (encryptTests k r e1 e2 m ciphertext scratch) ≡ 1 ∷ 5 ∷ []
+  pub decrypt : (k : Numbers) (s ciphertext vote scratch : Bytes) → numbers (decryptTests k s ciphertext vote scratch) ≡ 1 ∷ 5 ∷ []
+  pub split : (k : Numbers) (s e s0 e0 out scratch : Bytes) → numbers (splitTests k s e s0 e0 out scratch) ≡ 1 ∷ 5 ∷ []
+  pub share : (k : Numbers) (half u mask t scratch : Bytes) → numbers (shareTests k half u mask t scratch) ≡ 1 ∷ 5 ∷ 12 ∷ []
+  pub reconstruct : (k : Numbers) (v t0 t1 vote scratch : Bytes) → numbers (reconstructTests k v t0 t1 vote scratch) ≡ 1 ∷ 5 ∷ []
+  pub commitment : (k : Numbers) (m r pair scratch : Bytes) → numbers (commitmentTests k m r pair scratch) ≡ 1 ∷ 5 ∷ []

@@ -33,7 +33,7 @@ use Rattle.session_calls.specs.Images.{host, hostReply}
 use Rattle.histories.specs.Conditions.{SheetTaken, Lent, Takes}
 use Rattle.histories.specs.Claims.{RollIsBatch, OwnRegister}
 use Rattle.histories.specs.Examples.{all-rows}
-use Rattle.jackdawnail.specs.Papers.{Distributed, DigestOfBits}
+use Rattle.jackdawnail.specs.Papers.{Distributed, DecryptsTogether, DigestOfBits}
 use Rattle.jackdawnail.specs.Produces.{WritesFirst, WritesSecond}
 use Rattle.jackdawnail.specs.Extracts.{TakesOpenings}
 use Rattle.jackdawnail.specs.HostSteps.{OverImages}
@@ -42,7 +42,7 @@ use Rattle.jackdawnail.specs.Replies.{RepliesTold}
 use Rattle.jackdawnail.specs.AnySession.{AnySession}
 use Rattle.jackdawnail.specs.Endings.{RefusalEnds}
 use Rattle.jackdawnail.specs.Decided.{FirstDecides, OrdersAsWritten}
-use Rattle.jackdawnail.specs.FromCalls.{FromCalls}
+use Rattle.jackdawnail.specs.FromCalls.{FromCalls, TurnsCome}
 
 -- ---- 2. Everything equals the papers, a round is accepted exactly if every listed check holds, and a withdrawn mark is in no closed batch.
 
@@ -85,6 +85,7 @@ pub record Demand2 : Type 0 where
   pub honest-ballots : HonestBallots
   -- split keys add up, a mask worked out is the mask, reconstruction of two shares equals decryption; and SHA3-256 is FIPS 202's over bits
   pub distributed : Distributed
+  pub decrypts-together : DecryptsTogether
   pub digest-of-bits : DigestOfBits
   pub examples : Examples
   -- what is shown of steps and of lists of steps over sessions holds of the exported calls over images
@@ -184,8 +185,10 @@ pub record Demand3 : Type 0 where
   pub honest-accepted : HostHonestAccepted
   -- and where the host writes no register: from the producer's two calls, claim, commit, draw and challenges to the check
   pub from-calls : FromCalls
+  -- there are such lists: over suitable material every round comes to its turn, and the session ends accepted
+  pub turns-come : TurnsCome
   pub honest-rounds : HonestRounds
-  -- nor does it in any session, whatever bytes the image is
+  -- and the check refuses it for none of those in any session, whatever bytes the image is
   pub any-session : AnySession
   pub producer-writes : ProducerWrites
   -- no call of such a list meets 31 but for wrong phase or round

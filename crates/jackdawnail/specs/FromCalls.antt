@@ -18,6 +18,7 @@ use Rattle.session.specs.Machine.{Step, clear, claim, commit, draw, check}
 use Rattle.image.specs.Image.{decode}
 use Rattle.session_calls.specs.Images.{Host, hostReply, hostAfter, ChallengesCalled}
 use Rattle.histories.specs.Runs.{ownInitial, ownTrace}
+use Rattle.histories.specs.Elections.{Countable, election}
 use Rattle.jackdawnail.specs.HostSteps.{hostRun}
 use Rattle.jackdawnail.specs.HostClaims.{HostUncleared, Starts}
 
@@ -65,3 +66,10 @@ FromCalls = (sheet : Bytes) (start : Host) (before between later last : List Ste
     → length scratch ≡ scratchLength
     → hostReply
     (check round (inputsOf sheet (material .ballots) (wrote .claims) (wrote .head) (wrote .shares0) (wrote .shares1) (second-wrote .opening) (second-wrote .answers) scratch)) h ≡ Taken
+
+-- and turns come, so that this is not empty: over ballots that can be admitted, and material over them for every round, the calls of an election (histories, specs/Elections.antt)
+-- after a clear that is taken leave an image that says ended accepted
+abbrev pub TurnsCome : Type 0
+TurnsCome = (sheet : Bytes) (start : Host) (m : ℕ) (ballot : ℕ → Bytes) (material : ℕ → Material) (claims seed : Bytes) → Starts start (on sheet)
+    → Countable sheet m ballot material claims seed
+    → decode (hostRun (election sheet m ballot material claims seed) (hostAfter (clear (on sheet)) start) .image) .progress .phase ≡ phases.ended-accepted

@@ -1,17 +1,19 @@
 -- Equal to the papers (the second demand): two players decrypt what the key decrypts (document 000, section 6.1, Definition 1 and Theorem 1), and the digest is that of
 -- FIPS 202. Over the definitions that the contracts of the exported calls cite. Assumes nothing.
 use mathlib.Core.Path.{_≡_}
-use Prim.Native.Nat.{ℕ, _<_}
-use Rattle.codec.specs.Bytes.{Bytes, Octets}
+use Prim.Native.Nat.{ℕ, _*_, _<_}
+use Rattle.codec.specs.Bytes.{Bytes, Octets, part}
 use Rattle.codec.specs.Reply.{first}
 use Rattle.codec.specs.declared.Reply.the-variants.{Taken}
 use Rattle.ring.specs.Poly.{Poly, plus, Alike}
+use Rattle.ring.specs.Slots.{coefficientBytes}
 use Rattle.sheet.specs.Sheet.{order}
 use Rattle.sha3.specs.Sponge.{sha3}
 use Rattle.keccak_bits.specs.Sponge.{bitsOf, sha3-256}
 use Rattle.bgv.specs.Scheme.{Wholes, Bounded, Small, key, opened, decrypted, other, share, worked, reconstructed}
 use Rattle.transcript.specs.Round.{Parameters}
 use Rattle.lengths.specs.Sheets.{parametersOf}
+use Rattle.scheme_calls.specs.Orders.{encryptOrder, splitOrder, shareOrder, keyOf, ciphertextOf, voteOf, splitOf, shareOf, voteOfShares}
 
 module _ (P : Parameters) where
   open Parameters P using (q, N, p, B, D, a)
@@ -40,6 +42,23 @@ pub record Distributed : Type 0 where
   pub deal : (text : Bytes) → first (order text) ≡ Taken → (s e s0 e0 : Poly) → Dealt (parametersOf text) s e s0 e0
   pub play : (text : Bytes) → first (order text) ≡ Taken → (s u : Poly) → Played (parametersOf text) s u
   pub reconstruct : (text : Bytes) → first (order text) ≡ Taken → (s u v : Poly) → Reconstructed (parametersOf text) s u v
+
+-- Definition 1 over what the exported calls write: of a ciphertext that jdn_encrypt writes of m, under a key that is the sheet's b, two shares that jdn_share writes with the halves of
+-- the secret that jdn_split was lent and writes reconstruct to m, and so does the secret decrypt it. All four calls are taken, each lent its own room and scratch
+abbrev pub DecryptsTogether : Type 0
+DecryptsTogether = (text s e s0 e0 r e1 e2 m mask0 mask1 : Bytes) (room0 room1 room2 room3 scratch0 scratch1 scratch2 scratch3 : Bytes)
+    → let P = parametersOf text in
+    let n = 8 * P .N in
+    let c = ciphertextOf text r e1 e2 m in
+    let u = part c 0 n in
+    let v = part c n n in
+    let s1 = part (splitOf text s e s0 e0) 0 n in
+    keyOf text s e ≡ coefficientBytes (P .q) (P .N) (P .b)
+    → first (encryptOrder text r e1 e2 m room0 scratch0) ≡ Taken
+    → first (splitOrder text s e s0 e0 room1 scratch1) ≡ Taken
+    → first (shareOrder text s0 u mask0 room2 scratch2) ≡ Taken
+    → first (shareOrder text s1 u mask1 room3 scratch3) ≡ Taken
+    → (voteOf text s c ≡ m) × (voteOfShares text v (shareOf text s0 u mask0) (shareOf text s1 u mask1) ≡ m)
 
 -- SHA3-256 is FIPS 202's, whose sections 3 to 6 are on bits: of every string of bytes
 abbrev pub DigestOfBits : Type 0
