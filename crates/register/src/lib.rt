@@ -4,6 +4,7 @@ ghost use mathlib.Core.Path.{_≡_};
 ghost use Prim.Native.Nat.{_+_, _*_, _≤_};
 ghost use lib.Dec.{eqb};
 ghost use lib.ListN.{length};
+ghost use Rattle.codec.specs.Slices.{given, left};
 ghost use Rattle.codec.specs.Reply.{first, leaves};
 ghost use Rattle.register.specs.Orders.{admissionTests, withdrawalTests};
 ghost use Rattle.register.specs.Register as def;
@@ -14,7 +15,7 @@ pub const REGISTER: usize = 163840;
 // The first of the n entries that has the mark; n where none has.
 pub fn find(reg: &[u8], mark: u32, n: usize) -> usize
     requires { ⌜ 40 * n ≤ length (now reg) ⌝ }
-    ensures { λ r. ⌜ (r ≡ def.find (now (reg .entry)) mark n) × (r ≤ n) ⌝ }
+    ensures { λ r. ⌜ (r ≡ def.find (given reg) mark n) × (r ≤ n) ⌝ }
 {
     let mut i = 0;
     while i < n {
@@ -29,7 +30,7 @@ pub fn find(reg: &[u8], mark: u32, n: usize) -> usize
 // Whether entry i stands.
 pub fn is_standing(reg: &[u8], i: usize) -> bool
     requires { ⌜ 40 * i + 40 ≤ length (now reg) ⌝ }
-    ensures { λ r. ⌜ r ≡ eqb (def.stateAt (now (reg .entry)) i) 1 ⌝ }
+    ensures { λ r. ⌜ r ≡ eqb (def.stateAt (given reg) i) 1 ⌝ }
 {
     reg[40 * i + 4] == 1
 }
@@ -37,7 +38,7 @@ pub fn is_standing(reg: &[u8], i: usize) -> bool
 // Writes the entry of a ballot after n entries.
 fn write_entry(reg: &mut [u8], n: usize, ballot: &[u8])
     requires { ⌜ (40 * n + 40 ≤ length (now reg)) × (4 ≤ length (now ballot)) ⌝ }
-    ensures { λ _. ⌜ now (reg .exit) ≡ def.admitted (now (reg .entry)) n (now (ballot .entry)) ⌝ }
+    ensures { λ _. ⌜ left reg ≡ def.admitted (given reg) n (given ballot) ⌝ }
 {
     let at = 40 * n;
     let digest = sha3::hash(ballot);
@@ -49,9 +50,9 @@ fn write_entry(reg: &mut [u8], n: usize, ballot: &[u8])
 // Admits a ballot after the used entries: 32, 33, 35.
 pub fn admit(reg: &mut [u8], used: usize, ballot: &[u8]) -> Reply
     requires { ⌜ (length (now reg) ≡ def.registerLength) × (used ≤ def.capacity) × (4 ≤ length (now ballot)) ⌝ }
-    ensures reply { λ r. ⌜ r ≡ first (admissionTests (now (reg .entry)) used (def.markOf (now (ballot .entry)))) ⌝ }
-    ensures register { λ _. ⌜ now (reg .exit) ≡ leaves (first (admissionTests (now (reg .entry)) used (def.markOf (now (ballot .entry)))))
-        (def.admitted (now (reg .entry)) used (now (ballot .entry))) (now (reg .entry)) ⌝ }
+    ensures { λ r. ⌜ (r ≡ first (admissionTests (given reg) used (def.markOf (given ballot))))
+        × (left reg ≡ leaves (first (admissionTests (given reg) used (def.markOf (given ballot)))) (def.admitted (given reg) used
+        (given ballot)) (given reg)) ⌝ }
 {
     let i = find(reg, codec::read32(ballot, 0), used);
     if i < used {
@@ -79,7 +80,7 @@ pub fn admit(reg: &mut [u8], used: usize, ballot: &[u8]) -> Reply
 // Writes that entry i is withdrawn.
 fn write_withdrawn(reg: &mut [u8], i: usize)
     requires { ⌜ 40 * i + 40 ≤ length (now reg) ⌝ }
-    ensures { λ _. ⌜ now (reg .exit) ≡ def.withdrawn (now (reg .entry)) i ⌝ }
+    ensures { λ _. ⌜ left reg ≡ def.withdrawn (given reg) i ⌝ }
 {
     codec::write8(reg, 40 * i + 4, 2);
 }
@@ -87,9 +88,9 @@ fn write_withdrawn(reg: &mut [u8], i: usize)
 // Withdraws the first of the used entries that has the mark: 34, 33.
 pub fn withdraw(reg: &mut [u8], used: usize, mark: u32) -> Reply
     requires { ⌜ (length (now reg) ≡ def.registerLength) × (used ≤ def.capacity) ⌝ }
-    ensures reply { λ r. ⌜ r ≡ first (withdrawalTests (now (reg .entry)) used mark) ⌝ }
-    ensures register { λ _. ⌜ now (reg .exit) ≡ leaves (first (withdrawalTests (now (reg .entry)) used mark))
-        (def.withdrawn (now (reg .entry)) (def.find (now (reg .entry)) mark used)) (now (reg .entry)) ⌝ }
+    ensures { λ r. ⌜ (r ≡ first (withdrawalTests (given reg) used mark))
+        × (left reg ≡ leaves (first (withdrawalTests (given reg) used mark)) (def.withdrawn (given reg) (def.find (given reg) mark used))
+        (given reg)) ⌝ }
 {
     let i = find(reg, mark, used);
     if i == used {
@@ -111,7 +112,7 @@ pub fn withdraw(reg: &mut [u8], used: usize, mark: u32) -> Reply
 // How many of the first n entries stand.
 pub fn count_standing(reg: &[u8], n: usize) -> usize
     requires { ⌜ 40 * n ≤ length (now reg) ⌝ }
-    ensures { λ r. ⌜ (r ≡ length (def.standing (now (reg .entry)) n)) × (r ≤ n) ⌝ }
+    ensures { λ r. ⌜ (r ≡ length (def.standing (given reg) n)) × (r ≤ n) ⌝ }
 {
     let mut i = 0;
     let mut count = 0;
@@ -127,7 +128,7 @@ pub fn count_standing(reg: &[u8], n: usize) -> usize
 // The standing ones of the first n entries in thousandths of the enrolled, half up.
 pub fn turnout(reg: &[u8], n: usize, enrolled: u64) -> u32
     requires { ⌜ (40 * n ≤ length (now reg)) × (n ≤ 4096) × (1 ≤ enrolled) × (enrolled ≤ 1000000) ⌝ }
-    ensures { λ r. ⌜ r ≡ def.turnout (now (reg .entry)) n enrolled ⌝ }
+    ensures { λ r. ⌜ r ≡ def.turnout (given reg) n enrolled ⌝ }
 {
     let count = count_standing(reg, n) as u64;
     ((2000 * count + enrolled) / (2 * enrolled)) as u32

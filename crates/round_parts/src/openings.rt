@@ -111,7 +111,8 @@ pub fn test_opening(
 ) -> Reply
     requires { ⌜ Loaded k (now public) × Opened (k .modulus) (k .ring) (now opening) × (length (now work) ≡ scratchLength)
         × (80 * k .ring ≤ length (now head)) × (side < 2) ⌝ }
-    ensures { λ reply. ⌜ Judged (halfTests (parameters k (given public)) (given head) side (openingOf (k .ring) (given opening))) reply (given work) (left work) ⌝ }
+    ensures { λ reply. ⌜ Judged (halfTests (parameters k (given public)) (given head) side (openingOf (k .ring) (given opening))) reply
+        (given work) (left work) ⌝ }
 {
     let n = k.ring as usize;
     if !opens_key(work, k, public, head, 8 * n * side, opening) {
