@@ -5,7 +5,6 @@ ghost use mathlib.Core.Path.{_≡_};
 ghost use Prim.Native.Nat.{ℕ, _+_, _*_, _≤_, _<_};
 ghost use lib.ListN.{length};
 ghost use Rattle.codec.specs.Bytes.{zeros};
-ghost use Rattle.codec.specs.Reply.{first};
 ghost use Rattle.codec.specs.declared.Reply.the-variants.{Refused};
 ghost use Rattle.ring.specs.Slots.{slot};
 ghost use Rattle.sheet_numbers.specs.Plain.{plain, maskOf};
