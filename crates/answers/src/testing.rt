@@ -99,7 +99,8 @@ fn test_permuted(
 fn test_first(work: &mut [u8], d: &[u8], answer: &[u8], place: u32, n: usize, q: u64) -> Reply
     requires { ⌜ (n ≤ 2048) × (3 ≤ q) × (q < 2 ^ 56) × (length (now work) ≡ scratchLength) × (length (now d) ≡ 96)
         × (length (now answer) ≡ 378 * n + 64) × (allBelow q (vector (answer1Of n (now answer) .t)) ≡ true) ⌝ }
-    ensures { λ reply. ⌜ Judged (tests1 q n (keysOf n []) [] (given d) place (answer1Of n (given answer))) reply (given work) (left work) ⌝ }
+    ensures { λ reply. ⌜ Judged (tests1 q n (keysOf n []) [] (given d) place (answer1Of n (given answer))) reply (given work)
+        (left work) ⌝ }
 {
     let reply = test_balanced(
         work,

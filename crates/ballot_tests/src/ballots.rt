@@ -32,9 +32,10 @@ fn test_at(
 ) -> Reply
     requires { ⌜ Polynomial (k .ring) (k .modulus) (now s) × Usable k × (length (now work) ≡ scratchLength)
         × BallotAt (k .modulus) (k .ring) (now ballots) at (now claims) claim (now shares0) (now shares1) (now opened) share ⌝ }
-    ensures { λ reply. ⌜ Tried (voteTests (k .modulus) (k .ring) (plain k) (maskOf k) place (poly (given s)) (slot (given ballots) (at + 4))
-        (slot (given opened) share) (part (given claims) claim (k .ring)) (slot (given ballots) (at + 4 + 8 * k .ring))
-        (slot (given shares0) share) (slot (given shares1) share)) reply (given work) (left work) ⌝ }
+    ensures { λ reply. ⌜ Tried (voteTests (k .modulus) (k .ring) (plain k) (maskOf k) place (poly (given s))
+        (slot (given ballots) (at + 4)) (slot (given opened) share) (part (given claims) claim (k .ring))
+        (slot (given ballots) (at + 4 + 8 * k .ring)) (slot (given shares0) share) (slot (given shares1) share)) reply (given work)
+        (left work) ⌝ }
 {
     let n = k.ring as usize;
     let end = share + 8 * n;
@@ -67,8 +68,8 @@ pub fn test_ballots(
     requires { ⌜ Polynomial (k .ring) (k .modulus) (now s) × Usable k × (length (now work) ≡ scratchLength) × (count ≤ 4096)
         × Batch (k .modulus) (k .ring) count (now ballots) (now claims) × Shares (k .modulus) (k .ring) count (now shares0)
         × Shares (k .modulus) (k .ring) count (now shares1) × Shares (k .modulus) (k .ring) count (now opened) ⌝ }
-    ensures { λ reply. ⌜ Judged (votesTests (k .modulus) (k .ring) (plain k) (maskOf k) count (poly (given s)) (given ballots) (given claims)
-        (given shares0) (given shares1) (given opened)) reply (given work) (left work) ⌝ }
+    ensures { λ reply. ⌜ Judged (votesTests (k .modulus) (k .ring) (plain k) (maskOf k) count (poly (given s)) (given ballots)
+        (given claims) (given shares0) (given shares1) (given opened)) reply (given work) (left work) ⌝ }
 {
     let n = k.ring as usize;
     let mut j = 0;

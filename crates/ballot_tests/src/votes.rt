@@ -11,7 +11,7 @@ ghost use Rattle.ring.specs.Poly.{Below};
 ghost use Rattle.ring.specs.Slots.{poly};
 ghost use Rattle.sheet_numbers.specs.Plain.{plain, maskOf};
 ghost use Rattle.sheet_numbers.specs.Usable.{Usable};
-ghost use Rattle.call.specs.Call.{scratchLength, Polynomial, Tried};
+ghost use Rattle.call.specs.Call.{scratchLength, Polynomial, Tried, Free};
 ghost use Rattle.bgv.specs.Scheme as scheme;
 ghost use Rattle.bgv.specs.Scheme.{rebuilt};
 ghost use Rattle.ballot_tests.specs.Vote.{voteTests};
@@ -39,9 +39,8 @@ fn is_vote(work: &[u8], k: Numbers, claim: &[u8]) -> bool
 fn is_claim(work: &mut [u8], k: Numbers, claim: &[u8], v: &[u8], t0: &[u8], t1: &[u8]) -> bool
     requires { ⌜ Usable k × Polynomial (k .ring) (k .modulus) (now v) × Polynomial (k .ring) (k .modulus) (now t0)
         × Polynomial (k .ring) (k .modulus) (now t1) × (length (now work) ≡ scratchLength) × (length (now claim) ≡ k .ring) ⌝ }
-    ensures { λ r. ⌜ (r ≡ same (given claim) (list (k .ring)
-        (scheme.plain (k .modulus) (plain k) (rebuilt (k .modulus) (poly (given v)) (poly (given t0)) (poly (given t1))))))
-        × (length (left work) ≡ length (given work)) ⌝ }
+    ensures { λ r. ⌜ (r ≡ same (given claim) (list (k .ring) (scheme.plain (k .modulus) (plain k) (rebuilt (k .modulus) (poly (given v))
+        (poly (given t0)) (poly (given t1)))))) × Free (given work) (left work) ⌝ }
 {
     bgv::rebuilt(work, v, t0, t1, k.ring as usize, k.modulus);
     is_vote(work, k, claim)
@@ -64,8 +63,8 @@ pub fn test_ballot(
         × Polynomial (k .ring) (k .modulus) (now v) × Polynomial (k .ring) (k .modulus) (now t0)
         × Polynomial (k .ring) (k .modulus) (now t1) × Polynomial (k .ring) (k .modulus) (now t) × (length (now work) ≡ scratchLength)
         × (length (now claim) ≡ k .ring) ⌝ }
-    ensures { λ reply. ⌜ Tried (voteTests (k .modulus) (k .ring) (plain k) (maskOf k) place (poly (given s)) (poly (given u)) (poly (given t))
-        (given claim) (poly (given v)) (poly (given t0)) (poly (given t1))) reply (given work) (left work) ⌝ }
+    ensures { λ reply. ⌜ Tried (voteTests (k .modulus) (k .ring) (plain k) (maskOf k) place (poly (given s)) (poly (given u))
+        (poly (given t)) (given claim) (poly (given v)) (poly (given t0)) (poly (given t1))) reply (given work) (left work) ⌝ }
 {
     let p = sheet_numbers::plain(k);
     let bound = sheet_numbers::mask_bound(k);

@@ -4,6 +4,7 @@
 ghost use mathlib.Core.Path.{_≡_};
 ghost use Prim.Native.Nat.{_+_, _*_, _%_, _≤_, _<_, _^_};
 ghost use lib.ListN.{length};
+ghost use Rattle.codec.specs.Slices.{given, left};
 ghost use Rattle.codec.specs.Bytes.{put};
 ghost use Rattle.codec.specs.Lists.{list, allBelow};
 ghost use Rattle.modular.specs.Modulo.{centre};
@@ -11,7 +12,7 @@ ghost use Rattle.modular.specs.Division.{Coprime, divide};
 ghost use Rattle.ring.specs.Poly.{plus, minus, mul, Below};
 ghost use Rattle.ring.specs.Slots.{coefficientBytes, poly, slot, encode};
 ghost use Rattle.ring.specs.Ternary.{ternary};
-ghost use Rattle.call.specs.Call.{scratchLength, coefficients, Polynomial, Stands};
+ghost use Rattle.call.specs.Call.{scratchLength, coefficients, Polynomial, Stands, Free};
 ghost use Rattle.bgv.specs.Scheme as scheme;
 ghost use Rattle.bgv.specs.Scheme.{lentMask, within};
 
@@ -246,8 +247,8 @@ pub fn mask_within(
 ) -> bool
     requires { ⌜ Polynomial n q (now half) × Polynomial n q (now u) × Polynomial n q (now t) × (length (now work) ≡ scratchLength)
         × (0 < p) × (p ≤ 251) × Coprime p q ⌝ }
-    ensures { λ r. ⌜ r ≡ within bound n (scheme.worked q n p (poly (now (half .entry))) (poly (now (u .entry))) (poly (now (t .entry)))) ⌝ }
-    ensures { λ _. ⌜ length (now (work .exit)) ≡ length (now (work .entry)) ⌝ }
+    ensures { λ r. ⌜ (r ≡ within bound n (scheme.worked q n p (poly (given half)) (poly (given u)) (poly (given t))))
+        × Free (given work) (left work) ⌝ }
 {
     codec::copy(work, 0, half);
     less_product(work, u, t, n, q);

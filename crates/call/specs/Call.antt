@@ -17,6 +17,10 @@ use Rattle.ring.specs.Slots.{coefficientBytes, poly}
 abbrev pub scratchLength : ℕ
 scratchLength = 1048576
 
+-- scratch that a function leaves free, for its caller to zero or to use on: it is as long as before
+abbrev pub Free : (scratch scratch' : Bytes) → Type 0
+Free scratch scratch' = length scratch' ≡ length scratch
+
 -- what a call leaves in scratch, of any length
 unfoldable pub swept : Reply → Bytes → Bytes
 swept r w = cond (eqb (numberOf r) 1 || eqb (numberOf r) 31) w (zeros (length w))
@@ -40,10 +44,10 @@ pub record Judged (tests : List Test) (reply : Reply) (scratch scratch' : Bytes)
   pub replied : reply ≡ first tests
   pub cleared : scratch' ≡ zeros (length scratch)
 
--- an inner step, whose caller zeroes scratch: what stands in it is free, and it is as long as before
+-- an inner step, which leaves scratch free
 pub record Tried (tests : List Test) (reply : Reply) (scratch scratch' : Bytes) : Type 0 where
   pub replied : reply ≡ first tests
-  pub kept : length scratch' ≡ length scratch
+  pub kept : Free scratch scratch'
 
 -- ---- tests of lent slices
 
@@ -78,7 +82,7 @@ pub record Polynomial (n q : ℕ) (a : Bytes) : Type 0 where
 
 -- ---- what stands in scratch
 
--- the polynomial f modulo q stands at the head of scratch, in bytes; the length is as before
+-- the polynomial f modulo q stands at the head of scratch, in bytes; the rest is free
 pub record Stands (q n : ℕ) (f : Poly) (w w' : Bytes) : Type 0 where
-  pub sized : length w' ≡ length w
+  pub sized : Free w w'
   pub bytes : part w' 0 (8 * n) ≡ coefficientBytes q n f

@@ -74,8 +74,8 @@ fn check_votes(
     requires { ⌜ Usable k × Opened (k .modulus) (k .ring) (now opening) × (length (now work) ≡ scratchLength) × (count ≤ 4096)
         × Batch (k .modulus) (k .ring) count (now ballots) (now claims) × Shares (k .modulus) (k .ring) count (now shares0)
         × Shares (k .modulus) (k .ring) count (now shares1) ⌝ }
-    ensures { λ reply. ⌜ Judged (votesTests (k .modulus) (k .ring) (plain k) (maskOf k) count (slot (given opening) 0)
-        (given ballots) (given claims) (given shares0) (given shares1) (ofSide side (given shares0) (given shares1))) reply (given work) (left work) ⌝ }
+    ensures { λ reply. ⌜ Judged (votesTests (k .modulus) (k .ring) (plain k) (maskOf k) count (slot (given opening) 0) (given ballots)
+        (given claims) (given shares0) (given shares1) (ofSide side (given shares0) (given shares1))) reply (given work) (left work) ⌝ }
 {
     if side == 0 {
         return test_votes(

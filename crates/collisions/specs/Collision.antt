@@ -5,7 +5,7 @@ use Prim.Native.Nat.{ℕ, _*_, _≤_}
 use lib.ListN.{length}
 use Rattle.codec.specs.Bytes.{Bytes, same, zeros}
 use Rattle.codec.specs.Lists.{allBelow}
-use Rattle.call.specs.Call.{scratchLength}
+use Rattle.call.specs.Call.{scratchLength, Free}
 use Rattle.commitment.specs.Commitment.{PublicKeys}
 use Rattle.vector.specs.Vector.{vector}
 use Rattle.vector.specs.Permutation.{entries, permutes}
@@ -40,16 +40,16 @@ pub record Masked (q N : ℕ) (u r : Bytes) : Type 0 where
 
 -- ---- what the functions come to
 
--- two strings were compared, by way of scratch; what stands in it is free, and it is as long as before
+-- two strings were compared, by way of scratch, which is left free
 pub record Compared (s t : Bytes) (yes : Bool) (work work' : Bytes) : Type 0 where
   pub told : yes ≡ same s t
-  pub kept-work : length work' ≡ length work
+  pub kept-work : Free work work'
 
 -- the same, by way of scratch and of a room
 pub record ComparedBy (s t : Bytes) (yes : Bool) (work work' room room' : Bytes) : Type 0 where
   pub told : yes ≡ same s t
-  pub kept-work : length work' ≡ length work
-  pub kept-room : length room' ≡ length room
+  pub kept-work : Free work work'
+  pub kept-room : Free room room'
 
 -- the lowest of three comparisons that failed, 0 if none did
 abbrev pub lowestOf : (one two three : Bool) → ℕ

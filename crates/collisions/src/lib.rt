@@ -86,8 +86,8 @@ fn equations_agree(
 ) -> bool
     requires { ⌜ Ground q n (now k) (now c) (now work) (now room) × Masked q n (now u) (now r) ⌝ }
     ensures { λ yes. ⌜ ComparedBy (words (subtract q (equations q n (keysOf n (given k)) (take (14 * n) (vector (given u))))
-        (sides q n (given c)))) (words (equations q n (keysOf n (given k)) (take (14 * n) (vector (given r))))) yes (given work) (left work)
-        (given room) (left room) ⌝ }
+        (sides q n (given c)))) (words (equations q n (keysOf n (given k)) (take (14 * n) (vector (given r))))) yes (given work)
+        (left work) (given room) (left room) ⌝ }
 {
     if !pairs_agree(work, room, k, c, u, r, 2 * n, 0, 0, n, q) {
         return false;
@@ -254,8 +254,8 @@ pub fn collision(
 ) -> u8
     requires { ⌜ Ground q n (now k) (now c) (now work) (now room) × Answers q n (now answer1) (now answer2) (now answer3) ⌝ }
     ensures { λ digest. let s = setting q n (keysOf n (given k)) (given c) in
-        ⌜ Searched s (answer1Of n (given answer1)) (answer2Of n (given answer2)) (answer3Of n (given answer3)) digest (given work) (left work)
-        (given room) (left room) ⌝ }
+        ⌜ Searched s (answer1Of n (given answer1)) (answer2Of n (given answer2)) (answer3Of n (given answer3)) digest (given work)
+        (left work) (given room) (left room) ⌝ }
 {
     let one = first_agrees(work, room, k, c, answer2, answer3, n, q);
     let two = second_agrees(work, answer1, answer3, n);

@@ -9,7 +9,7 @@ use Rattle.codec.specs.Bytes.{Bytes, part, put, zeros, same}
 use Rattle.ring.specs.Poly.{Poly, plus, minus, mul, Alike}
 use Rattle.ring.specs.Slots.{coefficientBytes, slot, encode, store}
 use Rattle.ring.specs.Ternary.{ternary}
-use Rattle.call.specs.Call.{Polynomial}
+use Rattle.call.specs.Call.{Free, Polynomial}
 
 -- the public k1, k2, k3
 pub record Keys : Type 0 where
@@ -97,8 +97,8 @@ withThree n w r = put (put (put w 0 (encode n (r .r1))) 16384 (encode n (r .r2))
 abbrev pub threeAt : Bytes → Three
 threeAt w = record { r1 = slot w 0; r2 = slot w 16384; r3 = slot w 32768 }
 
--- a pair stands in scratch, in bytes: its first half where r1 stood, its second where m stood; the length is as before
+-- a pair stands in scratch, in bytes: its first half where r1 stood, its second where m stood; the rest is free
 pub record PairStands (q N : ℕ) (c : Pair) (w w' : Bytes) : Type 0 where
-  pub sized : length w' ≡ length w
+  pub sized : Free w w'
   pub one : part w' 0 (8 * N) ≡ coefficientBytes q N (c .one)
   pub two : part w' 49152 (8 * N) ≡ coefficientBytes q N (c .two)

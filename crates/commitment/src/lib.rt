@@ -4,9 +4,10 @@
 ghost use mathlib.Core.Path.{_≡_};
 ghost use Prim.Native.Nat.{_+_, _*_, _≤_};
 ghost use lib.ListN.{length};
+ghost use Rattle.codec.specs.Slices.{given, left};
 ghost use Rattle.ring.specs.Poly.{Below};
 ghost use Rattle.ring.specs.Slots.{poly, slot, Slots};
-ghost use Rattle.call.specs.Call.{scratchLength, Polynomial};
+ghost use Rattle.call.specs.Call.{scratchLength, Polynomial, Free};
 ghost use Rattle.commitment.specs.Commitment.{keysOf, threeOf, threeAt, committed, opens, PublicKeys, PairStands, withProduct};
 ghost use Rattle.commitment.specs.Commitment.{withThree};
 
@@ -71,9 +72,8 @@ pub fn pair(work: &mut [u8], k: &[u8], m: &[u8], r: &[u8], n: usize, q: u64)
 pub fn opens(work: &mut [u8], k: &[u8], halves: &[u8], m: &[u8], r: &[u8], n: usize, q: u64) -> bool
     requires { ⌜ PublicKeys n q (now k) × Polynomial n q (now m) × (length (now r) ≡ 3 * n) × (length (now work) ≡ scratchLength)
         × (length (now halves) ≡ 16 * n) ⌝ }
-    ensures { λ yes. ⌜ yes ≡ opens q n (keysOf n (now (k .entry))) (now (halves .entry)) (threeOf q n (now (r .entry)))
-        (poly (now (m .entry))) ⌝ }
-    ensures { λ _. ⌜ length (now (work .exit)) ≡ length (now (work .entry)) ⌝ }
+    ensures { λ yes. ⌜ (yes ≡ opens q n (keysOf n (given k)) (given halves) (threeOf q n (given r)) (poly (given m)))
+        × Free (given work) (left work) ⌝ }
 {
     pair(work, k, m, r, n, q);
     if !codec::equal(&halves[0..8 * n], &work[0..8 * n]) {

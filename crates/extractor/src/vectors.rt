@@ -9,7 +9,7 @@ ghost use Rattle.codec.specs.Bytes.{put, zeros, same};
 ghost use Rattle.codec.specs.Slices.{given, left};
 ghost use Rattle.ring.specs.Poly.{modulo};
 ghost use Rattle.ring.specs.Slots.{encode};
-ghost use Rattle.call.specs.Call.{scratchLength};
+ghost use Rattle.call.specs.Call.{scratchLength, Free};
 ghost use Rattle.stern.specs.Shortness.{polynomial};
 ghost use Rattle.transcript.specs.Extractor.{ternaryBytes};
 ghost use Rattle.collisions.specs.Collision.{Masked};
@@ -77,9 +77,9 @@ fn vanishes(
 ) -> bool
     requires { ⌜ (n ≤ 2048) × (3 ≤ q) × (q < 2 ^ 56) × (length (now r0) ≡ 3 * n) × (length (now r1) ≡ 3 * n) × Masked q n (now u) (now r)
         × (first + 6 * n ≤ 14 * n) × (length (now out) ≡ 24 * n) × (length (now work) ≡ scratchLength) ⌝ }
-    ensures { λ yes. ⌜ yes ≡ same (left out) (zeros (24 * n)) ⌝ }
-    ensures { λ _. ⌜ (left out ≡ encode (3 * n) (modulo q (excess q n (given r0) (given r1) (unknownsOf q n (given u) (given r)) first)))
-        × (length (left work) ≡ length (given work)) ⌝ }
+    ensures { λ yes. ⌜ (yes ≡ same (left out) (zeros (24 * n)))
+        × ((left out ≡ encode (3 * n) (modulo q (excess q n (given r0) (given r1) (unknownsOf q n (given u) (given r)) first)))
+        × Free (given work) (left work)) ⌝ }
 {
     write_excess(out, r0, r1, u, r, first, n, q);
     vector::clear(work, 0, 24 * n);
@@ -138,7 +138,7 @@ pub fn solve(
     requires { ⌜ (n ≤ 2048) × (3 ≤ q) × (q < 2 ^ 56) × (length (now work) ≡ scratchLength) × (length (now out) ≡ 24 * n)
         × (length (now opening0) ≡ 22 * n) × (length (now opening1) ≡ 22 * n) × Masked q n (now u) (now r) ⌝ }
     ensures { λ kind. let z = unknownsOf q n (given u) (given r) in ⌜ (kind ≡ solvedBy q n (given opening0) (given opening1) z)
-        × ((left out ≡ writtenBy q n (given opening0) (given opening1) z) × (length (left work) ≡ length (given work))) ⌝ }
+        × ((left out ≡ writtenBy q n (given opening0) (given opening1) z) × Free (given work) (left work)) ⌝ }
 {
     let s = 16 * n;
     let e = 19 * n;

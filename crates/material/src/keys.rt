@@ -8,7 +8,7 @@ ghost use Rattle.ring.specs.Slots.{coefficientBytes, poly};
 ghost use Rattle.ring.specs.Ternary.{ternary};
 ghost use Rattle.sheet_numbers.specs.Plain.{plain};
 ghost use Rattle.sheet_numbers.specs.Usable.{Usable};
-ghost use Rattle.call.specs.Call.{scratchLength, Polynomial};
+ghost use Rattle.call.specs.Call.{scratchLength, Polynomial, Free};
 ghost use Rattle.bgv.specs.Scheme.{key};
 ghost use Rattle.commitment.specs.Loaded.{Loaded};
 ghost use Rattle.codec.specs.Slices.{given, left};
@@ -22,7 +22,7 @@ fn is_key(work: &mut [u8], k: Numbers, a: &[u8], b: &[u8], s: &[u8], e: &[u8]) -
     ensures { λ r. let q = k .modulus in
         let made = key q (k .ring) (plain k) (poly (given a)) (ternary q (given s)) (ternary q (given e)) in
         ⌜ (r ≡ same (coefficientBytes q (k .ring) made) (coefficientBytes q (k .ring) (poly (given b))))
-        × (length (left work) ≡ length (given work)) ⌝ }
+        × Free (given work) (left work) ⌝ }
 {
     let n = k.ring as usize;
     bgv::noisy(work, a, s, e, sheet_numbers::plain(k), n, k.modulus);
@@ -32,7 +32,7 @@ fn is_key(work: &mut [u8], k: Numbers, a: &[u8], b: &[u8], s: &[u8], e: &[u8]) -
 // The same of the sheet's a and b, and of the secrets, which begin with s and e.
 pub fn matches(work: &mut [u8], k: Numbers, public: &[u8], secrets: &[u8]) -> bool
     requires { ⌜ Loaded k (now public) × (length (now work) ≡ scratchLength) × (length (now secrets) ≡ 14 * k .ring) ⌝ }
-    ensures { λ r. ⌜ (r ≡ keyMatches (parameters k (given public)) (given secrets)) × (length (left work) ≡ length (given work)) ⌝ }
+    ensures { λ r. ⌜ (r ≡ keyMatches (parameters k (given public)) (given secrets)) × Free (given work) (left work) ⌝ }
 {
     let n = k.ring as usize;
     is_key(

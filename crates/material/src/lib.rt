@@ -15,7 +15,7 @@ ghost use lib.ListN.{length};
 ghost use Rattle.codec.specs.Bytes.{zeros};
 ghost use Rattle.codec.specs.Reply.{first, leaves};
 ghost use Rattle.sheet_numbers.specs.Plain.{noiseOf, maskOf};
-ghost use Rattle.call.specs.Call.{scratchLength};
+ghost use Rattle.call.specs.Call.{scratchLength, Free};
 ghost use Rattle.commitment.specs.Loaded.{Loaded};
 ghost use Rattle.transcript.specs.Layout.{ballotLength};
 ghost use Rattle.codec.specs.Slices.{given, left};
@@ -43,7 +43,7 @@ fn test_secret(
         × (length (now ballots) ≡ ballotLength (k .ring) * count) ⌝ }
     ensures { λ reply. let P = parameters k (given public) in
         ⌜ (reply ≡ first (secretTests P count asked (given secrets) (given s0) (given e0) (given vectors) (given ballots)))
-        × (length (left work) ≡ length (given work)) ⌝ }
+        × Free (given work) (left work) ⌝ }
 {
     if !asked {
         return Reply::Refused {

@@ -10,7 +10,7 @@ ghost use Rattle.ring.specs.Poly.{Below};
 ghost use Rattle.ring.specs.Slots.{poly, slot};
 ghost use Rattle.ring.specs.Ternary.{ternary};
 ghost use Rattle.sheet_numbers.specs.Plain.{noiseOf};
-ghost use Rattle.call.specs.Call.{scratchLength, Polynomial};
+ghost use Rattle.call.specs.Call.{scratchLength, Polynomial, Free};
 ghost use Rattle.bgv.specs.Scheme.{centred, opened, within};
 ghost use Rattle.transcript.specs.Layout.{ballotLength, ballotsBelow};
 ghost use Rattle.codec.specs.Slices.{given, left};
@@ -37,7 +37,7 @@ fn head_within(work: &[u8], bound: u64, n: usize, q: u64) -> bool
 fn is_quiet(work: &mut [u8], s: &[u8], u: &[u8], v: &[u8], bound: u64, n: usize, q: u64) -> bool
     requires { ⌜ Polynomial n q (now u) × Polynomial n q (now v) × (length (now work) ≡ scratchLength) × (length (now s) ≡ n) ⌝ }
     ensures { λ r. ⌜ (r ≡ within bound n (centred q (opened q n (ternary q (given s)) (poly (given u)) (poly (given v)))))
-        × (length (left work) ≡ length (given work)) ⌝ }
+        × Free (given work) (left work) ⌝ }
 {
     bgv::opened(work, s, u, v, n, q);
     head_within(work, bound, n, q)
@@ -57,7 +57,7 @@ fn is_quiet_at(
         × (at + 4 + 16 * n ≤ length (now ballots)) × Below q (2 * n) (slot (now ballots) (at + 4)) ⌝ }
     ensures { λ r. let u = slot (given ballots) (at + 4) in let v = slot (given ballots) (at + 4 + 8 * n) in
         ⌜ (r ≡ within bound n (centred q (opened q n (ternary q (sIn n (given secrets))) u v)))
-        × (length (left work) ≡ length (given work)) ⌝ }
+        × Free (given work) (left work) ⌝ }
 {
     let from = at + 4;
     let middle = from + 8 * n;
@@ -85,7 +85,7 @@ pub fn test_noise(
         × (length (now ballots) ≡ ballotLength (k .ring) * count)
         × (ballotsBelow (k .modulus) (k .ring) count (now ballots) ≡ true) ⌝ }
     ensures { λ reply. ⌜ (reply ≡ first (noiseTests (k .modulus) (k .ring) (noiseOf k) count (given secrets) (given ballots)))
-        × (length (left work) ≡ length (given work)) ⌝ }
+        × Free (given work) (left work) ⌝ }
 {
     let n = k.ring as usize;
     let q = k.modulus;

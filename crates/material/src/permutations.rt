@@ -5,7 +5,7 @@ ghost use mathlib.Core.Path.{_≡_};
 ghost use Prim.Native.Nat.{_*_};
 ghost use lib.ListN.{length};
 ghost use Rattle.codec.specs.Reply.{first};
-ghost use Rattle.call.specs.Call.{scratchLength};
+ghost use Rattle.call.specs.Call.{scratchLength, Free};
 ghost use Rattle.codec.specs.Slices.{given, left};
 ghost use Rattle.transcript.specs.Producer.{permutationTests};
 ghost use Rattle.sheet_numbers.specs.Usable.{Usable};
@@ -14,7 +14,7 @@ ghost use Rattle.sheet_numbers.specs.Usable.{Usable};
 pub fn test_permutations(work: &mut [u8], k: Numbers, permutations: &[u8]) -> Reply
     requires { ⌜ Usable k × (length (now work) ≡ scratchLength) × (length (now permutations) ≡ 168 * k .ring * k .repeats) ⌝ }
     ensures { λ reply. ⌜ (reply ≡ first (permutationTests (k .ring) (k .repeats) (given permutations)))
-        × (length (left work) ≡ length (given work)) ⌝ }
+        × Free (given work) (left work) ⌝ }
 {
     let n = k.ring as usize;
     let repeats = k.repeats as usize;

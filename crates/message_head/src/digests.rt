@@ -4,7 +4,7 @@ ghost use mathlib.Core.Path.{_≡_};
 ghost use Prim.Native.Nat.{_+_, _*_, _≤_};
 ghost use lib.ListN.{length};
 ghost use Rattle.codec.specs.Bytes.{part, put};
-ghost use Rattle.call.specs.Call.{scratchLength};
+ghost use Rattle.call.specs.Call.{scratchLength, Free};
 ghost use Rattle.commitment.specs.Commitment.{keysOf, PublicKeys};
 ghost use Rattle.stern.specs.Shortness.{Material, drawnOf, honestDigests};
 ghost use Rattle.commitment.specs.Loaded.{keyBytes, Loaded};
@@ -37,7 +37,7 @@ fn digests_at(
     ensures { λ _. let drawn = drawnOf (part (given permutations) permutation (168 * n)) (part (given vectors) vector (336 * n))
         (part (given salts) salt 96) in
         ⌜ (left out ≡ put (given out) at (honestDigests q n (keysOf n (given k)) (given secrets) drawn))
-        × (length (left work) ≡ length (given work)) ⌝ }
+        × Free (given work) (left work) ⌝ }
 {
     answer_writing::write_digests(
         out,
@@ -69,7 +69,7 @@ pub fn write_digests(
     ensures { λ _. let digests = digestsBytes (k .modulus) (k .ring) (k .repeats) (given secrets) (given vectors) (given permutations)
         (given salts) in
         ⌜ (left head ≡ put (given head) (80 * k .ring) (digests (keysOf (k .ring) (keyBytes k (given public)))))
-        × (length (left work) ≡ length (given work)) ⌝ }
+        × Free (given work) (left work) ⌝ }
 {
     let n = k.ring as usize;
     let q = k.modulus;

@@ -9,7 +9,7 @@ ghost use lib.ListN.{length};
 ghost use Rattle.codec.specs.Bytes.{put, zeros};
 ghost use Rattle.ring.specs.Slots.{poly};
 ghost use Rattle.sheet_numbers.specs.Plain.{plain};
-ghost use Rattle.call.specs.Call.{scratchLength, Polynomial};
+ghost use Rattle.call.specs.Call.{scratchLength, Polynomial, Free};
 ghost use Rattle.commitment.specs.Loaded.{aOf, Loaded};
 ghost use Rattle.transcript.specs.Layout.{headLength};
 ghost use Rattle.codec.specs.Slices.{given, left};
@@ -31,7 +31,7 @@ fn write_keys(
         × (length (now secrets) ≡ 14 * k .ring) × (length (now work) ≡ scratchLength) × (16 * k .ring ≤ length (now head)) ⌝ }
     ensures { λ _. let a = poly (aOf k (given public)) in
         let b = keyBytesOf (k .modulus) (k .ring) (given secrets) (given s0) (given e0) (plain k) a in
-        ⌜ (left head ≡ put (given head) 0 (b 0 ++ b 1)) × (length (left work) ≡ length (given work)) ⌝ }
+        ⌜ (left head ≡ put (given head) 0 (b 0 ++ b 1)) × Free (given work) (left work) ⌝ }
 {
     let n = k.ring as usize;
     let p = sheet_numbers::plain(k);

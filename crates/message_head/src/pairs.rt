@@ -7,7 +7,7 @@ ghost use lib.ListN.{length};
 ghost use Rattle.codec.specs.Bytes.{part, put};
 ghost use Rattle.ring.specs.Slots.{poly};
 ghost use Rattle.ring.specs.Ternary.{ternary};
-ghost use Rattle.call.specs.Call.{scratchLength, Polynomial};
+ghost use Rattle.call.specs.Call.{scratchLength, Polynomial, Free};
 ghost use Rattle.bgv.specs.Scheme.{other};
 ghost use Rattle.commitment.specs.Commitment.{keysOf, threeOf, committed, PublicKeys, PairStands};
 ghost use Rattle.commitment.specs.Loaded.{keyBytes, Loaded};
@@ -37,7 +37,7 @@ fn lent_pair(
     requires { ⌜ PublicKeys n q (now k) × Polynomial n q (now x0) × (length (now r) ≡ 3 * n) × (length (now work) ≡ scratchLength)
         × (at + 16 * n ≤ length (now out)) ⌝ }
     ensures { λ _. ⌜ (left out ≡ put (given out) at (pairOf q n (keysOf n (given k)) (given r) (poly (given x0))))
-        × (length (left work) ≡ length (given work)) ⌝ }
+        × Free (given work) (left work) ⌝ }
 {
     commitment::pair(work, k, x0, r, n, q);
     write_halves(out, at, work, n);
@@ -73,7 +73,7 @@ fn other_pair(
         × (length (now work) ≡ scratchLength) × (at + 16 * n ≤ length (now out)) ⌝ }
     ensures { λ _. let half = other q (ternary q (given x)) (poly (given x0)) in
         ⌜ (left out ≡ put (given out) at (pairOf q n (keysOf n (given k)) (given r) half))
-        × (length (left work) ≡ length (given work)) ⌝ }
+        × Free (given work) (left work) ⌝ }
 {
     pair_difference(work, k, x, x0, r, n, q);
     write_halves(out, at, work, n);
@@ -96,7 +96,7 @@ fn both_pairs(
     ensures { λ _. let one = pairOf q n (keysOf n (given k)) (part (given r) 0 (3 * n)) (poly (given x0)) in
         let half = other q (ternary q (given x)) (poly (given x0)) in
         let two = pairOf q n (keysOf n (given k)) (part (given r) (3 * n) (3 * n)) half in
-        ⌜ (left out ≡ put (given out) at (one ++ two)) × (length (left work) ≡ length (given work)) ⌝ }
+        ⌜ (left out ≡ put (given out) at (one ++ two)) × Free (given work) (left work) ⌝ }
 {
     let second = at + 16 * n;
     lent_pair(out, at, work, k, x0, &r[0..3 * n], n, q);
@@ -117,7 +117,7 @@ pub fn write_pairs(
         × (length (now secrets) ≡ 14 * k .ring) × (length (now work) ≡ scratchLength) × (80 * k .ring ≤ length (now head)) ⌝ }
     ensures { λ _. let keys = keysOf (k .ring) (keyBytes k (given public)) in
         let pairs = pairsBytes (k .modulus) (k .ring) (given secrets) (given s0) (given e0) keys in
-        ⌜ (left head ≡ put (given head) (16 * k .ring) pairs) × (length (left work) ≡ length (given work)) ⌝ }
+        ⌜ (left head ≡ put (given head) (16 * k .ring) pairs) × Free (given work) (left work) ⌝ }
 {
     let n = k.ring as usize;
     let q = k.modulus;

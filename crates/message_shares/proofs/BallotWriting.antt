@@ -7,7 +7,7 @@ use lib.ListN.{length}
 use Rattle.codec.specs.Bytes.{Bytes, part, put}
 use Rattle.codec.specs.Lists.{list}
 use Rattle.codec.proofs.Lists.{length-list}
-use Rattle.ring.specs.Poly.{Poly, Below}
+use Rattle.ring.specs.Poly.{Poly}
 use Rattle.ring.specs.Slots.{coefficientBytes, poly, slot}
 use Rattle.ring.specs.Ternary.{ternary}
 use Rattle.ring.proofs.Bridge.{length-encode}

@@ -9,7 +9,7 @@ use Rattle.ring.specs.Poly.{Poly, plus, scale, modulo, Below}
 use Rattle.ring.specs.Slots.{coefficientBytes, encode, slot}
 use Rattle.sheet_numbers.specs.Plain.{plain}
 use Rattle.sheet_numbers.specs.declared.Numbers.{Numbers}
-use Rattle.call.specs.Call.{scratchLength}
+use Rattle.call.specs.Call.{scratchLength, Free}
 use Rattle.bgv.specs.Scheme.{residues, decrypted, other, lentMask, share}
 use Rattle.transcript.specs.Layout.{ballotLength, uAt}
 use Rattle.codec.specs.Slices.{Slice, given, left}
@@ -61,7 +61,7 @@ pub record BallotWritten (k : Numbers) (s s0 u v : Poly) (mask0 mask1 : Bytes) (
   pub shares0 : after .shares0 ≡ put (before .shares0) at (coefficientBytes (k .modulus) (k .ring) (share (k .modulus) (k .ring) (plain k) s0 u (lentMask mask0)))
   pub shares1 : after .shares1 ≡ put (before .shares1) at (coefficientBytes (k .modulus) (k .ring) (share (k .modulus) (k .ring) (plain k) (other (k .modulus) s s0) u (lentMask mask1)))
   pub claims : after .claims ≡ put (before .claims) claim (list (k .ring) (decrypted (k .modulus) (k .ring) (plain k) s u v))
-  pub kept : length (after .scratch) ≡ length (before .scratch)
+  pub kept : Free (before .scratch) (after .scratch)
 
 -- the shares and the claims of m ballots are written over the whole room, and scratch is zeroed
 pub record BallotsWritten (k : Numbers) (m : ℕ) (secrets s0 masks0 masks1 ballots : Bytes) (before after : Room) : Type 0 where
@@ -76,6 +76,6 @@ masked q p f mask = plus f (scale p (residues q (lentMask mask)))
 
 -- two polynomials modulo q stand in the first two slots of scratch, in bytes; the length is as before
 pub record TwoStand (q n : ℕ) (f g : Poly) (w w' : Bytes) : Type 0 where
-  pub sized : length w' ≡ length w
+  pub sized : Free w w'
   pub one : part w' 0 (8 * n) ≡ encode n (modulo q f)
   pub two : part w' 16384 (8 * n) ≡ encode n (modulo q g)

@@ -9,7 +9,7 @@ ghost use Rattle.codec.specs.Lists.{list};
 ghost use Rattle.ring.specs.Poly.{minus, mul, Below};
 ghost use Rattle.ring.specs.Slots.{coefficientBytes, poly, slot};
 ghost use Rattle.ring.specs.Ternary.{ternary};
-ghost use Rattle.call.specs.Call.{scratchLength, Polynomial};
+ghost use Rattle.call.specs.Call.{scratchLength, Polynomial, Free};
 ghost use Rattle.bgv.specs.Scheme.{plain};
 ghost use Rattle.codec.specs.Slices.{given, left};
 ghost use Rattle.sheet_numbers.specs.Usable.{Usable};
@@ -53,7 +53,7 @@ fn write_masked(
     requires { ⌜ (n ≤ 2048) × (3 ≤ q) × (q < 2 ^ 56) × (length (now mask) ≡ 8 * n) × (length (now work) ≡ scratchLength)
         × (from + 8 * n ≤ 49152) × Below q n (slot (now work) from) × (at + 8 * n ≤ length (now out)) × (p < q) ⌝ }
     ensures { λ _. let sum = masked q p (slot (given work) from) (given mask) in
-        ⌜ (left out ≡ put (given out) at (coefficientBytes q n sum)) × (length (left work) ≡ length (given work))
+        ⌜ (left out ≡ put (given out) at (coefficientBytes q n sum)) × Free (given work) (left work)
         × (part (left work) 0 from ≡ part (given work) 0 from) ⌝ }
 {
     ring::load_signed(work, MASK, mask, n, q);
@@ -81,7 +81,7 @@ fn write_shares(
         let t1 = masked q p (minus q (slot w 0) (slot w 16384)) (given mask1) in
         ⌜ (left shares0 ≡ put (given shares0) at (coefficientBytes q n t0))
         × (left shares1 ≡ put (given shares1) at (coefficientBytes q n t1))
-        × (length (left work) ≡ length w) × (part (left work) 0 16384 ≡ part w 0 16384) ⌝ }
+        × Free w (left work) × (part (left work) 0 16384 ≡ part w 0 16384) ⌝ }
 {
     ring::copy_slot(work, OTHER, 0, n);
     ring::subtract_slot(work, OTHER, LENT, n, q);
@@ -94,7 +94,7 @@ fn write_claim(claims: &mut [u8], at: usize, work: &mut [u8], v: &[u8], p: u64, 
     requires { ⌜ Polynomial n q (now v) × (length (now work) ≡ scratchLength) × Below q n (slot (now work) 0)
         × (at + n ≤ length (now claims)) × (0 < p) × (p ≤ 251) ⌝ }
     ensures { λ _. let vote = list n (plain q p (minus q (poly (given v)) (slot (given work) 0))) in
-        ⌜ (left claims ≡ put (given claims) at vote) × (length (left work) ≡ length (given work)) ⌝ }
+        ⌜ (left claims ≡ put (given claims) at vote) × Free (given work) (left work) ⌝ }
 {
     ring::scale_slot(work, 0, q - 1, n, q);
     ring::add(work, 0, v, n, q);

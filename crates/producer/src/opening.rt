@@ -8,7 +8,7 @@ ghost use Rattle.codec.specs.Bytes.{part, put};
 ghost use Rattle.codec.specs.Slices.{given, left};
 ghost use Rattle.ring.specs.Slots.{coefficientBytes, poly};
 ghost use Rattle.ring.specs.Ternary.{ternary};
-ghost use Rattle.call.specs.Call.{scratchLength, Polynomial};
+ghost use Rattle.call.specs.Call.{scratchLength, Polynomial, Free};
 ghost use Rattle.bgv.specs.Scheme.{other};
 ghost use Rattle.transcript.specs.Producer.{sIn, eIn, openingBytes};
 
@@ -37,7 +37,7 @@ fn other_halves(
     ensures { λ _. let s1 = other q (ternary q (sIn n (given secrets))) (poly (given s0)) in
         let e1 = other q (ternary q (eIn n (given secrets))) (poly (given e0)) in
         ⌜ (left opening ≡ put (given opening) 0 (coefficientBytes q n s1 ++ coefficientBytes q n e1))
-        × (length (left work) ≡ length (given work)) ⌝ }
+        × Free (given work) (left work) ⌝ }
 {
     scheme::written::difference(opening, 0, work, &secrets[0..n], s0, n, q);
     scheme::written::difference(opening, 8 * n, work, &secrets[n..2 * n], e0, n, q);
@@ -67,7 +67,7 @@ pub fn write_opening(
         × (length (now secrets) ≡ 14 * k .ring)
         × (length (now work) ≡ scratchLength) × (side < 2) × (length (now opening) ≡ 22 * k .ring) ⌝ }
     ensures { λ _. ⌜ (left opening ≡ openingBytes (k .modulus) (k .ring) (given secrets) (given s0) (given e0) side)
-        × (length (left work) ≡ length (given work)) ⌝ }
+        × Free (given work) (left work) ⌝ }
 {
     let n = k.ring as usize;
     let q = k.modulus;

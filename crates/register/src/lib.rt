@@ -14,7 +14,7 @@ pub const REGISTER: usize = 163840;
 // The first of the n entries that has the mark; n where none has.
 pub fn find(reg: &[u8], mark: u32, n: usize) -> usize
     requires { ⌜ 40 * n ≤ length (now reg) ⌝ }
-    ensures { λ r. ⌜ (r ≡ def.find (now (reg .entry)) mark n) × (r ≤ n) ⌝ }
+    ensures { λ r. ⌜ (r ≡ def.find (given reg) mark n) × (r ≤ n) ⌝ }
 {
     let mut i = 0;
     while i < n {
@@ -29,7 +29,7 @@ pub fn find(reg: &[u8], mark: u32, n: usize) -> usize
 // Whether entry i stands.
 pub fn is_standing(reg: &[u8], i: usize) -> bool
     requires { ⌜ 40 * i + 40 ≤ length (now reg) ⌝ }
-    ensures { λ r. ⌜ r ≡ eqb (def.stateAt (now (reg .entry)) i) 1 ⌝ }
+    ensures { λ r. ⌜ r ≡ eqb (def.stateAt (given reg) i) 1 ⌝ }
 {
     reg[40 * i + 4] == 1
 }
@@ -37,7 +37,7 @@ pub fn is_standing(reg: &[u8], i: usize) -> bool
 // Writes the entry of a ballot after n entries.
 fn write_entry(reg: &mut [u8], n: usize, ballot: &[u8])
     requires { ⌜ (40 * n + 40 ≤ length (now reg)) × (4 ≤ length (now ballot)) ⌝ }
-    ensures { λ _. ⌜ now (reg .exit) ≡ def.admitted (now (reg .entry)) n (now (ballot .entry)) ⌝ }
+    ensures { λ _. ⌜ left reg ≡ def.admitted (given reg) n (given ballot) ⌝ }
 {
     let at = 40 * n;
     let digest = sha3::hash(ballot);
@@ -78,7 +78,7 @@ pub fn admit(reg: &mut [u8], used: usize, ballot: &[u8]) -> Reply
 // Writes that entry i is withdrawn.
 fn write_withdrawn(reg: &mut [u8], i: usize)
     requires { ⌜ 40 * i + 40 ≤ length (now reg) ⌝ }
-    ensures { λ _. ⌜ now (reg .exit) ≡ def.withdrawn (now (reg .entry)) i ⌝ }
+    ensures { λ _. ⌜ left reg ≡ def.withdrawn (given reg) i ⌝ }
 {
     codec::write8(reg, 40 * i + 4, 2);
 }
@@ -109,7 +109,7 @@ pub fn withdraw(reg: &mut [u8], used: usize, mark: u32) -> Reply
 // How many of the first n entries stand.
 pub fn count_standing(reg: &[u8], n: usize) -> usize
     requires { ⌜ 40 * n ≤ length (now reg) ⌝ }
-    ensures { λ r. ⌜ (r ≡ length (def.standing (now (reg .entry)) n)) × (r ≤ n) ⌝ }
+    ensures { λ r. ⌜ (r ≡ length (def.standing (given reg) n)) × (r ≤ n) ⌝ }
 {
     let mut i = 0;
     let mut count = 0;
@@ -125,7 +125,7 @@ pub fn count_standing(reg: &[u8], n: usize) -> usize
 // The standing ones of the first n entries in thousandths of the enrolled, half up.
 pub fn turnout(reg: &[u8], n: usize, enrolled: u64) -> u32
     requires { ⌜ (40 * n ≤ length (now reg)) × (n ≤ 4096) × (1 ≤ enrolled) × (enrolled ≤ 1000000) ⌝ }
-    ensures { λ r. ⌜ r ≡ def.turnout (now (reg .entry)) n enrolled ⌝ }
+    ensures { λ r. ⌜ r ≡ def.turnout (given reg) n enrolled ⌝ }
 {
     let count = count_standing(reg, n) as u64;
     ((2000 * count + enrolled) / (2 * enrolled)) as u32

@@ -8,6 +8,7 @@ ghost use Prim.Native.Nat.{_+_, _*_, _%_, _≤_, _<_, _^_};
 ghost use lib.IntN.{pos};
 ghost use lib.Dec.{leb, eqb};
 ghost use mathlib.Core.List.{[], _∷_, _++_};
+ghost use Rattle.codec.specs.Slices.{given, left};
 ghost use Rattle.codec.specs.Bytes.{zeros};
 ghost use lib.ListN.{length};
 ghost use Rattle.codec.specs.Reply.{packed, leaves, first, test};
@@ -124,7 +125,7 @@ pub extern "C" fn modular_reduce(e: i64, q: u64) -> u64
 // uint64_t ring_count(const uint8_t *t, size_t length, uint8_t v): how often v stands in t.
 #[no_mangle]
 pub extern "C" fn ring_count(t: &[u8], v: u8) -> u64
-    ensures { λ r. ⌜ r ≡ count v (now (t .entry)) ⌝ }
+    ensures { λ r. ⌜ r ≡ count v (given t) ⌝ }
 {
     ring::count_of(t, v) as u64
 }
@@ -132,9 +133,8 @@ pub extern "C" fn ring_count(t: &[u8], v: u8) -> u64
 // uint64_t ring_ternary(uint8_t *work, size_t, const uint8_t *t, size_t, uint64_t q): the polynomial of ternary bytes.
 #[no_mangle]
 pub extern "C" fn ring_ternary(work: &mut [u8], t: &[u8], q: u64) -> u64
-    ensures reply { λ r. ⌜ r ≡ packed (ternaryReply q (now (work .entry)) (now (t .entry))) ⌝ }
-    ensures output { λ _. ⌜ now (work .exit) ≡ leaves (ternaryReply q (now (work .entry)) (now (t .entry)))
-        (encode (length (now (t .entry))) (ternary q (now (t .entry)))) (now (work .entry)) ⌝ }
+    ensures { λ r. ⌜ (r ≡ packed (ternaryReply q (given work) (given t)))
+        × (left work ≡ leaves (ternaryReply q (given work) (given t)) (encode (length (given t)) (ternary q (given t))) (given work)) ⌝ }
 {
     if q < 2 {
         return 5;
@@ -155,7 +155,7 @@ pub extern "C" fn ring_ternary(work: &mut [u8], t: &[u8], q: u64) -> u64
 // ---- polynomials
 
 fn judge(operation: u64, work: &[u8], a: &[u8], b: &[u8], n: usize, q: u64) -> u64
-    ensures { λ r. ⌜ r ≡ packed (polynomialsReply operation n q (now (work .entry)) (now (a .entry)) (now (b .entry))) ⌝ }
+    ensures { λ r. ⌜ r ≡ packed (polynomialsReply operation n q (given work) (given a) (given b)) ⌝ }
 {
     if 2 < operation {
         return 5;
@@ -192,8 +192,7 @@ fn compute(operation: u64, work: &mut [u8], a: &[u8], b: &[u8], n: usize, q: u64
     requires { ⌜ (n ≤ 2048) × (0 < q) × (q < 2 ^ 56) × (length (now work) ≡ 32 * n) × (length (now a) ≡ 8 * n)
         × (length (now b) ≡ 8 * n) ⌝ }
     requires { ⌜ Below q n (poly (now a)) × Below q n (poly (now b)) ⌝ }
-    ensures { λ _. ⌜ now (work .exit) ≡ coefficientBytes q n (onPolynomials operation n q (poly (now (a .entry))) (poly (now (b .entry))))
-        ++ zeros (24 * n) ⌝ }
+    ensures { λ _. ⌜ left work ≡ coefficientBytes q n (onPolynomials operation n q (poly (given a)) (poly (given b))) ++ zeros (24 * n) ⌝ }
 {
     codec::wipe(work);
     codec::copy(work, 0, a);
@@ -220,8 +219,8 @@ pub extern "C" fn ring_polynomials(
     n: usize,
     q: u64,
 ) -> u64
-    ensures reply { λ r. ⌜ r ≡ packed (polynomialsReply operation n q (now (work .entry)) (now (a .entry)) (now (b .entry))) ⌝ }
-    ensures output { λ _. ⌜ now (work .exit) ≡ polynomialsOut operation n q (now (work .entry)) (now (a .entry)) (now (b .entry)) ⌝ }
+    ensures { λ r. ⌜ (r ≡ packed (polynomialsReply operation n q (given work) (given a) (given b)))
+        × (left work ≡ polynomialsOut operation n q (given work) (given a) (given b)) ⌝ }
 {
     let refusal = judge(operation, work, a, b, n, q);
     if refusal != 0 {

@@ -5,7 +5,6 @@ ghost use mathlib.Core.Path.{_≡_};
 ghost use Prim.Native.Nat.{ℕ, _+_, _*_, _≤_, _<_};
 ghost use lib.ListN.{length};
 ghost use Rattle.codec.specs.Bytes.{zeros};
-ghost use Rattle.codec.specs.Reply.{first};
 ghost use Rattle.codec.specs.declared.Reply.the-variants.{Refused};
 ghost use Rattle.ring.specs.Slots.{slot};
 ghost use Rattle.sheet_numbers.specs.Plain.{plain, maskOf};
@@ -111,7 +110,8 @@ pub fn test_opening(
 ) -> Reply
     requires { ⌜ Loaded k (now public) × Opened (k .modulus) (k .ring) (now opening) × (length (now work) ≡ scratchLength)
         × (80 * k .ring ≤ length (now head)) × (side < 2) ⌝ }
-    ensures { λ reply. ⌜ Judged (halfTests (parameters k (given public)) (given head) side (openingOf (k .ring) (given opening))) reply (given work) (left work) ⌝ }
+    ensures { λ reply. ⌜ Judged (halfTests (parameters k (given public)) (given head) side (openingOf (k .ring) (given opening))) reply
+        (given work) (left work) ⌝ }
 {
     let n = k.ring as usize;
     if !opens_key(work, k, public, head, 8 * n * side, opening) {

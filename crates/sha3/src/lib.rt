@@ -40,8 +40,7 @@ pub fn hash(m: &[u8]) -> [u8; 32]
 
 // SHA3-256 of a message into a lent slice, which is left as it is where it has not 32 bytes.
 pub fn digest(m: &[u8], out: &mut [u8]) -> codec::Reply
-    ensures reply { λ r. ⌜ r ≡ digestReply (now (out .entry)) ⌝ }
-    ensures output { λ _. ⌜ now (out .exit) ≡ digestOut (now (m .entry)) (now (out .entry)) ⌝ }
+    ensures { λ r. ⌜ (r ≡ digestReply (now (out .entry))) × (now (out .exit) ≡ digestOut (now (m .entry)) (now (out .entry))) ⌝ }
 {
     if out.len() != 32 {
         return codec::Reply::Refused {

@@ -73,8 +73,7 @@ pub fn read(text: &[u8]) -> Reading
 
 // Reads a sheet and puts its polynomials a, b, k1, k2, k3, in 40N bytes, at the head of the lent bytes. A refusal leaves them as they are.
 pub fn load(text: &[u8], out: &mut [u8; 81920]) -> Reading
-    ensures result { λ r. ⌜ r ≡ reading (now (text .entry)) ⌝ }
-    ensures output { λ _. ⌜ now (out .exit) ≡ loaded (now (text .entry)) (now (out .entry)) ⌝ }
+    ensures { λ r. ⌜ (r ≡ reading (now (text .entry))) × (now (out .exit) ≡ loaded (now (text .entry)) (now (out .entry))) ⌝ }
 {
     let r = read(text);
     match r {

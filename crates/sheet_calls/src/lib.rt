@@ -5,6 +5,7 @@ use sheet_numbers::Numbers;
 ghost use mathlib.Core.Path.{_≡_};
 ghost use mathlib.Core.Bool.{false};
 ghost use lib.ListN.{length};
+ghost use Rattle.codec.specs.Slices.{given, left};
 ghost use Rattle.codec.specs.Reply.{packed};
 ghost use Rattle.sheet_numbers.specs.Rules.{outside};
 ghost use Rattle.sheet_calls.specs.Calls.{description, describeReply, describeOut, polynomialsReply, polynomialsOut};
@@ -12,7 +13,7 @@ ghost use Rattle.sheet_calls.specs.Calls.{description, describeReply, de
 // Writes N, D, B and L.
 fn write_description(k: Numbers, out: &mut [u8])
     requires { ⌜ (outside k ≡ false) × (length (now out) ≡ 32) ⌝ }
-    ensures { λ _. ⌜ now (out .exit) ≡ description k ⌝ }
+    ensures { λ _. ⌜ left out ≡ description k ⌝ }
 {
     codec::write64(out, 0, k.ring);
     codec::write64(out, 8, sheet_numbers::noise_bound(k));
@@ -22,8 +23,7 @@ fn write_description(k: Numbers, out: &mut [u8])
 
 // Reads a sheet, and writes N, D, B and L into 32 lent bytes.
 pub fn describe(text: &[u8], out: &mut [u8]) -> Reply
-    ensures reply { λ r. ⌜ r ≡ describeReply (now (text .entry)) (now (out .entry)) ⌝ }
-    ensures output { λ _. ⌜ now (out .exit) ≡ describeOut (now (text .entry)) (now (out .entry)) ⌝ }
+    ensures { λ r. ⌜ (r ≡ describeReply (given text) (given out)) × (left out ≡ describeOut (given text) (given out)) ⌝ }
 {
     if out.len() != 32 {
         return Reply::Refused {
@@ -43,8 +43,7 @@ pub fn describe(text: &[u8], out: &mut [u8]) -> Reply
 
 // Reads a sheet, and writes its polynomials into 40N lent bytes.
 pub fn polynomials(text: &[u8], out: &mut [u8]) -> Reply
-    ensures reply { λ r. ⌜ r ≡ polynomialsReply (now (text .entry)) (now (out .entry)) ⌝ }
-    ensures output { λ _. ⌜ now (out .exit) ≡ polynomialsOut (now (text .entry)) (now (out .entry)) ⌝ }
+    ensures { λ r. ⌜ (r ≡ polynomialsReply (given text) (given out)) × (left out ≡ polynomialsOut (given text) (given out)) ⌝ }
 {
     let mut buffer = [0u8; 81920];
     let r = sheet::load(text, &mut buffer);
@@ -67,8 +66,7 @@ pub fn polynomials(text: &[u8], out: &mut [u8]) -> Reply
 // `polynomials` over the C boundary, for tests.
 #[no_mangle]
 pub extern "C" fn sheet_polynomials(text: &[u8], out: &mut [u8]) -> u64
-    ensures reply { λ r. ⌜ r ≡ packed (polynomialsReply (now (text .entry)) (now (out .entry))) ⌝ }
-    ensures output { λ _. ⌜ now (out .exit) ≡ polynomialsOut (now (text .entry)) (now (out .entry)) ⌝ }
+    ensures { λ r. ⌜ (r ≡ packed (polynomialsReply (given text) (given out))) × (left out ≡ polynomialsOut (given text) (given out)) ⌝ }
 {
     codec::pack(polynomials(text, out))
 }

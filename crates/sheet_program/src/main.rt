@@ -16,8 +16,8 @@ ghost use Rattle.sheet_program.specs.Print.{line, printedBy, printed, Pu
 // Puts a line into out at a place: a key with its =, and a number. Answers the place after it.
 fn put_line(out: &mut [u8], at: usize, key: &[u8], n: u64) -> usize
     requires { ⌜ at + (length (now key) + 21) ≤ length (now out) ⌝ }
-    ensures line { λ r. ⌜ Puts (now (out .entry)) at (line (now (key .entry)) n) r (now (out .exit)) ⌝ }
-    ensures room { λ r. ⌜ r ≤ at + (length (now (key .entry)) + 21) ⌝ }
+    ensures { λ r. ⌜ Puts (now (out .entry)) at (line (now (key .entry)) n) r (now (out .exit))
+        × (r ≤ at + (length (now (key .entry)) + 21)) ⌝ }
 {
     let mut digits = [0u8; 20];
     let k = io::decimal(n, &mut digits);
@@ -41,8 +41,7 @@ fn show(k: Numbers, out: &mut [u8]) -> usize
 
 // Puts what the program prints at the head of out, and answers how many bytes that is.
 fn report(text: &[u8], out: &mut [u8; 160]) -> usize
-    ensures count { λ r. ⌜ Counts r (now (out .exit)) ⌝ }
-    ensures output { λ r. ⌜ take r (now (out .exit)) ≡ printed (now (text .entry)) ⌝ }
+    ensures { λ r. ⌜ Counts r (now (out .exit)) × (take r (now (out .exit)) ≡ printed (now (text .entry))) ⌝ }
 {
     if 65536 < text.len() {
         return put_line(out, 0, b"verdict=", 1);

@@ -6,13 +6,14 @@ ghost use mathlib.Core.Bool.{true, cond};
 ghost use mathlib.Core.List.{_∷_, _++_};
 ghost use Prim.Native.Nat.{_+_, _*_, _/_, _≤_, _<_, _^_};
 ghost use lib.ListN.{length, take};
+ghost use Rattle.codec.specs.Slices.{given, left};
 ghost use Rattle.codec.specs.Bytes.{part, words};
 ghost use Rattle.codec.specs.Lists.{allBelow};
 ghost use Rattle.sha3.specs.Sponge.{sha3};
 ghost use Rattle.hasher.specs.Hasher.{holding, updated};
 ghost use Rattle.ring.specs.Poly.{Below};
 ghost use Rattle.ring.specs.Slots.{poly};
-ghost use Rattle.call.specs.Call.{scratchLength};
+ghost use Rattle.call.specs.Call.{scratchLength, Free};
 ghost use Rattle.commitment.specs.Commitment.{keysOf, PublicKeys};
 ghost use Rattle.vector.specs.Vector.{vector, ternaries, add, subtract};
 ghost use Rattle.vector.specs.Permutation.{entries, apply, extend};
@@ -21,7 +22,7 @@ ghost use Rattle.stern.specs.Shortness.{equations, sides};
 
 // A hasher that has taken in a leading byte and a salt.
 fn begin(lead: u8, salt: &[u8]) -> Hasher
-    ensures { λ r. ⌜ r ≡ holding (lead ∷ now (salt .entry)) ⌝ }
+    ensures { λ r. ⌜ r ≡ holding (lead ∷ given salt) ⌝ }
 {
     let head = [lead; 1];
     Hasher::new().absorbed(&head).absorbed(salt)
@@ -30,7 +31,7 @@ fn begin(lead: u8, salt: &[u8]) -> Hasher
 // The digest of a leading byte, a salt and a message.
 pub fn tagged(lead: u8, salt: &[u8], m: &[u8]) -> [u8; 32]
     requires { ⌜ length (now salt) ≡ 32 ⌝ }
-    ensures { λ r. ⌜ r ≡ sha3 (lead ∷ (now (salt .entry) ++ now (m .entry))) ⌝ }
+    ensures { λ r. ⌜ r ≡ sha3 (lead ∷ (given salt ++ given m)) ⌝ }
 {
     begin(lead, salt).absorbed(m).finish()
 }
@@ -38,7 +39,7 @@ pub fn tagged(lead: u8, salt: &[u8], m: &[u8]) -> [u8; 32]
 // A hasher that takes in a pair too, which stands in scratch.
 fn absorb_pair(h: Hasher, work: &[u8], n: usize) -> Hasher
     requires { ⌜ 49152 + 8 * n ≤ length (now work) ⌝ }
-    ensures { λ r. ⌜ r ≡ updated h (part (now (work .entry)) 0 (8 * n) ++ part (now (work .entry)) 49152 (8 * n)) ⌝ }
+    ensures { λ r. ⌜ r ≡ updated h (part (given work) 0 (8 * n) ++ part (given work) 49152 (8 * n)) ⌝ }
 {
     let one = h.absorbed(&work[0..8 * n]);
     one.absorbed(&work[commitment::MESSAGE..commitment::MESSAGE + 8 * n])
@@ -59,10 +60,9 @@ pub fn equations_digest(
     requires { ⌜ PublicKeys n q (now k) × (length (now work) ≡ scratchLength) × (length (now x) ≡ 336 * n)
         × Below q (length (now x) / 8) (poly (now x)) ⌝ }
     requires { ⌜ (less ≡ true → (length (now c) ≡ 64 * n) × Below q (length (now c) / 8) (poly (now c))) × (length (now salt) ≡ 32) ⌝ }
-    ensures { λ r. ⌜ r ≡ sha3 (string1 (now (salt .entry)) (now (p .entry))
-        (cond less (subtract q (equations q n (keysOf n (now (k .entry))) (take (14 * n) (vector (now (x .entry)))))
-        (sides q n (now (c .entry)))) (equations q n (keysOf n (now (k .entry))) (take (14 * n) (vector (now (x .entry))))))) ⌝ }
-    ensures { λ _. ⌜ length (now (work .exit)) ≡ length (now (work .entry)) ⌝ }
+    ensures { λ r. ⌜ (r ≡ sha3 (string1 (given salt) (given p)
+        (cond less (subtract q (equations q n (keysOf n (given k)) (take (14 * n) (vector (given x)))) (sides q n (given c)))
+        (equations q n (keysOf n (given k)) (take (14 * n) (vector (given x))))))) × Free (given work) (left work) ⌝ }
 {
     let a = begin(1, salt).absorbed(p);
     equation_pair(work, k, c, less, x, 2 * n, 0, 0, n, q);
@@ -82,8 +82,8 @@ pub fn gathered_digest(
 ) -> [u8; 32]
     requires { ⌜ (n ≤ 2048) × (length (now work) ≡ scratchLength) × (length (now p) ≡ 168 * n) × (length (now x) ≡ 336 * n)
         × (length (now salt) ≡ 32) × (allBelow (42 * n) (entries (now p)) ≡ true) ⌝ }
-    ensures { λ r. ⌜ r ≡ sha3 (lead ∷ (now (salt .entry) ++ words (apply (entries (now (p .entry))) (vector (now (x .entry)))))) ⌝ }
-    ensures { λ _. ⌜ length (now (work .exit)) ≡ length (now (work .entry)) ⌝ }
+    ensures { λ r. ⌜ (r ≡ sha3 (lead ∷ (given salt ++ words (apply (entries (given p)) (vector (given x))))))
+        × Free (given work) (left work) ⌝ }
 {
     vector::gather(work, 0, p, x, 42 * n);
     tagged(lead, salt, &work[0..336 * n])
@@ -102,9 +102,8 @@ pub fn masked_digest(
     requires { ⌜ (n ≤ 2048) × (3 ≤ q) × (q < 2 ^ 56) × (length (now work) ≡ scratchLength) × (length (now p) ≡ 168 * n)
         × (length (now x) ≡ 14 * n) × (length (now r) ≡ 336 * n) × (length (now salt) ≡ 32) ⌝ }
     requires { ⌜ (allBelow (42 * n) (entries (now p)) ≡ true) × (allBelow q (vector (now r)) ≡ true) ⌝ }
-    ensures { λ d. ⌜ d ≡ sha3 (string3 (now (salt .entry))
-        (apply (entries (now (p .entry))) (add q (ternaries q (extend (14 * n) (now (x .entry)))) (vector (now (r .entry)))))) ⌝ }
-    ensures { λ _. ⌜ length (now (work .exit)) ≡ length (now (work .entry)) ⌝ }
+    ensures { λ d. ⌜ (d ≡ sha3 (string3 (given salt) (apply (entries (given p)) (add q (ternaries q (extend (14 * n) (given x)))
+        (vector (given r)))))) × Free (given work) (left work) ⌝ }
 {
     let minus = 14 * n - ring::count_of(x, 2);
     let zeros = 14 * n - ring::count_of(x, 0);

@@ -10,7 +10,7 @@ use Rattle.codec.specs.Bytes.{Bytes}
 use Rattle.codec.specs.Reply.{Test, test, first, leaves, packed}
 use Rattle.codec.specs.declared.Reply.{Reply}
 use Rattle.codec.specs.Lists.{allBelow}
-use Rattle.call.specs.Call.{scratchLength, swept, lengthTest}
+use Rattle.call.specs.Call.{scratchLength, Free, swept, lengthTest}
 use Rattle.commitment.specs.Commitment.{keysOf}
 use Rattle.vector.specs.Vector.{vector}
 use Rattle.vector.specs.Permutation.{entries, permutes}
@@ -59,11 +59,11 @@ testReply n q challenge place k c d answer w =
 
 -- ---- what the functions come to, for the reply `is` that their tests give
 
--- the tests: scratch is free where it is swept behind them, and as long as before
+-- the tests: scratch is free where it is swept behind them
 pub record Sifted (is reply : Reply) (scratch scratch' : Bytes) : Type 0 where
   pub replied : reply ≡ is
   pub used : swept reply scratch' ≡ swept reply scratch
-  pub kept : length scratch' ≡ length scratch
+  pub kept : Free scratch scratch'
 
 -- the tests and the writing
 pub record Made (is reply : Reply) (writes out out' scratch scratch' : Bytes) : Type 0 where

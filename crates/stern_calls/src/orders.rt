@@ -22,8 +22,8 @@ pub fn digests_tests(
     n: usize,
     q: u64,
 ) -> Reply
-    ensures { λ reply. ⌜ Sifted (digestsReply n q (given keys) (given x) (given r) (given p) (given salts) (given out) (given scratch)) reply
-        (given scratch) (left scratch) ⌝ }
+    ensures { λ reply. ⌜ Sifted (digestsReply n q (given keys) (given x) (given r) (given p) (given salts) (given out)
+        (given scratch)) reply (given scratch) (left scratch) ⌝ }
 {
     if !ring_fits(n, q) {
         return refused(5);
@@ -77,8 +77,8 @@ pub fn tested(
     n: usize,
     q: u64,
 ) -> Reply
-    ensures { λ reply. ⌜ Sifted (testReply n q challenge place (given keys) (given pairs) (given digests) (given answer) (given scratch)) reply
-        (given scratch) (left scratch) ⌝ }
+    ensures { λ reply. ⌜ Sifted (testReply n q challenge place (given keys) (given pairs) (given digests) (given answer)
+        (given scratch)) reply (given scratch) (left scratch) ⌝ }
 {
     if !ring_fits(n, q) {
         return refused(5);

@@ -9,8 +9,7 @@ ghost use Rattle.vector.specs.Permutation.{entries, permutes, balanced};
 // Whether n entries are each of 0 .. n - 1 once. Each index that is met is marked in n bytes of scratch, which are zero before.
 fn mark(p: &[u8], work: &mut [u8], at: usize, n: usize) -> bool
     requires { ⌜ (length (now p) ≡ 4 * n) × (at + n ≤ length (now work)) × (part (now work) at n ≡ zeros n) ⌝ }
-    ensures answer { λ r. ⌜ r ≡ permutes n (entries (now (p .entry))) ⌝ }
-    ensures beside { λ _. ⌜ put (now (work .exit)) at (zeros n) ≡ now (work .entry) ⌝ }
+    ensures { λ r. ⌜ (r ≡ permutes n (entries (now (p .entry)))) × (put (now (work .exit)) at (zeros n) ≡ now (work .entry)) ⌝ }
 {
     let mut i = 0;
     while i < n {
