@@ -2,7 +2,7 @@
 // second operand at ERROR,
 // and a product has its room from ROOM on. p is lent. What is made from secrets is left in scratch.
 ghost use mathlib.Core.Path.{_≡_};
-ghost use Prim.Native.Nat.{_+_, _*_, _%_, _≤_, _<_, _^_};
+ghost use Prim.Native.Nat.{_+_, _*_, _≤_, _<_, _^_};
 ghost use lib.ListN.{length};
 ghost use Rattle.codec.specs.Slices.{given, left};
 ghost use Rattle.codec.specs.Bytes.{put};

@@ -2,7 +2,6 @@
 -- round's own 5 to 13. What is held, what is lent, 1 and 16 are those of the crate `stored`. Assumes nothing.
 use mathlib.Core.Path.{_≡_}
 use mathlib.Core.List.{List, _++_}
-use Prim.Native.Nat.{ℕ}
 use Rattle.codec.specs.Bytes.{Bytes}
 use Rattle.codec.specs.Slices.{Slice, given}
 use Rattle.codec.specs.Reply.{Test, first}

@@ -8,7 +8,7 @@ use native.Mathlib.Omega.{arith}
 use borrow.Author.Tests.{not-true, not-false}
 use lib.Dec.{ltb}
 use lib.ListN.{take, drop}
-use Rattle.codec.specs.Bytes.{Bytes, part, zeros, same}
+use Rattle.codec.specs.Bytes.{Bytes, zeros, same}
 use Rattle.ring.specs.Poly.{modulo}
 use Rattle.ring.specs.Slots.{encode}
 use Rattle.sheet_numbers.specs.declared.Numbers.{Numbers}

@@ -3,7 +3,7 @@ use mathlib.Core.Path.{_≡_}
 use Prim.Native.Nat.{ℕ}
 use Rattle.codec.specs.Bytes.{Bytes}
 use Rattle.transcript.specs.Round.{Parameters}
-use Rattle.transcript.specs.Extractor.{Openings, openingsOf, kind, extracted}
+use Rattle.transcript.specs.Extractor.{openingsOf, kind, extracted}
 
 -- shares, ballots, claims and a repetition, whatever they are, do not enter
 pub record Finds (P : Parameters) (head opening0 opening1 answer1 answer2 answer3 : Bytes) (found : ℕ) (out : Bytes) : Type 0 where

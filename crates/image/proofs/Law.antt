@@ -1,6 +1,6 @@
 -- The image of a session, read back, is the session; and the session of an image, written, is the image. Assumes nothing.
 use mathlib.Core.Path.{_≡_, refl, sym, ap, _∙_}
-use mathlib.Core.List.{List, [], _∷_, _++_, append-assoc}
+use mathlib.Core.List.{[], _∷_, _++_, append-assoc}
 use Prim.Native.Nat.{ℕ, _+_, _≤_, _<_, _^_}
 use Prim.Native.String.{String}
 use native.Mathlib.Omega.{arith}

@@ -10,7 +10,7 @@ use round_parts::ranges::message_ranged;
 use round_parts::ranges::opening_ranged;
 use sheet_numbers::Numbers;
 ghost use mathlib.Core.Path.{_≡_};
-ghost use Prim.Native.Nat.{_*_, _≤_};
+ghost use Prim.Native.Nat.{_≤_};
 ghost use lib.ListN.{length};
 ghost use Rattle.codec.specs.Bytes.{Bytes};
 ghost use Rattle.call.specs.Call.{scratchLength, Judged};

@@ -22,7 +22,7 @@ use Rattle.call.specs.Call.{Polynomial}
 use Rattle.bgv.specs.Scheme.{key, worked, within, reconstructed}
 use Rattle.bgv.proofs.Form.{noisy-alike}
 use Rattle.commitment.specs.Commitment.{Keys, keysOf, threeOf, row, opens, pairBytes}
-use Rattle.commitment.specs.Loaded.{aOf, bOf, keyBytes}
+use Rattle.commitment.specs.Loaded.{aOf, keyBytes}
 use Rattle.commitment.proofs.Additive.{second-alike}
 use Rattle.transcript.specs.Layout.{Opening, each, uAt, vAt, shareAt, claimAt, keyAt, pairAt, openingOf}
 use Rattle.transcript.specs.Round.{ofSide, splits, opensKey, opensPairs, votesTests}

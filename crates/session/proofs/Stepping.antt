@@ -8,7 +8,6 @@ use Rattle.codec.specs.declared.Reply.{Reply}
 use Rattle.codec.specs.declared.Reply.the-variants.{Taken, Refused}
 use Rattle.register.specs.Orders.{Wrote}
 use Rattle.session.specs.Machine.{Step, State, tests, next, still, reply, after, Done}
-use Rattle.session.specs.declared.Session.{Session}
 use Rattle.session.specs.declared.Stepped.{Stepped}
 
 module _ (x : Step) (st : State) {r : Stepped} where

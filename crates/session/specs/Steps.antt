@@ -6,7 +6,7 @@ use Prim.Native.Nat.{ℕ, _+_, _*_}
 use lib.Dec.{eqb, ltb}
 use lib.ListN.{length, drop}
 use Rattle.codec.specs.Bytes.{Bytes, put, zeros, same}
-use Rattle.codec.specs.Reply.{Test, test, first, leaves}
+use Rattle.codec.specs.Reply.{Test, test}
 use Rattle.codec.specs.declared.Reply.{Reply}
 use Rattle.codec.specs.declared.Reply.the-variants as reply
 use Rattle.codec.specs.Lists.{allBelow}

@@ -17,7 +17,7 @@ use Rattle.session.specs.declared.Turnout.{Turnout}
 use Rattle.session.specs.declared.Turnout.the-variants as turnout
 use Rattle.session.specs.declared.Turnout.the-variants.{Counted}
 use Rattle.session.specs.Steps.{challengesTests, challengesOut, turnoutTests, turnoutBy}
-use Rattle.session.specs.Machine.{Step, check, State, state, reply, after}
+use Rattle.session.specs.Machine.{Step, check, state, reply, after}
 use Rattle.image.specs.Image.{imageLength, encode, decode}
 
 -- what the host keeps between two calls

@@ -1,7 +1,7 @@
 -- The sheet as a call (document 01, "Refused because of the state": "Sheet and clear: 1, 2, 3, 4, 5"), and a call for tests that hands its polynomials out. Assumes nothing.
 use mathlib.Core.Bool.{not}
 use mathlib.Core.List.{[], _∷_, _++_}
-use Prim.Native.Nat.{ℕ, _*_}
+use Prim.Native.Nat.{_*_}
 use lib.Dec.{eqb}
 use lib.ListN.{length}
 use Rattle.codec.specs.Bytes.{Bytes, bytes}

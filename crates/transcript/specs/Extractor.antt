@@ -2,7 +2,7 @@
 use mathlib.Core.Path.{_≡_}
 use mathlib.Core.Bool.{Bool, cond, not, _&&_}
 use mathlib.Core.Logic.{_⊎_, _≢_}
-use mathlib.Core.List.{List, [], _∷_, _++_}
+use mathlib.Core.List.{List, _∷_, _++_}
 use Prim.Native.Nat.{ℕ, _*_, _<_, _%_}
 use lib.Dec.{ltb, eqb}
 use lib.ListN.{length}
@@ -18,7 +18,7 @@ use Rattle.commitment.specs.Commitment.{Three, Alike3, threeOf, plus3, minus3, 
 use Rattle.vector.specs.Vector.{vector}
 use Rattle.stern.specs.Argument.{Setting, Answer1, Answer2, Answer3, solution, one-by2, one-by3, two-by1, two-by3, three-by1, three-by2}
 use Rattle.stern.specs.Shortness.{polynomial, threeFrom, setting, answerLength, answer1Of, answer2Of, answer3Of, tests1, tests2, tests3, inRange}
-use Rattle.transcript.specs.Layout.{Opening, each, ballotLength, headLength, uAt, vAt, claimAt, pairsOf, digestsAt, openingOf}
+use Rattle.transcript.specs.Layout.{Opening, ballotLength, headLength, uAt, vAt, claimAt, pairsOf, digestsAt, openingOf}
 use Rattle.transcript.specs.Round.{Parameters, ballotsRanged, openingRanged, headRanged, splitTest, halfTests, votesTests}
 use Rattle.transcript.specs.Accepted.{EachBelow}
 

@@ -1,5 +1,5 @@
 -- What the extractor's call answers and leaves, by the reply of its tests. Assumes nothing.
-use mathlib.Core.Path.{_≡_, sym, ap, subst, _∙_}
+use mathlib.Core.Path.{_≡_, sym, ap, _∙_}
 use Prim.Native.Nat.{ℕ}
 use lib.ListN.{length}
 use Rattle.codec.specs.Bytes.{Bytes, zeros}

@@ -3,7 +3,7 @@ use mathlib.Core.Path.{_≡_, refl, ap, subst, _∙_}
 use Prim.Native.Nat.{ℕ}
 use lib.ListN.{replicate}
 use Rattle.codec.specs.Bytes.{Bytes}
-use Rattle.codec.specs.Reply.{first, leaves}
+use Rattle.codec.specs.Reply.{leaves}
 use Rattle.codec.specs.declared.Reply.{Reply}
 use Rattle.codec.specs.declared.Reply.the-variants as reply
 use Rattle.sheet.specs.Sheet.{reading, loaded}

@@ -1,5 +1,4 @@
 -- `bgv::combine` meets its contract. Assumes nothing.
-use native.Mathlib.Omega.{arith}
 use borrow.Author.Needs.{needs}
 use Rattle.ring.specs.Slots.{poly}
 use Rattle.call.proofs.Loads.{scale-asks}

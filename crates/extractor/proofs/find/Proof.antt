@@ -1,10 +1,9 @@
 -- `find` meets its contract. Assumes nothing.
-use mathlib.Core.Path.{_≡_, ap, _∙_}
+use mathlib.Core.Path.{_≡_, _∙_}
 use Prim.Native.Nat.{_-_, _*_}
 use native.Mathlib.Omega.{arith}
 use borrow.Author.Needs.{needs}
 use lib.ListN.{length}
-use Rattle.codec.specs.Bytes.{zeros}
 use Rattle.stern.proofs.Answered.{lent-range, lent-length}
 use Rattle.transcript.proofs.Cut.{keys-lent}
 use Rattle.transcript.proofs.Wiped.{still, wiped}

@@ -1,10 +1,8 @@
 -- `modular::divide` meets its contract. Assumes nothing.
-use mathlib.Core.Path.{ap, _∙_}
-use Prim.Native.Nat.{ℕ, _+_, _*_, _/_, _%_, _≤_, _<_}
+use Prim.Native.Nat.{ℕ, _*_, _%_, _≤_}
 use native.Mathlib.Nat.{mul-le-mul, mod-lt}
 use native.Mathlib.Omega.{arith}
 use borrow.Author.Needs.{needs}
-use Rattle.modular.specs.Division.{multiplier}
 use Rattle.modular.proofs.Division.{quotient-less, divided}
 use Rattle.modular.proofs.divide.Statement.{statement}
 use Rattle.modular.proofs.divide.Tie as tie

@@ -1,9 +1,8 @@
 -- `modular::multiplier` meets its contract: what is below k is left to be searched. Assumes nothing.
 use mathlib.Core.Path.{_≡_, refl, sym, _∙_}
-use Prim.Native.Nat.{ℕ, suc, _+_, _-_, _*_, _%_, _≤_, _<_}
+use Prim.Native.Nat.{_-_, _≤_}
 use native.Mathlib.Nat.{mul-le-mul}
 use native.Mathlib.Omega.{arith}
-use borrow.Author.Needs.{needs}
 use Rattle.modular.specs.Division.{multiplier}
 use Rattle.modular.proofs.Division.{multiplier-found, multiplier-below, multiplier-none}
 use Rattle.modular.proofs.multiplier.Statement.{statement}

@@ -1,8 +1,7 @@
 -- `extract` meets its contract. Assumes nothing.
-use mathlib.Core.Path.{sym, ap, _∙_}
+use mathlib.Core.Path.{sym, _∙_}
 use native.Mathlib.Omega.{arith}
 use borrow.Author.Needs.{needs}
-use lib.ListN.{length}
 use Rattle.codec.specs.Bytes.{Octets}
 use Rattle.call.proofs.Sweeping.{swept-taken}
 use Rattle.transcript.specs.Round.{Parameters}

@@ -1,12 +1,10 @@
 -- `openings::test_opening` meets its contract. Assumes nothing.
 use mathlib.Core.Path.{refl, sym, ap, _∙_}
 use mathlib.Core.Bool.{not}
-use Prim.Native.Nat.{_*_}
 use native.Mathlib.Omega.{arith}
 use borrow.Author.Needs.{needs}
 use borrow.Author.Tests.{not-true, not-false}
 use lib.ListN.{length}
-use Rattle.codec.specs.Bytes.{zeros}
 use Rattle.stern.proofs.Answered.{first-fails, second-fails, both-hold}
 use Rattle.transcript.proofs.Wiped.{still, again}
 use Rattle.round_parts.proofs.Parts.{half-ends, pairs-end}

@@ -1,7 +1,6 @@
 -- `checks::challenges` meets its contract. Assumes nothing.
 use mathlib.Core.Path.{sym, ap, _∙_}
 use borrow.Author.Needs.{needs}
-use Rattle.codec.specs.Bytes.{Bytes}
 use Rattle.codec.specs.Reply.{first, leaves, packed}
 use Rattle.codec.specs.declared.Reply.{Reply}
 use Rattle.session.specs.declared.Session.{Session}

@@ -1,6 +1,5 @@
 -- `bounds::plain` meets its contract. Assumes nothing.
 use mathlib.Core.Path.{refl}
-use borrow.Author.Needs.{needs}
 use Rattle.sheet_numbers.specs.Plain.{plain}
 use Rattle.sheet_numbers.proofs.bounds.plain.Statement.{statement}
 use Rattle.sheet_numbers.proofs.bounds.plain.Tie as tie
