@@ -16,10 +16,36 @@ use Rattle.checking.specs.Check.{Inputs}
 use Rattle.session.specs.declared.Session.{Session}
 use Rattle.session.specs.Session.{valid}
 use Rattle.session.specs.Steps.{dueTest, admitTests, withdrawTests, closeTests, claimTests, commitTests, drawTests, checkEarly, checkTests, refusedBy}
-use Rattle.session.specs.Machine.{Step, clear, admit, withdraw, close, claim, commit, draw, check, state, next, still, reply, after}
+use Rattle.session.specs.Machine.{Step, clear, admit, withdraw, close, claim, commit, draw, check, State, state, next, still, reply, after}
 use Rattle.histories.specs.Runs.{clears}
 use Rattle.histories.specs.Conditions.{Reaches}
 use Rattle.histories.proofs.Checked.{reaches-exactly}
+
+-- ---- a step that is not taken, and looked at no round, leaves everything
+
+module _ (st : State) where
+  kept-still : (y : Step) → ((round : ℕ) (x : Inputs) → y ≡ check round x → Reaches (st .session) round x → ⊥) → still y st ≡ st
+  unfolding leaves
+  kept-still (clear b) none = refl
+  kept-still (admit ballot) none = refl
+  kept-still (withdraw mark) none = refl
+  kept-still close none = refl
+  kept-still (claim claims) none = refl
+  kept-still (commit k head shares0 shares1) none = refl
+  kept-still (draw seed) none = refl
+  kept-still (check k x) none = go (first (checkEarly (st .session) k x)) refl
+    where
+      go : (r : Reply) → first (checkEarly (st .session) k x) ≡ r → leaves r (state (refusedBy (st .session)) (st .register)) st ≡ st
+      go Taken e = absurd (none k x refl (reaches-exactly (st .session) k x .0 (taken-exactly (checkEarly (st .session) k x) .0 e)))
+      go (Refused number place) e = refl
+
+  pub refused-keeps : (y : Step) → ((round : ℕ) (x : Inputs) → y ≡ check round x → Reaches (st .session) round x → ⊥) → reply y st ≢ Taken → after y st ≡ st
+  unfolding after leaves
+  refused-keeps y none h = go (reply y st) h
+    where
+      go : (r : Reply) → r ≢ Taken → leaves r (next y st) (still y st) ≡ st
+      go Taken h = absurd (h refl)
+      go (Refused number place) h = kept-still y none
 
 -- ---- an ended session
 
@@ -40,10 +66,6 @@ module _ (s : Session) (reg : Bytes) (ended : 3 < s .progress .phase) where
   phase-not-and : (k : ℕ) → k < 4 → (b : Bool) → (eqb (s .progress .phase) k && b) ≡ false
   phase-not-and k l b = ap (λ (a : Bool). a && b) (phase-not k l)
 
-  early-refused : (round : ℕ) (x : Inputs) → first (checkEarly s round x) ≡ Refused 31 0
-  unfolding checkEarly
-  early-refused round x = not-due s _ _ (phase-not-and 3 (omega arith) _)
-
   pub ended-refuses : (y : Step) → clears y Taken ≡ false → reply y (state s reg) ≡ Refused 31 0
   unfolding reply admitTests withdrawTests closeTests claimTests commitTests drawTests checkTests checkEarly
   ended-refuses (clear b) e = absurd (let z : _≡_ {A = ℕ} 0 1 = cc in omega arith)
@@ -55,30 +77,9 @@ module _ (s : Session) (reg : Bytes) (ended : 3 < s .progress .phase) where
   ended-refuses (draw seed) e = not-due s _ _ (phase-not-and 2 (omega arith) _)
   ended-refuses (check k x) e = not-due s _ _ (phase-not-and 3 (omega arith) _)
 
-  -- what a refused step of it leaves
-  still-there : (y : Step) → still y (state s reg) ≡ state s reg
-  unfolding leaves
-  still-there (clear b) = refl
-  still-there (admit ballot) = refl
-  still-there (withdraw mark) = refl
-  still-there close = refl
-  still-there (claim claims) = refl
-  still-there (commit k head shares0 shares1) = refl
-  still-there (draw seed) = refl
-  still-there (check k x) = rw (early-refused k x)
-
-  pub ended-stays : (y : Step) → clears y Taken ≡ false → after y (state s reg) ≡ state s reg
-  unfolding after leaves
-  ended-stays y e = rw (ended-refuses y e) (still-there y)
-
   -- a clear that is refused changes nothing either
   pub refused-stays : (y : Step) → reply y (state s reg) ≢ Taken → after y (state s reg) ≡ state s reg
-  unfolding after leaves
-  refused-stays y h = go (reply y (state s reg)) h
-    where
-      go : (r : Reply) → r ≢ Taken → leaves r (next y (state s reg)) (still y (state s reg)) ≡ state s reg
-      go Taken h = absurd (h refl)
-      go (Refused number place) h = still-there y
+  refused-stays y h = refused-keeps (state s reg) y (λ round x e r. let was = r .phase in omega arith) h
 
 -- ---- a check that is refused for its round
 

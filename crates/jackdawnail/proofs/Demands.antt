@@ -25,18 +25,18 @@ use Rattle.histories.proofs.Checked.{step-exactly}
 use Rattle.histories.proofs.Roll.{roll-is-batch, own-register}
 use Rattle.jackdawnail.proofs.HostSteps.{over-images}
 use Rattle.jackdawnail.proofs.HostClaims.{host-stays-out, host-rounds-checked, host-ended-accepted, host-honest-accepted, host-stays-valid, host-only-phase-or-round}
-use Rattle.jackdawnail.proofs.Papers.{sound, distributed, digest-of-bits}
+use Rattle.jackdawnail.proofs.Papers.{sound, distributed, digest-of-bits, tables}
 use Rattle.jackdawnail.proofs.Together.{decrypts-together}
 use Rattle.jackdawnail.proofs.Replies.{replies-told}
 use Rattle.jackdawnail.proofs.AnySession.{any-session}
-use Rattle.jackdawnail.proofs.Endings.{refusal-ends}
+use Rattle.jackdawnail.proofs.Endings.{refusal-ends, begun, scratch-zeroed}
 use Rattle.jackdawnail.proofs.Decided.{first-decides, orders-as-written}
 use Rattle.jackdawnail.proofs.FromCalls.{from-calls, turns-come}
 use Rattle.jackdawnail.proofs.Images.{over-image}
 use Rattle.jackdawnail.proofs.Yields.{extractor-takes}
 use Rattle.jackdawnail.proofs.Produces.{positive, fits, first-exactly, second-call-exactly}
-use Rattle.jackdawnail.proofs.Extracts.{extractor-exactly}
-use Rattle.jackdawnail.specs.Demands.{SheetExactly, StepExactly, HonestBallots, Demand2, ExtractorExactly, Extracts, AcceptedYields, RefusesAsChecks, ProducerWrites, HonestRounds, Demand3}
+use Rattle.jackdawnail.proofs.Extracts.{extractor-exactly, lent-takes}
+use Rattle.jackdawnail.specs.Demands.{SheetExactly, StepExactly, HonestBallots, Demand2, ExtractorExactly, Extracts, AcceptedYields, RoundsYield, RefusesAsChecks, ProducerWrites, HonestRounds, Demand3}
 
 -- ---- over an image
 
@@ -92,6 +92,14 @@ accepted-yields text x octets b1 b2 b3 o0 o1 a1 a2 a3 =
     let n = 24 * parametersOf text .N in
     (extracts text x (zeros n) (zeros scratchLength) octets b1 b2 b3 (taken (zeros n) (zeros scratchLength) (length-replicate {A = ℕ} n 0) (length-replicate {A = ℕ} scratchLength 0)), taken)
 
+rounds-yield : RoundsYield
+rounds-yield text x opens answers sheet o1 o2 o3 few lent lending within opened answered =
+    let P = parametersOf text in
+    let none = takes-accepted P (ballotsIn text (x .ballots)) x opens answers lending within opened answered in
+    let n = 24 * P .N in
+    extracts text x (zeros n) (zeros scratchLength) (lent .octets) o1 o2 o3
+    (lent-takes text x (zeros n) (zeros scratchLength) sheet few lent (length-replicate {A = ℕ} n 0) (length-replicate {A = ℕ} scratchLength 0) none)
+
 refuses-as-checks : RefusesAsChecks
 refuses-as-checks P m x opens answers lending = (refuses-exactly P m x opens answers lending, refuses-alike P m x opens answers lending)
 
@@ -105,12 +113,15 @@ demand2 = record {
   ended-accepted = host-ended-accepted;
   withdrawn-stays-out = host-stays-out;
   refusal-ends = refusal-ends;
+  clear-begins = begun;
+  scratch-zeroed = scratch-zeroed;
   first-decides = first-decides;
   orders-as-written = orders-as-written;
   honest-ballots = honest-ballots;
   distributed = distributed;
   decrypts-together = decrypts-together;
   digest-of-bits = digest-of-bits;
+  tables-by-rule = tables;
   examples = all-examples;
   over-images = over-images;
   replies-told = replies-told;
@@ -124,7 +135,7 @@ demand3 = record {
   refuses-as-checks = refuses-as-checks;
   check-parts = parts-exactly;
   lent-rounds = lending;
-  takes-accepted = takes-accepted;
+  rounds-yield = rounds-yield;
   honest-accepted = host-honest-accepted;
   from-calls = from-calls;
   turns-come = turns-come;

@@ -14,7 +14,9 @@ use Rattle.bgv.proofs.Round as round
 use Rattle.bgv.proofs.Sheets.{sheet-sound}
 use Rattle.transcript.specs.Round.{Parameters}
 use Rattle.lengths.specs.Sheets.{parametersOf}
-use Rattle.jackdawnail.specs.Papers.{Distributed, DigestOfBits}
+use Rattle.keccak_steps.specs.Table.{offsets-rule}
+use Rattle.keccak.specs.Tables.{constants-rule}
+use Rattle.jackdawnail.specs.Papers.{Distributed, DigestOfBits, TablesByRule}
 
 -- a sheet that is taken
 module _ (text : Bytes) (sheet : first (order text) ≡ Taken) where
@@ -44,3 +46,6 @@ distributed = record {
 
 pub digest-of-bits : DigestOfBits
 digest-of-bits = sha3-bits
+
+pub tables : TablesByRule
+tables = record { offsets-rule = offsets-rule; constants-rule = constants-rule }

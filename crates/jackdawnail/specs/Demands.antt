@@ -33,14 +33,14 @@ use Rattle.session_calls.specs.Images.{host, hostReply}
 use Rattle.histories.specs.Conditions.{SheetTaken, Lent, Takes}
 use Rattle.histories.specs.Claims.{RollIsBatch, OwnRegister}
 use Rattle.histories.specs.Examples.{all-rows}
-use Rattle.jackdawnail.specs.Papers.{Distributed, DecryptsTogether, DigestOfBits}
+use Rattle.jackdawnail.specs.Papers.{Distributed, DecryptsTogether, DigestOfBits, TablesByRule}
 use Rattle.jackdawnail.specs.Produces.{WritesFirst, WritesSecond}
 use Rattle.jackdawnail.specs.Extracts.{TakesOpenings}
 use Rattle.jackdawnail.specs.HostSteps.{OverImages}
 use Rattle.jackdawnail.specs.HostClaims.{HostStaysOut, HostRoundsChecked, HostEndedAccepted, HostHonestAccepted, HostStaysValid, HostOnlyPhaseOrRound}
 use Rattle.jackdawnail.specs.Replies.{RepliesTold}
 use Rattle.jackdawnail.specs.AnySession.{AnySession}
-use Rattle.jackdawnail.specs.Endings.{RefusalEnds}
+use Rattle.jackdawnail.specs.Endings.{RefusalEnds, ClearBegins, ScratchZeroed}
 use Rattle.jackdawnail.specs.Decided.{FirstDecides, OrdersAsWritten}
 use Rattle.jackdawnail.specs.FromCalls.{FromCalls, TurnsCome}
 
@@ -79,6 +79,9 @@ pub record Demand2 : Type 0 where
   pub withdrawn-stays-out : HostStaysOut
   -- a check that is refused for its round ends the session, after which no step but clear is taken
   pub refusal-ends : RefusalEnds
+  -- where a session starts, and what becomes of scratch
+  pub clear-begins : ClearBegins
+  pub scratch-zeroed : ScratchZeroed
   -- of every call the first case that holds in its order decides number and place, and no refusal comes otherwise
   pub first-decides : FirstDecides
   pub orders-as-written : OrdersAsWritten
@@ -87,6 +90,7 @@ pub record Demand2 : Type 0 where
   pub distributed : Distributed
   pub decrypts-together : DecryptsTogether
   pub digest-of-bits : DigestOfBits
+  pub tables-by-rule : TablesByRule
   pub examples : Examples
   -- what is shown of steps and of lists of steps over sessions holds of the exported calls over images
   pub over-images : OverImages
@@ -154,10 +158,13 @@ CheckParts = (P : Parameters) (m : ℕ) (r : Round) → None (roundTests P m r) 
 abbrev pub LentRounds : Type 0
 LentRounds = (P : Parameters) (m : ℕ) (x : Openings) → extractor.Lent P m x → x .repetition < P .repeats → Lending P m x (λ i. lentRound P x i 1) (λ c. lentRound P x 0 c)
 
--- and so the extractor takes openings and answers that checks accepted
-abbrev pub TakesAccepted : Type 0
-TakesAccepted = (P : Parameters) (m : ℕ) (x : Openings) (opens answers : ℕ → Round) → Lending P m x opens answers → x .repetition < P .repeats
-    → ((i : ℕ) → i < 2 → None (roundTests P m (opens i))) → ((c : ℕ) → 1 ≤ c → c ≤ 3 → None (roundTests P m (answers c))) → None (extractTests P m x)
+-- and so checks of any side and challenges that refuse nothing yield one of the three, whatever a seed draws
+abbrev pub RoundsYield : Type 0
+RoundsYield = (text : Bytes) (x : Openings) (opens answers : ℕ → Round) → SheetTaken text → Octets (x .answer1) → Octets (x .answer2) → Octets (x .answer3)
+    → let P = parametersOf text in
+    let m = ballotsIn text (x .ballots) in
+    m ≤ 4096 → extractor.Lent P m x → Lending P m x opens answers → x .repetition < P .repeats
+    → ((i : ℕ) → i < 2 → None (roundTests P m (opens i))) → ((c : ℕ) → 1 ≤ c → c ≤ 3 → None (roundTests P m (answers c))) → Yields text x
 
 -- the producer writes a round from all material that meets none of its refusals: its first message, and what answers a side and challenges
 abbrev pub ProducerWrites : Type 0
@@ -180,7 +187,7 @@ pub record Demand3 : Type 0 where
   pub refuses-as-checks : RefusesAsChecks
   pub check-parts : CheckParts
   pub lent-rounds : LentRounds
-  pub takes-accepted : TakesAccepted
+  pub rounds-yield : RoundsYield
   -- over every list of calls from a clear that is taken, each lent any register: a round of the producer's that is lodged is accepted at its turn
   pub honest-accepted : HostHonestAccepted
   -- and where the host writes no register: from the producer's two calls, claim, commit, draw and challenges to the check

@@ -5,6 +5,11 @@ use Prim.Native.Nat.{ℕ, _*_, _<_}
 use Rattle.codec.specs.Bytes.{Bytes, Octets, part}
 use Rattle.codec.specs.Reply.{first}
 use Rattle.codec.specs.declared.Reply.the-variants.{Taken}
+use Rattle.codec.specs.Lists.{list}
+use Rattle.keccak_steps.specs.Steps.{lanes, offsets}
+use Rattle.keccak_steps.specs.Table.{walk}
+use Rattle.keccak.specs.Keccak.{constants}
+use Rattle.keccak.specs.Tables.{constant}
 use Rattle.ring.specs.Poly.{Poly, plus, Alike}
 use Rattle.ring.specs.Slots.{coefficientBytes}
 use Rattle.sheet.specs.Sheet.{order}
@@ -63,3 +68,8 @@ DecryptsTogether = (text s e s0 e0 r e1 e2 m mask0 mask1 : Bytes) (room0 room1 r
 -- SHA3-256 is FIPS 202's, whose sections 3 to 6 are on bits: of every string of bytes
 abbrev pub DigestOfBits : Type 0
 DigestOfBits = (m : Bytes) → Octets m → bitsOf (sha3 m) ≡ sha3-256 (bitsOf m)
+
+-- and its two tables are those that FIPS 202's rules give (3.2.2, algorithm 2, and 3.2.5, algorithms 5 and 6)
+pub record TablesByRule : Type 0 where
+  pub offsets-rule : walk 24 0 1 0 (lanes (λ x y. 0)) ≡ offsets
+  pub constants-rule : list 24 constant ≡ constants
