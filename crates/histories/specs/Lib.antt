@@ -2,4 +2,5 @@ pub mod Runs
 pub mod Sheets
 pub mod Conditions
 pub mod Claims
+pub mod Bound
 pub mod Examples
