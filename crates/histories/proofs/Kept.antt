@@ -265,7 +265,7 @@ module _ (reg : Bytes) (s : Session) (h : History) (k : Kept s h) where
   kept-next (draw seed) e = kept-draw s h k seed (drawn-exactly s seed .0 e)
   kept-next (check r x) e = let t = taken-turn s r x e in kept-accepted s h k (t .0) (omega (arith, t .1, t .2))
 
-  kept-step : (x : Step) → Kept (after x st .session) (leaves (reply x st) (historyAfter x st h) h)
+  pub kept-step : (x : Step) → Kept (after x st .session) (leaves (reply x st) (historyAfter x st h) h)
   kept-step x = stepped-with st (λ (z : State) (g : History). Kept (z .session) g) x (kept-next x) (λ number place e. k) (λ number place e. kept-refused s h k)
 
 kept-trace : (cs : List Call) (l : Trace) → Kept (l .session) (l .history) → Kept (trace cs l .session) (trace cs l .history)

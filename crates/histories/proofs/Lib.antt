@@ -5,10 +5,12 @@ pub mod Stepped
 pub mod Exact
 pub mod Checked
 pub mod Kept
+pub mod Measured
 pub mod Reach
 pub mod Honest
 pub mod Withdrawn
 pub mod Roll
+pub mod Bound
 pub mod Rounds
 pub mod Ended
 pub mod Lodged

@@ -100,7 +100,7 @@ module _ (reg : Bytes) (at mark : ℕ) (size : length reg ≡ 163840) (place : a
 
 -- ---- ballots of one length
 
-long-more : (size : ℕ) (bs : List Bytes) (b : Bytes) → Long size bs → length b ≡ size → Long size (bs ++ (b ∷ []))
+pub long-more : (size : ℕ) (bs : List Bytes) (b : Bytes) → Long size bs → length b ≡ size → Long size (bs ++ (b ∷ []))
 long-more size [] b h e = (e, tt)
 long-more size (c ∷ bs) b h e = (h .0, long-more size bs b (h .1) e)
 

@@ -29,7 +29,7 @@ module _ (s : Session) (round : ℕ) (x : Inputs) where
   drawn-now e = let t = turn e in (t .0, omega (arith, t .1, t .2))
 
   -- and one that is taken was not stopped early
-  early-taken : first (checkTests s round x) ≡ Taken → first (checkEarly s round x) ≡ Taken
+  pub early-taken : first (checkTests s round x) ≡ Taken → first (checkEarly s round x) ≡ Taken
   unfolding checkTests
   early-taken e = taken-exactly _ .1 (append-none (checkEarly s round x) (checkLate s round x) (taken-exactly _ .0 e) .0)
 

@@ -2,5 +2,6 @@ pub mod Runs
 pub mod Sheets
 pub mod Conditions
 pub mod Claims
+pub mod Bound
 pub mod Examples
 pub mod Elections

@@ -27,6 +27,7 @@ use Rattle.jackdawnail.proofs.HostSteps.{over-images}
 use Rattle.jackdawnail.proofs.HostClaims.{host-stays-out, host-rounds-checked, host-ended-accepted, host-honest-accepted, host-stays-valid, host-only-phase-or-round}
 use Rattle.jackdawnail.proofs.Papers.{sound, distributed, digest-of-bits, tables}
 use Rattle.jackdawnail.proofs.Together.{decrypts-together}
+use Rattle.jackdawnail.proofs.Bound.{host-bound}
 use Rattle.jackdawnail.proofs.Replies.{replies-told}
 use Rattle.jackdawnail.proofs.AnySession.{any-session}
 use Rattle.jackdawnail.proofs.Endings.{refusal-ends, begun, scratch-zeroed}
@@ -111,6 +112,7 @@ demand2 = record {
   step-exactly = steps;
   rounds-checked = host-rounds-checked;
   ended-accepted = host-ended-accepted;
+  bound = host-bound;
   withdrawn-stays-out = host-stays-out;
   refusal-ends = refusal-ends;
   clear-begins = begun;

@@ -104,7 +104,7 @@ host-stays-valid start b cs s =
     in-image (λ (z : Session). Valid z × (z .numbers ≡ sheetOf (trace cs (initial b) .history .sheet) .numbers)) start b cs s (reachable-valid b cs (readable start b s))
 
 -- the reply of one more call
-answered : (start : Host) (b : Beginning) (cs : List Call) (s : Starts start b) (x : Step) (register : Bytes)
+pub answered : (start : Host) (b : Beginning) (cs : List Call) (s : Starts start b) (x : Step) (register : Bytes)
     → hostReply x (host (hostTrace cs (hostAfter (clear b) start .image)) register) ≡ reply x (state (trace cs (initial b) .session) register)
 answered start b cs s x register = over-images .one-step x (hostTrace cs (hostAfter (clear b) start .image)) register (trace cs (initial b) .session) (traced start b s cs) .0
 

@@ -3,6 +3,7 @@ pub mod Images
 pub mod Typed
 pub mod HostSteps
 pub mod HostClaims
+pub mod Bound
 pub mod AnySession
 pub mod Endings
 pub mod Decided

@@ -38,6 +38,7 @@ use Rattle.jackdawnail.specs.Produces.{WritesFirst, WritesSecond}
 use Rattle.jackdawnail.specs.Extracts.{TakesOpenings}
 use Rattle.jackdawnail.specs.HostSteps.{OverImages}
 use Rattle.jackdawnail.specs.HostClaims.{HostStaysOut, HostRoundsChecked, HostEndedAccepted, HostHonestAccepted, HostStaysValid, HostOnlyPhaseOrRound}
+use Rattle.jackdawnail.specs.Bound.{HostBound}
 use Rattle.jackdawnail.specs.Replies.{RepliesTold}
 use Rattle.jackdawnail.specs.AnySession.{AnySession}
 use Rattle.jackdawnail.specs.Endings.{RefusalEnds, ClearBegins, ScratchZeroed}
@@ -76,6 +77,8 @@ pub record Demand2 : Type 0 where
   -- over every list of calls from a clear that is taken: a round that a session counts as checked has had its check, and of a session that ended accepted every round has
   pub rounds-checked : HostRoundsChecked
   pub ended-accepted : HostEndedAccepted
+  -- and a check that is taken was lent the sheet, ballots, claims and first message that were lodged, or the strings that hold them collide under SHA3-256
+  pub bound : HostBound
   pub withdrawn-stays-out : HostStaysOut
   -- a check that is refused for its round ends the session, after which no step but clear is taken
   pub refusal-ends : RefusalEnds
