@@ -35,6 +35,7 @@ use Rattle.jackdawnail.proofs.Images.{over-image}
 use Rattle.jackdawnail.proofs.Yields.{extractor-takes}
 use Rattle.jackdawnail.proofs.Produces.{positive, fits, first-exactly, second-call-exactly}
 use Rattle.jackdawnail.proofs.Extracts.{extractor-exactly}
+use Rattle.jackdawnail.proofs.Exactly.{calls-exactly}
 use Rattle.jackdawnail.specs.Demands.{SheetExactly, StepExactly, HonestBallots, Demand2, ExtractorExactly, Extracts, AcceptedYields, RefusesAsChecks, ProducerWrites, HonestRounds, Demand3}
 
 -- ---- over an image
@@ -100,6 +101,7 @@ pub demand2 : Demand2
 demand2 = record {
   sheet-exactly = sheets;
   step-exactly = steps;
+  calls-exactly = calls-exactly;
   rounds-checked = host-rounds-checked;
   ended-accepted = host-ended-accepted;
   withdrawn-stays-out = host-stays-out;

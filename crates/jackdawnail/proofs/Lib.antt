@@ -10,6 +10,8 @@ pub mod FromCalls
 pub mod Papers
 pub mod Produces
 pub mod Extracts
+pub mod Scheme
+pub mod Exactly
 pub mod Yields
 pub mod Replies
 pub mod Demands
