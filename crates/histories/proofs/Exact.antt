@@ -26,7 +26,7 @@ use Rattle.histories.specs.Conditions.{Clears, Admits, Withdraws, Closes
 use Rattle.histories.proofs.Valid.{numbers-match, numbers-pass, bytes-pass, ready, is-ready, on-turn, is-turn, sheet-exactly}
 
 -- an order that says what a proposition says
-pub by-order : {A : Type 0} (ts : List Test) → (None ts → A) → (A → None ts) → (first ts ≡ Taken) ↔ A
+by-order : {A : Type 0} (ts : List Test) → (None ts → A) → (A → None ts) → (first ts ≡ Taken) ↔ A
 by-order ts says holds = let t = taken-exactly ts in (λ e. says (t .0 e), λ a. t .1 (holds a))
 
 -- ---- search
