@@ -32,7 +32,7 @@ pub bytes-pass : {s t : Bytes} → s ≡ t → not (same s t) ≡ false
 bytes-pass e = ap not (equal-same e)
 
 -- neither of two
-neither : (a b : Bool) → (a || b) ≡ false → (a ≡ false) × (b ≡ false)
+pub neither : (a b : Bool) → (a || b) ≡ false → (a ≡ false) × (b ≡ false)
 neither true b e = absurd (let z : _≡_ {A = ℕ} 0 1 = cc in omega arith)
 neither false b e = (refl, e)
 

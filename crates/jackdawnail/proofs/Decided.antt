@@ -14,7 +14,7 @@ use Rattle.round_calls.specs.Replies.{firstReply, secondReply}
 use Rattle.verification_calls.specs.Replies.{extractReply}
 use Rattle.checking.specs.Check.{storedTests, earlyTests}
 use Rattle.session.specs.declared.Session.{Session}
-use Rattle.session.specs.Steps.{admitTests, withdrawTests, closeTests, claimTests, commitTests, drawTests, checkEarly, challengesTests, turnoutTests}
+use Rattle.session.specs.Steps.{clearTests, admitTests, withdrawTests, closeTests, claimTests, commitTests, drawTests, checkEarly, challengesTests, turnoutTests}
 use Rattle.session.specs.Machine.{state, tests, reply}
 use Rattle.image.specs.Image.{imageLength, decode}
 use Rattle.session_calls.specs.Images.{lentReply, hostReply, challengesReply, turnoutReply}
@@ -52,9 +52,10 @@ first-decides = record {
 }
 
 pub orders-as-written : OrdersAsWritten
-unfolding admitTests withdrawTests closeTests claimTests commitTests drawTests checkEarly earlyTests storedTests challengesTests turnoutTests
+unfolding clearTests admitTests withdrawTests closeTests claimTests commitTests drawTests checkEarly earlyTests storedTests challengesTests turnoutTests
 orders-as-written = record {
   sheet = λ text. refl;
+  clear = λ b st. refl;
   admit = λ ballot st. refl;
   withdraw = λ mark st. refl;
   close = λ st. refl;

@@ -38,6 +38,7 @@ use Rattle.jackdawnail.proofs.Yields.{extractor-takes}
 use Rattle.jackdawnail.proofs.Produces.{positive, fits, first-exactly, second-call-exactly}
 use Rattle.jackdawnail.proofs.Extracts.{extractor-exactly, lent-takes}
 use Rattle.jackdawnail.specs.Demands.{SheetExactly, StepExactly, HonestBallots, Demand2, ExtractorExactly, Extracts, AcceptedYields, RoundsYield, RefusesAsChecks, ProducerWrites, HonestRounds, Demand3}
+use Rattle.jackdawnail.proofs.Exactly.{calls-exactly}
 
 -- ---- over an image
 
@@ -110,6 +111,7 @@ pub demand2 : Demand2
 demand2 = record {
   sheet-exactly = sheets;
   step-exactly = steps;
+  calls-exactly = calls-exactly;
   rounds-checked = host-rounds-checked;
   ended-accepted = host-ended-accepted;
   bound = host-bound;

@@ -12,6 +12,8 @@ pub mod Papers
 pub mod Produces
 pub mod Together
 pub mod Extracts
+pub mod Scheme
+pub mod Exactly
 pub mod Yields
 pub mod Replies
 pub mod Demands

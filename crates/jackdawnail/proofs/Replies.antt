@@ -2,7 +2,7 @@
 use mathlib.Core.Path.{_≡_, refl, sym, ap₂}
 use mathlib.Core.Bool.{Bool, true, false, cond, not, _&&_, _||_}
 use mathlib.Core.List.{List, [], _∷_, _++_}
-use Prim.Native.Nat.{ℕ, zero, suc, _*_, _%_, _^_, _<_}
+use Prim.Native.Nat.{ℕ, zero, suc, _*_, _/_, _%_, _^_, _<_}
 use native.Mathlib.Omega.{arith}
 use borrow.Author.Tests.{ltb-true}
 use lib.Dec.{eqb, ltb}
@@ -126,6 +126,11 @@ unfolding extraction
 extract-told Taken kind p = told-taken kind
 extract-told (Refused number place) kind p = p
 
+extract-value : (reply : Reply) (kind : ℕ) → reply ≡ Taken → answered (extraction reply kind) / 256 ≡ kind
+unfolding extraction
+extract-value Taken kind e = omega arith
+extract-value (Refused number place) kind e = not-taken number place e
+
 -- ---- the calls that are lent an image
 
 lent : (image : Bytes) (R : Session → Reply) → ((s : Session) → Packed (R s)) → Packed (lentReply image R)
@@ -175,6 +180,15 @@ turnout-told image reg enrolled =
     go true false false true v = told-refused 3 0 (omega arith) (omega arith)
     go true false false false v = told-taken v
 
+counted-value : (reply : Reply) (thousandths : ℕ) → reply ≡ Taken → countedAnswer (turnoutBy reply thousandths) / 256 ≡ thousandths
+counted-value Taken thousandths e = omega arith
+counted-value (Refused number place) thousandths e = not-taken number place e
+
+turnout-value : (image reg : Bytes) (enrolled : ℕ) → turnoutReply image reg enrolled ≡ Taken
+    → turnoutAnswer image reg enrolled / 256 ≡ entries.turnout reg (decode image .progress .used) enrolled
+unfolding turnoutAnswer
+turnout-value image reg enrolled taken = counted-value (turnoutReply image reg enrolled) (entries.turnout reg (decode image .progress .used) enrolled) taken
+
 value-or-none : (b : Bool) (v : ℕ) → cond b (256 * v) 0 % 256 ≡ 0
 value-or-none true v = omega arith
 value-or-none false v = refl
@@ -194,8 +208,10 @@ replies-told = record {
   produce-first = λ text x room. behind text _ (in-producer (parametersOf text) _ x true);
   produce-second = λ text x side challenges room. behind text _ (in-producer (parametersOf text) _ x _);
   extract = λ text x room. extract-told _ _ (behind text _ (in-extract (parametersOf text) _ x));
+  extract-value = λ text x room. extract-value _ _;
   opened-share = λ side N length0 length1 j. value-or-none (ltb (openedPlace side N length0 length1 j) (2 ^ 56)) (openedPlace side N length0 length1 j);
   step = host-told;
   challenges = λ image round out. lent image (λ s. first (challengesTests s round out)) (λ s. told (challengesTests s round out) refl);
   turnout = turnout-told;
+  turnout-value = turnout-value;
 }

@@ -25,8 +25,8 @@ use Rattle.scheme_calls.specs.Orders.{keygenOrder, encryptOrder, decryptOrder, 
 use Rattle.round_calls.specs.Replies.{firstReply, secondReply}
 use Rattle.verification_calls.specs.Replies.{extractReply}
 use Rattle.checking.specs.Check.{Inputs}
-use Rattle.session.specs.Steps.{challengesTests, turnoutTests, checkEarly}
-use Rattle.session.specs.Machine.{Step, admit, withdraw, close, claim, commit, draw, State, state, tests}
+use Rattle.session.specs.Steps.{Beginning, challengesTests, turnoutTests, checkEarly}
+use Rattle.session.specs.Machine.{Step, clear, admit, withdraw, close, claim, commit, draw, State, state, tests}
 use Rattle.session.specs.declared.Session.{Session}
 use Rattle.image.specs.Image.{imageLength, decode}
 use Rattle.session_calls.specs.Images.{Host, hostReply, challengesReply, turnoutReply}
@@ -72,6 +72,8 @@ numbers ts = map (λ (t : Test). t .number) ts
 -- Check: 31, the sheet's 1 to 5, 1, 16, 5, 6, 7, 8; .. then by ballot 12, 13. .. Remaining calls: 1, 5, 12." What 16 compares are five tests; only jdn_share is lent a mask
 pub record OrdersAsWritten : Type 0 where
   pub sheet : (text : Bytes) → numbers (order text) ≡ 1 ∷ 2 ∷ 3 ∷ 4 ∷ 5 ∷ []
+  -- the register's length, then the sheet
+  pub clear : (b : Beginning) (st : State) → numbers (tests (clear b) st) ≡ 1 ∷ 1 ∷ 2 ∷ 3 ∷ 4 ∷ 5 ∷ []
   pub admit : (ballot : Bytes) (st : State) → numbers (tests (admit ballot) st) ≡ 31 ∷ 1 ∷ 5 ∷ 32 ∷ 33 ∷ 35 ∷ []
   pub withdraw : (mark : ℕ) (st : State) → numbers (tests (withdraw mark) st) ≡ 31 ∷ 1 ∷ 34 ∷ 33 ∷ []
   pub close : (st : State) → numbers (tests close st) ≡ 31 ∷ 1 ∷ 36 ∷ []

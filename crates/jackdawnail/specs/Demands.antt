@@ -36,6 +36,7 @@ use Rattle.histories.specs.Examples.{all-rows}
 use Rattle.jackdawnail.specs.Papers.{Distributed, DecryptsTogether, DigestOfBits, TablesByRule}
 use Rattle.jackdawnail.specs.Produces.{WritesFirst, WritesSecond}
 use Rattle.jackdawnail.specs.Extracts.{TakesOpenings}
+use Rattle.jackdawnail.specs.Exactly.{CallsExactly}
 use Rattle.jackdawnail.specs.HostSteps.{OverImages}
 use Rattle.jackdawnail.specs.HostClaims.{HostStaysOut, HostRoundsChecked, HostEndedAccepted, HostHonestAccepted, HostStaysValid, HostOnlyPhaseOrRound}
 use Rattle.jackdawnail.specs.Bound.{HostBound}
@@ -74,6 +75,8 @@ Examples = map (λ (x : Row). x .got) all-rows ≡ map (λ (x : Row). x .said) a
 pub record Demand2 : Type 0 where
   pub sheet-exactly : SheetExactly
   pub step-exactly : StepExactly
+  -- and each of the other calls that Demand3 does not speak of: keygen, encrypt, decrypt, split, share, reconstruct, commitment, challenges, turnout, and those of a digest and a sheet
+  pub calls-exactly : CallsExactly
   -- over every list of calls from a clear that is taken: a round that a session counts as checked has had its check, and of a session that ended accepted every round has
   pub rounds-checked : HostRoundsChecked
   pub ended-accepted : HostEndedAccepted

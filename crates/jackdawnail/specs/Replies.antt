@@ -12,12 +12,15 @@ use Rattle.sha3.specs.Digest.{digestReply}
 use Rattle.sheet_calls.specs.Calls.{describeReply}
 use Rattle.transcript.specs.Producer.{Material}
 use Rattle.transcript.specs.Writes.{FirstRoom, SecondRoom}
-use Rattle.transcript.specs.Extractor.{Openings, ExtractRoom}
+use Rattle.transcript.specs.Extractor.{Openings, ExtractRoom, kind}
+use Rattle.lengths.specs.Sheets.{parametersOf, ballotsIn}
+use Rattle.register.specs.Register as entries
 use Rattle.scheme_calls.specs.Orders.{keygenOrder, encryptOrder, decryptOrder, splitOrder, shareOrder, reconstructOrder, commitmentOrder}
 use Rattle.verification.specs.Extraction.{answered}
 use Rattle.round_calls.specs.Replies.{firstReply, secondReply}
 use Rattle.verification_calls.specs.Replies.{extractReply, extractFound}
 use Rattle.session.specs.Machine.{Step}
+use Rattle.image.specs.Image.{decode}
 use Rattle.session_calls.specs.Images.{Host, hostReply, challengesReply, turnoutReply, turnoutAnswer}
 
 -- what C reads off an answer: its remainder by 256 is 0 exactly if the call is taken, and else the number of the refusal; the quotient is then its place
@@ -41,12 +44,16 @@ pub record RepliesTold : Type 0 where
   pub commitment : (text m r pair scratch : Bytes) → Packed (first (commitmentOrder text m r pair scratch))
   pub produce-first : (text : Bytes) (x : Material) (room : FirstRoom) → Packed (firstReply text x room)
   pub produce-second : (text : Bytes) (x : Material) (side : ℕ) (challenges : Bytes) (room : SecondRoom) → Packed (secondReply text x side challenges room)
-  -- its value is the kind of what was found
   pub extract : (text : Bytes) (x : Openings) (room : ExtractRoom) → Told (extractReply text x room) (answered (extractFound text x room))
+  -- where it is taken, the quotient is the kind of what was found
+  pub extract-value : (text : Bytes) (x : Openings) (room : ExtractRoom) → extractReply text x room ≡ Taken
+      → answered (extractFound text x room) / 256 ≡ kind (parametersOf text) (ballotsIn text (x .ballots)) x
   -- it refuses nothing: its value is a place, or 0
   pub opened-share : (side N length0 length1 j : ℕ) → openedReply side N length0 length1 j % 256 ≡ 0
   -- the eight steps
   pub step : (x : Step) (h : Host) → Packed (hostReply x h)
   pub challenges : (image : Bytes) (round : ℕ) (out : Bytes) → Packed (challengesReply image round out)
-  -- its value is the thousandths
   pub turnout : (image reg : Bytes) (enrolled : ℕ) → Told (turnoutReply image reg enrolled) (turnoutAnswer image reg enrolled)
+  -- where it is taken, the quotient is the thousandths, of the entries that the session in the image counts as used
+  pub turnout-value : (image reg : Bytes) (enrolled : ℕ) → turnoutReply image reg enrolled ≡ Taken
+      → turnoutAnswer image reg enrolled / 256 ≡ entries.turnout reg (decode image .progress .used) enrolled
