@@ -2,7 +2,7 @@
 -- lodged, or what it was lent and what was lodged are two different strings with one SHA3-256. The strings are named: that some strings or other collide says nothing, since some do.
 -- Assumes nothing.
 use mathlib.Core.Path.{_≡_}
-use mathlib.Core.Logic.{_⊎_, _≢_}
+use mathlib.Core.Logic.{_⊎_}
 use mathlib.Core.List.{List, _++_}
 use Prim.Native.Nat.{ℕ}
 use lib.ListN.{length}
@@ -10,17 +10,13 @@ use Rattle.codec.specs.Bytes.{Bytes, bytes}
 use Rattle.codec.specs.declared.Reply.the-variants.{Taken}
 use Rattle.sha3.specs.Sponge.{sha3}
 use Rattle.sheet.specs.Reader.{sheetOf}
+use Rattle.transcript.specs.Extractor.{Collision}
 use Rattle.transcript.specs.Layout.{ballotLength}
 use Rattle.digests.specs.Digests.{concatenated, ballotDigests}
 use Rattle.checking.specs.Check.{Inputs}
 use Rattle.session.specs.Steps.{Beginning}
 use Rattle.session.specs.Machine.{check, state, reply}
 use Rattle.histories.specs.Runs.{Message, message, History, Call, Begins, initial, trace}
-
--- two different strings with one SHA3-256
-pub record Collision (u v : Bytes) : Type 0 where
-  pub differ : u ≢ v
-  pub collide : sha3 u ≡ sha3 v
 
 -- what is lent is what was lodged, or the strings in which the two stand collide
 abbrev pub Agrees : {A : Type 0} (string : A → Bytes) (lent lodged : A) → Type 0

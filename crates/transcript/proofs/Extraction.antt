@@ -74,13 +74,13 @@ module _ (P : Parameters) (m : ℕ) (x : Openings) where
 
       -- ---- collisions
 
-      collides1 : same (one-by2 s two) (one-by3 s third) ≡ false → Collision P m x (one-by2 s two) (one-by3 s third)
+      collides1 : same (one-by2 s two) (one-by3 s third) ≡ false → Collision (one-by2 s two) (one-by3 s third)
       collides1 e = record { differ = differ (one-by2 s two) (one-by3 s third) e; collide = sym (passes2 .d1) ∙ passes3 .d1 }
 
-      collides2 : same (two-by1 s one) (two-by3 s third) ≡ false → Collision P m x (two-by1 s one) (two-by3 s third)
+      collides2 : same (two-by1 s one) (two-by3 s third) ≡ false → Collision (two-by1 s one) (two-by3 s third)
       collides2 e = record { differ = differ (two-by1 s one) (two-by3 s third) e; collide = sym (passes1 .d2) ∙ passes3 .d2 }
 
-      collides3 : same (three-by1 s one) (three-by2 s two) ≡ false → Collision P m x (three-by1 s one) (three-by2 s two)
+      collides3 : same (three-by1 s one) (three-by2 s two) ≡ false → Collision (three-by1 s one) (three-by2 s two)
       collides3 e = record { differ = differ (three-by1 s one) (three-by2 s two) e; collide = sym (passes1 .d3) ∙ passes2 .d3 }
 
       -- ---- vectors, and the key

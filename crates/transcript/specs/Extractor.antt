@@ -74,6 +74,11 @@ pub record Lent (P : Parameters) (m : ℕ) (x : Openings) : Type 0 where
   pub answer2 : length (x .answer2) ≡ answerLength (P .N) 2
   pub answer3 : length (x .answer3) ≡ answerLength (P .N) 3
 
+-- two different strings with one SHA3-256
+pub record Collision (u v : Bytes) : Type 0 where
+  pub differ : u ≢ v
+  pub collide : sha3 u ≡ sha3 v
+
 -- ---- what it writes
 
 -- three polynomials modulo q in 24N bytes
@@ -196,11 +201,6 @@ module _ (P : Parameters) (m : ℕ) (x : Openings) where
       (cond (ltb kind 6) (threeBytes q N vector-e) (ternaryBytes q N (polynomial N unknowns 0) ++ (ternaryBytes q N (polynomial N unknowns 1) ++ zeros (22 * N)))))
 
   -- ---- what the answers say (the third demand)
-
-  -- two different strings with one SHA3-256
-  pub record Collision (u v : Bytes) : Type 0 where
-    pub differ : u ≢ v
-    pub collide : sha3 u ≡ sha3 v
 
   -- a coefficient that is not 0 modulo q
   pub record Nonzero (f : Poly) : Type 0 where
