@@ -54,7 +54,8 @@ apart size (s ∷ ss) (t ∷ ts) hs ht l e =
 long-ballotDigests : (size m : ℕ) (ballots : Bytes) → Long 32 (ballotDigests size m ballots)
 unfolding ballotDigests
 long-ballotDigests size zero ballots = tt
-long-ballotDigests size (suc m) ballots = long-more 32 (ballotDigests size m ballots) (sha3 (part ballots (size * m) size)) (long-ballotDigests size m ballots) (length-sha3 (part ballots (size * m) size))
+long-ballotDigests size (suc m) ballots =
+    long-more 32 (ballotDigests size m ballots) (sha3 (part ballots (size * m) size)) (long-ballotDigests size m ballots) (length-sha3 (part ballots (size * m) size))
 
 -- first messages of one shape
 message-apart : (m n : Message) → length (m .head) ≡ length (n .head) → length (m .shares0) ≡ length (n .shares0)
