@@ -7,7 +7,6 @@ use Prim.Native.Nat.{ℕ, zero, suc, _*_, _<_}
 use native.Mathlib.Omega.{arith}
 use lib.ListN.{length}
 use Rattle.codec.specs.Bytes.{Bytes, bytes, part, same}
-use Rattle.codec.specs.declared.Reply.the-variants.{Taken}
 use Rattle.codec.proofs.Laws.{same-equal}
 use Rattle.codec.proofs.Replies.{taken-exactly}
 use Rattle.sha3.specs.Sponge.{sha3}
@@ -19,14 +18,14 @@ use Rattle.digests.proofs.Laws.{Long, length-ballotDigests}
 use Rattle.checking.specs.Check.{Inputs}
 use Rattle.session.specs.declared.Session.{Session}
 use Rattle.session.specs.Session.{trailAt}
-use Rattle.session.specs.Machine.{check, reply}
+use Rattle.session.specs.Machine.{reply}
 use Rattle.histories.specs.Runs.{Message, message, History}
 use Rattle.histories.specs.Conditions.{Reaches}
 use Rattle.histories.specs.Bound.{Agrees, lentMessage, lentBatch, batchString, claimsString, messageString, Bound, ChecksBound}
 use Rattle.histories.proofs.Stepped.{early-taken}
 use Rattle.histories.proofs.Checked.{reaches-exactly}
 use Rattle.histories.proofs.Kept.{Kept, kept}
-use Rattle.histories.proofs.Measured.{MessageSized, Measured, measured}
+use Rattle.histories.proofs.Measured.{Measured, measured}
 use Rattle.histories.proofs.Roll.{long-more}
 
 -- ---- strings that have one SHA3-256
