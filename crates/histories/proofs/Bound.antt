@@ -11,9 +11,7 @@ use Rattle.codec.proofs.Laws.{same-equal}
 use Rattle.codec.proofs.Replies.{taken-exactly}
 use Rattle.sha3.specs.Sponge.{sha3}
 use Rattle.sha3.proofs.Squeezing.{length-sha3}
-use Rattle.sheet.specs.Reader.{sheetOf}
 use Rattle.stern.proofs.Sound.{parts}
-use Rattle.transcript.specs.Layout.{ballotLength}
 use Rattle.transcript.proofs.Tests.{differ}
 use Rattle.digests.specs.Digests.{concatenated, ballotDigests, closingDigest, claimDigest, roundDigest}
 use Rattle.digests.proofs.Laws.{Long, length-ballotDigests}
@@ -23,7 +21,7 @@ use Rattle.session.specs.Session.{trailAt}
 use Rattle.session.specs.Machine.{reply}
 use Rattle.histories.specs.Runs.{Message, message, History}
 use Rattle.histories.specs.Conditions.{Reaches}
-use Rattle.histories.specs.Bound.{Agrees, batchString, claimsString, messageString, Bound, ChecksBound}
+use Rattle.histories.specs.Bound.{Agrees, lentMessage, lentBatch, batchString, claimsString, messageString, Bound, ChecksBound}
 use Rattle.histories.proofs.Stepped.{early-taken}
 use Rattle.histories.proofs.Checked.{reaches-exactly}
 use Rattle.histories.proofs.Kept.{Kept, kept}
@@ -55,7 +53,8 @@ apart size (s ∷ ss) (t ∷ ts) hs ht l e =
 long-ballotDigests : (size m : ℕ) (ballots : Bytes) → Long 32 (ballotDigests size m ballots)
 unfolding ballotDigests
 long-ballotDigests size zero ballots = tt
-long-ballotDigests size (suc m) ballots = long-more 32 (ballotDigests size m ballots) (sha3 (part ballots (size * m) size)) (long-ballotDigests size m ballots) (length-sha3 (part ballots (size * m) size))
+long-ballotDigests size (suc m) ballots =
+    long-more 32 (ballotDigests size m ballots) (sha3 (part ballots (size * m) size)) (long-ballotDigests size m ballots) (length-sha3 (part ballots (size * m) size))
 
 -- first messages of one shape
 message-apart : (m n : Message) → length (m .head) ≡ length (n .head) → length (m .shares0) ≡ length (n .shares0)
@@ -92,14 +91,8 @@ module _ (s : Session) (h : History) (k : Kept s h) (m : Measured s h) (round : 
       let f = h .firsts round in
       k .trail (let l = late in omega arith) round committed ∙ ap (λ (d : Bytes). sha3 (d ++ (bytes 2 round ++ (f .head ++ (f .shares0 ++ f .shares1))))) claim-is
 
-  abbrev lent-batch : List Bytes
-  lent-batch = ballotDigests (ballotLength (sheetOf (h .sheet) .numbers .ring)) (length (h .batch)) (x .ballots)
-
-  abbrev lent-message : Message
-  lent-message = message (x .head) (x .shares0) (x .shares1)
-
   -- and so are those of what is lent
-  lent-closing : sha3 (batchString h lent-batch) ≡ sha3 (batchString h (h .batch))
+  lent-closing : sha3 (batchString h (lentBatch h x)) ≡ sha3 (batchString h (h .batch))
   unfolding closingDigest
   lent-closing = rw (← (k .numbers), ← (k .closed (let l = late in omega arith)), ← sheet-is) (r .matches .ballots ∙ k .closing (let l = late in omega arith))
 
@@ -107,7 +100,7 @@ module _ (s : Session) (h : History) (k : Kept s h) (m : Measured s h) (round : 
   unfolding claimDigest
   lent-claim = ap (λ (d : Bytes). sha3 (d ++ x .claims)) (sym closing-is) ∙ r .matches .claims ∙ claim-is
 
-  lent-round : sha3 (messageString h round lent-message) ≡ sha3 (messageString h round (h .firsts round))
+  lent-round : sha3 (messageString h round (lentMessage x)) ≡ sha3 (messageString h round (h .firsts round))
   unfolding roundDigest
   lent-round = ap (λ (d : Bytes). sha3 (d ++ (bytes 2 round ++ (x .head ++ (x .shares0 ++ x .shares1))))) (sym claim-is) ∙ r .matches .message ∙ message-is
 
@@ -116,12 +109,12 @@ module _ (s : Session) (h : History) (k : Kept s h) (m : Measured s h) (round : 
       let z = m .firsts (let l = late in omega arith) round committed in
       record {
         sheet = agrees (λ (text : Bytes). text) (x .sheet) (h .sheet) (λ e. e) (r .matches .sheet ∙ sheet-is);
-        batch = agrees (batchString h) lent-batch (h .batch)
-            (λ e. apart 32 lent-batch (h .batch) (long-ballotDigests _ (length (h .batch)) (x .ballots)) (m .batch) (length-ballotDigests _ (length (h .batch)) (x .ballots)) (append-cancel-left (sha3 (h .sheet)) _ _ e))
+        batch = agrees (batchString h) (lentBatch h x) (h .batch)
+            (λ e. apart 32 (lentBatch h x) (h .batch) (long-ballotDigests _ (length (h .batch)) (x .ballots)) (m .batch) (length-ballotDigests _ (length (h .batch)) (x .ballots)) (append-cancel-left (sha3 (h .sheet)) _ _ e))
             lent-closing;
         claims = agrees (claimsString h) (x .claims) (h .claims) (λ e. append-cancel-left (sha3 (batchString h (h .batch))) _ _ e) lent-claim;
-        first-message = agrees (messageString h round) lent-message (h .firsts round)
-            (λ e. message-apart lent-message (h .firsts round) (r .lengths .head ∙ sym (z .head)) (r .lengths .shares0 ∙ sym (z .shares0))
+        first-message = agrees (messageString h round) (lentMessage x) (h .firsts round)
+            (λ e. message-apart (lentMessage x) (h .firsts round) (r .lengths .head ∙ sym (z .head)) (r .lengths .shares0 ∙ sym (z .shares0))
             (append-cancel-left (bytes 2 round) _ _ (append-cancel-left (sha3 (claimsString h (h .claims))) _ _ e)))
             lent-round;
       }

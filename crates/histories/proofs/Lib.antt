@@ -11,6 +11,7 @@ pub mod Honest
 pub mod Withdrawn
 pub mod Roll
 pub mod Bound
+pub mod Hashed
 pub mod Rounds
 pub mod Ended
 pub mod Lodged

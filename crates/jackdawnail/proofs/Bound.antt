@@ -2,8 +2,12 @@
 use mathlib.Core.Path.{sym, _∙_}
 use Rattle.session.specs.Machine.{check}
 use Rattle.histories.proofs.Bound.{checks-bound}
+use Rattle.histories.proofs.Hashed.{checks-hashed}
 use Rattle.jackdawnail.specs.Bound.{HostBound}
 use Rattle.jackdawnail.proofs.HostClaims.{readable, answered}
 
 pub host-bound : HostBound
-host-bound start b cs s register k x e = checks-bound b cs (readable start b s) register k x (sym (answered start b cs s (check k x) register) ∙ e)
+host-bound start b cs s register k x e = (
+  checks-bound b cs (readable start b s) register k x (sym (answered start b cs s (check k x) register) ∙ e),
+  λ first all lent. checks-hashed b cs first all k x lent,
+)

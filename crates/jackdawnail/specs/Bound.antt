@@ -4,19 +4,20 @@
 use mathlib.Core.Path.{_≡_}
 use mathlib.Core.List.{List}
 use Prim.Native.Nat.{ℕ}
-use Rattle.codec.specs.Bytes.{Bytes}
+use Rattle.codec.specs.Bytes.{Bytes, Octets}
 use Rattle.codec.specs.declared.Reply.the-variants.{Taken}
 use Rattle.checking.specs.Check.{Inputs}
 use Rattle.session.specs.Steps.{Beginning}
 use Rattle.session.specs.Machine.{clear, check}
 use Rattle.histories.specs.Runs.{Call, initial, trace}
-use Rattle.histories.specs.Bound.{Bound}
+use Rattle.histories.specs.Bound.{Bound, Hashed, LodgesAll, LentBytes}
 use Rattle.session_calls.specs.Images.{Host, host, hostReply, hostAfter}
 use Rattle.jackdawnail.specs.HostSteps.{hostTrace}
 use Rattle.jackdawnail.specs.HostClaims.{Starts}
 
--- a check that is taken was lent what was lodged, or what it was lent and what was lodged collide
+-- a check that is taken was lent what was lodged, or what it was lent and what was lodged collide, in strings of bytes where what is lent is bytes
 abbrev pub HostBound : Type 0
 HostBound = (start : Host) (b : Beginning) (cs : List Call) → Starts start b
-    → (register : Bytes) (k : ℕ) (x : Inputs) → hostReply (check k x) (host (hostTrace cs (hostAfter (clear b) start .image)) register) ≡ Taken
-    → Bound (trace cs (initial b) .history) k x
+    → let h = trace cs (initial b) .history in
+    (register : Bytes) (k : ℕ) (x : Inputs) → hostReply (check k x) (host (hostTrace cs (hostAfter (clear b) start .image)) register) ≡ Taken
+    → Bound h k x × (Octets (b .sheet) → LodgesAll cs → LentBytes x → Hashed h k x)
