@@ -32,10 +32,10 @@ use Rattle.jackdawnail.proofs.Endings.{refusal-ends}
 use Rattle.jackdawnail.proofs.Decided.{first-decides, orders-as-written}
 use Rattle.jackdawnail.proofs.FromCalls.{from-calls}
 use Rattle.jackdawnail.proofs.Images.{over-image}
+use Rattle.jackdawnail.proofs.Exactly.{calls-exactly}
 use Rattle.jackdawnail.proofs.Yields.{extractor-takes}
 use Rattle.jackdawnail.proofs.Produces.{positive, fits, first-exactly, second-call-exactly}
 use Rattle.jackdawnail.proofs.Extracts.{extractor-exactly}
-use Rattle.jackdawnail.proofs.Exactly.{calls-exactly}
 use Rattle.jackdawnail.specs.Demands.{SheetExactly, StepExactly, HonestBallots, Demand2, ExtractorExactly, Extracts, AcceptedYields, RefusesAsChecks, ProducerWrites, HonestRounds, Demand3}
 
 -- ---- over an image
