@@ -34,11 +34,11 @@ use Rattle.jackdawnail.proofs.Endings.{refusal-ends, begun, scratch-zer
 use Rattle.jackdawnail.proofs.Decided.{first-decides, orders-as-written}
 use Rattle.jackdawnail.proofs.FromCalls.{from-calls, turns-come}
 use Rattle.jackdawnail.proofs.Images.{over-image}
+use Rattle.jackdawnail.proofs.Exactly.{calls-exactly}
 use Rattle.jackdawnail.proofs.Yields.{extractor-takes}
 use Rattle.jackdawnail.proofs.Produces.{positive, fits, first-exactly, second-call-exactly}
 use Rattle.jackdawnail.proofs.Extracts.{extractor-exactly, lent-takes}
 use Rattle.jackdawnail.specs.Demands.{SheetExactly, StepExactly, HonestBallots, Demand2, ExtractorExactly, Extracts, AcceptedYields, RoundsYield, RefusesAsChecks, ProducerWrites, HonestRounds, Demand3}
-use Rattle.jackdawnail.proofs.Exactly.{calls-exactly}
 
 -- ---- over an image
 

@@ -100,7 +100,7 @@ pub record Demand2 : Type 0 where
   pub examples : Examples
   -- what is shown of steps and of lists of steps over sessions holds of the exported calls over images
   pub over-images : OverImages
-  -- of every reply that a call gives, the remainder by 256 is 0 exactly if the call is taken, and else the number of the refusal
+  -- of every reply that a call gives, the remainder by 256 is 0 exactly if the call is taken, and else the number of the refusal; the quotient is its place, or the value of a call that has one
   pub replies-told : RepliesTold
 
 -- ---- 3. Two accepted openings and three accepted answers yield a hash collision, a short commitment vector or the key, and every honest round is accepted whatever is drawn.
