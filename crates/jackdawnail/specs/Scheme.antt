@@ -16,7 +16,7 @@ use Rattle.histories.specs.Conditions.{SheetTaken}
 -- ---- what they share
 
 -- n bytes, each below v: ternary bytes (v = 3), and a message (v = p)
-pub record Small (v n : ℕ) (s : Bytes) : Type 0 where
+pub record SmallBytes (v n : ℕ) (s : Bytes) : Type 0 where
   pub size : length s ≡ n  -- 1
   pub below : EachBelow v s  -- 5
 
@@ -41,29 +41,29 @@ module _ (text : Bytes) where
 
   pub record Keygens (s e b scratch : Bytes) : Type 0 where
     pub served : Served scratch  -- the sheet's own 1 to 5, 1
-    pub secret : Small 3 N s  -- 1, 5
-    pub error : Small 3 N e  -- 1, 5
+    pub secret : SmallBytes 3 N s  -- 1, 5
+    pub error : SmallBytes 3 N e  -- 1, 5
     pub key-size : length b ≡ 8 * N  -- 1
 
   pub record Encrypts (r e1 e2 m ciphertext scratch : Bytes) : Type 0 where
     pub served : Served scratch  -- the sheet's own 1 to 5, 1
-    pub random : Small 3 N r  -- 1, 5
-    pub error1 : Small 3 N e1  -- 1, 5
-    pub error2 : Small 3 N e2  -- 1, 5
-    pub message : Small p N m  -- 1, 5
+    pub random : SmallBytes 3 N r  -- 1, 5
+    pub error1 : SmallBytes 3 N e1  -- 1, 5
+    pub error2 : SmallBytes 3 N e2  -- 1, 5
+    pub message : SmallBytes p N m  -- 1, 5
     pub ciphertext-size : length ciphertext ≡ 16 * N  -- 1
 
   pub record Decrypts (s ciphertext vote scratch : Bytes) : Type 0 where
     pub served : Served scratch  -- the sheet's own 1 to 5, 1
-    pub secret : Small 3 N s  -- 1, 5
+    pub secret : SmallBytes 3 N s  -- 1, 5
     pub both-halves : Coefficients q (2 * N) ciphertext  -- 1, 5, u and v
     pub vote-size : length vote ≡ N  -- 1
 
   -- the output is s1, e1, b0 and b1
   pub record Splits (s e s0 e0 out scratch : Bytes) : Type 0 where
     pub served : Served scratch  -- the sheet's own 1 to 5, 1
-    pub secret : Small 3 N s  -- 1, 5
-    pub error : Small 3 N e  -- 1, 5
+    pub secret : SmallBytes 3 N s  -- 1, 5
+    pub error : SmallBytes 3 N e  -- 1, 5
     pub secret0 : Coefficients q N s0  -- 1, 5
     pub error0 : Coefficients q N e0  -- 1, 5
     pub out-size : length out ≡ 32 * N  -- 1
@@ -87,5 +87,5 @@ module _ (text : Bytes) where
   pub record CommitsTo (m r pair scratch : Bytes) : Type 0 where
     pub served : Served scratch  -- the sheet's own 1 to 5, 1
     pub message : Coefficients q N m  -- 1, 5
-    pub random : Small 3 (3 * N) r  -- 1, 5
+    pub random : SmallBytes 3 (3 * N) r  -- 1, 5
     pub pair-size : length pair ≡ 16 * N  -- 1
