@@ -15,7 +15,7 @@ using theirs::q;
 using theirs::Round;
 using theirs::Words;
 
-extern "C" uint64_t checker_calls_round(JDN_IN(sheet), uint64_t side, JDN_IN(challenges), JDN_IN(ballots), JDN_IN(claims), JDN_IN(head), JDN_IN(shares0),
+extern "C" uint64_t test_check_round(JDN_IN(sheet), uint64_t side, JDN_IN(challenges), JDN_IN(ballots), JDN_IN(claims), JDN_IN(head), JDN_IN(shares0),
                                         JDN_IN(shares1), JDN_IN(opening), JDN_IN(answers), JDN_OUT(scratch));
 
 static const size_t rounds = 2, least_repeats = 3, drown = 40, passes = 5;
@@ -148,7 +148,7 @@ static double checked(Setup &x) {
         theirs::append(head, y.head.data(), y.head.size());
         theirs::append(head, y.digests.data(), y.digests.size());
         double start = seconds();
-        wrong |= 0 != checker_calls_round(IN(x.text), k % 2, IN(x.challenges[k]), IN(x.material[k].ballots), IN(y.claims), IN(head), IN(y.shares[0]), IN(y.shares[1]),
+        wrong |= 0 != test_check_round(IN(x.text), k % 2, IN(x.challenges[k]), IN(x.material[k].ballots), IN(y.claims), IN(head), IN(y.shares[0]), IN(y.shares[1]),
                                           IN(y.opening), IN(y.answers), OUT(scratch));
         taken += seconds() - start;
     }

@@ -13,7 +13,7 @@ enum { n = 2048, unknowns = 42 * n, entries = 4000, opening_length = 22 * n, bal
 static const char *modulus = "36028797018820609"; /* a prime below 2^55 with 4096 dividing q - 1 */
 static const double limit = 1.2;
 
-uint64_t checker_calls_round(const uint8_t *sheet, size_t sheet_length, uint64_t side, const uint8_t *challenges, size_t challenges_length, const uint8_t *ballots,
+uint64_t test_check_round(const uint8_t *sheet, size_t sheet_length, uint64_t side, const uint8_t *challenges, size_t challenges_length, const uint8_t *ballots,
                              size_t ballots_length, const uint8_t *claims, size_t claims_length, const uint8_t *head, size_t head_size, const uint8_t *shares0,
                              size_t shares0_length, const uint8_t *shares1, size_t shares1_length, const uint8_t *opening, size_t opening_size, const uint8_t *answers,
                              size_t answers_length, uint8_t *scratch, size_t scratch_length);
@@ -106,7 +106,7 @@ int main(void) {
         taken("check", jdn_check(image, sizeof image, (uint8_t *)sheet, sheet_length, ballot, sizeof ballot, claims, sizeof claims, 0, head, sizeof head, shares0, sizeof shares0,
                                  shares1, sizeof shares1, opening, sizeof opening, answers, answers_length, scratch, sizeof scratch));
         double first = seconds();
-        taken("round", checker_calls_round((uint8_t *)sheet, sheet_length, drawn[0], drawn + 1, 1, ballot, sizeof ballot, claims, sizeof claims, head, sizeof head, shares0,
+        taken("round", test_check_round((uint8_t *)sheet, sheet_length, drawn[0], drawn + 1, 1, ballot, sizeof ballot, claims, sizeof claims, head, sizeof head, shares0,
                                            sizeof shares0, shares1, sizeof shares1, opening, sizeof opening, answers, answers_length, scratch, sizeof scratch));
         double second = seconds();
         hashing();

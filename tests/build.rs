@@ -2,7 +2,7 @@
 fn main() {
     let libraries = concat!(env!("CARGO_MANIFEST_DIR"), "/../target/staticlib");
     println!("cargo:rustc-link-search=native={libraries}");
-    for name in ["jackdawnail", "checker_calls", "ring_calls", "sheet_calls", "stern_calls"] {
+    for name in ["jackdawnail", "test_check", "test_ring", "test_sheet", "test_stern"] {
         println!("cargo:rustc-link-lib=static={name}");
         println!("cargo:rerun-if-changed={libraries}/lib{name}.a");
     }

@@ -71,7 +71,7 @@ fn names(tally: &mut Tally, list: &str) {
 
 /// The widths of the fields of a session's image, in their order, as the definition lists them: `field "name" width ..` or `word "name" ..`, a word being 8 bytes.
 fn image_fields() -> Vec<u64> {
-    let text = std::fs::read_to_string(top().join("crates/image/specs/Image.antt")).unwrap_or_default();
+    let text = std::fs::read_to_string(top().join("crates/session_image/specs/Image.antt")).unwrap_or_default();
     let entry = |line: &str| {
         let mut words = line.trim_start_matches(['∷', ' ']).split(' ');
         match (words.next(), words.next(), words.next()) {

@@ -1,4 +1,4 @@
-//! Numbers modulo q and polynomials modulo X^n + 1, over the calls of `ring_calls`, against plain 128-bit arithmetic.
+//! Numbers modulo q and polynomials modulo X^n + 1, over the calls of `test_ring`, against plain 128-bit arithmetic.
 use crate::random::Random;
 use crate::tally::{Comparison, Tally};
 

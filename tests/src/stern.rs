@@ -1,4 +1,4 @@
-//! The shortness argument of a round over the calls of `stern_calls`: digests, answers and the tests of answers against the independent implementation.
+//! The shortness argument of a round over the calls of `test_stern`: digests, answers and the tests of answers against the independent implementation.
 use crate::argument::{Argument, Drawn};
 use crate::polynomials::{encode, poly, ternary, Poly};
 use crate::random::Random;

@@ -1,4 +1,4 @@
-//! What the calls of `stern_calls` refuse: a damaged P, an answer 1 that is not balanced, lengths and ranges.
+//! What the calls of `test_stern` refuse: a damaged P, an answer 1 that is not balanced, lengths and ranges.
 use crate::argument::{is_permutation, Argument};
 use crate::random::Random;
 use crate::scratch::{Scratch, SCRATCH};

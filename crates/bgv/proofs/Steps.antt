@@ -8,9 +8,9 @@ use Rattle.codec.specs.Bytes.{Bytes, put, zeros}
 use Rattle.ring.specs.Poly.{Poly, plus, scale, mul, Below}
 use Rattle.ring.specs.Slots.{slot, encode, store, Slots}
 use Rattle.ring.proofs.Polynomials.{alike-eq, alike-refl, _so_, alike-plus, alike-scale}
-use Rattle.call.specs.Call.{coefficients, Stands}
-use Rattle.call.proofs.Slots.{Holds, holds-alike, holds-slot, stored, stored-length, stored-other, put-length, put-other, stands-alike, stands-after, stands-stored}
-use Rattle.call.proofs.Loads.{Loaded, written-load, both-length, first-kept, length1, x1, y1, add-slots-asks}
+use Rattle.scratch.specs.Call.{coefficients, Stands}
+use Rattle.scratch.proofs.Slots.{Holds, holds-alike, holds-slot, stored, stored-length, stored-other, put-length, put-other, stands-alike, stands-after, stands-stored}
+use Rattle.scratch.proofs.Loads.{Loaded, written-load, both-length, first-kept, length1, x1, y1, add-slots-asks}
 use Rattle.bgv.specs.Scheme.{noisy}
 use Rattle.bgv.proofs.Form.{noisy-turned, noisy-alike}
 

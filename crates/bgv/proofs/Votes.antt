@@ -16,8 +16,8 @@ use Rattle.modular.proofs.Congruence.{mod-mul-left}
 use Rattle.modular.proofs.Centring.{centre-mod}
 use Rattle.ring.specs.Poly.{Poly}
 use Rattle.ring.specs.Slots.{poly}
-use Rattle.call.specs.Call.{Stands}
-use Rattle.call.proofs.Slots.{stands-poly}
+use Rattle.scratch.specs.Call.{Stands}
+use Rattle.scratch.proofs.Slots.{stands-poly}
 use Rattle.bgv.specs.Scheme.{plain, within}
 
 -- d with the first i bytes of a vote

@@ -12,7 +12,7 @@ ghost use Rattle.modular.specs.Division.{Coprime, divide};
 ghost use Rattle.ring.specs.Poly.{plus, minus, mul, Below};
 ghost use Rattle.ring.specs.Slots.{coefficientBytes, poly, slot, encode};
 ghost use Rattle.ring.specs.Ternary.{ternary};
-ghost use Rattle.call.specs.Call.{scratchLength, coefficients, Polynomial, Stands, Free};
+ghost use Rattle.scratch.specs.Call.{scratchLength, coefficients, Polynomial, Stands, Free};
 ghost use Rattle.bgv.specs.Scheme as scheme;
 ghost use Rattle.bgv.specs.Scheme.{lentMask, within};
 
@@ -27,7 +27,7 @@ pub fn combine(work: &mut [u8], a: &[u8], p: u64, n: usize, q: u64)
     ensures { λ _. ⌜ Stands q n (scheme.noisy q n p (poly (now (a .entry))) (slot (now (work .entry)) 0) (slot (now (work .entry)) 16384))
         (now (work .entry)) (now (work .exit)) ⌝ }
 {
-    product::multiply(work, 0, ROOM, a, n, q);
+    ring_product::multiply(work, 0, ROOM, a, n, q);
     ring::scale_slot(work, ERROR, p, n, q);
     ring::add_slot(work, 0, ERROR, n, q);
 }
@@ -139,7 +139,7 @@ fn less_product(work: &mut [u8], u: &[u8], v: &[u8], n: usize, q: u64)
     ensures { λ _. ⌜ Stands q n (minus q (poly (now (v .entry))) (mul q n (slot (now (work .entry)) 0) (poly (now (u .entry)))))
         (now (work .entry)) (now (work .exit)) ⌝ }
 {
-    product::multiply(work, 0, ROOM, u, n, q);
+    ring_product::multiply(work, 0, ROOM, u, n, q);
     ring::scale_slot(work, 0, q - 1, n, q);
     ring::add(work, 0, v, n, q);
 }

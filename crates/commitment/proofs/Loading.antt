@@ -14,8 +14,8 @@ use Rattle.ring.specs.Slots.{poly, slot, encode}
 use Rattle.ring.specs.Ternary.{ternary}
 use Rattle.ring.proofs.Bridge.{length-encode, encode-alike}
 use Rattle.ring.proofs.Ranges.{below-ternary}
-use Rattle.call.specs.Call.{Polynomial}
-use Rattle.call.proofs.Shelf.{Shelf, shelf-below, shelf-alike, shelf-load, shelf-copy, shelf-none}
+use Rattle.scratch.specs.Call.{Polynomial}
+use Rattle.scratch.proofs.Shelf.{Shelf, shelf-below, shelf-alike, shelf-load, shelf-copy, shelf-none}
 use Rattle.commitment.specs.Commitment.{Keys, Three, Alike3, threeOf, threeAt, committed, pairBytes, opens, PairStands, withThree}
 use Rattle.commitment.proofs.Additive.{row-alike, second-alike}
 

@@ -11,8 +11,8 @@ use Rattle.sheet.specs.declared.Reading.{Reading}
 use Rattle.sheet.specs.declared.Reading.the-variants.{Taken}
 use Rattle.sheet.proofs.Taken.{taken, length-polynomials}
 use Rattle.sheet_numbers.specs.declared.Numbers.{Numbers}
-use Rattle.call.specs.Call.{Polynomial}
-use Rattle.call.proofs.Lent.{Lent, lent}
+use Rattle.scratch.specs.Call.{Polynomial}
+use Rattle.scratch.proofs.Lent.{Lent, lent}
 use Rattle.commitment.specs.Commitment.{PublicKeys}
 use Rattle.commitment.specs.Loaded.{aOf, bOf, keyBytes, Loaded}
 use Rattle.commitment.specs.Parameters.{parameters, parametersBy, parametersOf}

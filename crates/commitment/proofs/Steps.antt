@@ -12,8 +12,8 @@ use Rattle.ring.specs.Poly.{Poly, plus, mul, zero-poly, modulo, Alike, Below}
 use Rattle.ring.specs.Slots.{poly, slot, encode, store, Slots}
 use Rattle.ring.proofs.Bridge.{poly-part, store-alike, after-multiply, length-multiplied, slot-multiplied, slot-beside}
 use Rattle.ring.proofs.Polynomials.{plus-comm, plus-assoc, plus-left-comm, mul-poly-comm, alike-plus, alike-mul}
-use Rattle.call.specs.Call.{Polynomial}
-use Rattle.call.proofs.Shelf.{Shelf, place, place-length, shelf-below, shelf-alike, shelf-slots, shelf-store, shelf-add, shelf-copy-slot, shelf-multiply, shelf-none, shelf-next}
+use Rattle.scratch.specs.Call.{Polynomial}
+use Rattle.scratch.proofs.Shelf.{Shelf, place, place-length, shelf-below, shelf-alike, shelf-slots, shelf-store, shelf-add, shelf-copy-slot, shelf-multiply, shelf-none, shelf-next}
 use Rattle.commitment.specs.Commitment.{keysOf, threeAt, row, second, committed, PublicKeys, PairStands, withProduct}
 
 -- a lent part of the keys

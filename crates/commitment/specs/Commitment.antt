@@ -9,7 +9,7 @@ use Rattle.codec.specs.Bytes.{Bytes, part, put, zeros, same}
 use Rattle.ring.specs.Poly.{Poly, plus, minus, mul, Alike}
 use Rattle.ring.specs.Slots.{coefficientBytes, slot, encode, store}
 use Rattle.ring.specs.Ternary.{ternary}
-use Rattle.call.specs.Call.{Free, Polynomial}
+use Rattle.scratch.specs.Call.{Free, Polynomial}
 
 -- the public k1, k2, k3
 pub record Keys : Type 0 where

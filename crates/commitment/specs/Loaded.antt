@@ -4,7 +4,7 @@ use lib.ListN.{length}
 use Rattle.codec.specs.Bytes.{Bytes, part}
 use Rattle.sheet_numbers.specs.declared.Numbers.{Numbers}
 use Rattle.sheet_numbers.specs.Usable.{Usable}
-use Rattle.call.specs.Call.{Polynomial}
+use Rattle.scratch.specs.Call.{Polynomial}
 use Rattle.commitment.specs.Commitment.{PublicKeys}
 
 module _ (k : Numbers) (public : Bytes) where

@@ -7,7 +7,7 @@ ghost use lib.ListN.{length};
 ghost use Rattle.codec.specs.Slices.{given, left};
 ghost use Rattle.ring.specs.Poly.{Below};
 ghost use Rattle.ring.specs.Slots.{poly, slot, Slots};
-ghost use Rattle.call.specs.Call.{scratchLength, Polynomial, Free};
+ghost use Rattle.scratch.specs.Call.{scratchLength, Polynomial, Free};
 ghost use Rattle.commitment.specs.Commitment.{keysOf, threeOf, threeAt, committed, opens, PublicKeys, PairStands, withProduct};
 ghost use Rattle.commitment.specs.Commitment.{withThree};
 
@@ -28,7 +28,7 @@ fn add_product(work: &mut [u8], to: usize, from: usize, a: &[u8], n: usize, q: u
         × (from + 8 * n ≤ 81920) × Below q n (slot (now work) to) × Below q n (slot (now work) from) ⌝ }
     ensures { λ _. ⌜ now (work .exit) ≡ withProduct q n (now (work .entry)) to from (poly (now (a .entry))) ⌝ }
 {
-    product::multiply(work, from, ROOM, a, n, q);
+    ring_product::multiply(work, from, ROOM, a, n, q);
     ring::add_slot(work, to, from, n, q);
 }
 

@@ -5,8 +5,8 @@ use mathlib.Core.List.{[], _++_}
 use native.Mathlib.Omega.{arith}
 use lib.ListN.{length, length-append}
 use Rattle.codec.specs.Bytes.{Bytes}
-use Rattle.sponge.specs.Absorb.{absorb, zeroState}
-use Rattle.sponge.proofs.Absorbing.{absorb-append}
+use Rattle.sha3.specs.Absorb.{absorb, zeroState}
+use Rattle.sha3.proofs.Absorbing.{absorb-append}
 use Rattle.sha3.specs.Sponge.{padding, squeeze, sha3}
 use Rattle.sha3.proofs.Parts.{done}
 use Rattle.hasher.specs.declared.Hasher.{Hasher}

@@ -4,7 +4,7 @@ use Prim.Native.Nat.{ℕ, _+_, _%_}
 use lib.ListN.{length}
 use Rattle.codec.specs.Bytes.{Bytes}
 use Rattle.keccak.specs.Keccak.{State}
-use Rattle.sponge.specs.Absorb.{absorb, zeroState}
+use Rattle.sha3.specs.Absorb.{absorb, zeroState}
 use Rattle.sha3.specs.Sponge.{padding, squeeze}
 use Rattle.hasher.specs.declared.Hasher.{Hasher}
 

@@ -33,7 +33,7 @@ impl Hasher {
     pub fn new() -> Hasher
         ensures { λ r. ⌜ r ≡ holding [] ⌝ }
     {
-        make(sponge::start(), 0)
+        make(sha3::sponge::start(), 0)
     }
 
     // The hasher after the bytes too.
@@ -41,8 +41,8 @@ impl Hasher {
         ensures { λ r. ⌜ r ≡ updated self (now (bytes .entry)) ⌝ }
     {
         let at = self.place % 136;
-        let next = sponge::absorb(state(self), at, bytes);
-        make(next, sponge::advance(at, bytes.len()))
+        let next = sha3::sponge::absorb(state(self), at, bytes);
+        make(next, sha3::sponge::advance(at, bytes.len()))
     }
 
     // Takes in the bytes, in place.

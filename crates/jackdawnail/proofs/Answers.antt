@@ -5,7 +5,7 @@ use Prim.Native.Nat.{ℕ}
 use Rattle.codec.specs.Bytes.{Bytes}
 use Rattle.codec.specs.Reply.{Test, leaves, packed}
 use Rattle.codec.specs.declared.Reply.{Reply}
-use Rattle.call.specs.Call.{swept, Called}
+use Rattle.scratch.specs.Call.{swept, Called}
 use Rattle.jackdawnail.specs.Answers.{Answered}
 
 pub answered : {tests : List Test} {writes : Bytes} {r : Reply} {out out' w w' : Bytes} {answer : ℕ} → answer ≡ packed r → Called tests writes r out out' w w' → Answered tests writes answer out out' w w'

@@ -5,8 +5,8 @@ use Prim.Native.Nat.{ℕ}
 use Rattle.codec.specs.Bytes.{Bytes}
 use Rattle.codec.specs.Reply.{Test, first, leaves, packed}
 use Rattle.sha3.specs.Digest.{digestReply, digestOut}
-use Rattle.call.specs.Call.{swept}
-use Rattle.sheet_calls.specs.Calls.{describeReply, describeOut}
+use Rattle.scratch.specs.Call.{swept}
+use Rattle.sheet.specs.Calls.{describeReply, describeOut}
 
 -- for an order of tests and what is written
 pub record Answered (tests : List Test) (writes : Bytes) (answer : ℕ) (out out' scratch scratch' : Bytes) : Type 0 where

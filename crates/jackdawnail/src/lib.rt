@@ -1,6 +1,6 @@
 // The calls of the C interface, include/jackdawnail.h: no call asks anything of its caller, and each contract gives the reply and every
 // lent byte.
-pub mod round;
+pub mod rounds;
 pub mod steps;
 
 ghost use Rattle.codec.specs.Slices.{given, left};
@@ -22,7 +22,7 @@ pub extern "C" fn jdn_digest(message: &[u8], out: &mut [u8]) -> u64
 pub extern "C" fn jdn_sheet(sheet: &[u8], out: &mut [u8]) -> u64
     ensures { λ answer. ⌜ Described (given sheet) answer (given out) (left out) ⌝ }
 {
-    codec::pack(sheet_calls::describe(sheet, out))
+    codec::pack(sheet::calls::describe(sheet, out))
 }
 
 // Writes the key b = a s + p e.

@@ -1,13 +1,13 @@
 // The calls of a session: its eight steps over a lent image, challenges and turnout, and the fixed lengths.
 ghost use mathlib.Core.Path.{_≡_};
 ghost use Rattle.codec.specs.Slices.{given, left};
-ghost use Rattle.call.specs.Call.{scratchLength};
+ghost use Rattle.scratch.specs.Call.{scratchLength};
 ghost use Rattle.register.specs.Register.{registerLength};
-ghost use Rattle.checking.specs.Check.{inputsIn};
+ghost use Rattle.session_check.specs.Check.{inputsIn};
 ghost use Rattle.session.specs.Steps.{on};
 ghost use Rattle.session.specs.Machine.{clear, admit, withdraw, close, claim, commit, draw};
-ghost use Rattle.image.specs.Image.{imageLength};
-ghost use Rattle.session_calls.specs.Images.{host, Called, CalledAlone, CheckCalled, ChallengesCalled, turnoutAnswer};
+ghost use Rattle.session_image.specs.Image.{imageLength};
+ghost use Rattle.session_image.specs.Images.{host, Called, CalledAlone, CheckCalled, ChallengesCalled, turnoutAnswer};
 
 // The length of the image of a session.
 #[no_mangle]
@@ -38,7 +38,7 @@ pub extern "C" fn jdn_register_length() -> u64
 pub extern "C" fn jdn_clear(image: &mut [u8], reg: &mut [u8], sheet: &[u8]) -> u64
     ensures { λ answer. ⌜ Called (clear (on (given sheet))) (host (given image) (given reg)) answer (host (left image) (left reg)) ⌝ }
 {
-    session_calls::clear(image, reg, sheet)
+    session_image::calls::clear(image, reg, sheet)
 }
 
 // Admits a ballot: mark, u, v.
@@ -46,7 +46,7 @@ pub extern "C" fn jdn_clear(image: &mut [u8], reg: &mut [u8], sheet: &[u8]) -> u
 pub extern "C" fn jdn_admit(image: &mut [u8], reg: &mut [u8], ballot: &[u8]) -> u64
     ensures { λ answer. ⌜ Called (admit (given ballot)) (host (given image) (given reg)) answer (host (left image) (left reg)) ⌝ }
 {
-    session_calls::admit(image, reg, ballot)
+    session_image::calls::admit(image, reg, ballot)
 }
 
 // Withdraws the ballot with a mark.
@@ -54,7 +54,7 @@ pub extern "C" fn jdn_admit(image: &mut [u8], reg: &mut [u8], ballot: &[u8]) -> 
 pub extern "C" fn jdn_withdraw(image: &mut [u8], reg: &mut [u8], mark: u32) -> u64
     ensures { λ answer. ⌜ Called (withdraw mark) (host (given image) (given reg)) answer (host (left image) (left reg)) ⌝ }
 {
-    session_calls::withdraw(image, reg, mark)
+    session_image::calls::withdraw(image, reg, mark)
 }
 
 // Closes the batch of the standing entries.
@@ -62,7 +62,7 @@ pub extern "C" fn jdn_withdraw(image: &mut [u8], reg: &mut [u8], mark: u32) -> u
 pub extern "C" fn jdn_close(image: &mut [u8], reg: &[u8]) -> u64
     ensures { λ answer. ⌜ Called close (host (given image) (given reg)) answer (host (left image) (given reg)) ⌝ }
 {
-    session_calls::close(image, reg)
+    session_image::calls::close(image, reg)
 }
 
 // Takes the claims.
@@ -70,7 +70,7 @@ pub extern "C" fn jdn_close(image: &mut [u8], reg: &[u8]) -> u64
 pub extern "C" fn jdn_claim(image: &mut [u8], claims: &[u8]) -> u64
     ensures { λ answer. ⌜ CalledAlone (claim (given claims)) (given image) answer (left image) ⌝ }
 {
-    session_calls::claim(image, claims)
+    session_image::calls::claim(image, claims)
 }
 
 // Commits the first message of a round.
@@ -84,7 +84,7 @@ pub extern "C" fn jdn_commit(
 ) -> u64
     ensures { λ answer. ⌜ CalledAlone (commit round (given head) (given shares0) (given shares1)) (given image) answer (left image) ⌝ }
 {
-    session_calls::commit(image, round, head, shares0, shares1)
+    session_image::calls::commit(image, round, head, shares0, shares1)
 }
 
 // Takes the seed of 32 bytes.
@@ -92,7 +92,7 @@ pub extern "C" fn jdn_commit(
 pub extern "C" fn jdn_draw(image: &mut [u8], seed: &[u8]) -> u64
     ensures { λ answer. ⌜ CalledAlone (draw (given seed)) (given image) answer (left image) ⌝ }
 {
-    session_calls::draw(image, seed)
+    session_image::calls::draw(image, seed)
 }
 
 // Checks a round.
@@ -113,7 +113,7 @@ pub extern "C" fn jdn_check(
     ensures { λ answer. let x = inputsIn sheet ballots claims head shares0 shares1 opening answers scratch in
         ⌜ CheckCalled round x (given image) answer (left image) (left scratch) ⌝ }
 {
-    session_calls::checks::check(
+    session_image::checks::check(
         image,
         sheet,
         ballots,
@@ -133,7 +133,7 @@ pub extern "C" fn jdn_check(
 pub extern "C" fn jdn_challenges(image: &[u8], round: u64, out: &mut [u8]) -> u64
     ensures { λ answer. ⌜ ChallengesCalled (given image) round answer (given out) (left out) ⌝ }
 {
-    session_calls::checks::challenges(image, round, out)
+    session_image::checks::challenges(image, round, out)
 }
 
 // The standing entries in thousandths of the enrolled, as the reply's value.
@@ -141,5 +141,5 @@ pub extern "C" fn jdn_challenges(image: &[u8], round: u64, out: &mut [u8]) -> u6
 pub extern "C" fn jdn_turnout(image: &[u8], reg: &[u8], enrolled: u64) -> u64
     ensures { λ answer. ⌜ answer ≡ turnoutAnswer (given image) (given reg) enrolled ⌝ }
 {
-    session_calls::checks::turnout(image, reg, enrolled)
+    session_image::checks::turnout(image, reg, enrolled)
 }

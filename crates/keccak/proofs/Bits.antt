@@ -8,7 +8,7 @@ use lib.Arith.{digits-lt}
 use lib.Bits.{bitXor, bitAnd, xor-shr, xor-mod, and-shr, and-mod}
 use lib.Pow.{pow-pos, pow-add, shr-shr, shr-lt, field, split, high, mod-mod-pow}
 use Rattle.keccak.specs.Keccak.{bit, rotate, complement}
-use Rattle.keccak_steps.proofs.Rotation.{kept}
+use Rattle.keccak.proofs.Rotation.{kept}
 
 xor-bits : (a b : ℕ) → a < 2 → b < 2 → bitXor a b ≡ (a + b) % 2
 xor-bits zero zero ha hb = refl

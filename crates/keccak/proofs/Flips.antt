@@ -7,12 +7,12 @@ use native.Mathlib.Omega.{arith}
 use lib.Bits.{bitXor, bitAnd, bitOr, xor-lt}
 use lib.ListN.{getD}
 use Rattle.keccak.specs.Keccak.{State, lane, five, lanes, offsets, rotate, complement, parity, effect, theta, rho, pi, chi, chiRow, iota, round, rounds, constants}
-use Rattle.chi.specs.Chi.{chiRow0, chiRow1, chiRow2, chiRow3, chiRow4, chiFlipped}
+use Rattle.keccak.specs.Chi.{chiRow0, chiRow1, chiRow2, chiRow3, chiRow4, chiFlipped}
 use Rattle.keccak.specs.Complemented.{_⊻_, flip, flipped, six, roundFlipped}
 use Rattle.keccak.proofs.Complement.{flip-lt, flip-flip, flip-xor, flip-rotate, chiLane, by-and, by-or, twice}
 use Rattle.keccak.proofs.Bits.{rotate-lt}
 use Rattle.keccak.proofs.Lanes.{Words, at-five, by-row, offset-lt, parity-at, parity-lt, effect-at, theta-at, theta-words, rho-at, rho-words, pi-at, pi-words, rounds-words}
-use Rattle.keccak_steps.proofs.Rows.{row5}
+use Rattle.keccak.proofs.Rows.{row5}
 use Rattle.keccak.proofs.Shape.{Shape, shaped, shape-of}
 
 -- ---- states by their lanes

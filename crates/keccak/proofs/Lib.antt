@@ -1,3 +1,5 @@
+pub mod Rotation
+pub mod Rows
 pub mod Bits
 pub mod Complement
 pub mod Flips

@@ -4,8 +4,8 @@ use mathlib.Core.Bool.{Bool, true, false, not}
 use mathlib.Core.List.{[], _∷_}
 use Prim.Native.Nat.{ℕ}
 use lib.ListN.{getD}
-use Rattle.keccak_steps.specs.Steps.{State, lane, lanes, complement, theta, rho, pi, iota}
-use Rattle.chi.specs.Chi.{chiFlipped}
+use Rattle.keccak.specs.Steps.{State, lane, lanes, complement, theta, rho, pi, iota}
+use Rattle.keccak.specs.Chi.{chiFlipped}
 
 infixl 30 _⊻_
 abbrev pub _⊻_ : Bool → Bool → Bool

@@ -2,8 +2,8 @@
 use Prim.Native.Nat.{ℕ, zero, suc}
 use mathlib.Core.List.{List, [], _∷_}
 use lib.ListN.{getD}
-pub use Rattle.keccak_steps.specs.Steps.{Row, State, lane, five, lanes, offsets, pi}
-unfoldable pub use Rattle.keccak_steps.specs.Steps.{bit, rotate, complement, xorRow, parity, effect, theta, rhoRow, rho, chiRow, chi, iota}
+pub use Rattle.keccak.specs.Steps.{Row, State, lane, five, lanes, offsets, pi}
+unfoldable pub use Rattle.keccak.specs.Steps.{bit, rotate, complement, xorRow, parity, effect, theta, rhoRow, rho, chiRow, chi, iota}
 
 -- ---- 3.3 and 3.4, the permutation of 24 rounds
 

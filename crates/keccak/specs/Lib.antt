@@ -1,3 +1,6 @@
+pub mod Steps
+pub mod Table
+pub mod Chi
 pub mod Complemented
 pub mod Keccak
 pub mod Tables

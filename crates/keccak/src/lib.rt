@@ -1,9 +1,12 @@
 // The permutation Keccak-f[1600] of FIPS 202, section 3: five rows of five lanes, by value.
-use chi::chi_step;
-use keccak_steps::iota_step;
-use keccak_steps::pi_step;
-use keccak_steps::rho_step;
-use keccak_steps::theta_step;
+pub mod chi;
+pub mod steps;
+
+use crate::chi::chi_step;
+use crate::steps::iota_step;
+use crate::steps::pi_step;
+use crate::steps::rho_step;
+use crate::steps::theta_step;
 ghost use mathlib.Core.Path.{_≡_};
 ghost use Rattle.keccak.specs.Keccak.{keccak};
 ghost use Rattle.keccak.specs.Complemented.{flipped, six, roundFlipped};

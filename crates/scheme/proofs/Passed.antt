@@ -14,9 +14,9 @@ use Rattle.ring.specs.Slots.{poly}
 use Rattle.sheet_numbers.specs.Plain.{maskOf}
 use Rattle.sheet_numbers.specs.Usable.{Usable}
 use Rattle.sheet_numbers.specs.declared.Numbers.{Numbers}
-use Rattle.call.specs.Call.{bytesBelow, coefficientsBelow, Polynomial}
-use Rattle.call.proofs.Order.{length-at, passed}
-use Rattle.call.proofs.Ranges.{ranged}
+use Rattle.scratch.specs.Call.{bytesBelow, coefficientsBelow, Polynomial}
+use Rattle.scratch.proofs.Order.{length-at, passed}
+use Rattle.scratch.proofs.Ranges.{ranged}
 use Rattle.bgv.specs.Scheme.{within, lentMask}
 use Rattle.scheme.specs.Calls.{shareTests, reconstructTests, commitmentTests}
 

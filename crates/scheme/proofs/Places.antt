@@ -10,8 +10,8 @@ use Rattle.codec.proofs.Laws.{put-whole, put-append}
 use Rattle.ring.specs.Slots.{coefficientBytes}
 use Rattle.ring.specs.Poly.{Poly, modulo}
 use Rattle.ring.proofs.Bridge.{length-encode}
-use Rattle.call.specs.Call.{Stands}
-use Rattle.call.proofs.Sweeping.{length-zeros}
+use Rattle.scratch.specs.Call.{Stands}
+use Rattle.scratch.proofs.Sweeping.{length-zeros}
 use Rattle.commitment.specs.Commitment.{Pair, pairBytes, PairStands}
 
 -- what stands at the head of scratch, written at a place

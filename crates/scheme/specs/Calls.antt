@@ -12,7 +12,7 @@ use Rattle.ring.specs.Slots.{coefficientBytes, poly, slot}
 use Rattle.ring.specs.Ternary.{ternary}
 use Rattle.sheet_numbers.specs.Plain.{plain, maskOf}
 use Rattle.sheet_numbers.specs.declared.Numbers.{Numbers}
-use Rattle.call.specs.Call.{scratchLength, lengthTest, bytesBelow, coefficientsBelow, coefficients}
+use Rattle.scratch.specs.Call.{scratchLength, lengthTest, bytesBelow, coefficientsBelow, coefficients}
 use Rattle.bgv.specs.Scheme.{within, key, cipher-u, cipher-v, decrypted, other, lentMask, share, reconstructed}
 use Rattle.commitment.specs.Commitment.{threeOf, committed, pairBytes}
 use Rattle.commitment.specs.Parameters.{Parameters}

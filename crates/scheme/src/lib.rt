@@ -2,6 +2,7 @@
 // scratch.
 // `written` has what the scheme's polynomials are written with, here and in the crates of the other calls: `keys`, `encryption`,
 // `commitments`.
+pub mod commitments;
 mod shares;
 pub mod written;
 

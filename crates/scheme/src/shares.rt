@@ -11,7 +11,7 @@ ghost use Rattle.codec.specs.Bytes.{zeros};
 ghost use Rattle.codec.specs.Reply.{first};
 ghost use Rattle.codec.specs.Slices.{given, left};
 ghost use Rattle.sheet_numbers.specs.Usable.{Usable};
-ghost use Rattle.call.specs.Call.{scratchLength, coefficientsBelow, Polynomial, Worked};
+ghost use Rattle.scratch.specs.Call.{scratchLength, coefficientsBelow, Polynomial, Worked};
 ghost use Rattle.scheme.specs.Calls.{shareTests, shareWrites, reconstructTests, reconstructWrites};
 
 // What `share` refuses, in order. A lent mask is bounded as it is lent.
@@ -20,16 +20,16 @@ fn share_tests(k: Numbers, half: &[u8], u: &[u8], mask: &[u8], t: &[u8], scratch
     ensures { λ reply. ⌜ reply ≡ first (shareTests k (given half) (given u) (given mask) (given t) (given scratch)) ⌝ }
 {
     let n = k.ring as usize;
-    if !call::sized(
+    if !scratch::sized(
         [half.len(), u.len(), mask.len(), t.len(), scratch.len(), 0],
-        [8 * n, 8 * n, 8 * n, 8 * n, call::SCRATCH, 0],
+        [8 * n, 8 * n, 8 * n, 8 * n, scratch::SCRATCH, 0],
     ) {
         return Reply::Refused {
             number: 1,
             place: 0,
         };
     }
-    if !call::both_in_range(half, u, n, k.modulus) {
+    if !scratch::both_in_range(half, u, n, k.modulus) {
         return Reply::Refused {
             number: 5,
             place: 0,
@@ -78,7 +78,7 @@ fn reconstruct_ranged(v: &[u8], t0: &[u8], t1: &[u8], n: usize, q: u64) -> bool
     ensures { λ r. ⌜ r ≡ coefficientsBelow q n (given v ∷ given t0 ∷ given t1 ∷ []) ⌝ }
 {
     if ring::in_range(v, q) {
-        call::both_in_range(t0, t1, n, q)
+        scratch::both_in_range(t0, t1, n, q)
     } else {
         false
     }
@@ -97,9 +97,9 @@ fn reconstruct_tests(
     ensures { λ reply. ⌜ reply ≡ first (reconstructTests k (given v) (given t0) (given t1) (given vote) (given scratch)) ⌝ }
 {
     let n = k.ring as usize;
-    if !call::sized(
+    if !scratch::sized(
         [v.len(), t0.len(), t1.len(), vote.len(), scratch.len(), 0],
-        [8 * n, 8 * n, 8 * n, n, call::SCRATCH, 0],
+        [8 * n, 8 * n, 8 * n, n, scratch::SCRATCH, 0],
     ) {
         return Reply::Refused {
             number: 1,

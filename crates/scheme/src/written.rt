@@ -6,7 +6,7 @@ ghost use Rattle.codec.specs.Slices.{given, left};
 ghost use Rattle.ring.specs.Poly.{Below};
 ghost use Rattle.ring.specs.Slots.{coefficientBytes, poly};
 ghost use Rattle.ring.specs.Ternary.{ternary};
-ghost use Rattle.call.specs.Call.{scratchLength, coefficients, Polynomial};
+ghost use Rattle.scratch.specs.Call.{scratchLength, coefficients, Polynomial};
 ghost use Rattle.bgv.specs.Scheme as scheme;
 ghost use Rattle.bgv.specs.Scheme.{lentMask};
 ghost use Rattle.scheme.specs.Calls.{WrittenAt};
@@ -29,7 +29,7 @@ pub fn noisy(
         (given out) (left out) (given scratch) (left scratch) ⌝ }
 {
     bgv::noisy(scratch, a, x, y, p, n, q);
-    call::write_out(out, at, scratch, 0, n);
+    scratch::write_out(out, at, scratch, 0, n);
     codec::wipe(scratch);
 }
 
@@ -53,7 +53,7 @@ pub fn cipher_v(
 {
     bgv::noisy(scratch, b, r, e2, p, n, q);
     bgv::add_message(scratch, m, n, q);
-    call::write_out(out, at, scratch, 0, n);
+    scratch::write_out(out, at, scratch, 0, n);
     codec::wipe(scratch);
 }
 
@@ -73,7 +73,7 @@ pub fn difference(
         (given scratch) (left scratch) ⌝ }
 {
     bgv::difference(scratch, 0, x, x0, n, q);
-    call::write_out(out, at, scratch, 0, n);
+    scratch::write_out(out, at, scratch, 0, n);
     codec::wipe(scratch);
 }
 
@@ -95,7 +95,7 @@ pub fn lent_key(
         (given out) (left out) (given scratch) (left scratch) ⌝ }
 {
     bgv::noisy_lent(scratch, a, x0, y0, p, n, q);
-    call::write_out(out, at, scratch, 0, n);
+    scratch::write_out(out, at, scratch, 0, n);
     codec::wipe(scratch);
 }
 
@@ -120,7 +120,7 @@ pub fn other_key(
         (left scratch) ⌝ }
 {
     bgv::noisy_difference(scratch, a, x, x0, y, y0, p, n, q);
-    call::write_out(out, at, scratch, 0, n);
+    scratch::write_out(out, at, scratch, 0, n);
     codec::wipe(scratch);
 }
 
@@ -142,6 +142,6 @@ pub fn share(
         (given out) (left out) (given scratch) (left scratch) ⌝ }
 {
     bgv::share(scratch, half, u, mask, p, n, q);
-    call::write_out(out, at, scratch, 0, n);
+    scratch::write_out(out, at, scratch, 0, n);
     codec::wipe(scratch);
 }

@@ -10,9 +10,9 @@ use Rattle.sheet.specs.Sheet.{order, reading, loaded}
 use Rattle.sheet.specs.declared.Reading.{Reading}
 use Rattle.sheet.specs.declared.Reading.the-variants.{Taken}
 use Rattle.sheet_numbers.specs.declared.Numbers.{Numbers}
-use Rattle.call.specs.Call.{swept, Worked, Called}
-use Rattle.call.proofs.Lent.{lent, order-taken}
-use Rattle.call.proofs.Sweeping.{swept-worked}
+use Rattle.scratch.specs.Call.{swept, Worked, Called}
+use Rattle.scratch.proofs.Lent.{lent, order-taken}
+use Rattle.scratch.proofs.Sweeping.{swept-worked}
 use Rattle.commitment.specs.Parameters.{Parameters, parameters, parametersOf}
 pub use Rattle.commitment.proofs.Sheets.{lent-keys, sheet-loaded, parameters-are}
 

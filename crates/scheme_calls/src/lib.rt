@@ -1,7 +1,7 @@
 // The calls of encryption, decryption, the key split, decryption shares (document 000, sections 5.3 and 6.1) and commitment (5.4) over
 // the sheet and lent bytes.
 ghost use Rattle.codec.specs.Slices.{given, left};
-ghost use Rattle.call.specs.Call.{Called};
+ghost use Rattle.scratch.specs.Call.{Called};
 ghost use Rattle.scheme_calls.specs.Orders.{keygenOrder, encryptOrder, decryptOrder, splitOrder, shareOrder, reconstructOrder};
 ghost use Rattle.scheme_calls.specs.Orders.{commitmentOrder};
 ghost use Rattle.scheme_calls.specs.Orders.{keyOf, ciphertextOf, voteOf, splitOf, shareOf, voteOfShares, pairOf};
@@ -16,13 +16,13 @@ pub fn keygen(sheet: &[u8], s: &[u8], e: &[u8], b: &mut [u8], scratch: &mut [u8]
     let reading = sheet::load(sheet, &mut public);
     match reading {
         sheet::Reading::Taken(k) => {
-            let reply = keys::keygen(k, &public, s, e, b, scratch);
-            call::sweep(reply, scratch);
+            let reply = scheme_keys::keygen(k, &public, s, e, b, scratch);
+            scratch::sweep(reply, scratch);
             reply
         }
         sheet::Reading::Refused { number } => {
             let reply = codec::Reply::Refused { number, place: 0 };
-            call::sweep(reply, scratch);
+            scratch::sweep(reply, scratch);
             reply
         }
     }
@@ -46,13 +46,13 @@ pub fn encrypt(
     let reading = sheet::load(sheet, &mut public);
     match reading {
         sheet::Reading::Taken(k) => {
-            let reply = encryption::encrypt(k, &public, r, e1, e2, m, ciphertext, scratch);
-            call::sweep(reply, scratch);
+            let reply = scheme_encryption::encrypt(k, &public, r, e1, e2, m, ciphertext, scratch);
+            scratch::sweep(reply, scratch);
             reply
         }
         sheet::Reading::Refused { number } => {
             let reply = codec::Reply::Refused { number, place: 0 };
-            call::sweep(reply, scratch);
+            scratch::sweep(reply, scratch);
             reply
         }
     }
@@ -74,13 +74,13 @@ pub fn decrypt(
     let reading = sheet::load(sheet, &mut public);
     match reading {
         sheet::Reading::Taken(k) => {
-            let reply = encryption::decrypt(k, s, ciphertext, vote, scratch);
-            call::sweep(reply, scratch);
+            let reply = scheme_encryption::decrypt(k, s, ciphertext, vote, scratch);
+            scratch::sweep(reply, scratch);
             reply
         }
         sheet::Reading::Refused { number } => {
             let reply = codec::Reply::Refused { number, place: 0 };
-            call::sweep(reply, scratch);
+            scratch::sweep(reply, scratch);
             reply
         }
     }
@@ -104,13 +104,13 @@ pub fn split(
     let reading = sheet::load(sheet, &mut public);
     match reading {
         sheet::Reading::Taken(k) => {
-            let reply = keys::split(k, &public, s, e, s0, e0, out, scratch);
-            call::sweep(reply, scratch);
+            let reply = scheme_keys::split(k, &public, s, e, s0, e0, out, scratch);
+            scratch::sweep(reply, scratch);
             reply
         }
         sheet::Reading::Refused { number } => {
             let reply = codec::Reply::Refused { number, place: 0 };
-            call::sweep(reply, scratch);
+            scratch::sweep(reply, scratch);
             reply
         }
     }
@@ -134,12 +134,12 @@ pub fn share(
     match reading {
         sheet::Reading::Taken(k) => {
             let reply = scheme::share(k, half, u, mask, t, scratch);
-            call::sweep(reply, scratch);
+            scratch::sweep(reply, scratch);
             reply
         }
         sheet::Reading::Refused { number } => {
             let reply = codec::Reply::Refused { number, place: 0 };
-            call::sweep(reply, scratch);
+            scratch::sweep(reply, scratch);
             reply
         }
     }
@@ -163,12 +163,12 @@ pub fn reconstruct(
     match reading {
         sheet::Reading::Taken(k) => {
             let reply = scheme::reconstruct(k, v, t0, t1, vote, scratch);
-            call::sweep(reply, scratch);
+            scratch::sweep(reply, scratch);
             reply
         }
         sheet::Reading::Refused { number } => {
             let reply = codec::Reply::Refused { number, place: 0 };
-            call::sweep(reply, scratch);
+            scratch::sweep(reply, scratch);
             reply
         }
     }
@@ -190,13 +190,13 @@ pub fn commitment(
     let reading = sheet::load(sheet, &mut public);
     match reading {
         sheet::Reading::Taken(k) => {
-            let reply = commitments::commitment(k, &public, m, r, pair, scratch);
-            call::sweep(reply, scratch);
+            let reply = scheme::commitments::commitment(k, &public, m, r, pair, scratch);
+            scratch::sweep(reply, scratch);
             reply
         }
         sheet::Reading::Refused { number } => {
             let reply = codec::Reply::Refused { number, place: 0 };
-            call::sweep(reply, scratch);
+            scratch::sweep(reply, scratch);
             reply
         }
     }

@@ -13,11 +13,11 @@ use Rattle.codec.proofs.Laws.{both}
 use Rattle.codec.specs.Reply.{Test, first, leaves}
 use Rattle.codec.specs.declared.Reply.{Reply}
 use Rattle.codec.specs.declared.Reply.the-variants.{Taken, Refused}
-use Rattle.call.specs.Call.{swept}
-use Rattle.stored.specs.declared.Stored.{Stored}
-use Rattle.checking.specs.Check.{Inputs, earlyTests, verdict, replyOf, outcome}
-use Rattle.checking.specs.declared.Verdict.{Verdict}
-use Rattle.progress.specs.Progress.{drawn, checkDue, challengesDue}
+use Rattle.scratch.specs.Call.{swept}
+use Rattle.session_check.specs.declared.stored.Stored.{Stored}
+use Rattle.session_check.specs.Check.{Inputs, earlyTests, verdict, replyOf, outcome}
+use Rattle.session_check.specs.declared.Verdict.{Verdict}
+use Rattle.session_progress.specs.Progress.{drawn, checkDue, challengesDue}
 use Rattle.session.specs.Session.{valid, trailAt}
 use Rattle.session.specs.Steps.{storedFor, checkEarly, checkLate, checkTests, judgedBy, acceptedBy, refusedBy, challengesTests}
 use Rattle.session.specs.Machine.{check, State, state, reply, after, Checked}

@@ -12,8 +12,8 @@ use Rattle.codec.specs.Reply.{first}
 use Rattle.codec.specs.declared.Reply.the-variants.{Taken, Refused}
 use Rattle.codec.specs.Lists.{allBelow}
 use Rattle.sheet_numbers.specs.Plain.{plain}
-use Rattle.transcript.specs.Layout.{headLength}
-use Rattle.progress.specs.Progress.{closed, commitDue, drawDue}
+use Rattle.round.specs.Layout.{headLength}
+use Rattle.session_progress.specs.Progress.{closed, commitDue, drawDue}
 use Rattle.session.specs.Session.{valid}
 use Rattle.session.specs.Steps.{claimTests, commitTests, drawTests}
 use Rattle.session.specs.declared.Session.{Session}

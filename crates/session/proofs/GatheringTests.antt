@@ -18,8 +18,8 @@ use Rattle.sheet_numbers.specs.declared.Numbers.{Numbers}
 use Rattle.sheet.specs.declared.Reading.the-variants as reading
 use Rattle.sheet.proofs.Taken.{reply-is}
 use Rattle.vector.specs.Vector.{vector}
-use Rattle.transcript.specs.Layout.{ballotLength}
-use Rattle.progress.specs.Progress.{gathering}
+use Rattle.round.specs.Layout.{ballotLength}
+use Rattle.session_progress.specs.Progress.{gathering}
 use Rattle.register.specs.Orders.{admissionTests, withdrawalTests}
 use Rattle.register.specs.Register.{registerLength, digestAt, standing, standingDigests, markOf}
 use Rattle.session.specs.Session.{valid}

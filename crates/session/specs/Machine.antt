@@ -7,8 +7,8 @@ use Rattle.codec.specs.Bytes.{Bytes, zeros}
 use Rattle.codec.specs.Reply.{Test, first, leaves}
 use Rattle.codec.specs.declared.Reply.{Reply}
 use Rattle.register.specs.Register.{registerLength, find, admitted, withdrawn}
-use Rattle.call.specs.Call.{swept}
-use Rattle.checking.specs.Check.{Inputs}
+use Rattle.scratch.specs.Call.{swept}
+use Rattle.session_check.specs.Check.{Inputs}
 use Rattle.session.specs.declared.Session.{Session}
 use Rattle.session.specs.declared.Stepped.{Stepped}
 use Rattle.session.specs.Steps.{Beginning, clearTests, cleared, admitTests, admittedBy, withdrawTests, closeTests, closedBy, claimTests, claimedBy, commitTests, committedBy, drawTests, drawnBy, checkEarly, checkTests, acceptedBy, refusedBy}

@@ -2,8 +2,8 @@
 use mathlib.Core.Bool.{Bool}
 use Prim.Native.Nat.{ℕ, _*_}
 use Rattle.codec.specs.Bytes.{Bytes, part}
-use Rattle.progress.specs.Progress.{inLimits}
-use Rattle.progress.specs.declared.Progress.{Progress}
+use Rattle.session_progress.specs.Progress.{inLimits}
+use Rattle.session_progress.specs.declared.Progress.{Progress}
 use Rattle.session.specs.declared.Session.{Session}
 
 -- a known phase, counts within their limits, and numbers that 3 and 4 take

@@ -15,16 +15,16 @@ use Rattle.sheet.specs.Reader.{sheetOf}
 use Rattle.sheet.specs.Sheet.{order}
 use Rattle.sheet_numbers.specs.Plain.{plain}
 use Rattle.vector.specs.Vector.{vector}
-use Rattle.transcript.specs.Layout.{ballotLength, headLength}
+use Rattle.round.specs.Layout.{ballotLength, headLength}
 use Rattle.register.specs.Orders.{admissionTests, withdrawalTests}
 use Rattle.register.specs.Register.{registerLength, standing, standingDigests, markOf}
-use Rattle.progress.specs.Progress.{gathering, closed, commitDue, drawDue, checkDue, challengesDue, initial, withEntry, withBatch, withClaims, withMessage, withSeed, withRefusal, withAcceptance}
-use Rattle.digests.specs.Digests.{closingDigest, claimDigest, roundDigest}
-use Rattle.drawing.specs.Draw.{drawnSide, drawnChallenges}
-use Rattle.stored.specs.declared.Stored.{Stored}
-use Rattle.checking.specs.Check.{Inputs, earlyTests, lateTests}
-use Rattle.checking.specs.declared.Verdict.{Verdict}
-use Rattle.checking.specs.declared.Verdict.the-variants.{Stopped, Failed, Passed}
+use Rattle.session_progress.specs.Progress.{gathering, closed, commitDue, drawDue, checkDue, challengesDue, initial, withEntry, withBatch, withClaims, withMessage, withSeed, withRefusal, withAcceptance}
+use Rattle.session_digests.specs.Digests.{closingDigest, claimDigest, roundDigest}
+use Rattle.session_digests.specs.Draw.{drawnSide, drawnChallenges}
+use Rattle.session_check.specs.declared.stored.Stored.{Stored}
+use Rattle.session_check.specs.Check.{Inputs, earlyTests, lateTests}
+use Rattle.session_check.specs.declared.Verdict.{Verdict}
+use Rattle.session_check.specs.declared.Verdict.the-variants.{Stopped, Failed, Passed}
 use Rattle.session.specs.declared.Session.{Session}
 use Rattle.session.specs.declared.Turnout.{Turnout}
 use Rattle.session.specs.declared.Turnout.the-variants.{Counted, Refused}

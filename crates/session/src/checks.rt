@@ -2,15 +2,15 @@
 use crate::Session;
 use crate::Stepped;
 use crate::trail;
-use checking::Verdict;
 use codec::Reply;
-use stored::Stored;
+use session_check::Verdict;
+use session_check::stored::Stored;
 ghost use mathlib.Core.Path.{_≡_};
 ghost use Prim.Native.Nat.{_<_};
 ghost use Rattle.codec.specs.Slices.{given, left};
 ghost use Rattle.register.specs.Orders.{Wrote};
-ghost use Rattle.checking.specs.Check.{inputsIn, replyOf};
-ghost use Rattle.progress.specs.Progress.{drawn};
+ghost use Rattle.session_check.specs.Check.{inputsIn, replyOf};
+ghost use Rattle.session_progress.specs.Progress.{drawn};
 ghost use Rattle.session.specs.Steps.{judgedBy, challengesTests, challengesOut};
 ghost use Rattle.session.specs.Machine.{Checked};
 
@@ -21,7 +21,7 @@ impl Session {
         requires { ⌜ (self .progress .phase ≡ drawn) × (self .progress .checked < self .numbers .rounds) ⌝ }
         ensures { λ r. ⌜ (r .reply ≡ replyOf verdict) × (r .session ≡ judgedBy verdict self) ⌝ }
     {
-        let reply = checking::reply_of(verdict);
+        let reply = session_check::reply_of(verdict);
         let progress = self.progress;
         let mut session = self;
         match verdict {
@@ -82,7 +82,7 @@ impl Session {
             seed,
             round: round as u16,
         };
-        let verdict = checking::check(
+        let verdict = session_check::check(
             held,
             sheet,
             ballots,
@@ -114,8 +114,8 @@ impl Session {
                 place: 0,
             };
         }
-        out[0] = drawing::side(&self.seed, round as u16) as u8;
-        drawing::challenges(&self.seed, round as u16, &mut out[1..]);
+        out[0] = session_digests::drawing::side(&self.seed, round as u16) as u8;
+        session_digests::drawing::challenges(&self.seed, round as u16, &mut out[1..]);
         Reply::Taken
     }
 }

@@ -10,7 +10,7 @@ ghost use Prim.Native.Nat.{_*_, _≤_};
 ghost use lib.ListN.{length};
 ghost use Rattle.codec.specs.Bytes.{same};
 ghost use Rattle.codec.specs.Slices.{given};
-ghost use Rattle.transcript.specs.Layout.{headLength};
+ghost use Rattle.round.specs.Layout.{headLength};
 ghost use Rattle.session.specs.Session.{valid};
 ghost use Rattle.session.specs.Machine.{claim, commit, draw, DoneAlone};
 
@@ -39,7 +39,7 @@ impl Session {
         if !bgv::is_message(claims, p) {
             return self.refused(5);
         }
-        let claim = digests::claim_digest(&self.closing, claims);
+        let claim = session_digests::claim_digest(&self.closing, claims);
         let next = progress.with_claims();
         let mut session = self;
         session.progress = next;
@@ -60,7 +60,7 @@ impl Session {
         let n = self.numbers.ring;
         let share = times(8 * n, self.progress.closed);
         let front = (80 * n + 96 * self.numbers.repeats) as usize;
-        call::sized(
+        scratch::sized(
             [head.len(), shares0.len(), shares1.len(), 0, 0, 0],
             [front, share, share, 0, 0, 0],
         )
@@ -77,7 +77,13 @@ impl Session {
         if !self.message_sized(head, shares0, shares1) {
             return self.refused(1);
         }
-        let digest = digests::round_digest(&self.claim, round as u16, head, shares0, shares1);
+        let digest = session_digests::round_digest(
+            &self.claim,
+            round as u16,
+            head,
+            shares0,
+            shares1,
+        );
         let mut trail = self.trail;
         trail::write(&mut trail, round as usize, &digest);
         let next = progress.with_message();

@@ -3,7 +3,7 @@ use crate::Session;
 use crate::Stepped;
 use crate::Turnout;
 use codec::Reply;
-use progress::Progress;
+use session_progress::Progress;
 ghost use mathlib.Core.Path.{_≡_};
 ghost use Rattle.codec.specs.Slices.{given, left};
 ghost use Rattle.codec.specs.Reply.{first};
@@ -113,7 +113,7 @@ impl Session {
         if count == 0 {
             return self.refused(36);
         }
-        let closing = digests::closing_of_register(&self.sheet, reg, used);
+        let closing = session_digests::closing_of_register(&self.sheet, reg, used);
         let next = progress.with_batch(count as u64);
         let mut session = self;
         session.progress = next;

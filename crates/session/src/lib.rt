@@ -5,7 +5,7 @@ mod gathering;
 mod trail;
 
 use codec::Reply;
-use progress::Progress;
+use session_progress::Progress;
 use sheet_numbers::Numbers;
 ghost use mathlib.Core.Path.{_≡_};
 ghost use Rattle.codec.specs.declared.Reply.the-variants.{Refused};

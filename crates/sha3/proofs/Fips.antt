@@ -7,8 +7,8 @@ use lib.ListN.{length, length-append}
 use Rattle.codec.specs.Bytes.{Bytes, Octets}
 use Rattle.codec.proofs.Laws.{octets-append}
 use Rattle.keccak.proofs.Shape.{Shape, shape-of}
-use Rattle.sponge.specs.Absorb.{zeroState}
-use Rattle.sponge.proofs.Blocks.{blocks}
+use Rattle.sha3.specs.Absorb.{zeroState}
+use Rattle.sha3.proofs.Blocks.{blocks}
 use Rattle.sha3.specs.Fips.{sponge}
 use Rattle.sha3.specs.Sponge.{padding, squeeze, sha3}
 use Rattle.sha3.proofs.Padding.{length-padding, octets-padding}

@@ -1,3 +1,6 @@
+pub mod Absorbing
+pub mod Blocks
+pub mod Lanes
 pub mod Fips
 pub mod Padding
 pub mod Parts

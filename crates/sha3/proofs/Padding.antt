@@ -9,8 +9,8 @@ use lib.ListN.{length, replicate, length-append, length-replicate}
 use Rattle.codec.specs.Bytes.{Octets, zeros}
 use Rattle.codec.proofs.Laws.{octets-one, octets-zeros, octets-append}
 use Rattle.keccak.specs.Keccak.{State, keccak}
-use Rattle.sponge.specs.Absorb.{xorByte, feed, absorb}
-use Rattle.sponge.proofs.Absorbing.{feed-early, absorb-zeros}
+use Rattle.sha3.specs.Absorb.{xorByte, feed, absorb}
+use Rattle.sha3.proofs.Absorbing.{feed-early, absorb-zeros}
 use Rattle.sha3.specs.Sponge.{padding}
 
 pub pad-early : (s : State) (at : ℕ) → at < 135 → absorb s at (padding at) ≡ keccak (xorByte (xorByte s at 6) 135 128)

@@ -6,10 +6,10 @@ use mathlib.Core.List.{[], _++_}
 use native.Mathlib.Omega.{arith}
 use lib.ListN.{length, length-append}
 use Rattle.keccak.specs.Keccak.{State}
-use Rattle.sponge.specs.Absorb.{absorb, zeroState}
+use Rattle.sha3.specs.Absorb.{absorb, zeroState}
 use Rattle.sha3.specs.Sponge.{padding, squeeze, sha3}
 use Rattle.codec.specs.Bytes.{Bytes}
-use Rattle.sponge.proofs.Absorbing.{absorb-append}
+use Rattle.sha3.proofs.Absorbing.{absorb-append}
 
 pub record Absorbed (s : State) (p : ℕ) (m : Bytes) : Type 0 where
   pub state : s ≡ absorb zeroState 0 m

@@ -8,7 +8,7 @@ use Rattle.codec.specs.Bytes.{Bytes, Octets, bytes, put}
 use Rattle.codec.proofs.Laws.{put-append, put-whole, octets-append}
 use Rattle.codec.proofs.Numbers.{length-bytes, bytes-octets}
 use Rattle.keccak.specs.Keccak.{State, lane}
-use Rattle.sponge.specs.Absorb.{absorb, zeroState}
+use Rattle.sha3.specs.Absorb.{absorb, zeroState}
 use Rattle.sha3.specs.Sponge.{padding, squeeze, sha3}
 
 length-squeeze : (s : State) → length (squeeze s) ≡ 32

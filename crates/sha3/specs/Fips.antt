@@ -4,8 +4,8 @@ use mathlib.Core.List.{_++_}
 use Prim.Native.Nat.{_+_, _/_, _%_}
 use lib.ListN.{length}
 use Rattle.codec.specs.Bytes.{Bytes}
-use Rattle.sponge.specs.Absorb.{zeroState}
-use Rattle.sponge.specs.Blocks.{absorbBlocks}
+use Rattle.sha3.specs.Absorb.{zeroState}
+use Rattle.sha3.specs.Blocks.{absorbBlocks}
 use Rattle.sha3.specs.Sponge.{padding, squeeze}
 
 -- the padded message has whole blocks

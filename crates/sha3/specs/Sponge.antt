@@ -8,7 +8,7 @@ use lib.Dec.{ltb}
 use lib.ListN.{length, replicate}
 use Rattle.codec.specs.Bytes.{Bytes, bytes}
 use Rattle.keccak.specs.Keccak.{State, lane}
-use Rattle.sponge.specs.Absorb.{absorb, zeroState}
+use Rattle.sha3.specs.Absorb.{absorb, zeroState}
 
 -- what follows a message that ends before place `at` of its last block: the bits 01, then 1, zeros to the block's end, and 1
 unfoldable pub padding : ℕ → Bytes

@@ -1,7 +1,9 @@
 // SHA3-256 of FIPS 202 over the proved sponge: the padding, the digest, and both as a call.
+pub mod sponge;
+
 ghost use mathlib.Core.Path.{_≡_};
 ghost use Prim.Native.Nat.{_<_};
-ghost use Rattle.sponge.specs.Absorb.{absorb};
+ghost use Rattle.sha3.specs.Absorb.{absorb};
 ghost use Rattle.sha3.specs.Sponge.{padding, squeeze, sha3};
 ghost use Rattle.sha3.specs.Digest.{digestReply, digestOut};
 
@@ -11,9 +13,9 @@ fn pad(s: [[u64; 5]; 5], at: usize) -> [[u64; 5]; 5]
     ensures { λ r. ⌜ r ≡ absorb s at (padding at) ⌝ }
 {
     if at < 135 {
-        keccak::permute(sponge::xor_byte(sponge::xor_byte(s, at, 6), 135, 128))
+        keccak::permute(crate::sponge::xor_byte(crate::sponge::xor_byte(s, at, 6), 135, 128))
     } else {
-        keccak::permute(sponge::xor_byte(s, 135, 134))
+        keccak::permute(crate::sponge::xor_byte(s, 135, 134))
     }
 }
 
@@ -35,7 +37,10 @@ pub fn finish(s: [[u64; 5]; 5], at: usize) -> [u8; 32]
 pub fn hash(m: &[u8]) -> [u8; 32]
     ensures { λ r. ⌜ r ≡ sha3 (now (m .entry)) ⌝ }
 {
-    finish(sponge::absorb(sponge::start(), 0, m), m.len() % 136)
+    finish(
+        crate::sponge::absorb(crate::sponge::start(), 0, m),
+        m.len() % 136,
+    )
 }
 
 // SHA3-256 of a message into a lent slice, which is left as it is where it has not 32 bytes.

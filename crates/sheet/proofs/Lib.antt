@@ -5,3 +5,4 @@ pub mod Order
 pub mod Filling
 pub mod Taken
 pub mod Examples
+pub mod Answers

@@ -3,3 +3,4 @@ pub mod Reader
 pub mod Sheet
 pub mod Seen
 pub mod Examples
+pub mod Calls

@@ -1,4 +1,5 @@
 // The parameter sheet (document 01, "Sheet"): what is said of a text, and its polynomials.
+pub mod calls;
 mod writer;
 
 use sheet_numbers::Numbers;

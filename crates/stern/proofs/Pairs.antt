@@ -13,7 +13,7 @@ use Rattle.ring.specs.Poly.{Poly, plus, minus, modulo, Alike, Below}
 use Rattle.ring.specs.Slots.{poly, slot, encode, store}
 use Rattle.ring.proofs.Bridge.{length-encode, poly-part, slot-later, slot-poly, slot-put, encode-alike, store-alike, store-store, length-store, alike-store, below-store}
 use Rattle.ring.proofs.Polynomials.{alike-refl, _so_, alike-plus, alike-minus}
-use Rattle.call.proofs.Shelf.{Shelf, encoded-below, encoded-alike, shelf-store, shelf-copy, shelf-none}
+use Rattle.scratch.proofs.Shelf.{Shelf, encoded-below, encoded-alike, shelf-store, shelf-copy, shelf-none}
 use Rattle.commitment.specs.Commitment.{Keys, Three, Pair, plus3, threeAt, committed, PairStands}
 use Rattle.commitment.proofs.Additive.{second-alike}
 use Rattle.commitment.proofs.Loading.{commit-asks, commit-made}

@@ -13,7 +13,7 @@ ghost use Rattle.sha3.specs.Sponge.{sha3};
 ghost use Rattle.hasher.specs.Hasher.{holding, updated};
 ghost use Rattle.ring.specs.Poly.{Below};
 ghost use Rattle.ring.specs.Slots.{poly};
-ghost use Rattle.call.specs.Call.{scratchLength, Free};
+ghost use Rattle.scratch.specs.Call.{scratchLength, Free};
 ghost use Rattle.commitment.specs.Commitment.{keysOf, PublicKeys};
 ghost use Rattle.vector.specs.Vector.{vector, ternaries, add, subtract};
 ghost use Rattle.vector.specs.Permutation.{entries, apply, extend};

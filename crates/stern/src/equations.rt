@@ -6,7 +6,7 @@ ghost use Prim.Native.Nat.{_+_, _*_, _/_, _≤_, _<_, _^_};
 ghost use lib.ListN.{length};
 ghost use Rattle.ring.specs.Poly.{plus, minus, Below};
 ghost use Rattle.ring.specs.Slots.{poly, slot, store};
-ghost use Rattle.call.specs.Call.{scratchLength};
+ghost use Rattle.scratch.specs.Call.{scratchLength};
 ghost use Rattle.commitment.specs.Commitment.{keysOf, PublicKeys, PairStands};
 ghost use Rattle.stern.specs.Method.{words-at, summedPair, equationPair};
 

@@ -3,3 +3,4 @@ pub mod Counts
 pub mod Balance
 pub mod Linear
 pub mod Gathers
+pub mod Marks

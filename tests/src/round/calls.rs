@@ -43,7 +43,7 @@ over_c! {
     produce_second = jdn_produce_second(
         sheet secrets s0 e0 masks0 masks1 vectors permutations salts ballots; side; challenges => opening answers
     );
-    check = checker_calls_round(sheet; side; challenges ballots claims head shares0 shares1 opening answers => );
+    check = test_check_round(sheet; side; challenges ballots claims head shares0 shares1 opening answers => );
     extract = jdn_extract(sheet head shares0 shares1 ballots claims opening0 opening1; repetition; answer1 answer2 answer3 => out);
 }
 
@@ -64,7 +64,7 @@ pub static SECOND: Call = Call {
 };
 
 pub static CHECK: Call = Call {
-    name: "checker_calls_round",
+    name: "test_check_round",
     reads: &["sheet", "challenges", "ballots", "claims", "head", "shares0", "shares1", "opening", "answers"],
     writes: &[],
     over_c: check,

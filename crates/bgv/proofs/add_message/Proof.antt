@@ -4,7 +4,7 @@ use borrow.Author.Needs.{needs}
 use Prim.Native.Nat.{ℕ}
 use Rattle.codec.specs.Bytes.{put}
 use Rattle.ring.specs.Slots.{encode}
-use Rattle.call.specs.Call.{coefficients}
+use Rattle.scratch.specs.Call.{coefficients}
 use Rattle.bgv.proofs.Steps.{message-asks, stands-message}
 use Rattle.bgv.proofs.add_message.Statement.{statement}
 use Rattle.bgv.proofs.add_message.Tie as tie

@@ -1,7 +1,7 @@
 -- `bgv::combine` meets its contract. Assumes nothing.
 use borrow.Author.Needs.{needs}
 use Rattle.ring.specs.Slots.{poly}
-use Rattle.call.proofs.Loads.{scale-asks}
+use Rattle.scratch.proofs.Loads.{scale-asks}
 use Rattle.bgv.proofs.Steps.{add-asks, combined}
 use Rattle.bgv.proofs.combine.Statement.{statement}
 use Rattle.bgv.proofs.combine.Tie as tie

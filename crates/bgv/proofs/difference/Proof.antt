@@ -3,7 +3,7 @@ use native.Mathlib.Omega.{arith}
 use borrow.Author.Needs.{needs}
 use Rattle.ring.specs.Slots.{poly}
 use Rattle.ring.specs.Ternary.{ternary}
-use Rattle.call.proofs.Loads.{ternary-load, loaded-asks, subtracted}
+use Rattle.scratch.proofs.Loads.{ternary-load, loaded-asks, subtracted}
 use Rattle.bgv.proofs.difference.Statement.{statement}
 use Rattle.bgv.proofs.difference.Tie as tie
 

@@ -3,8 +3,8 @@ use native.Mathlib.Omega.{arith}
 use borrow.Author.Needs.{needs}
 use mathlib.Core.Path.{refl}
 use Rattle.ring.specs.Slots.{poly, slot}
-use Rattle.call.proofs.Slots.{holds-slot}
-use Rattle.call.proofs.Loads.{product-asks, add-lent-asks, stands-less-product}
+use Rattle.scratch.proofs.Slots.{holds-slot}
+use Rattle.scratch.proofs.Loads.{product-asks, add-lent-asks, stands-less-product}
 use Rattle.bgv.proofs.less_product.Statement.{statement}
 use Rattle.bgv.proofs.less_product.Tie as tie
 

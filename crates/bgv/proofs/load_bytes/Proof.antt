@@ -5,7 +5,7 @@ use native.Mathlib.Omega.{arith}
 use borrow.Author.Needs.{needs}
 use lib.ListN.{length}
 use Rattle.ring.proofs.Filling.{filled, filled-none, filled-all, filled-more}
-use Rattle.call.specs.Call.{coefficients}
+use Rattle.scratch.specs.Call.{coefficients}
 use Rattle.bgv.proofs.load_bytes.Statement.{statement}
 use Rattle.bgv.proofs.load_bytes.Tie as tie
 

@@ -4,8 +4,8 @@ use native.Mathlib.Omega.{arith}
 use borrow.Author.Needs.{needs}
 use Rattle.ring.specs.Slots.{poly}
 use Rattle.ring.proofs.Polynomials.{alike-refl, alike-minus, alike-mul}
-use Rattle.call.proofs.Slots.{holds-alike, stands-alike, stands-below}
-use Rattle.call.proofs.Loads.{lent-load, loaded-length, head-asks, head-length}
+use Rattle.scratch.proofs.Slots.{holds-alike, stands-alike, stands-below}
+use Rattle.scratch.proofs.Loads.{lent-load, loaded-length, head-asks, head-length}
 use Rattle.bgv.specs.Scheme.{worked}
 use Rattle.bgv.proofs.Votes.{quotients-stand}
 use Rattle.bgv.proofs.mask_within.Statement.{statement}

@@ -3,7 +3,7 @@ use native.Mathlib.Omega.{arith}
 use borrow.Author.Needs.{needs}
 use Rattle.ring.specs.Slots.{poly}
 use Rattle.ring.specs.Ternary.{ternary}
-use Rattle.call.proofs.Loads.{both-asks, ternary-load, loaded-length}
+use Rattle.scratch.proofs.Loads.{both-asks, ternary-load, loaded-length}
 use Rattle.bgv.proofs.Steps.{stands-noisy}
 use Rattle.bgv.proofs.noisy.Statement.{statement}
 use Rattle.bgv.proofs.noisy.Tie as tie

@@ -4,7 +4,7 @@ use borrow.Author.Needs.{needs}
 use Rattle.ring.specs.Slots.{poly}
 use Rattle.ring.specs.Ternary.{ternary}
 use Rattle.bgv.specs.Scheme.{other}
-use Rattle.call.proofs.Loads.{modulo-load, loaded-length, both-asks}
+use Rattle.scratch.proofs.Loads.{modulo-load, loaded-length, both-asks}
 use Rattle.bgv.proofs.Steps.{stands-noisy}
 use Rattle.bgv.proofs.noisy_difference.Statement.{statement}
 use Rattle.bgv.proofs.noisy_difference.Tie as tie

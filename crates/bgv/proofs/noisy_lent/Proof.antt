@@ -2,7 +2,7 @@
 use native.Mathlib.Omega.{arith}
 use borrow.Author.Needs.{needs}
 use Rattle.ring.specs.Slots.{poly}
-use Rattle.call.proofs.Loads.{both-asks, lent-load, loaded-length}
+use Rattle.scratch.proofs.Loads.{both-asks, lent-load, loaded-length}
 use Rattle.bgv.proofs.Steps.{stands-noisy}
 use Rattle.bgv.proofs.noisy_lent.Statement.{statement}
 use Rattle.bgv.proofs.noisy_lent.Tie as tie

@@ -3,8 +3,8 @@ use native.Mathlib.Omega.{arith}
 use borrow.Author.Needs.{needs}
 use Rattle.ring.specs.Ternary.{ternary}
 use Rattle.ring.proofs.Polynomials.{alike-refl, alike-minus, alike-mul}
-use Rattle.call.proofs.Slots.{holds-alike, stands-alike, stands-after}
-use Rattle.call.proofs.Loads.{head-asks, ternary-load, loaded-length, head-length}
+use Rattle.scratch.proofs.Slots.{holds-alike, stands-alike, stands-after}
+use Rattle.scratch.proofs.Loads.{head-asks, ternary-load, loaded-length, head-length}
 use Rattle.bgv.specs.Scheme.{opened}
 use Rattle.bgv.proofs.opened.Statement.{statement}
 use Rattle.bgv.proofs.opened.Tie as tie

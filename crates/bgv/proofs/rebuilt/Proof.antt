@@ -2,7 +2,7 @@
 use native.Mathlib.Omega.{arith}
 use borrow.Author.Needs.{needs}
 use Rattle.ring.specs.Slots.{poly}
-use Rattle.call.proofs.Loads.{head-asks, less-asks, stands-less-twice, lent-load}
+use Rattle.scratch.proofs.Loads.{head-asks, less-asks, stands-less-twice, lent-load}
 use Rattle.bgv.specs.Scheme.{rebuilt}
 use Rattle.bgv.proofs.rebuilt.Statement.{statement}
 use Rattle.bgv.proofs.rebuilt.Tie as tie

@@ -3,11 +3,11 @@ use native.Mathlib.Omega.{arith}
 use borrow.Author.Needs.{needs}
 use Rattle.ring.specs.Slots.{poly}
 use Rattle.ring.proofs.Polynomials.{alike-eq}
-use Rattle.call.proofs.Slots.{stands-alike}
+use Rattle.scratch.proofs.Slots.{stands-alike}
 use Rattle.bgv.specs.Scheme.{residues}
 use Rattle.bgv.specs.Scheme.{lentMask}
 use Rattle.bgv.proofs.Form.{noisy-either}
-use Rattle.call.proofs.Loads.{both-asks, lent-load, residues-load, loaded-length}
+use Rattle.scratch.proofs.Loads.{both-asks, lent-load, residues-load, loaded-length}
 use Rattle.bgv.proofs.Steps.{stands-noisy}
 use Rattle.bgv.proofs.share.Statement.{statement}
 use Rattle.bgv.proofs.share.Tie as tie

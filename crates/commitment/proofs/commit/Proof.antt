@@ -4,7 +4,7 @@ use Prim.Native.Nat.{_<_}
 use native.Mathlib.Omega.{arith}
 use borrow.Author.Needs.{needs}
 use Rattle.codec.specs.Bytes.{Octets}
-use Rattle.call.proofs.Shelf.{shelf-below, shelf-slots}
+use Rattle.scratch.proofs.Shelf.{shelf-below, shelf-slots}
 use Rattle.commitment.proofs.Steps.{product-asks, public1, public2, public3, shelf0, shelf1, shelf2, shelf3, shelf4, pair-stands}
 use Rattle.commitment.proofs.commit.Statement.{statement}
 use Rattle.commitment.proofs.commit.Tie as tie

@@ -1,6 +1,6 @@
 -- `decrypt` meets its contract. Assumes nothing.
 use borrow.Author.Needs.{needs}
-use Rattle.call.proofs.Lent.{lent, call-refused}
+use Rattle.scratch.proofs.Lent.{lent, call-refused}
 use Rattle.scheme.specs.Calls.{decryptTests, decryptWrites}
 use Rattle.scheme_calls.proofs.Keys.{call-taken}
 use Rattle.scheme_calls.proofs.decrypt.Statement.{statement}

@@ -1,6 +1,6 @@
 -- `share` meets its contract. Assumes nothing.
 use borrow.Author.Needs.{needs}
-use Rattle.call.proofs.Lent.{lent, call-refused}
+use Rattle.scratch.proofs.Lent.{lent, call-refused}
 use Rattle.scheme.specs.Calls.{shareTests, shareWrites}
 use Rattle.scheme_calls.proofs.Keys.{call-taken}
 use Rattle.scheme_calls.proofs.share.Statement.{statement}

@@ -3,7 +3,7 @@ use mathlib.Core.Path.{_∙_, ap, sym}
 use borrow.Author.Needs.{needs}
 use native.Mathlib.Omega.{arith}
 use Rattle.keccak.specs.Keccak.{State, keccak}
-use Rattle.sponge.specs.Absorb.{xorByte}
+use Rattle.sha3.specs.Absorb.{xorByte}
 use Rattle.sha3.proofs.Padding.{pad-early, pad-late}
 use Rattle.sha3.proofs.pad.Statement.{statement}
 use Rattle.sha3.proofs.pad.Tie as tie

@@ -4,7 +4,7 @@ use Prim.Native.Nat.{_%_}
 use native.Mathlib.Omega.{arith}
 use borrow.Author.Needs.{needs}
 use Rattle.keccak.specs.Keccak.{State}
-use Rattle.sponge.specs.Absorb.{absorb}
+use Rattle.sha3.specs.Absorb.{absorb}
 use Rattle.hasher.specs.Hasher.{made, updated}
 use Rattle.hasher.proofs.Hasher.absorbed.Statement.{statement}
 use Rattle.hasher.proofs.Hasher.absorbed.Tie as tie

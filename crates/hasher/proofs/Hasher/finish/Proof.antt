@@ -3,7 +3,7 @@ use mathlib.Core.Path.{_∙_, ap}
 use Prim.Native.Nat.{_%_}
 use borrow.Author.Needs.{needs}
 use Rattle.keccak.specs.Keccak.{State}
-use Rattle.sponge.specs.Absorb.{absorb}
+use Rattle.sha3.specs.Absorb.{absorb}
 use Rattle.sha3.specs.Sponge.{padding, squeeze}
 use Rattle.hasher.specs.Hasher.{finished}
 use Rattle.hasher.proofs.Hasher.finish.Statement.{statement}

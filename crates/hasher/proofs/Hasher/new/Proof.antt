@@ -2,7 +2,7 @@
 use mathlib.Core.Path.{_∙_, ap}
 use borrow.Author.Needs.{needs}
 use Rattle.keccak.specs.Keccak.{State}
-use Rattle.sponge.specs.Absorb.{absorb}
+use Rattle.sha3.specs.Absorb.{absorb}
 use Rattle.hasher.specs.Hasher.{made, holding}
 use Rattle.hasher.proofs.Hasher.new.Statement.{statement}
 use Rattle.hasher.proofs.Hasher.new.Tie as tie

@@ -1,6 +1,6 @@
 -- `shares::reconstruct` meets its contract. Assumes nothing.
 use borrow.Author.Needs.{needs}
-use Rattle.call.proofs.Sweeping.{worked-taken, worked-refused}
+use Rattle.scratch.proofs.Sweeping.{worked-taken, worked-refused}
 use Rattle.scheme.proofs.Passed.{reconstruct-passed}
 use Rattle.scheme.proofs.shares.reconstruct.Statement.{statement}
 use Rattle.scheme.proofs.shares.reconstruct.Tie as tie

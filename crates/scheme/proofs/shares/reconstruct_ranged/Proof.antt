@@ -3,9 +3,9 @@ use mathlib.Core.List.{[], _∷_}
 use borrow.Author.Needs.{needs}
 use Rattle.codec.specs.Lists.{list, allBelow}
 use Rattle.ring.specs.Slots.{poly}
-use Rattle.call.specs.Call.{coefficientsBelow}
-use Rattle.call.proofs.Order.{fails, goes-on}
-use Rattle.call.proofs.Ranges.{whole-range}
+use Rattle.scratch.specs.Call.{coefficientsBelow}
+use Rattle.scratch.proofs.Order.{fails, goes-on}
+use Rattle.scratch.proofs.Ranges.{whole-range}
 use Rattle.scheme.proofs.shares.reconstruct_ranged.Statement.{statement}
 use Rattle.scheme.proofs.shares.reconstruct_ranged.Tie as tie
 

@@ -8,8 +8,8 @@ use borrow.Author.Tests.{not-true, not-false}
 use lib.ListN.{length}
 use Rattle.codec.specs.Bytes.{same}
 use Rattle.codec.specs.Reply.{test, first}
-use Rattle.call.specs.Call.{coefficientsBelow}
-use Rattle.call.proofs.Order.{length-at, wrong-length, out-of-range, in-order}
+use Rattle.scratch.specs.Call.{coefficientsBelow}
+use Rattle.scratch.proofs.Order.{length-at, wrong-length, out-of-range, in-order}
 use Rattle.scheme.proofs.shares.reconstruct_tests.Statement.{statement}
 use Rattle.scheme.proofs.shares.reconstruct_tests.Tie as tie
 

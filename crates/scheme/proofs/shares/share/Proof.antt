@@ -4,7 +4,7 @@ use Prim.Native.Nat.{ℕ}
 use native.Mathlib.Omega.{arith}
 use borrow.Author.Needs.{needs}
 use Rattle.ring.specs.Slots.{coefficientBytes, poly}
-use Rattle.call.proofs.Sweeping.{worked-taken, worked-refused}
+use Rattle.scratch.proofs.Sweeping.{worked-taken, worked-refused}
 use Rattle.bgv.specs.Scheme as scheme
 use Rattle.bgv.specs.Scheme.{lentMask}
 use Rattle.scheme.specs.Calls.{shareWrites}

@@ -10,8 +10,8 @@ use lib.ListN.{length}
 use Rattle.codec.specs.Bytes.{same}
 use Rattle.codec.specs.Reply.{test, first}
 use Rattle.sheet_numbers.specs.Plain.{maskOf}
-use Rattle.call.specs.Call.{coefficientsBelow}
-use Rattle.call.proofs.Order.{length-at, wrong-length, out-of-range, in-order, refuses, passes}
+use Rattle.scratch.specs.Call.{coefficientsBelow}
+use Rattle.scratch.proofs.Order.{length-at, wrong-length, out-of-range, in-order, refuses, passes}
 use Rattle.bgv.specs.Scheme.{within, lentMask}
 use Rattle.scheme.proofs.shares.share_tests.Statement.{statement}
 use Rattle.scheme.proofs.shares.share_tests.Tie as tie

@@ -6,7 +6,7 @@ use borrow.Author.Needs.{needs}
 use Rattle.codec.specs.Bytes.{zeros}
 use Rattle.codec.specs.Lists.{list}
 use Rattle.ring.specs.Slots.{poly}
-use Rattle.call.proofs.Slots.{stands-below}
+use Rattle.scratch.proofs.Slots.{stands-below}
 use Rattle.bgv.specs.Scheme.{rebuilt, plain}
 use Rattle.bgv.proofs.Votes.{plain-stands}
 use Rattle.scheme.specs.Calls.{reconstructWrites}

@@ -3,7 +3,7 @@ use mathlib.Core.Path.{ap, _∙_}
 use native.Mathlib.Omega.{arith}
 use borrow.Author.Needs.{needs}
 use Rattle.ring.proofs.Polynomials.{alike-refl, alike-plus}
-use Rattle.call.proofs.Slots.{holds-below, holds-alike, stands-holds, stands-alike}
+use Rattle.scratch.proofs.Slots.{holds-below, holds-alike, stands-holds, stands-alike}
 use Rattle.bgv.specs.Scheme.{cipher-v}
 use Rattle.codec.specs.Bytes.{zeros}
 use Rattle.scheme.proofs.Places.{written-at}

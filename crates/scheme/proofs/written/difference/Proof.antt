@@ -4,7 +4,7 @@ use native.Mathlib.Omega.{arith}
 use borrow.Author.Needs.{needs}
 use Rattle.ring.specs.Slots.{poly}
 use Rattle.ring.specs.Ternary.{ternary}
-use Rattle.call.proofs.Loads.{stands-put}
+use Rattle.scratch.proofs.Loads.{stands-put}
 use Rattle.bgv.specs.Scheme.{other}
 use Rattle.codec.specs.Bytes.{zeros}
 use Rattle.scheme.proofs.Places.{written-at}

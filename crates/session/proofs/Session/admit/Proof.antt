@@ -4,7 +4,7 @@ use native.Mathlib.Omega.{arith}
 use borrow.Author.Needs.{needs}
 use borrow.Author.Tests.{not-true, not-false}
 use Rattle.codec.specs.Reply.{leaves}
-use Rattle.progress.proofs.Limits.{within-due, bounds}
+use Rattle.session_progress.proofs.Limits.{within-due, bounds}
 use Rattle.session.specs.Steps.{admittedBy}
 use Rattle.session.proofs.Stepping.{stays, decides}
 use Rattle.session.proofs.GatheringTests.{ranged, admit-phase, admit-register, admit-ballot, admit-range, admit-on}

@@ -7,8 +7,8 @@ use borrow.Author.Needs.{needs}
 use borrow.Author.Tests.{not-true, not-false}
 use lib.ListN.{length-set}
 use Rattle.codec.specs.Bytes.{Bytes}
-use Rattle.drawing.specs.Draw.{drawnChallenges}
-use Rattle.progress.proofs.Limits.{within-due, bounds}
+use Rattle.session_digests.specs.Draw.{drawnChallenges}
+use Rattle.session_progress.proofs.Limits.{within-due, bounds}
 use Rattle.session.specs.Steps.{challengesOut}
 use Rattle.register.proofs.Orders.{silent, writes}
 use Rattle.session.proofs.CheckTests.{challenges-undue, challenges-below, challenges-length, challenges-taken, laid, room}

@@ -3,8 +3,8 @@ use mathlib.Core.Path.{sym, _∙_}
 use native.Mathlib.Omega.{arith}
 use borrow.Author.Needs.{needs}
 use borrow.Author.Tests.{not-true, not-false}
-use Rattle.checking.specs.Check.{inputsOf}
-use Rattle.progress.proofs.Limits.{within-due, round-known, bounds}
+use Rattle.session_check.specs.Check.{inputsOf}
+use Rattle.session_progress.proofs.Limits.{within-due, round-known, bounds}
 use Rattle.session.specs.Session.{trailAt}
 use Rattle.session.proofs.CheckTests.{check-undue, check-judged}
 use Rattle.session.proofs.Session.check.Statement.{statement}

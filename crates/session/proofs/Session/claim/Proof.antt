@@ -3,7 +3,7 @@ use mathlib.Core.Path.{refl, sym, _∙_}
 use native.Mathlib.Omega.{arith}
 use borrow.Author.Needs.{needs}
 use borrow.Author.Tests.{not-true, not-false}
-use Rattle.progress.proofs.Limits.{within-due, bounds}
+use Rattle.session_progress.proofs.Limits.{within-due, bounds}
 use Rattle.session.specs.Steps.{claimedBy}
 use Rattle.session.proofs.Stepping.{stays, moves}
 use Rattle.session.proofs.CountingTests.{claim-phase, claim-length, claim-range, claim-taken}

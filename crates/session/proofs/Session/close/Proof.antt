@@ -3,7 +3,7 @@ use mathlib.Core.Path.{refl, sym, _∙_}
 use native.Mathlib.Omega.{arith}
 use borrow.Author.Needs.{needs}
 use borrow.Author.Tests.{not-true, not-false}
-use Rattle.progress.proofs.Limits.{within-due}
+use Rattle.session_progress.proofs.Limits.{within-due}
 use Rattle.session.specs.Steps.{closedBy}
 use Rattle.session.proofs.Stepping.{stays, moves}
 use Rattle.session.proofs.GatheringTests.{close-phase, close-register, close-none, close-taken, digests-counted}

@@ -4,7 +4,7 @@ use native.Mathlib.Omega.{arith}
 use borrow.Author.Needs.{needs}
 use borrow.Author.Tests.{not-true, not-false}
 use Rattle.codec.proofs.Laws.{both}
-use Rattle.progress.proofs.Limits.{within-due, round-known, bounds}
+use Rattle.session_progress.proofs.Limits.{within-due, round-known, bounds}
 use Rattle.session.specs.Steps.{committedBy}
 use Rattle.session.proofs.Stepping.{stays, moves}
 use Rattle.session.proofs.CountingTests.{commit-undue, commit-length, commit-taken}

@@ -3,7 +3,7 @@ use mathlib.Core.Path.{_∙_}
 use native.Mathlib.Omega.{arith}
 use borrow.Author.Needs.{needs}
 use Rattle.codec.specs.Bytes.{same}
-use Rattle.progress.proofs.Limits.{within, bounds}
+use Rattle.session_progress.proofs.Limits.{within, bounds}
 use Rattle.session.proofs.Session.message_sized.Statement.{statement}
 use Rattle.session.proofs.Session.message_sized.Tie as tie
 

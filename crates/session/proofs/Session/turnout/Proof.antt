@@ -3,7 +3,7 @@ use mathlib.Core.Path.{sym, _∙_}
 use native.Mathlib.Omega.{arith}
 use borrow.Author.Needs.{needs}
 use borrow.Author.Tests.{not-true, not-false}
-use Rattle.progress.proofs.Limits.{within}
+use Rattle.session_progress.proofs.Limits.{within}
 use Rattle.session.proofs.GatheringTests.{turnout-invalid, turnout-register, turnout-few, turnout-many, turnout-taken}
 use Rattle.session.proofs.Session.turnout.Statement.{statement}
 use Rattle.session.proofs.Session.turnout.Tie as tie

@@ -2,7 +2,7 @@
 use mathlib.Core.Path.{refl, sym, _∙_}
 use borrow.Author.Needs.{needs}
 use borrow.Author.Tests.{not-true, not-false}
-use Rattle.progress.proofs.Limits.{within-due}
+use Rattle.session_progress.proofs.Limits.{within-due}
 use Rattle.session.proofs.Stepping.{stays, decides, left-alone}
 use Rattle.session.proofs.GatheringTests.{withdraw-phase, withdraw-register, withdraw-on}
 use Rattle.session.proofs.Session.withdraw.Statement.{statement}

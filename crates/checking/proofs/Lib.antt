@@ -1,4 +1,0 @@
-pub mod Numbers
-pub mod Held
-pub mod Outcome
-pub mod Laws

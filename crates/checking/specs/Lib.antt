@@ -1,3 +1,0 @@
-pub mod Check
-pub mod Parts
-pub mod Equations

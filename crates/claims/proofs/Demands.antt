@@ -1,0 +1,153 @@
+-- The second and the third demand: `demand2` and `demand3` of specs/Demands.antt. Assumes nothing.
+use Prim.Native.Nat.{ℕ, _*_, _<_}
+use native.Mathlib.Omega.{arith}
+use lib.ListN.{length-replicate}
+use Rattle.codec.specs.Bytes.{zeros}
+use Rattle.codec.proofs.Replies.{taken-exactly}
+use Rattle.sheet.specs.Sheet.{order}
+use Rattle.sheet.specs.declared.Reading.the-variants as reading
+use Rattle.scratch.specs.Call.{scratchLength}
+use Rattle.bgv.proofs.Ballot.{honest-noise, honest-decrypts}
+use Rattle.round.proofs.Passed.{producer-exactly}
+use Rattle.round.proofs.Honest.{honest-round}
+use Rattle.round.proofs.OpeningsAccepted.{openings-exactly}
+use Rattle.round.proofs.Extraction.{extraction}
+use Rattle.round.proofs.ExtractionHashed.{hashed}
+use Rattle.round.proofs.ExtractionOutput.{output, lowest}
+use Rattle.round.proofs.Refuses.{parts-exactly, refuses-exactly, takes-accepted, refuses-alike, lending}
+use Rattle.round_lengths.specs.Sheets.{parametersOf, ballotsIn}
+use Rattle.session.specs.Machine.{state, reply}
+use Rattle.session_image.specs.Image.{decode}
+use Rattle.session_image.specs.Images.{hostReply}
+use Rattle.session_histories.specs.Examples.{all-examples}
+use Rattle.session_histories.proofs.Valid.{sheet-exactly}
+use Rattle.session_histories.proofs.Checked.{step-exactly}
+use Rattle.session_histories.proofs.Roll.{roll-is-batch, own-register}
+use Rattle.claims.proofs.HostSteps.{over-images}
+use Rattle.claims.proofs.HostClaims.{host-stays-out, host-rounds-checked, host-ended-accepted, host-honest-accepted, host-stays-valid, host-only-phase-or-round}
+use Rattle.claims.proofs.Papers.{sound, distributed, digest-of-bits, tables}
+use Rattle.claims.proofs.Together.{decrypts-together}
+use Rattle.claims.proofs.Bound.{host-bound}
+use Rattle.claims.proofs.Replies.{replies-told}
+use Rattle.claims.proofs.AnySession.{any-session}
+use Rattle.claims.proofs.Endings.{refusal-ends, begun, scratch-zeroed}
+use Rattle.claims.proofs.Decided.{first-decides, orders-as-written}
+use Rattle.claims.proofs.FromCalls.{from-calls, turns-come}
+use Rattle.claims.proofs.Images.{over-image}
+use Rattle.claims.proofs.Exactly.{calls-exactly}
+use Rattle.claims.proofs.Yields.{extractor-takes}
+use Rattle.claims.proofs.Produces.{positive, fits, first-exactly, second-call-exactly}
+use Rattle.claims.proofs.Extracts.{extractor-exactly, lent-takes}
+use Rattle.claims.specs.Demands.{SheetExactly, StepExactly, HonestBallots, Demand2, ExtractorExactly, Extracts, AcceptedYields, RoundsYield, RefusesAsChecks, ProducerWrites, HonestRounds, Demand3}
+
+-- ---- over an image
+
+steps : StepExactly
+unfolding hostReply
+steps x image register lent = over-image image (λ s. reply x (state s register)) (step-exactly x (state (decode image) register) lent)
+
+-- ---- over a sheet that is taken
+
+sheets : SheetExactly
+sheets text =
+    let t = taken-exactly (order text) in
+    let s = sheet-exactly text in
+    (λ e. s .0 (t .0 e), λ h. t .1 (s .1 h))
+
+honest-ballots : HonestBallots
+honest-ballots text sheet s e r e1 e2 m ss se sr s1 s2 message matches =
+    let P = parametersOf text in
+    let ok = sound text sheet in (
+      honest-noise ok (omega arith) (P .a) (P .b) s e r e1 e2 m ss se sr s1 s2 message matches,
+      honest-decrypts ok (omega arith) (P .a) (P .b) s e r e1 e2 m ss se sr s1 s2 message matches,
+    )
+
+honest-rounds : HonestRounds
+honest-rounds text sheet m x sized suitable side low challenges size valid =
+    let r = sheet-exactly text .0 (taken-exactly (order text) .0 sheet) .inside in
+    let none = producer-exactly (parametersOf text) m x (omega (arith, r .modulus-low)) (omega (arith, r .modulus-high)) .1 suitable in
+    honest-round (parametersOf text) m x (sound text sheet) (omega (arith, r .modulus-low)) (omega (arith, r .modulus-high)) sized none side low
+    challenges size valid
+
+producer-writes : ProducerWrites
+producer-writes text x = (first-exactly text x, second-call-exactly text x)
+
+extractor : ExtractorExactly
+extractor text x out scratch octets = extractor-exactly text x out scratch octets
+
+extracts : Extracts
+extracts text x out scratch octets o1 o2 o3 e =
+    let P = parametersOf text in
+    let m = ballotsIn text (x .ballots) in
+    let t = extractor-exactly text x out scratch octets .0 e in
+    let r = t .sheet .inside in
+    let three : 2 < P .q = omega (arith, r .modulus-low) in
+    let high = fits text (t .sheet) in
+    let none = openings-exactly P m x (positive text (t .sheet)) high (t .lengths) .1 (t .accepted) in
+    let ok = sound text (taken-exactly (order text) .1 (sheet-exactly text .1 (t .sheet))) in
+    (extraction P m x three high (t .lengths) none ok, hashed P m x o1 o2 o3, lowest P m x (omega arith) high, output P m x three high (t .lengths) none ok)
+
+-- its findings do not depend on output or scratch: any of the right lengths serve
+accepted-yields : AcceptedYields
+accepted-yields text x octets b1 b2 b3 o0 o1 a1 a2 a3 =
+    let taken = extractor-takes text x o0 o1 a1 a2 a3 octets in
+    let n = 24 * parametersOf text .N in
+    (extracts text x (zeros n) (zeros scratchLength) octets b1 b2 b3 (taken (zeros n) (zeros scratchLength) (length-replicate {A = ℕ} n 0) (length-replicate {A = ℕ} scratchLength 0)), taken)
+
+rounds-yield : RoundsYield
+rounds-yield text x opens answers sheet o1 o2 o3 few lent lending within opened answered =
+    let P = parametersOf text in
+    let none = takes-accepted P (ballotsIn text (x .ballots)) x opens answers lending within opened answered in
+    let n = 24 * P .N in
+    extracts text x (zeros n) (zeros scratchLength) (lent .octets) o1 o2 o3
+    (lent-takes text x (zeros n) (zeros scratchLength) sheet few lent (length-replicate {A = ℕ} n 0) (length-replicate {A = ℕ} scratchLength 0) none)
+
+refuses-as-checks : RefusesAsChecks
+refuses-as-checks P m x opens answers lending = (refuses-exactly P m x opens answers lending, refuses-alike P m x opens answers lending)
+
+-- ---- the demands
+
+pub demand2 : Demand2
+demand2 = record {
+  sheet-exactly = sheets;
+  step-exactly = steps;
+  calls-exactly = calls-exactly;
+  rounds-checked = host-rounds-checked;
+  ended-accepted = host-ended-accepted;
+  bound = host-bound;
+  withdrawn-stays-out = host-stays-out;
+  refusal-ends = refusal-ends;
+  clear-begins = begun;
+  scratch-zeroed = scratch-zeroed;
+  first-decides = first-decides;
+  orders-as-written = orders-as-written;
+  honest-ballots = honest-ballots;
+  distributed = distributed;
+  decrypts-together = decrypts-together;
+  digest-of-bits = digest-of-bits;
+  tables-by-rule = tables;
+  examples = all-examples;
+  over-images = over-images;
+  replies-told = replies-told;
+}
+
+pub demand3 : Demand3
+demand3 = record {
+  accepted-yields = accepted-yields;
+  extracts = extracts;
+  extractor-exactly = extractor;
+  refuses-as-checks = refuses-as-checks;
+  check-parts = parts-exactly;
+  lent-rounds = lending;
+  rounds-yield = rounds-yield;
+  honest-accepted = host-honest-accepted;
+  from-calls = from-calls;
+  turns-come = turns-come;
+  honest-rounds = honest-rounds;
+  any-session = any-session;
+  producer-writes = producer-writes;
+  stays-valid = host-stays-valid;
+  only-phase-or-round = host-only-phase-or-round;
+  roll-is-batch = roll-is-batch;
+  own-register = own-register;
+}

@@ -1,0 +1,212 @@
+-- The three demands, over the definitions that the contracts of the exported calls cite (src/). Proved: proofs/Demands.antt. Assumes nothing.
+--
+-- 1. Any bytes, numbers or session lent to any entry point get an outcome and no fault. No exported call has a `requires`, and each contract gives the reply and every lent byte:
+--    that every contract is proved is this demand.
+use mathlib.Core.Path.{_≡_}
+use mathlib.Core.Logic.{_↔_}
+use mathlib.Core.List.{map}
+use Prim.Native.Nat.{ℕ, _*_, _≤_, _<_}
+use lib.ListN.{length, getD}
+use Rattle.codec.specs.Bytes.{Bytes, Octets}
+use Rattle.codec.specs.Reply.{None, first}
+use Rattle.codec.specs.declared.Reply.the-variants.{Taken, Refused}
+use Rattle.ring.specs.Poly.{Poly, Alike}
+use Rattle.sheet.specs.Sheet.{order}
+use Rattle.scratch.specs.Call.{scratchLength}
+use Rattle.bgv.specs.Scheme.{Small, key, cipher-u, cipher-v, opened, decrypted}
+use Rattle.bgv.specs.Examples.{Row}
+use Rattle.round.specs.Round.{Parameters, Round, roundTests}
+use Rattle.round.specs.Producer.{Material, Sized, producedRound}
+use Rattle.round.specs.Suitable.{Suitable}
+use Rattle.round.specs.Extractor as extractor
+use Rattle.round.specs.Extractor.{Openings, extractRoom, extractTests, kind, extracted, Found, Hashed, Lowest, Output}
+use Rattle.round.specs.Refuses.{openingTests, repetitionTests, OpensLent, AnswersLent, lentRound, Lending, ChecksTake, ChecksRefuse}
+use Rattle.round_lengths.specs.Sheets.{parametersOf, ballotsIn}
+use Rattle.round.specs.Writes.{firstRoom, secondRoom}
+use Rattle.round_produce.specs.Replies.{firstReply, secondReply}
+use Rattle.round_extract.specs.Replies.{extractReply}
+use Rattle.session_check.specs.Check.{Inputs, drawnRound}
+use Rattle.session.specs.Steps.{storedFor}
+use Rattle.session.specs.Machine.{Step, check, state}
+use Rattle.session_image.specs.Image.{imageLength, decode}
+use Rattle.session_image.specs.Images.{host, hostReply}
+use Rattle.session_histories.specs.Conditions.{SheetTaken, Lent, Takes}
+use Rattle.session_histories.specs.Claims.{RollIsBatch, OwnRegister}
+use Rattle.session_histories.specs.Examples.{all-rows}
+use Rattle.claims.specs.Papers.{Distributed, DecryptsTogether, DigestOfBits, TablesByRule}
+use Rattle.claims.specs.Produces.{WritesFirst, WritesSecond}
+use Rattle.claims.specs.Extracts.{TakesOpenings}
+use Rattle.claims.specs.Exactly.{CallsExactly}
+use Rattle.claims.specs.HostSteps.{OverImages}
+use Rattle.claims.specs.HostClaims.{HostStaysOut, HostRoundsChecked, HostEndedAccepted, HostHonestAccepted, HostStaysValid, HostOnlyPhaseOrRound}
+use Rattle.claims.specs.Bound.{HostBound}
+use Rattle.claims.specs.Replies.{RepliesTold}
+use Rattle.claims.specs.AnySession.{AnySession}
+use Rattle.claims.specs.Endings.{RefusalEnds, ClearBegins, ScratchZeroed}
+use Rattle.claims.specs.Decided.{FirstDecides, OrdersAsWritten}
+use Rattle.claims.specs.FromCalls.{FromCalls, TurnsCome}
+
+-- ---- 2. Everything equals the papers, a round is accepted exactly if every listed check holds, and a withdrawn mark is in no closed batch.
+
+-- a sheet is taken exactly if all of `SheetTaken` holds
+abbrev pub SheetExactly : Type 0
+SheetExactly = (text : Bytes) → (first (order text) ≡ Taken) ↔ SheetTaken text
+
+-- a step is taken exactly if the image has its length and its conditions hold of the session in it: a check in every round if all of `Checks` holds, a ballot is admitted if all of
+-- `Admits` does, where "full" means 4,096 entries, and so on; what is lent is bytes
+abbrev pub StepExactly : Type 0
+StepExactly = (x : Step) (image register : Bytes) → Lent x
+    → (hostReply x (host image register) ≡ Taken) ↔ ((length image ≡ imageLength) × Takes x (state (decode image) register))
+
+-- a ballot made with short r, e' and e'' under a key that matches the sheet's b has noise within D, and decrypts to its message
+abbrev pub HonestBallots : Type 0
+HonestBallots = (text : Bytes) → first (order text) ≡ Taken
+    → let P = parametersOf text in
+    (s e r e1 e2 m : Poly) → Small (P .q) (P .N) 1 s → Small (P .q) (P .N) 1 e → Small (P .q) (P .N) 1 r → Small (P .q) (P .N) 1 e1 → Small (P .q) (P .N) 1 e2
+    → ((i : ℕ) → i < P .N → m i < P .p) → Alike (P .q) (P .N) (key (P .q) (P .N) (P .p) (P .a) s e) (P .b)
+    → let u = cipher-u (P .q) (P .N) (P .p) (P .a) r e1 in
+    let v = cipher-v (P .q) (P .N) (P .p) (P .b) r e2 m in
+    Small (P .q) (P .N) (P .D) (opened (P .q) (P .N) s u v) × ((i : ℕ) → i < P .N → decrypted (P .q) (P .N) (P .p) s u v i ≡ m i)
+
+-- worked examples A to K
+abbrev pub Examples : Type 0
+Examples = map (λ (x : Row). x .got) all-rows ≡ map (λ (x : Row). x .said) all-rows
+
+pub record Demand2 : Type 0 where
+  pub sheet-exactly : SheetExactly
+  pub step-exactly : StepExactly
+  -- and each of the other calls that Demand3 does not speak of: keygen, encrypt, decrypt, split, share, reconstruct, commitment, challenges, turnout, and those of a digest and a sheet
+  pub calls-exactly : CallsExactly
+  -- over every list of calls from a clear that is taken: a round that a session counts as checked has had its check, and of a session that ended accepted every round has
+  pub rounds-checked : HostRoundsChecked
+  pub ended-accepted : HostEndedAccepted
+  -- and a check that is taken was lent the sheet, ballots, claims and first message that were lodged, or the strings that hold them collide under SHA3-256
+  pub bound : HostBound
+  pub withdrawn-stays-out : HostStaysOut
+  -- a check that is refused for its round ends the session, after which no step but clear is taken
+  pub refusal-ends : RefusalEnds
+  -- where a session starts, and what becomes of scratch
+  pub clear-begins : ClearBegins
+  pub scratch-zeroed : ScratchZeroed
+  -- of every call the first case that holds in its order decides number and place, and no refusal comes otherwise
+  pub first-decides : FirstDecides
+  pub orders-as-written : OrdersAsWritten
+  pub honest-ballots : HonestBallots
+  -- split keys add up, a mask worked out is the mask, reconstruction of two shares equals decryption; and SHA3-256 is FIPS 202's over bits
+  pub distributed : Distributed
+  pub decrypts-together : DecryptsTogether
+  pub digest-of-bits : DigestOfBits
+  pub tables-by-rule : TablesByRule
+  pub examples : Examples
+  -- what is shown of steps and of lists of steps over sessions holds of the exported calls over images
+  pub over-images : OverImages
+  -- of every reply that a call gives, the remainder by 256 is 0 exactly if the call is taken, and else the number of the refusal; the quotient is its place, or the value of a call that has one
+  pub replies-told : RepliesTold
+
+-- ---- 3. Two accepted openings and three accepted answers yield a hash collision, a short commitment vector or the key, and every honest round is accepted whatever is drawn.
+
+-- one of the three, as the extractor's kind says; the strings of a collision are bytes; nothing that comes before that kind was there; and its output is what it found
+abbrev pub Yields : (text : Bytes) → Openings → Type 0
+Yields text x =
+    let P = parametersOf text in
+    let m = ballotsIn text (x .ballots) in
+    Found P m x (kind P m x) × Hashed P m x × Lowest P m x (kind P m x) × Output P m x (kind P m x) (extracted P m x)
+
+-- the extractor takes what it is lent exactly if all of `TakesOpenings` holds
+abbrev pub ExtractorExactly : Type 0
+ExtractorExactly = (text : Bytes) (x : Openings) (out scratch : Bytes) → Octets (x .head) → (extractReply text x (extractRoom out scratch) ≡ Taken) ↔ TakesOpenings text x out scratch
+
+-- where the extractor does not refuse, it finds one of the three
+abbrev pub Extracts : Type 0
+Extracts = (text : Bytes) (x : Openings) (out scratch : Bytes) → Octets (x .head) → Octets (x .answer1) → Octets (x .answer2) → Octets (x .answer3)
+    → extractReply text x (extractRoom out scratch) ≡ Taken → Yields text x
+
+-- a check that was accepted, of any round of the session in any image, lent this sheet
+pub record AcceptedCheck (text : Bytes) : Type 0 where
+  pub image : Bytes
+  pub round : ℕ
+  pub inputs : Inputs
+  pub sheet : inputs .sheet ≡ text
+  pub register : Bytes
+  pub taken : hostReply (check round inputs) (host image register) ≡ Taken
+
+-- what it was lent, with the side and the challenges that the seed in its image draws for its round
+abbrev pub roundOf : {text : Bytes} → AcceptedCheck text → Round
+roundOf c = drawnRound (storedFor (decode (c .image)) (c .round)) (c .inputs)
+
+-- one that opened this side, and one that answered this challenge in the lent repetition, as lent to the extractor, over its first message, ballots and claims. One check may do both
+pub record AcceptedOpening (text : Bytes) (x : Openings) (side : ℕ) : Type 0 where
+  pub check : AcceptedCheck text
+  pub opens : OpensLent x side (roundOf check)
+
+pub record AcceptedAnswer (text : Bytes) (x : Openings) (challenge : ℕ) : Type 0 where
+  pub check : AcceptedCheck text
+  pub answers : AnswersLent (parametersOf text .N) x challenge (roundOf check)
+
+-- if both openings and all three answers to one repetition are accepted against one first message, ballots and claims, they yield one of the three, which the extractor takes and finds. What is lent is bytes
+abbrev pub AcceptedYields : Type 0
+AcceptedYields = (text : Bytes) (x : Openings) → Octets (x .head) → Octets (x .answer1) → Octets (x .answer2) → Octets (x .answer3)
+    → AcceptedOpening text x 0 → AcceptedOpening text x 1 → AcceptedAnswer text x 1 → AcceptedAnswer text x 2 → AcceptedAnswer text x 3
+    → Yields text x
+    × ((out scratch : Bytes) → length out ≡ 24 * parametersOf text .N → length scratch ≡ scratchLength → extractReply text x (extractRoom out scratch) ≡ Taken)
+
+-- the extractor refuses exactly where the checks of those openings and answers would, and then as one of them does
+abbrev pub RefusesAsChecks : Type 0
+RefusesAsChecks = (P : Parameters) (m : ℕ) (x : Openings) (opens answers : ℕ → Round) → Lending P m x opens answers
+    → (None (extractTests P m x) ↔ ChecksTake P m x opens answers)
+    × ((number place : ℕ) → first (extractTests P m x) ≡ Refused number place → ChecksRefuse P m x opens answers number place)
+
+-- those tests of openings and answers are the parts of a check: it refuses nothing exactly if it refuses nothing of the opening and nothing of any repetition's answer
+abbrev pub CheckParts : Type 0
+CheckParts = (P : Parameters) (m : ℕ) (r : Round) → None (roundTests P m r) ↔ (None (openingTests P m r) × ((i : ℕ) → i < P .repeats → None (repetitionTests P m r i)))
+
+-- there are such checks, of whatever is lent in the right lengths
+abbrev pub LentRounds : Type 0
+LentRounds = (P : Parameters) (m : ℕ) (x : Openings) → extractor.Lent P m x → x .repetition < P .repeats → Lending P m x (λ i. lentRound P x i 1) (λ c. lentRound P x 0 c)
+
+-- and so checks of any side and challenges that refuse nothing yield one of the three, whatever a seed draws
+abbrev pub RoundsYield : Type 0
+RoundsYield = (text : Bytes) (x : Openings) (opens answers : ℕ → Round) → SheetTaken text → Octets (x .answer1) → Octets (x .answer2) → Octets (x .answer3)
+    → let P = parametersOf text in
+    let m = ballotsIn text (x .ballots) in
+    m ≤ 4096 → extractor.Lent P m x → Lending P m x opens answers → x .repetition < P .repeats
+    → ((i : ℕ) → i < 2 → None (roundTests P m (opens i))) → ((c : ℕ) → 1 ≤ c → c ≤ 3 → None (roundTests P m (answers c))) → Yields text x
+
+-- the producer writes a round from all material that meets none of its refusals: its first message, and what answers a side and challenges
+abbrev pub ProducerWrites : Type 0
+ProducerWrites = (text : Bytes) (x : Material)
+    → ((head shares0 shares1 claims scratch : Bytes) → (firstReply text x (firstRoom head shares0 shares1 claims scratch) ≡ Taken) ↔ WritesFirst text x head shares0 shares1 claims scratch)
+    × ((side : ℕ) (challenges opening answers scratch : Bytes)
+    → (secondReply text x side challenges (secondRoom opening answers scratch) ≡ Taken) ↔ WritesSecond text x side challenges opening answers scratch)
+
+-- its round meets none of 5 to 13, with any side and challenges in range
+abbrev pub HonestRounds : Type 0
+HonestRounds = (text : Bytes) → first (order text) ≡ Taken
+    → let P = parametersOf text in
+    (m : ℕ) (x : Material) → Sized P m x → Suitable P m x → (side : ℕ) → side < 2 → (challenges : Bytes) → length challenges ≡ P .repeats
+    → ((i : ℕ) → i < P .repeats → (1 ≤ getD challenges i 0) × (getD challenges i 0 ≤ 3)) → None (roundTests P m (producedRound P m x side challenges))
+
+pub record Demand3 : Type 0 where
+  pub accepted-yields : AcceptedYields
+  pub extracts : Extracts
+  pub extractor-exactly : ExtractorExactly
+  pub refuses-as-checks : RefusesAsChecks
+  pub check-parts : CheckParts
+  pub lent-rounds : LentRounds
+  pub rounds-yield : RoundsYield
+  -- over every list of calls from a clear that is taken, each lent any register: a round of the producer's that is lodged is accepted at its turn
+  pub honest-accepted : HostHonestAccepted
+  -- and where the host writes no register: from the producer's two calls, claim, commit, draw and challenges to the check
+  pub from-calls : FromCalls
+  -- there are such lists: over suitable material every round comes to its turn, and the session ends accepted
+  pub turns-come : TurnsCome
+  pub honest-rounds : HonestRounds
+  -- and the check refuses it for none of those in any session, whatever bytes the image is
+  pub any-session : AnySession
+  pub producer-writes : ProducerWrites
+  -- no call of such a list meets 31 but for wrong phase or round
+  pub stays-valid : HostStaysValid
+  pub only-phase-or-round : HostOnlyPhaseOrRound
+  -- without host writing, the ballots admitted and not withdrawn are the batch
+  pub roll-is-batch : RollIsBatch
+  pub own-register : OwnRegister

@@ -1,0 +1,14 @@
+pub mod Papers
+pub mod Produces
+pub mod Extracts
+pub mod Scheme
+pub mod Exactly
+pub mod HostSteps
+pub mod HostClaims
+pub mod Bound
+pub mod AnySession
+pub mod Endings
+pub mod Decided
+pub mod FromCalls
+pub mod Replies
+pub mod Demands

@@ -1,2 +1,0 @@
-pub mod Rotation
-pub mod Rows

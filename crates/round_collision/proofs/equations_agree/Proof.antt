@@ -1,0 +1,71 @@
+-- `equations_agree` meets its contract. Assumes nothing.
+use mathlib.Core.Path.{sym, ap₂, _∙_}
+use mathlib.Core.Bool.{true, false}
+use Prim.Native.Nat.{_*_, _<_}
+use native.Mathlib.Omega.{arith}
+use borrow.Author.Needs.{needs}
+use Rattle.codec.specs.Bytes.{same}
+use Rattle.commitment.specs.Commitment.{keysOf, pairBytes}
+use Rattle.stern.specs.Method.{equationPair}
+use Rattle.stern.proofs.Honest.{length-pairBytes}
+use Rattle.stern.proofs.Strings.{covered}
+use Rattle.round_collision.proofs.Agreement.{by-first, by-rest, still-ground}
+use Rattle.round_collision.proofs.equations_agree.Statement.{statement}
+use Rattle.round_collision.proofs.equations_agree.Tie as tie
+
+pairs-agree-requires : tie.Need-pairs-agree-requires
+pairs-agree-requires c κs =
+    let p = c .before .before .before .before .before .before .before .before .pre in
+    (p .0, p .1, omega arith, omega arith, omega arith)
+
+pairs-agree-requires-2 : tie.Need-pairs-agree-requires-2
+pairs-agree-requires-2 c κs =
+    let p = c .before .before .before .before .before .before .before .before .before .before .before .before .before .before .before .before .pre in
+    let e = c .before .before .before .before .before .before .before .pairs-agree .ensures in
+    (still-ground (p .0) (e .kept-work) (e .kept-room), p .1, omega arith, omega arith, omega arith)
+
+returns : tie.Need-returns
+returns c =
+    let a = c .before .before .before .before .before .before .before .before .before .before .before .before .before .before .args in
+    let p = c .before .before .before .before .before .before .before .before .before .before .before .before .before .before .pre in
+    let some = p .0 .keys .one .modulus-low in
+    let z : 0 < a .q = omega arith in
+    let k = keysOf (a .n) (a .k .now) in
+    let s = equationPair (a .q) (a .n) k (a .c .now) true (a .u .now) (2 * a .n) 0 0 in
+    let t = equationPair (a .q) (a .n) k (a .c .now) false (a .r .now) (2 * a .n) 0 0 in
+    let s' = equationPair (a .q) (a .n) k (a .c .now) true (a .u .now) (8 * a .n) (a .n) (4 * a .n) in
+    let t' = equationPair (a .q) (a .n) k (a .c .now) false (a .r .now) (8 * a .n) (a .n) (4 * a .n) in
+    let e = c .before .before .before .before .before .pairs-agree .ensures in
+    record {
+      told =
+          by-first (pairBytes (a .q) (a .n) s) (pairBytes (a .q) (a .n) t) (pairBytes (a .q) (a .n) s') (pairBytes (a .q) (a .n) t') (c .before .before .before .before .before .pairs-agree .result) (e .told)
+          (length-pairBytes (a .q) (a .n) s ∙ sym (length-pairBytes (a .q) (a .n) t)) (c .if1 .taken)
+          ∙ ap₂ same (sym (covered (a .q) (a .n) z k (a .c .now) (a .u .now) (p .1 .sized-u) true)) (sym (covered (a .q) (a .n) z k (a .c .now) (a .r .now) (p .1 .sized-r) false));
+      kept-work = e .kept-work;
+      kept-room = e .kept-room;
+    }
+
+returns-2 : tie.Need-returns-2
+returns-2 c =
+    let a = c .before .before .before .before .before .before .before .before .before .before .before .before .before .before .before .before .before .before .before .before .before .args in
+    let p = c .before .before .before .before .before .before .before .before .before .before .before .before .before .before .before .before .before .before .before .before .before .pre in
+    let some = p .0 .keys .one .modulus-low in
+    let z : 0 < a .q = omega arith in
+    let k = keysOf (a .n) (a .k .now) in
+    let s = equationPair (a .q) (a .n) k (a .c .now) true (a .u .now) (2 * a .n) 0 0 in
+    let t = equationPair (a .q) (a .n) k (a .c .now) false (a .r .now) (2 * a .n) 0 0 in
+    let s' = equationPair (a .q) (a .n) k (a .c .now) true (a .u .now) (8 * a .n) (a .n) (4 * a .n) in
+    let t' = equationPair (a .q) (a .n) k (a .c .now) false (a .r .now) (8 * a .n) (a .n) (4 * a .n) in
+    let e = c .before .before .before .before .before .before .before .before .before .before .before .before .pairs-agree .ensures in
+    let f = c .before .before .before .before .pairs-agree2 .ensures in
+    record {
+      told =
+          by-rest (pairBytes (a .q) (a .n) s) (pairBytes (a .q) (a .n) t) (pairBytes (a .q) (a .n) s') (pairBytes (a .q) (a .n) t') (c .before .before .before .before .before .before .before .before .before .before .before .before .pairs-agree .result) (e .told)
+          (c .before .before .before .before .before .before .before .if1 .left) (c .before .before .before .before .pairs-agree2 .result) (f .told)
+          ∙ ap₂ same (sym (covered (a .q) (a .n) z k (a .c .now) (a .u .now) (p .1 .sized-u) true)) (sym (covered (a .q) (a .n) z k (a .c .now) (a .r .now) (p .1 .sized-r) false));
+      kept-work = f .kept-work ∙ e .kept-work;
+      kept-room = f .kept-room ∙ e .kept-room;
+    }
+
+pub equations-agree-spec : {M : Type 1} → statement M
+equations-agree-spec = tie.close (tie.spec (λ c. search needs) pairs-agree-requires (λ c. search needs) (λ c. search needs) returns (λ c. search needs) (λ c. search needs) pairs-agree-requires-2 (λ c. search needs) (λ c. search needs) returns-2)

@@ -1,0 +1,4 @@
+pub mod Tested
+pub mod Ready
+pub mod Extracted
+pub mod Given

@@ -1,0 +1,2 @@
+pub mod Extraction
+pub mod Replies

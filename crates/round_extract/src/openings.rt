@@ -1,0 +1,78 @@
+// What the extractor's call refuses, before anything is looked for.
+use codec::Reply;
+use round_lengths::count_of;
+use round_lengths::message_sized;
+use round_lengths::openings_sized;
+use round_lengths::refused;
+use sheet_numbers::Numbers;
+ghost use mathlib.Core.Path.{_≡_};
+ghost use Rattle.codec.specs.Slices.{given, left};
+ghost use Rattle.codec.specs.Reply.{first};
+ghost use Rattle.scratch.specs.Call.{swept};
+ghost use Rattle.commitment.specs.Loaded.{Loaded};
+ghost use Rattle.round.specs.RoundSlices.{openingsIn, extractIn};
+ghost use Rattle.round.specs.Sheets.{parameters};
+ghost use Rattle.round_lengths.specs.Calls.{openingsTests};
+
+// 1, and then both openings and the three answers in the extractor's order.
+pub fn openings_tests(
+    k: Numbers,
+    public: &[u8],
+    head: &[u8],
+    shares0: &[u8],
+    shares1: &[u8],
+    ballots: &[u8],
+    claims: &[u8],
+    opening0: &[u8],
+    opening1: &[u8],
+    repetition: u64,
+    answer1: &[u8],
+    answer2: &[u8],
+    answer3: &[u8],
+    out: &[u8],
+    scratch: &mut [u8],
+) -> Reply
+    requires { ⌜ Loaded k (now public) ⌝ }
+    ensures { λ reply. let x = openingsIn head shares0 shares1 ballots claims opening0 opening1 repetition answer1 answer2 answer3 in
+        ⌜ (reply ≡ first (openingsTests (parameters k (given public)) x (extractIn out scratch)))
+        × (left scratch ≡ swept reply (given scratch)) ⌝ }
+{
+    let n = k.ring as usize;
+    let repeats = k.repeats as usize;
+    let count = count_of(ballots, n);
+    if count > 4096 {
+        return refused();
+    }
+    if !message_sized(head, shares0, shares1, ballots, claims, count, repeats, n) {
+        return refused();
+    }
+    if !openings_sized(
+        opening0,
+        opening1,
+        answer1,
+        answer2,
+        answer3,
+        out,
+        scratch,
+        n,
+    ) {
+        return refused();
+    }
+    round_sides::both_sides::check_openings(
+        scratch,
+        k,
+        public,
+        head,
+        shares0,
+        shares1,
+        ballots,
+        claims,
+        opening0,
+        opening1,
+        repetition,
+        answer1,
+        answer2,
+        answer3,
+        count,
+    )
+}

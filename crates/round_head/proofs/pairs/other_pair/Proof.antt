@@ -1,0 +1,11 @@
+-- `pairs::other_pair` meets its contract. Assumes nothing.
+use borrow.Author.Needs.{needs}
+use Rattle.round_head.proofs.CommittedPairs.{halves-written}
+use Rattle.round_head.proofs.pairs.other_pair.Statement.{statement}
+use Rattle.round_head.proofs.pairs.other_pair.Tie as tie
+
+returns : tie.Need-returns
+returns c = let a = c .before .before .before .before .before .before .before .before .before .before .before .before .before .before .before .args in let s = c .before .before .before .before .before .before .before .pair-difference .ensures in (halves-written (a .at) (a .out .now) _ s (c .before .before .write-halves .ensures), s .sized)
+
+pub other-pair-spec : {M : Type 1} → statement M
+other-pair-spec = tie.close (tie.spec (λ c κs. search needs) (λ c κs. search needs) (λ c. search needs) (λ c. search needs) returns)

@@ -1,0 +1,4 @@
+pub mod Testing
+pub mod Passing
+pub mod Written
+pub mod Promises

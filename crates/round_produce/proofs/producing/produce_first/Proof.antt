@@ -1,0 +1,31 @@
+-- `producing::produce_first` meets its contract. Assumes nothing.
+use borrow.Author.Needs.{needs}
+use Rattle.round.specs.Round.{Parameters}
+use Rattle.round.specs.Sheets.{parameters}
+use Rattle.round.specs.Producer.{Material, materialOf}
+use Rattle.round.specs.Writes.{FirstRoom, firstRoom}
+use Rattle.round_produce.proofs.Passing.{first-ready}
+use Rattle.round_produce.proofs.Written.{first-taken, first-refused}
+use Rattle.round_produce.proofs.producing.produce_first.Statement.{statement}
+use Rattle.round_produce.proofs.producing.produce_first.Tie as tie
+
+abbrev P : tie.Start → Parameters
+P s = parameters (s .args .k) (s .args .public .now)
+
+abbrev x : tie.Start → Material
+x s = let a = s .args in materialOf (a .secrets .now) (a .s0 .now) (a .e0 .now) (a .masks0 .now) (a .masks1 .now) (a .vectors .now) (a .permutations .now) (a .salts .now) (a .ballots .now)
+
+abbrev room : tie.Start → FirstRoom
+room s = let a = s .args in firstRoom (a .head .now) (a .shares0 .now) (a .shares1 .now) (a .claims .now) (a .scratch .now)
+
+write-first-requires : tie.Need-write-first-requires
+write-first-requires c κs = let s = c .before .before .before .before .before .before .before .before .before .before .before .before .before .before .before .before .before .before .before .before .before .before .before .before .before .before .before .before .before .before in (s .pre, first-ready (s .args .k) (s .args .public .now) (x s) (s .pre) (room s) (c .before .before .before .before .before .before .before .before .before .first-tests .ensures) (c .before .before .before .before .before .enum-told .given .1))
+
+returns : tie.Need-returns
+returns c = let s = c .before .before .before .before .before .before .before .before .before .before .before .before .before .before .before .before .before .before .before .before .before .before .before .before .before .before .before .before .before .before .before .before .before .before .before .before .before .before .before .before .before in first-taken (P s) (x s) (room s) (c .before .before .before .before .before .before .before .before .before .before .before .before .before .before .before .before .before .before .before .before .first-tests .ensures) (c .before .before .before .before .before .before .before .before .before .before .before .before .before .before .before .before .enum-told .given .1) (c .before .before .before .before .before .before .before .before .before .before .write-first .ensures)
+
+returns-2 : tie.Need-returns-2
+returns-2 c = let s = c .before .before .before .before .before .before .before .before .before .before .before .before .before .before .before .before .before .before .before .before .before .before .before .before .before in first-refused (P s) (x s) (room s) (c .before .before .before .before .first-tests .ensures) (c .enum-told2 .given .1)
+
+pub produce-first-spec : {M : Type 1} → statement M
+produce-first-spec = tie.close (tie.spec (λ c κs. search needs) (λ c. search needs) write-first-requires (λ c. search needs) (λ c. search needs) (λ c. search needs) (λ c. search needs) (λ c. search needs) (λ c. search needs) returns (λ c. search needs) (λ c. search needs) (λ c. search needs) (λ c. search needs) (λ c. search needs) returns-2)

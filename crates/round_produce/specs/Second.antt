@@ -1,0 +1,25 @@
+-- What the producer's second call comes to once the sheet is taken: its reply, what it leaves in the room that it is lent, and scratch. Assumes nothing.
+use mathlib.Core.Path.{_≡_}
+use Prim.Native.Nat.{ℕ}
+use Rattle.codec.specs.Bytes.{Bytes}
+use Rattle.codec.specs.Reply.{first, leaves}
+use Rattle.codec.specs.declared.Reply.{Reply}
+use Rattle.scratch.specs.Call.{swept}
+use Rattle.round.specs.Round.{Parameters}
+use Rattle.round.specs.Producer.{Material, producedOpening, producedAnswers}
+use Rattle.round.specs.Writes.{SecondRoom}
+use Rattle.round_lengths.specs.Calls.{countOf, secondTests}
+
+module _ (P : Parameters) (x : Material) (side : ℕ) (challenges : Bytes) (before : SecondRoom) (reply : Reply) (after : SecondRoom) where
+  abbrev m : ℕ
+  m = countOf (P .N) (x .ballots)
+
+  -- the opening and the answers, unless the call is refused
+  pub record SecondLeft : Type 0 where
+    pub opening : after .opening ≡ leaves reply (producedOpening P m x side) (before .opening)
+    pub answers : after .answers ≡ leaves reply (producedAnswers P m x challenges) (before .answers)
+
+  pub record SecondWritten : Type 0 where
+    pub replied : reply ≡ first (secondTests P x side challenges before)
+    pub left : SecondLeft
+    pub cleared : after .scratch ≡ swept reply (before .scratch)

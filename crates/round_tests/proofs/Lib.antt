@@ -1,0 +1,2 @@
+pub mod BallotLoop
+pub mod RepetitionLoop

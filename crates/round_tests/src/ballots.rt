@@ -1,0 +1,108 @@
+// The tests of the ballots in a check: 12, then 13, the lowest ballot first.
+use crate::votes::test_ballot;
+use codec::Reply;
+use sheet_numbers::Numbers;
+ghost use mathlib.Core.Path.{_≡_};
+ghost use Prim.Native.Nat.{_+_, _*_, _≤_};
+ghost use lib.ListN.{length};
+ghost use Rattle.codec.specs.Bytes.{part};
+ghost use Rattle.codec.specs.Slices.{given, left};
+ghost use Rattle.ring.specs.Slots.{poly, slot};
+ghost use Rattle.sheet_numbers.specs.Plain.{plain, maskOf};
+ghost use Rattle.sheet_numbers.specs.Usable.{Usable};
+ghost use Rattle.scratch.specs.Call.{scratchLength, Polynomial, Judged, Tried};
+ghost use Rattle.round.specs.Round.{votesTests};
+ghost use Rattle.round.specs.Method.{Batch, Shares};
+ghost use Rattle.round_tests.specs.Vote.{voteTests, BallotAt};
+
+// One ballot where it stands: the ballot, its claim and its shares at places of their slices. `opened` is the opened side's shares.
+fn test_at(
+    work: &mut [u8],
+    k: Numbers,
+    s: &[u8],
+    ballots: &[u8],
+    at: usize,
+    claims: &[u8],
+    claim: usize,
+    shares0: &[u8],
+    shares1: &[u8],
+    opened: &[u8],
+    share: usize,
+    place: u32,
+) -> Reply
+    requires { ⌜ Polynomial (k .ring) (k .modulus) (now s) × Usable k × (length (now work) ≡ scratchLength)
+        × BallotAt (k .modulus) (k .ring) (now ballots) at (now claims) claim (now shares0) (now shares1) (now opened) share ⌝ }
+    ensures { λ reply. ⌜ Tried (voteTests (k .modulus) (k .ring) (plain k) (maskOf k) place (poly (given s))
+        (slot (given ballots) (at + 4)) (slot (given opened) share) (part (given claims) claim (k .ring))
+        (slot (given ballots) (at + 4 + 8 * k .ring)) (slot (given shares0) share) (slot (given shares1) share)) reply (given work)
+        (left work) ⌝ }
+{
+    let n = k.ring as usize;
+    let end = share + 8 * n;
+    test_ballot(
+        work,
+        k,
+        s,
+        &ballots[at + 4..at + 4 + 8 * n],
+        &ballots[at + 4 + 8 * n..at + 4 + 16 * n],
+        &claims[claim..claim + n],
+        &shares0[share..end],
+        &shares1[share..end],
+        &opened[share..end],
+        place,
+    )
+}
+
+// Every ballot, in order, and scratch zeroed: `opened` is the opened side's shares.
+pub fn test_ballots(
+    work: &mut [u8],
+    k: Numbers,
+    s: &[u8],
+    ballots: &[u8],
+    claims: &[u8],
+    shares0: &[u8],
+    shares1: &[u8],
+    opened: &[u8],
+    count: usize,
+) -> Reply
+    requires { ⌜ Polynomial (k .ring) (k .modulus) (now s) × Usable k × (length (now work) ≡ scratchLength) × (count ≤ 4096)
+        × Batch (k .modulus) (k .ring) count (now ballots) (now claims) × Shares (k .modulus) (k .ring) count (now shares0)
+        × Shares (k .modulus) (k .ring) count (now shares1) × Shares (k .modulus) (k .ring) count (now opened) ⌝ }
+    ensures { λ reply. ⌜ Judged (votesTests (k .modulus) (k .ring) (plain k) (maskOf k) count (poly (given s)) (given ballots)
+        (given claims) (given shares0) (given shares1) (given opened)) reply (given work) (left work) ⌝ }
+{
+    let n = k.ring as usize;
+    let mut j = 0;
+    let mut at = 0;
+    let mut claim = 0;
+    let mut share = 0;
+    while j < count {
+        let reply = test_at(
+            work,
+            k,
+            s,
+            ballots,
+            at,
+            claims,
+            claim,
+            shares0,
+            shares1,
+            opened,
+            share,
+            j as u32,
+        );
+        match reply {
+            Reply::Taken => {}
+            Reply::Refused { number, place } => {
+                codec::wipe(work);
+                return Reply::Refused { number, place };
+            }
+        }
+        j += 1;
+        at += 4 + 16 * n;
+        claim += n;
+        share += 8 * n;
+    }
+    codec::wipe(work);
+    Reply::Taken
+}

@@ -1,3 +1,0 @@
-pub mod Testing
-pub mod Passing
-pub mod Written

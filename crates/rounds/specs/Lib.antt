@@ -1,3 +1,0 @@
-pub mod Tested
-pub mod First
-pub mod Second

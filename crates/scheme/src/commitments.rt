@@ -1,0 +1,79 @@
+// The commitment (document 01, "Ring and scheme") once the sheet is taken: the tests of the lent slices, and then the work. Scratch is
+// given back zeroed, or as it was where the call is refused.
+use codec::Reply;
+use sheet_numbers::Numbers;
+ghost use mathlib.Core.Path.{_≡_};
+ghost use Prim.Native.Nat.{_*_, _≤_};
+ghost use lib.ListN.{length};
+ghost use Rattle.codec.specs.Bytes.{zeros};
+ghost use Rattle.codec.specs.Reply.{first};
+ghost use Rattle.codec.specs.Slices.{given, left};
+ghost use Rattle.scratch.specs.Call.{scratchLength, Polynomial, Worked};
+ghost use Rattle.commitment.specs.Loaded.{Loaded};
+ghost use Rattle.commitment.specs.Parameters.{parameters};
+ghost use Rattle.scheme.specs.Calls.{commitmentTests, commitmentWrites};
+
+// What `commitment` refuses, in order.
+fn commitment_tests(k: Numbers, m: &[u8], r: &[u8], pair: &[u8], scratch: &[u8]) -> Reply
+    requires { ⌜ k .ring ≤ 2048 ⌝ }
+    ensures { λ reply. ⌜ reply ≡ first (commitmentTests k (given m) (given r) (given pair) (given scratch)) ⌝ }
+{
+    let n = k.ring as usize;
+    if !scratch::sized(
+        [m.len(), r.len(), pair.len(), scratch.len(), 0, 0],
+        [8 * n, 3 * n, 16 * n, scratch::SCRATCH, 0, 0],
+    ) {
+        return Reply::Refused {
+            number: 1,
+            place: 0,
+        };
+    }
+    if !scratch::ternary_and_in_range(r, m, n, k.modulus) {
+        return Reply::Refused {
+            number: 5,
+            place: 0,
+        };
+    }
+    Reply::Taken
+}
+
+// The work of `commitment`, for slices that passed its tests: the row stands at the head of scratch, the second half where m was put.
+fn write_pair(k: Numbers, public: &[u8], m: &[u8], r: &[u8], pair: &mut [u8], scratch: &mut [u8])
+    requires { ⌜ Loaded k (now public) × Polynomial (k .ring) (k .modulus) (now m) × (length (now r) ≡ 3 * k .ring)
+        × (length (now pair) ≡ 16 * k .ring) × (length (now scratch) ≡ scratchLength) ⌝ }
+    ensures { λ _. ⌜ (left pair ≡ commitmentWrites (parameters k (given public)) (given m) (given r))
+        × (left scratch ≡ zeros (length (given scratch))) ⌝ }
+{
+    let n = k.ring as usize;
+    commitment::pair(scratch, &public[16 * n..40 * n], m, r, n, k.modulus);
+    scratch::write_out(pair, 0, scratch, 0, n);
+    scratch::write_out(pair, 8 * n, scratch, commitment::MESSAGE, n);
+    codec::wipe(scratch);
+}
+
+// The pair that commits to m.
+pub fn commitment(
+    k: Numbers,
+    public: &[u8],
+    m: &[u8],
+    r: &[u8],
+    pair: &mut [u8],
+    scratch: &mut [u8],
+) -> Reply
+    requires { ⌜ Loaded k (now public) ⌝ }
+    ensures { λ reply. ⌜ Worked (commitmentTests k (given m) (given r) (given pair) (given scratch))
+        (commitmentWrites (parameters k (given public)) (given m) (given r)) reply
+        (given pair) (left pair) (given scratch) (left scratch) ⌝ }
+{
+    let reply = commitment_tests(k, m, r, pair, scratch);
+    match reply {
+        Reply::Taken => {
+            write_pair(k, public, m, r, pair, scratch);
+        }
+        Reply::Refused {
+            number: _,
+            place: _,
+        } => {}
+    }
+    reply
+}

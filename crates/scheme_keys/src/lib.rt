@@ -1,0 +1,188 @@
+// The calls of key generation (document 000, section 5.3) and the key split (6.1) once the sheet is taken: the tests of the lent slices,
+// and then the work.
+// Scratch is given back zeroed, or as it was where the call is refused.
+use codec::Reply;
+use scheme::written;
+use sheet_numbers::Numbers;
+ghost use mathlib.Core.Path.{_≡_};
+ghost use mathlib.Core.Bool.{_&&_};
+ghost use mathlib.Core.List.{[], _∷_};
+ghost use Prim.Native.Nat.{_*_, _≤_};
+ghost use lib.ListN.{length};
+ghost use Rattle.codec.specs.Bytes.{zeros};
+ghost use Rattle.codec.specs.Reply.{first};
+ghost use Rattle.codec.specs.Slices.{given, left};
+ghost use Rattle.scratch.specs.Call.{scratchLength, bytesBelow, coefficientsBelow, Polynomial, Worked};
+ghost use Rattle.commitment.specs.Loaded.{Loaded};
+ghost use Rattle.commitment.specs.Parameters.{parameters};
+ghost use Rattle.scheme.specs.Calls.{keygenTests, keygenWrites, splitTests, splitWrites};
+
+// What `keygen` refuses, in order.
+fn keygen_tests(k: Numbers, s: &[u8], e: &[u8], b: &[u8], scratch: &[u8]) -> Reply
+    requires { ⌜ k .ring ≤ 2048 ⌝ }
+    ensures { λ reply. ⌜ reply ≡ first (keygenTests k (given s) (given e) (given b) (given scratch)) ⌝ }
+{
+    let n = k.ring as usize;
+    if !scratch::sized(
+        [s.len(), e.len(), b.len(), scratch.len(), 0, 0],
+        [n, n, 8 * n, scratch::SCRATCH, 0, 0],
+    ) {
+        return Reply::Refused {
+            number: 1,
+            place: 0,
+        };
+    }
+    if !scratch::both_ternary(s, e) {
+        return Reply::Refused {
+            number: 5,
+            place: 0,
+        };
+    }
+    Reply::Taken
+}
+
+// The key b.
+pub fn keygen(
+    k: Numbers,
+    public: &[u8],
+    s: &[u8],
+    e: &[u8],
+    b: &mut [u8],
+    scratch: &mut [u8],
+) -> Reply
+    requires { ⌜ Loaded k (now public) ⌝ }
+    ensures { λ reply. ⌜ Worked (keygenTests k (given s) (given e) (given b) (given scratch))
+        (keygenWrites (parameters k (given public)) (given s) (given e)) reply (given b) (left b) (given scratch) (left scratch) ⌝ }
+{
+    let reply = keygen_tests(k, s, e, b, scratch);
+    match reply {
+        Reply::Taken => {
+            let n = k.ring as usize;
+            let p = sheet_numbers::plain(k);
+            written::noisy(b, 0, scratch, &public[0..8 * n], s, e, p, n, k.modulus);
+        }
+        Reply::Refused {
+            number: _,
+            place: _,
+        } => {}
+    }
+    reply
+}
+
+// s and e are ternary, and s0 and e0 in range.
+fn split_ranged(s: &[u8], e: &[u8], s0: &[u8], e0: &[u8], n: usize, q: u64) -> bool
+    requires { ⌜ (length (now s0) ≡ 8 * n) × (length (now e0) ≡ 8 * n) ⌝ }
+    ensures { λ r. ⌜ r ≡ bytesBelow 3 (given s ∷ given e ∷ []) && coefficientsBelow q n (given s0 ∷ given e0 ∷ []) ⌝ }
+{
+    if scratch::both_ternary(s, e) {
+        scratch::both_in_range(s0, e0, n, q)
+    } else {
+        false
+    }
+}
+
+// What `split` refuses, in order.
+fn split_tests(
+    k: Numbers,
+    s: &[u8],
+    e: &[u8],
+    s0: &[u8],
+    e0: &[u8],
+    out: &[u8],
+    scratch: &[u8],
+) -> Reply
+    requires { ⌜ k .ring ≤ 2048 ⌝ }
+    ensures { λ reply. ⌜ reply ≡ first (splitTests k (given s) (given e) (given s0) (given e0) (given out) (given scratch)) ⌝ }
+{
+    let n = k.ring as usize;
+    if !scratch::sized(
+        [
+            s.len(),
+            e.len(),
+            s0.len(),
+            e0.len(),
+            out.len(),
+            scratch.len(),
+        ],
+        [n, n, 8 * n, 8 * n, 32 * n, scratch::SCRATCH],
+    ) {
+        return Reply::Refused {
+            number: 1,
+            place: 0,
+        };
+    }
+    if !split_ranged(s, e, s0, e0, n, k.modulus) {
+        return Reply::Refused {
+            number: 5,
+            place: 0,
+        };
+    }
+    Reply::Taken
+}
+
+// The work of `split`, for slices that passed its tests.
+fn write_split(
+    k: Numbers,
+    public: &[u8],
+    s: &[u8],
+    e: &[u8],
+    s0: &[u8],
+    e0: &[u8],
+    out: &mut [u8],
+    scratch: &mut [u8],
+)
+    requires { ⌜ Loaded k (now public) × Polynomial (k .ring) (k .modulus) (now s0) × Polynomial (k .ring) (k .modulus) (now e0)
+        × (length (now s) ≡ k .ring) × (length (now e) ≡ k .ring) × (length (now out) ≡ 32 * k .ring)
+        × (length (now scratch) ≡ scratchLength) ⌝ }
+    ensures { λ _. ⌜ (left out ≡ splitWrites (parameters k (given public)) (given s) (given e) (given s0) (given e0))
+        × (left scratch ≡ zeros (length (given scratch))) ⌝ }
+{
+    let n = k.ring as usize;
+    let q = k.modulus;
+    let p = sheet_numbers::plain(k);
+    written::difference(out, 0, scratch, s, s0, n, q);
+    written::difference(out, 8 * n, scratch, e, e0, n, q);
+    written::lent_key(out, 16 * n, scratch, &public[0..8 * n], s0, e0, p, n, q);
+    written::other_key(
+        out,
+        24 * n,
+        scratch,
+        &public[0..8 * n],
+        s,
+        s0,
+        e,
+        e0,
+        p,
+        n,
+        q,
+    );
+}
+
+// The key split: s1, e1, b0, b1.
+pub fn split(
+    k: Numbers,
+    public: &[u8],
+    s: &[u8],
+    e: &[u8],
+    s0: &[u8],
+    e0: &[u8],
+    out: &mut [u8],
+    scratch: &mut [u8],
+) -> Reply
+    requires { ⌜ Loaded k (now public) ⌝ }
+    ensures { λ reply. ⌜ Worked (splitTests k (given s) (given e) (given s0) (given e0) (given out) (given scratch))
+        (splitWrites (parameters k (given public)) (given s) (given e) (given s0) (given e0)) reply
+        (given out) (left out) (given scratch) (left scratch) ⌝ }
+{
+    let reply = split_tests(k, s, e, s0, e0, out, scratch);
+    match reply {
+        Reply::Taken => {
+            write_split(k, public, s, e, s0, e0, out, scratch);
+        }
+        Reply::Refused {
+            number: _,
+            place: _,
+        } => {}
+    }
+    reply
+}

@@ -1,0 +1,23 @@
+-- `scratch::sweep` meets its contract. Assumes nothing.
+use mathlib.Core.Path.{sym, _∙_}
+use borrow.Author.Needs.{needs}
+use Rattle.scratch.proofs.Sweeping.{swept-taken, swept-refused, kept-length, kept-state}
+use Rattle.scratch.proofs.sweep.Statement.{statement}
+use Rattle.scratch.proofs.sweep.Tie as tie
+
+returns : tie.Need-returns
+returns c = c .before .before .wipe .ensures ∙ sym (swept-taken _ _ (c .before .before .before .before .enum-told .given .1))
+
+returns-2 : tie.Need-returns-2
+returns-2 c =
+    c .before .before .wipe2 .ensures
+    ∙ sym (swept-refused _ _ _ _ (c .before .before .before .before .before .before .before .reply .given .1) (c .before .before .before .before .before .if1 .taken) (c .before .before .before .before .if2 .taken))
+
+returns-3 : tie.Need-returns-3
+returns-3 c = sym (kept-state _ _ _ _ (c .before .before .before .reply .given .1) (c .before .if1 .taken) (c .if2 .left))
+
+returns-4 : tie.Need-returns-4
+returns-4 c = sym (kept-length _ _ _ _ (c .before .before .reply .given .1) (c .if1 .left))
+
+pub sweep-spec : {M : Type 1} → statement M
+sweep-spec = tie.close (tie.spec (λ c. search needs) (λ c κs. search needs) (λ c. search needs) (λ c κs. search needs) (λ c. search needs) returns (λ c. search needs) returns-2 returns-3 returns-4)

@@ -1,0 +1,227 @@
+-- Without host writing, the ballots admitted and not withdrawn are the batch that close found standing. Assumes nothing.
+use mathlib.Core.Path.{_≡_, refl, sym, ap, _∙_}
+use mathlib.Core.Logic.{_≢_, _⊎_, inl, inr}
+use mathlib.Core.Bool.{Bool, true, false, cond}
+use mathlib.Core.List.{List, [], _∷_, _++_, map, map-append, append-nil, List·Memᴰ, List·Memᴰ·append-cases, List·Memᴰ·eq-of-singleton, List·Memᴰ·not-nil}
+use Prim.Native.Nat.{ℕ, zero, suc, _+_, _≤_, _<_}
+use native.Mathlib.Omega.{arith}
+use native.Mathlib.Numerals.{add-one}
+use native.Mathlib.Decide.{ℕ-discrete}
+use lib.Dec.{eqb}
+use lib.ListN.{length, length-map}
+use borrow.Author.Tests.{eq-eqb, ne-eqb}
+use Rattle.codec.specs.Bytes.{Bytes}
+use Rattle.codec.specs.Reply.{leaves}
+use Rattle.codec.specs.declared.Reply.the-variants.{Taken}
+use Rattle.sha3.specs.Sponge.{sha3}
+use Rattle.round.specs.Layout.{ballotLength}
+use Rattle.register.specs.Register.{markAt, stateAt, digestAt, find, standing, standingDigests, markOf, admitted, withdrawn}
+use Rattle.register.proofs.Entries.{admitted-marks, admitted-states, admitted-digests, admitted-mark, admitted-state, admitted-digest, withdrawn-marks, withdrawn-digests, withdrawn-state, withdrawn-states}
+use Rattle.session_digests.proofs.Laws.{Long, ballotDigests-concatenated}
+use Rattle.session.specs.declared.Session.{Session}
+use Rattle.session.specs.Steps.{cleared, admittedBy, closedBy, claimedBy, committedBy, drawnBy, acceptedBy, refusedBy}
+use Rattle.session.specs.Machine.{Step, clear, admit, withdraw, close, claim, commit, draw, check, State, state, next, reply, after}
+use Rattle.session_histories.specs.Runs.{History, historyAfter, without, rollAfter, OwnTrace, Trace, initial, ownInitial, ownExtend, ownTrace, extend, trace, calls}
+use Rattle.session_histories.specs.Conditions.{Admits, Withdraws, Claims, Draws}
+use Rattle.session_histories.specs.Claims.{RollIsBatch, OwnRegister}
+use Rattle.session_histories.proofs.Stepped.{taken-turn, stepped-all}
+use Rattle.session_histories.proofs.Exact.{here, admitted-exactly, withdrawn-exactly, claimed-exactly, drawn-exactly}
+use Rattle.session_histories.proofs.Withdrawn.{Single, single-none, single-step}
+
+-- the first n entries are those of the ballots, in order, and of others that do not stand
+data Rows (reg : Bytes) : ℕ → List Bytes → Type 0 where
+  start : Rows reg zero []
+  up : {n : ℕ} {bs : List Bytes} (b : Bytes) → Rows reg n bs → stateAt reg n ≡ 1 → markAt reg n ≡ markOf b → digestAt reg n ≡ sha3 b → Rows reg (suc n) (bs ++ (b ∷ []))
+  down : {n : ℕ} {bs : List Bytes} → Rows reg n bs → stateAt reg n ≢ 1 → Rows reg (suc n) bs
+
+-- so their digests are those of the standing entries
+rows-digests : {reg : Bytes} {n : ℕ} {bs : List Bytes} → Rows reg n bs → map sha3 bs ≡ map (digestAt reg) (standing reg n)
+unfolding standing
+rows-digests start = refl
+rows-digests {reg} (up {n = n} {bs = bs} b r s m d) =
+    rw (eq-eqb _ _ s, map-append sha3 bs (b ∷ []), map-append (digestAt reg) (standing reg n) (n ∷ []), d) (ap (λ (l : List Bytes). l ++ (sha3 b ∷ [])) (rows-digests r))
+rows-digests {reg} (down {n = n} r s) = rw (ne-eqb _ _ s, append-nil (standing reg n)) (rows-digests r)
+
+-- entries that stay the same
+rows-keep : {reg : Bytes} (new : Bytes) {n : ℕ} {bs : List Bytes} → Rows reg n bs
+    → ((i : ℕ) → i < n → (stateAt new i ≡ stateAt reg i) × (markAt new i ≡ markAt reg i) × (digestAt new i ≡ digestAt reg i)) → Rows new n bs
+rows-keep new start e = start
+rows-keep new (up {n = n} b r s m d) e =
+    let q = e n (omega arith) in
+    up b (rows-keep new r (λ i h. e i (omega arith))) (q .0 ∙ s) (q .1 ∙ m) (q .2 ∙ d)
+rows-keep new (down {n = n} r s) e = down (rows-keep new r (λ i h. e i (omega arith))) (λ t. s (sym (e n (omega arith) .0) ∙ t))
+
+-- ---- the roll without a mark
+
+without-append : (mark : ℕ) (bs : List Bytes) (b : Bytes) → without mark (bs ++ (b ∷ [])) ≡ without mark bs ++ without mark (b ∷ [])
+unfolding without
+without-append mark [] b = refl
+without-append mark (c ∷ bs) b = go (eqb (markOf c) mark) (without-append mark bs b)
+  where
+    go : (t : Bool) → without mark (bs ++ (b ∷ [])) ≡ without mark bs ++ without mark (b ∷ [])
+        → cond t (without mark (bs ++ (b ∷ []))) (c ∷ without mark (bs ++ (b ∷ []))) ≡ cond t (without mark bs) (c ∷ without mark bs) ++ without mark (b ∷ [])
+    go true e = e
+    go false e = ap (λ (l : List Bytes). c ∷ l) e
+
+without-it : (mark : ℕ) (bs : List Bytes) (b : Bytes) → markOf b ≡ mark → without mark (bs ++ (b ∷ [])) ≡ without mark bs
+unfolding without
+without-it mark bs b e = without-append mark bs b ∙ rw (eq-eqb (markOf b) mark e, append-nil (without mark bs))
+
+without-other : (mark : ℕ) (bs : List Bytes) (b : Bytes) → markOf b ≢ mark → without mark (bs ++ (b ∷ [])) ≡ without mark bs ++ (b ∷ [])
+unfolding without
+without-other mark bs b e = without-append mark bs b ∙ rw (ne-eqb (markOf b) mark e)
+
+-- an entry withdrawn
+module _ (reg : Bytes) (at mark : ℕ) (size : length reg ≡ 163840) (place : at < 4096) (marked : markAt reg at ≡ mark) where
+  abbrev left-by : Bytes
+  left-by = withdrawn reg at
+
+  -- its state, where it is entry n
+  not-one : (n : ℕ) → n ≡ at → stateAt left-by n ≢ 1
+  not-one n e t =
+      let two = withdrawn-state reg at size place in
+      let one : stateAt left-by at ≡ 1 = rw e at t in
+      omega arith
+
+  rows-withdraw : {n : ℕ} {bs : List Bytes} → Rows reg n bs → ((i : ℕ) → i < n → i ≢ at → markAt reg i ≢ mark) → Rows left-by n (without mark bs)
+  rows-withdraw start u = unfold without in start
+  rows-withdraw (up {n = n} {bs = bs} b r s m d) u = go (ℕ-discrete n at) (rows-withdraw r (λ i h. u i (omega arith)))
+    where
+      go : Dec (n ≡ at) → Rows left-by n (without mark bs) → Rows left-by (suc n) (without mark (bs ++ (b ∷ [])))
+      go (yes e) rest = rw (without-it mark bs b (sym m ∙ ap (markAt reg) e ∙ marked)) (down rest (not-one n e))
+      go (no e) rest =
+          rw (without-other mark bs b (λ f. u n (omega arith) e (m ∙ f)))
+          (up b rest (withdrawn-states reg at size place n e ∙ s) (withdrawn-marks reg at size place n ∙ m) (withdrawn-digests reg at size place n ∙ d))
+  rows-withdraw (down {n = n} {bs = bs} r s) u = down (rows-withdraw r (λ i h. u i (omega arith))) (go (ℕ-discrete n at))
+    where
+      go : Dec (n ≡ at) → stateAt left-by n ≢ 1
+      go (yes e) = not-one n e
+      go (no e) = λ t. s (sym (withdrawn-states reg at size place n e) ∙ t)
+
+-- ---- ballots of one length
+
+pub long-more : (size : ℕ) (bs : List Bytes) (b : Bytes) → Long size bs → length b ≡ size → Long size (bs ++ (b ∷ []))
+long-more size [] b h e = (e, tt)
+long-more size (c ∷ bs) b h e = (h .0, long-more size bs b (h .1) e)
+
+long-without : (size mark : ℕ) (bs : List Bytes) → Long size bs → Long size (without mark bs)
+unfolding without
+long-without size mark [] h = tt
+long-without size mark (b ∷ bs) h = go (eqb (markOf b) mark) (long-without size mark bs (h .1))
+  where
+    go : (t : Bool) → Long size (without mark bs) → Long size (cond t (without mark bs) (b ∷ without mark bs))
+    go true rest = rest
+    go false rest = (h .0, rest)
+
+-- ---- what is kept where nothing else writes the register
+
+record Own (st : State) (h : History) (bs : List Bytes) : Type 0 where
+  rows : Rows (st .register) (st .session .progress .used) bs
+  long : Long (ballotLength (st .session .numbers .ring)) bs
+  noted : 0 < st .session .progress .phase → h .batch ≡ map sha3 bs
+
+module _ (st : State) (h : History) (bs : List Bytes) (o : Own st h bs) where
+  abbrev s : Session
+  s = st .session
+
+  abbrev reg : Bytes
+  reg = st .register
+
+  own-admit : (ballot : Bytes) → Admits s reg ballot → Own (state (admittedBy s) (admitted reg (s .progress .used) ballot)) h (bs ++ (ballot ∷ []))
+  unfolding admittedBy
+  own-admit ballot a =
+      let was = a .phase in
+      let four : 4 ≤ length ballot = omega (arith, a .ballot-size) in
+      record {
+        rows = rw (add-one (s .progress .used)) (up ballot
+            (rows-keep _ (o .rows) (λ i l. (
+              admitted-states reg (s .progress .used) ballot (a .register-size) (a .room) four i l,
+              admitted-marks reg (s .progress .used) ballot (a .register-size) (a .room) four i l,
+              admitted-digests reg (s .progress .used) ballot (a .register-size) (a .room) four i l,
+            )))
+            (admitted-state reg (s .progress .used) ballot (a .register-size) (a .room) four)
+            (admitted-mark reg (s .progress .used) ballot (a .register-size) (a .room) four)
+            (admitted-digest reg (s .progress .used) ballot (a .register-size) (a .room) four));
+        long = long-more _ bs ballot (o .long) (a .ballot-size);
+        noted = λ l. absurd (omega arith);
+      }
+
+  own-withdraw : Single reg (s .progress .used) → (mark : ℕ) → Withdraws s reg mark → Own (state s (withdrawn reg (find reg mark (s .progress .used)))) h (without mark bs)
+  own-withdraw single mark w =
+      let was = w .phase in
+      let l = w .within in
+      let few = w .sound .used in
+      record {
+        rows = rw (here reg mark (w .at) (s .progress .used) (w .within) (w .marked) (w .earlier)) (rows-withdraw reg (w .at) mark (w .register-size) (omega arith) (w .marked) (o .rows)
+            (λ i hi ne m. ne (single .one i (w .at) hi l (m ∙ sym (w .marked)))));
+        long = long-without _ mark bs (o .long);
+        noted = λ l. absurd (omega arith);
+      }
+
+  own-close : Own (state (closedBy s reg) reg) (historyAfter close st h) bs
+  unfolding closedBy historyAfter standingDigests
+  own-close = record { rows = o .rows; long = o .long; noted = λ l. sym (rows-digests (o .rows)) }
+
+  own-claim : (claims : Bytes) → Claims s claims → Own (state (claimedBy s claims) reg) (historyAfter (claim claims) st h) bs
+  unfolding claimedBy historyAfter
+  own-claim claims c = let was = c .phase in record { rows = o .rows; long = o .long; noted = λ l. o .noted (omega arith) }
+
+  own-draw : (seed : Bytes) → Draws s seed → Own (state (drawnBy s seed) reg) h bs
+  unfolding drawnBy
+  own-draw seed d = let was = d .phase in record { rows = o .rows; long = o .long; noted = λ l. o .noted (omega arith) }
+
+  own-checked : s .progress .phase ≡ 3 → Own (state (acceptedBy s) reg) h bs
+  unfolding acceptedBy
+  own-checked was = record { rows = o .rows; long = o .long; noted = λ l. o .noted (omega arith) }
+
+  own-ended : s .progress .phase ≡ 3 → Own (state (refusedBy s) reg) h bs
+  unfolding refusedBy
+  own-ended was = record { rows = o .rows; long = o .long; noted = λ l. o .noted (omega arith) }
+
+  own-next : Single reg (s .progress .used) → (x : Step) → reply x st ≡ Taken → Own (next x st) (historyAfter x st h) (rollAfter x bs)
+  unfolding reply cleared committedBy historyAfter rollAfter
+  own-next single (clear b) e = record { rows = start; long = tt; noted = λ l. absurd (omega arith) }
+  own-next single (admit ballot) e = own-admit ballot (admitted-exactly s reg ballot .0 e)
+  own-next single (withdraw mark) e = own-withdraw single mark (withdrawn-exactly s reg mark .0 e)
+  own-next single close e = own-close
+  own-next single (claim claims) e = own-claim claims (claimed-exactly s claims .0 e)
+  own-next single (commit k head shares0 shares1) e = record { rows = o .rows; long = o .long; noted = o .noted }
+  own-next single (draw seed) e = own-draw seed (drawn-exactly s seed .0 e)
+  own-next single (check k x) e = own-checked (taken-turn s k x e .0)
+
+  own-step : Single reg (s .progress .used) → (x : Step) → Own (after x st) (leaves (reply x st) (historyAfter x st h) h) (leaves (reply x st) (rollAfter x bs) bs)
+  own-step single x = stepped-all st Own x (own-next single x) (λ number place e. o) (λ number place e was low. own-ended was)
+
+own-ownTrace : (xs : List Step) (t : OwnTrace) → Single (t .now .register) (t .now .session .progress .used) → Own (t .now) (t .history) (t .roll)
+    → Own (ownTrace xs t .now) (ownTrace xs t .history) (ownTrace xs t .roll)
+unfolding ownTrace ownExtend
+own-ownTrace [] t single o = o
+own-ownTrace (x ∷ xs) t single o = own-ownTrace xs (ownExtend x t) (single-step (t .now) x single) (own-step (t .now) (t .history) (t .roll) o single x)
+
+-- each of them has that length
+each-long : (size : ℕ) (bs : List Bytes) → Long size bs → (b : Bytes) → List·Memᴰ b bs → length b ≡ size
+each-long size [] h b m = absurd (List·Memᴰ·not-nil m)
+each-long size (c ∷ cs) h b m = go (List·Memᴰ·append-cases (c ∷ []) m) (each-long size cs (h .1) b)
+  where
+    go : List·Memᴰ b (c ∷ []) ⊎ List·Memᴰ b cs → (List·Memᴰ b cs → length b ≡ size) → length b ≡ size
+    go (inl n) rest = let e = List·Memᴰ·eq-of-singleton n in rw e (h .0)
+    go (inr n) rest = rest n
+
+pub roll-is-batch : RollIsBatch
+unfolding ownInitial cleared
+roll-is-batch b steps l =
+    let t = ownTrace steps (ownInitial b) in
+    let o = own-ownTrace steps (ownInitial b) (single-none _) (record { rows = start; long = tt; noted = λ q. absurd (omega arith) }) in
+    (o .noted l, each-long _ (t .roll) (o .long), rw (o .noted l, length-map (t .roll) sha3) (ballotDigests-concatenated _ (t .roll) (o .long)))
+
+-- ---- such a list is one of those in which each step is lent any register
+
+same-trace : (xs : List Step) (t : OwnTrace) (l : Trace) → l .session ≡ t .now .session → l .history ≡ t .history
+    → (trace (calls xs (t .now)) l .session ≡ ownTrace xs t .now .session) × (trace (calls xs (t .now)) l .history ≡ ownTrace xs t .history)
+unfolding trace extend ownTrace ownExtend calls
+same-trace [] t l es eh = (es, eh)
+same-trace (x ∷ xs) t l es eh = same-trace xs (ownExtend x t) (extend (record { step = x; register = t .now .register }) l) (rw es) (rw (es, eh))
+
+pub own-register : OwnRegister
+unfolding ownInitial initial
+own-register b steps = same-trace steps (ownInitial b) (initial b) refl refl

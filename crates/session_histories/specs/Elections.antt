@@ -1,0 +1,63 @@
+-- Turns come: a whole count, from a newly cleared session to its last check, so that what is claimed of rounds at their turn (specs/Claims.antt) is not empty. Assumes nothing.
+use mathlib.Core.Path.{_≡_}
+use mathlib.Core.Logic.{_≢_}
+use mathlib.Core.List.{List, _∷_, _++_}
+use Prim.Native.Nat.{ℕ, _≤_, _<_}
+use lib.ListN.{length, drop}
+use Rattle.codec.specs.Bytes.{Bytes, zeros}
+use Rattle.codec.specs.Lists.{list}
+use Rattle.sheet.specs.Reader.{sheetOf}
+use Rattle.scratch.specs.Call.{scratchLength}
+use Rattle.vector.specs.Vector.{vector}
+use Rattle.round.specs.Layout.{ballotLength}
+use Rattle.round.specs.Round.{Parameters}
+use Rattle.round.specs.Accepted.{EachBelow}
+use Rattle.round.specs.Producer.{Material, Sized, producedHead, producedShares, producedClaims, producedOpening, producedAnswers}
+use Rattle.round.specs.Suitable.{Suitable}
+use Rattle.round_lengths.specs.Sheets.{parametersOf}
+use Rattle.register.specs.Register.{markOf}
+use Rattle.session_digests.specs.Digests.{concatenated}
+use Rattle.session_digests.specs.Draw.{drawnSide, drawnChallenges}
+use Rattle.session_check.specs.Check.{Inputs, inputsOf}
+use Rattle.session.specs.Machine.{Step, admit, close, claim, commit, draw, check}
+
+-- m ballots, material for each round, claims and a seed
+module _ (sheet : Bytes) (m : ℕ) (ballot : ℕ → Bytes) (material : ℕ → Material) (claims seed : Bytes) where
+  abbrev P : Parameters
+  P = parametersOf sheet
+
+  abbrev pub rounds : ℕ
+  rounds = sheetOf sheet .numbers .rounds
+
+  -- the batch
+  abbrev pub batch : Bytes
+  batch = concatenated (list m ballot)
+
+  -- ballots that can be admitted, with different marks, and material over them from which the producer writes a round, all with the same votes
+  pub record Countable : Type 0 where
+    pub some : 0 < m
+    pub few : m ≤ 4096
+    pub ballot-size : (i : ℕ) → i < m → length (ballot i) ≡ ballotLength (P .N)
+    pub ballot-range : (i : ℕ) → i < m → EachBelow (P .q) (vector (drop 4 (ballot i)))
+    pub marks : (i j : ℕ) → i < j → j < m → markOf (ballot i) ≢ markOf (ballot j)
+    pub over-batch : (k : ℕ) → k < rounds → material k .ballots ≡ batch
+    pub sized : (k : ℕ) → k < rounds → Sized P m (material k)
+    pub suitable : (k : ℕ) → k < rounds → Suitable P m (material k)
+    pub votes : (k : ℕ) → k < rounds → producedClaims P m (material k) ≡ claims
+    pub seed-size : length seed ≡ 32
+
+  -- what a check of round k is lent
+  abbrev pub inputsFor : ℕ → Inputs
+  inputsFor k =
+      inputsOf sheet batch claims (producedHead P m (material k)) (producedShares P m (material k) 0) (producedShares P m (material k) 1) (producedOpening P m (material k) (drawnSide seed k))
+      (producedAnswers P m (material k) (drawnChallenges seed k (P .repeats))) (zeros scratchLength)
+
+  abbrev pub commits : ℕ → Step
+  commits k = commit k (producedHead P m (material k)) (producedShares P m (material k) 0) (producedShares P m (material k) 1)
+
+  abbrev pub checks : ℕ → Step
+  checks k = check k (inputsFor k)
+
+  -- every ballot admitted, the batch closed, the claims, every round's first message, the seed, and every round's check
+  unfoldable pub election : List Step
+  election = list m (λ i. admit (ballot i)) ++ (close ∷ claim claims ∷ (list rounds commits ++ (draw seed ∷ list rounds checks)))

@@ -1,0 +1,3 @@
+pub mod Law
+pub mod Pieces
+pub mod Over

@@ -1,0 +1,14 @@
+-- `checks::check` meets its contract. Assumes nothing.
+use borrow.Author.Needs.{needs}
+use Rattle.session_image.proofs.Over.{wrong-check, over-check}
+use Rattle.session_image.proofs.checks.check.Statement.{statement}
+use Rattle.session_image.proofs.checks.check.Tie as tie
+
+returns : tie.Need-returns
+returns c = wrong-check _ _ _ (c .if1 .taken)
+
+returns-2 : tie.Need-returns-2
+returns-2 c = over-check _ _ _ (c .before .before .before .before .before .before .before .before .before .before .if1 .left) (c .before .before .before .before .before .before .before .before .load .ensures) (c .before .before .before .before .before .before .check .ensures) (c .before .before .keep .ensures)
+
+pub check-spec : {M : Type 1} → statement M
+check-spec = tie.close (tie.spec returns (λ c κs. search needs) (λ c κs. search needs) (λ c κs. search needs) (λ c. search needs) (λ c. search needs) returns-2)

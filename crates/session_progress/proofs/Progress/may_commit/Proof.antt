@@ -1,0 +1,21 @@
+-- `Progress::may_commit` meets its contract. Assumes nothing.
+use mathlib.Core.Path.{sym, _∙_}
+use borrow.Author.Needs.{needs}
+use borrow.Author.Tests.{not-true, not-false}
+use Rattle.session_progress.proofs.Limits.{round-early, round-other, round-due}
+use Rattle.session_progress.proofs.Progress.may_commit.Statement.{statement}
+use Rattle.session_progress.proofs.Progress.may_commit.Tie as tie
+
+returns : tie.Need-returns
+returns c = let a = c .before .before .args in round-early (a .numbers) (a .self) 2 (a .self .committed) (a .round) (sym (c .before .is-in .ensures) ∙ not-true _ (c .if1 .taken))
+
+returns-2 : tie.Need-returns-2
+returns-2 c = let a = c .before .before .before .before .args in round-other (a .numbers) (a .self) 2 (a .self .committed) (a .round) (c .if2 .taken)
+
+returns-3 : tie.Need-returns-3
+returns-3 c =
+    let a = c .before .before .before .before .before .args in
+    round-due (a .numbers) (a .self) 2 (a .self .committed) (a .round) (sym (c .before .before .before .before .is-in .ensures) ∙ not-false _ (c .before .before .before .if1 .left)) (c .before .if2 .left)
+
+pub may-commit-spec : {M : Type 1} → statement M
+may-commit-spec = tie.close (tie.spec (λ c κs. search needs) returns returns-2 returns-3)

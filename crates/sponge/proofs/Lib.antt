@@ -1,3 +1,0 @@
-pub mod Absorbing
-pub mod Blocks
-pub mod Lanes

@@ -1,2 +1,0 @@
-pub mod Absorb
-pub mod Blocks

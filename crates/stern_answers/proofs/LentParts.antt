@@ -1,0 +1,65 @@
+-- The parts of an answer as its tests are lent them, and two digests that were compared. Assumes nothing.
+use mathlib.Core.Path.{_≡_, sym, ap, ap₂, _∙_}
+use mathlib.Core.Bool.{Bool, not, _&&_}
+use mathlib.Core.Logic.{_≢_}
+use mathlib.Core.List.{List}
+use Prim.Native.Nat.{ℕ, _+_, _*_}
+use lib.ListN.{take, drop}
+use Rattle.codec.specs.Bytes.{Bytes, same}
+use Rattle.codec.specs.Reply.{Test, first}
+use Rattle.codec.specs.declared.Reply.{Reply}
+use Rattle.scratch.specs.Call.{Judged}
+use Rattle.commitment.specs.Commitment.{Keys}
+use Rattle.stern.specs.Shortness.{answer1Of, answer2Of, answer3Of, tests1, tests2, tests3, answerTests}
+use Rattle.stern.proofs.Answered.{chosen1, chosen2, chosen3}
+
+-- two digests that were compared
+pub compared : (one other a b c d : Bytes) (r t : Bool) → r ≡ (same one a && same other b) → a ≡ c → b ≡ d → r ≡ t → not (same one c && same other d) ≡ not t
+compared one other a b c d r t e ea eb er = ap not (ap₂ (λ (x y : Bytes). same one x && same other y) (sym ea) (sym eb) ∙ sym e ∙ er)
+
+-- ---- the parts of an answer, lent with lengths that are differences of places
+
+module _ (q n place : ℕ) (k : Keys) (c d answer : Bytes) where
+  abbrev with1 : (a b e f : ℕ) → List Test
+  with1 a b e f =
+      tests1 q n k c d place (record { w = take a answer; t = take b (drop (42 * n) answer); salt2 = take e (drop (378 * n) answer); salt3 = take f (drop (378 * n + 32) answer) })
+
+  pub lent1 : (a b e f : ℕ) → a ≡ 42 * n → b ≡ 336 * n → e ≡ 32 → f ≡ 32 → {r : Reply} → r ≡ first (with1 a b e f) → r ≡ first (tests1 q n k c d place (answer1Of n answer))
+  lent1 a b e f ea eb ee ef er =
+      er ∙ ap₂ (λ (x y : ℕ). first (with1 x y e f)) ea eb ∙ ap₂ (λ (x y : ℕ). first (with1 (42 * n) (336 * n) x y)) ee ef
+
+-- answers 2 and 3 are cut alike
+module _ (n : ℕ) (answer : Bytes) (tests : (p x salt1 salt : Bytes) → List Test) where
+  abbrev cut : (a b e f : ℕ) → Reply
+  cut a b e f = first (tests (take a answer) (take b (drop (168 * n) answer)) (take e (drop (504 * n) answer)) (take f (drop (504 * n + 32) answer)))
+
+  pub cut-alike : (a b e f : ℕ) → a ≡ 168 * n → b ≡ 336 * n → e ≡ 32 → f ≡ 32 → {r : Reply} → r ≡ cut a b e f → r ≡ cut (168 * n) (336 * n) 32 32
+  cut-alike a b e f ea eb ee ef er = er ∙ ap₂ (λ (x y : ℕ). cut x y e f) ea eb ∙ ap₂ (cut (168 * n) (336 * n)) ee ef
+
+-- ---- the tests of the answer to a challenge
+
+-- tests that are others by another name
+pub retold : {ts us : List Test} {r : Reply} {w w' : Bytes} → us ≡ ts → Judged ts r w w' → Judged us r w w'
+retold e j = record { replied = j .replied ∙ ap first (sym e); cleared = j .cleared }
+
+module _ (q n place challenge : ℕ) (k : Keys) (c d answer : Bytes) where
+  abbrev one : List Test
+  one = tests1 q n k c d place (answer1Of n answer)
+
+  abbrev two : List Test
+  two = tests2 q n k c d place (answer2Of n answer)
+
+  abbrev three : List Test
+  three = tests3 q n k c d place (answer3Of n answer)
+
+  abbrev chosen : List Test
+  chosen = answerTests q n k c d place challenge answer
+
+  pub judged1 : challenge ≡ 1 → {r : Reply} {w w' : Bytes} → Judged one r w w' → Judged chosen r w w'
+  judged1 e = retold (chosen1 challenge one two three e)
+
+  pub judged2 : challenge ≡ 2 → {r : Reply} {w w' : Bytes} → Judged two r w w' → Judged chosen r w w'
+  judged2 e = retold (chosen2 challenge one two three e)
+
+  pub judged3 : challenge ≢ 1 → challenge ≢ 2 → {r : Reply} {w w' : Bytes} → Judged three r w w' → Judged chosen r w w'
+  judged3 e f = retold (chosen3 challenge one two three e f)

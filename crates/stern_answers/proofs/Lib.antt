@@ -1,0 +1,2 @@
+pub mod LentParts
+pub mod WrittenParts

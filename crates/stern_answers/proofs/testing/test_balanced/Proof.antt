@@ -1,0 +1,62 @@
+-- `testing::test_balanced` meets its contract. Assumes nothing.
+use mathlib.Core.Path.{_≡_, refl, sym, ap, _∙_}
+use mathlib.Core.Bool.{not}
+use mathlib.Core.List.{_∷_, _++_}
+use Prim.Native.Nat.{ℕ, _*_, _+_}
+use native.Mathlib.Omega.{arith}
+use borrow.Author.Needs.{needs}
+use borrow.Author.Tests.{not-true, not-false}
+use lib.ListN.{length}
+use Rattle.codec.specs.Bytes.{Bytes, words}
+use Rattle.codec.proofs.Numbers.{length-words}
+use Rattle.sha3.specs.Sponge.{sha3}
+use Rattle.vector.specs.Vector.{vector, ternaries, add}
+use Rattle.vector.proofs.Vectors.{length-add, length-vector, length-ternaries}
+use Rattle.stern.proofs.Answered.{first-fails, second-fails, both-hold}
+use Rattle.stern_answers.proofs.LentParts.{compared}
+use Rattle.stern.proofs.Gathered.{head-lent, head-length}
+use Rattle.stern_answers.proofs.testing.test_balanced.Statement.{statement}
+use Rattle.stern_answers.proofs.testing.test_balanced.Tie as tie
+
+returns : tie.Need-returns
+returns c = record { replied = first-fails 10 11 (c .before .before .before .before .before .before .before .before .before .args .place) _ _ (ap not (sym (c .before .is-balanced .ensures) ∙ not-true (c .before .is-balanced .result) (c .if1 .taken))); kept = refl }
+
+-- P(extended) + P(R), 336n bytes
+sum-length : (q n : ℕ) (w t : Bytes) → length w ≡ 42 * n → length t ≡ 336 * n → length (words (add q (ternaries q w) (vector t))) ≡ 336 * n
+sum-length q n w t lw lt =
+    length-words (add q (ternaries q w) (vector t))
+    ∙ omega (arith, length-add q (ternaries q w) (vector t) (omega (arith, length-vector t, length-ternaries q w)), length-vector t)
+
+sum-requires : tie.Need-sum-requires
+sum-requires c κs =
+    let p = c .before .before .before .before .before .before .before .before .before .before .before .pre in
+    let h = p .0 in
+    let s = p .1 in
+    ((p .4, omega (arith, p .5), omega (arith, p .3)), (omega arith, p .2, p .8))
+
+returns-2 : tie.Need-returns-2
+returns-2 c =
+    let a = c .before .before .before .before .before .before .before .before .before .before .before .before .before .before .before .before .before .before .before .before .before .args in
+    let p = c .before .before .before .before .before .before .before .before .before .before .before .before .before .before .before .before .before .before .before .before .before .pre in
+    let h = p .0 in
+    let l = sum-length (a .q) (a .n) (a .w .now) (a .t .now) (p .4) (p .5) in
+    let d3 = c .before .before .before .before .tagged2 .ensures ∙ ap (λ (s : Bytes). sha3 (3 ∷ (a .salt3 .now ++ s))) (head-lent (a .work .now) _ _ (336 * a .n) l (omega (arith, p .3)) (c .before .before .before .before .before .before .before .before .before .sum .ensures)) in
+    record {
+      replied = both-hold 10 11 (a .place) _ _ (ap not (sym (c .before .before .before .before .before .before .before .before .before .before .before .before .before .is-balanced .ensures) ∙ not-false (c .before .before .before .before .before .before .before .before .before .before .before .before .before .is-balanced .result) (c .before .before .before .before .before .before .before .before .before .before .before .before .if1 .left))) (compared (a .two .now) (a .three .now) _ _ _ _ (c .before .both-equal .result) _ (c .before .both-equal .ensures) (c .before .before .before .before .before .before .before .before .before .before .before .tagged .ensures) d3 (c .if2 .taken));
+      kept = head-length (a .work .now) _ _ (336 * a .n) l (omega (arith, p .3)) (c .before .before .before .before .before .before .before .before .before .sum .ensures);
+    }
+
+returns-3 : tie.Need-returns-3
+returns-3 c =
+    let a = c .before .before .before .before .before .before .before .before .before .before .before .before .before .before .before .before .before .before .before .before .before .args in
+    let p = c .before .before .before .before .before .before .before .before .before .before .before .before .before .before .before .before .before .before .before .before .before .pre in
+    let h = p .0 in
+    let l = sum-length (a .q) (a .n) (a .w .now) (a .t .now) (p .4) (p .5) in
+    let d3 = c .before .before .before .before .tagged2 .ensures ∙ ap (λ (s : Bytes). sha3 (3 ∷ (a .salt3 .now ++ s))) (head-lent (a .work .now) _ _ (336 * a .n) l (omega (arith, p .3)) (c .before .before .before .before .before .before .before .before .before .sum .ensures)) in
+    record {
+      replied = second-fails 10 11 (a .place) _ _ (ap not (sym (c .before .before .before .before .before .before .before .before .before .before .before .before .before .is-balanced .ensures) ∙ not-false (c .before .before .before .before .before .before .before .before .before .before .before .before .before .is-balanced .result) (c .before .before .before .before .before .before .before .before .before .before .before .before .if1 .left))) (compared (a .two .now) (a .three .now) _ _ _ _ (c .before .both-equal .result) _ (c .before .both-equal .ensures) (c .before .before .before .before .before .before .before .before .before .before .before .tagged .ensures) d3 (c .if2 .left));
+      kept = head-length (a .work .now) _ _ (336 * a .n) l (omega (arith, p .3)) (c .before .before .before .before .before .before .before .before .before .sum .ensures);
+    }
+
+pub test-balanced-spec : {M : Type 1} → statement M
+test-balanced-spec = tie.close (tie.spec (λ c. search needs) (λ c κs. search needs) returns (λ c κs. search needs) (λ c. search needs) sum-requires (λ c. search needs) (λ c. search needs) (λ c. search needs) (λ c. search needs) (λ c κs. search needs) (λ c. search needs) (λ c. search needs) (λ c κs. search needs) (λ c. search needs) returns-2 (λ c. search needs) returns-3)

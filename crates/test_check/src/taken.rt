@@ -1,0 +1,63 @@
+// The check of one round once the sheet is taken: the tests of lengths, then the order of refusals.
+use codec::Reply;
+use round_lengths::count_of;
+use round_lengths::message_sized;
+use round_lengths::refused;
+use round_lengths::second_sized;
+use sheet_numbers::Numbers;
+ghost use mathlib.Core.Path.{_≡_};
+ghost use Rattle.codec.specs.Slices.{given, left};
+ghost use Rattle.codec.specs.Reply.{first};
+ghost use Rattle.scratch.specs.Call.{swept};
+ghost use Rattle.commitment.specs.Loaded.{Loaded};
+ghost use Rattle.round.specs.RoundSlices.{roundIn};
+ghost use Rattle.round.specs.Sheets.{parameters};
+ghost use Rattle.test_check.specs.Replies.{checkTests};
+
+// The check of one round.
+pub fn check(
+    k: Numbers,
+    public: &[u8],
+    side: u64,
+    challenges: &[u8],
+    ballots: &[u8],
+    claims: &[u8],
+    head: &[u8],
+    shares0: &[u8],
+    shares1: &[u8],
+    opening: &[u8],
+    answers: &[u8],
+    scratch: &mut [u8],
+) -> Reply
+    requires { ⌜ Loaded k (now public) ⌝ }
+    ensures { λ reply. let x = roundIn side challenges ballots claims head shares0 shares1 opening answers in
+        ⌜ (reply ≡ first (checkTests (parameters k (given public)) x (given scratch))) × (left scratch ≡ swept reply (given scratch)) ⌝ }
+{
+    let n = k.ring as usize;
+    let repeats = k.repeats as usize;
+    let count = count_of(ballots, n);
+    if count > 4096 {
+        return refused();
+    }
+    if !message_sized(head, shares0, shares1, ballots, claims, count, repeats, n) {
+        return refused();
+    }
+    if !second_sized(challenges, opening, answers, scratch, repeats, n) {
+        return refused();
+    }
+    round_check::check_round(
+        scratch,
+        k,
+        public,
+        side,
+        challenges,
+        ballots,
+        claims,
+        head,
+        shares0,
+        shares1,
+        opening,
+        answers,
+        count,
+    )
+}
