@@ -22,12 +22,9 @@ use Rattle.session_image.specs.Images.{hostReply}
 use Rattle.session_histories.specs.Examples.{all-examples}
 use Rattle.session_histories.proofs.Valid.{sheet-exactly}
 use Rattle.session_histories.proofs.Checked.{step-exactly}
-use Rattle.session_histories.proofs.Roll.{roll-is-batch, own-register}
-use Rattle.claims.proofs.HostSteps.{over-images}
-use Rattle.claims.proofs.HostClaims.{host-stays-out, host-rounds-checked, host-ended-accepted, host-honest-accepted, host-stays-valid, host-only-phase-or-round}
+use Rattle.claims.proofs.HostClaims.{host-stays-out, host-roll-is-batch, host-own-register, host-rounds-checked, host-ended-accepted, host-bound, host-honest-accepted, host-stays-valid, host-only-phase-or-round}
 use Rattle.claims.proofs.Papers.{sound, distributed, digest-of-bits, tables}
 use Rattle.claims.proofs.Together.{decrypts-together}
-use Rattle.claims.proofs.Bound.{host-bound}
 use Rattle.claims.proofs.Replies.{replies-told}
 use Rattle.claims.proofs.AnySession.{any-session}
 use Rattle.claims.proofs.Endings.{refusal-ends, begun, scratch-zeroed}
@@ -127,7 +124,6 @@ demand2 = record {
   digest-of-bits = digest-of-bits;
   tables-by-rule = tables;
   examples = all-examples;
-  over-images = over-images;
   replies-told = replies-told;
 }
 
@@ -148,6 +144,6 @@ demand3 = record {
   producer-writes = producer-writes;
   stays-valid = host-stays-valid;
   only-phase-or-round = host-only-phase-or-round;
-  roll-is-batch = roll-is-batch;
-  own-register = own-register;
+  roll-is-batch = host-roll-is-batch;
+  own-register = host-own-register;
 }

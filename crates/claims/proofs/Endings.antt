@@ -25,10 +25,10 @@ use Rattle.session_histories.specs.Runs.{Call, clears}
 use Rattle.session_histories.specs.Conditions.{Reaches}
 use Rattle.session_histories.proofs.Ended.{refused-keeps, ended-refuses, refused-stays, check-ends}
 use Rattle.session_histories.proofs.Stepped.{after-taken}
-use Rattle.claims.specs.HostSteps.{Holds, hostTrace}
-use Rattle.claims.specs.Endings.{HostNoClear, Over, RefusalEnds, Begun, ScratchZeroed}
+use Rattle.claims.specs.HostSteps.{hostTrace, HostNoClear}
+use Rattle.claims.specs.Endings.{Over, RefusalEnds, Begun, ScratchZeroed}
 use Rattle.claims.proofs.Images.{lent-exactly}
-use Rattle.claims.proofs.HostSteps.{over-images}
+use Rattle.claims.proofs.HostSteps.{Holds, bytes-hold, replies, image-left, register-left}
 
 -- the image that a call leaves
 image-after : (x : Step) (h : Host) → length (h .image) ≡ imageLength → hostAfter x h .image ≡ encode (after x (state (decode (h .image)) (h .register)) .session)
@@ -74,16 +74,16 @@ module _ (h : Host) (round : ℕ) (x : Inputs) (sized : length (h .image) ≡ im
   image = hostAfter (check round x) h .image
 
   lent : Holds (h .image) was
-  lent = over-images .bytes-hold (h .image) sized octets
+  lent = bytes-hold (h .image) sized octets
 
   step : after (check round x) (state was (h .register)) ≡ state (refusedBy was) (h .register)
-  step = check-ends was (h .register) round x reaches (λ t. refused (over-images .one-step (check round x) (h .image) (h .register) was lent .0 ∙ t))
+  step = check-ends was (h .register) round x reaches (λ t. refused (replies (h .image) (h .register) was lent (check round x) ∙ t))
 
   written : image ≡ encode (refusedBy was)
   written = image-after (check round x) h sized ∙ ap (λ (z : State). encode (z .session)) step
 
   now : Holds image (refusedBy was)
-  now = subst (λ (z : State). Holds image (z .session)) step (over-images .one-step (check round x) (h .image) (h .register) was lent .1)
+  now = subst (λ (z : State). Holds image (z .session)) step (image-left (h .image) (h .register) was lent (check round x))
 
   phase : decode image .progress .phase ≡ 4
   unfolding refusedBy
@@ -120,22 +120,21 @@ module _ (sheet : Bytes) (h : Host) (octets : Octets (h .image)) (taken : hostRe
   unfolding hostReply
   lent-taken = lent-exactly (h .image) (λ (z : Session). reply (clear (on sheet)) (state z (h .register))) .0 taken
 
-  did : (hostReply (clear (on sheet)) h ≡ reply (clear (on sheet)) st) × Holds (hostAfter (clear (on sheet)) h .image) (after (clear (on sheet)) st .session)
-      × (hostAfter (clear (on sheet)) h .register ≡ after (clear (on sheet)) st .register)
-  did = over-images .one-step (clear (on sheet)) (h .image) (h .register) (decode (h .image)) (over-images .bytes-hold (h .image) (lent-taken .0) octets)
+  held : Holds (h .image) (decode (h .image))
+  held = bytes-hold (h .image) (lent-taken .0) octets
 
   left-by : after (clear (on sheet)) st ≡ state (cleared (on sheet)) (zeros registerLength)
   left-by = after-taken st (clear (on sheet)) (lent-taken .1)
 
   session-is : decode (hostAfter (clear (on sheet)) h .image) ≡ cleared (on sheet)
-  session-is = did .1 .session ∙ ap (λ (z : State). z .session) left-by
+  session-is = image-left (h .image) (h .register) (decode (h .image)) held (clear (on sheet)) .session ∙ ap (λ (z : State). z .session) left-by
 
   pub begun : Begun sheet (hostAfter (clear (on sheet)) h)
   unfolding cleared
   begun =
       let is = session-is in
       record {
-        register = did .2 ∙ ap (λ (z : State). z .register) left-by;
+        register = register-left (h .image) (h .register) (decode (h .image)) held (clear (on sheet)) ∙ ap (λ (z : State). z .register) left-by;
         phase = ap (λ (z : Session). z .progress .phase) is;
         counts = (ap (λ (z : Session). z .progress .used) is, ap (λ (z : Session). z .progress .closed) is, ap (λ (z : Session). z .progress .committed) is, ap (λ (z : Session). z .progress .checked) is);
         numbers = ap (λ (z : Session). z .numbers) is;

@@ -1,6 +1,6 @@
 -- From the producer's calls to the turn (specs/FromCalls.antt). Assumes nothing.
 use mathlib.Core.Path.{_≡_, refl, sym, ap, subst, _∙_}
-use mathlib.Core.List.{List, [], _∷_}
+use mathlib.Core.List.{List}
 use Prim.Native.Nat.{ℕ, _*_, _%_}
 use native.Mathlib.Nat.{div-eq-of-eq-mul-right}
 use native.Mathlib.Omega.{arith}
@@ -25,37 +25,22 @@ use Rattle.session.specs.Steps.{on, challengesOut}
 use Rattle.session.specs.Machine.{Step, clear, claim, commit, draw, check, reply, after}
 use Rattle.session_image.specs.Image.{decode}
 use Rattle.session_image.specs.Images.{Host, hostReply, hostAfter, challengesReply, ChallengesCalled}
-use Rattle.session_histories.specs.Runs.{OwnTrace, ownInitial, ownExtend, ownTrace}
+use Rattle.session_histories.specs.Internal.{OwnTrace, ownInitial, ownExtend, ownTrace}
 use Rattle.session_histories.specs.Claims.{Produced}
-use Rattle.session_histories.proofs.Reach.{clear-taken}
 use Rattle.session_histories.specs.Elections.{election}
 use Rattle.session_histories.proofs.Elections.{ends-accepted}
 use Rattle.session_histories.proofs.OwnTurn.{Lodges, numbers-are, claims-size, own-turn}
-use Rattle.claims.specs.HostSteps.{hostRun}
-use Rattle.claims.specs.HostClaims.{Starts}
 use Rattle.claims.specs.FromCalls.{at-claim, at-commit, at-draw, at-end, Conducted, FromCalls, TurnsCome}
 use Rattle.claims.specs.Produces.{WritesFirst}
 use Rattle.claims.proofs.HostClaims as hosts
-use Rattle.claims.proofs.HostClaims.{Keeps, over-step, uncleared}
+use Rattle.claims.proofs.HostSteps.{Keeps, over-step, keeps-run, roll-over, uncleared}
 use Rattle.claims.proofs.Produces.{first-exactly}
 use Rattle.claims.proofs.Replies.{replies-told}
-
--- ---- lists of calls with their own register
-
-keeps-run : (xs : List Step) (h : Host) (t : OwnTrace) → Keeps h (t .now) → Keeps (hostRun xs h) (ownTrace xs t .now)
-unfolding hostRun ownTrace ownExtend
-keeps-run [] h t k = k
-keeps-run (x ∷ xs) h t k = keeps-run xs (hostAfter x h) (ownExtend x t) (over-step x h (t .now) k .1)
-
--- from a clear that is taken
-keeps-initial : (start : Host) (sheet : Bytes) → Starts start (on sheet) → Keeps (hostAfter (clear (on sheet)) start) (ownInitial (on sheet) .now)
-keeps-initial start sheet s =
-    subst (Keeps (hostAfter (clear (on sheet)) start)) (clear-taken (hosts.st start (on sheet) s) (on sheet) (hosts.taken start (on sheet) s) .1) (hosts.newly start (on sheet) s)
 
 pub turns-come : TurnsCome
 turns-come sheet start m ballot material claims seed s c =
     let steps = election sheet m ballot material claims seed in
-    let kept = keeps-run steps (hostAfter (clear (on sheet)) start) (ownInitial (on sheet)) (keeps-initial start sheet s) in
+    let kept = keeps-run steps (hostAfter (clear (on sheet)) start) (ownInitial (on sheet)) (hosts.keeps-initial start (on sheet) s) in
     ap (λ (z : Session). z .progress .phase) (kept .image .session) ∙ ends-accepted sheet m ballot material claims seed c (hosts.readable start (on sheet) s)
 
 -- ---- from the producer's calls to the turn
@@ -68,7 +53,7 @@ module _ (sheet : Bytes) (start : Host) (before between later last : List Step) 
   committing = commit round (wrote .head) (wrote .shares0) (wrote .shares1)
 
   keeps-new : Keeps (hostAfter (clear (on sheet)) start) (ownInitial (on sheet) .now)
-  keeps-new = keeps-initial start sheet (c .starts)
+  keeps-new = hosts.keeps-initial start (on sheet) (c .starts)
 
   abbrev h1 : Host
   h1 = at-claim sheet start before between later last round seed wrote
@@ -200,4 +185,5 @@ module _ (sheet : Bytes) (start : Host) (before between later last : List Step) 
 
 pub from-calls : FromCalls
 from-calls sheet start before between later last round seed material room wrote out told second-room second-wrote scratch first ballots c answered second size =
-    accepted sheet start before between later last round seed wrote c material room out told second-room second-wrote scratch first answered second ballots size
+    accepted sheet start before between later last round seed wrote c material room out told second-room second-wrote scratch first answered second
+    (ballots ∙ ap concatenated (unfold ownInitial in roll-over before (hostAfter (clear (on sheet)) start) (ownInitial (on sheet)) (hosts.keeps-initial start (on sheet) (c .starts)))) size

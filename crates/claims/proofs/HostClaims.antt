@@ -1,51 +1,30 @@
 -- The claims of specs/HostClaims.antt, from those over sessions and what the exported calls do to the session in an image. Assumes nothing.
-use mathlib.Core.Path.{_≡_, sym, ap, subst, _∙_}
+use mathlib.Core.Path.{_≡_, refl, sym, ap, subst, _∙_}
 use mathlib.Core.List.{List, [], _∷_}
-use Prim.Native.Nat.{ℕ, _<_}
+use Prim.Native.Nat.{ℕ}
 use Rattle.codec.specs.Bytes.{Bytes}
-use Rattle.codec.specs.declared.Reply.{Reply}
 use Rattle.codec.specs.declared.Reply.the-variants.{Taken}
 use Rattle.sheet.specs.Reader.{sheetOf}
 use Rattle.session.specs.declared.Session.{Session}
 use Rattle.session_image.specs.Image.{decode}
 use Rattle.session.specs.Steps.{Beginning}
 use Rattle.session.specs.Machine.{Step, clear, withdraw, close, check, State, state, reply, after}
-use Rattle.session_histories.specs.Runs.{Call, clears, Begins, initial, ownInitial, run, trace}
-use Rattle.session_histories.specs.Conditions.{Valid}
-use Rattle.session_histories.specs.Claims.{Checked, Undue}
-use Rattle.session_histories.proofs.Stepped.{Uncleared, none, more}
+use Rattle.session_histories.specs.Runs.{History, emptyHistory, Call, call}
+use Rattle.session_histories.specs.Internal.{Begins, StepChecked, initial, ownInitial, run, ownTrace, extend, trace, calls}
+use Rattle.session_histories.specs.Conditions.{Valid, Checks}
+use Rattle.session_histories.specs.Claims.{Undue}
+use Rattle.session_histories.specs.Bound.{Bound, Hashed}
 use Rattle.session_histories.proofs.Withdrawn.{withdrawn-stays-out}
 use Rattle.session_histories.proofs.Reach.{clear-taken, reachable-valid, only-phase-or-round}
 use Rattle.session_histories.proofs.Honest.{honest-accepted}
 use Rattle.session_histories.proofs.Rounds.{rounds-checked, ended-accepted}
+use Rattle.session_histories.proofs.Roll.{roll-is-batch, own-register}
+use Rattle.session_histories.proofs.Bound.{checks-bound}
+use Rattle.session_histories.proofs.Hashed.{checks-hashed}
 use Rattle.session_image.specs.Images.{Host, host, hostReply, hostAfter}
-use Rattle.claims.specs.HostSteps.{Holds, hostRun, hostTrace}
-use Rattle.claims.specs.HostClaims.{HostUncleared, Starts, HostStaysOut, HostRoundsChecked, HostEndedAccepted, HostHonestAccepted, HostStaysValid, HostOnlyPhaseOrRound}
-use Rattle.claims.proofs.HostSteps.{over-images}
-
--- ---- with the register that was left
-
-pub record Keeps (h : Host) (st : State) : Type 0 where
-  pub image : Holds (h .image) (st .session)
-  pub register : h .register ≡ st .register
-
-pub over-step : (x : Step) (h : Host) (st : State) → Keeps h st → (hostReply x h ≡ reply x st) × Keeps (hostAfter x h) (after x st)
-over-step x h st k =
-    let e = over-images .one-step x (h .image) (h .register) (st .session) (k .image) in
-    subst (λ (reg : Bytes). (hostReply x h ≡ reply x (state (st .session) reg)) × Keeps (hostAfter x h) (after x (state (st .session) reg)))
-    (k .register) (e .0, record { image = e .1; register = e .2 })
-
-over-run : (xs : List Step) (h : Host) (st : State) → Keeps h st → Keeps (hostRun xs h) (run xs st)
-over-run xs h st k =
-    let e = over-images .own-register xs (h .image) (h .register) (st .session) (k .image) in
-    subst (λ (reg : Bytes). Keeps (hostRun xs h) (run xs (state (st .session) reg))) (k .register) (record { image = e .0; register = e .1 })
-
-pub uncleared : (xs : List Step) (h : Host) (st : State) → Keeps h st → HostUncleared xs h → Uncleared xs st
-unfolding HostUncleared
-uncleared [] h st k u = none
-uncleared (x ∷ xs) h st k u =
-    let e = over-step x h st k in
-    more (ap (λ (r : Reply). clears x r) (sym (e .0)) ∙ u .0) (uncleared xs (hostAfter x h) (after x st) (e .1) (u .1))
+use Rattle.claims.specs.HostSteps.{hostTrace, hostHistory, hostRun, hostCalls, hostRoll, Starts}
+use Rattle.claims.specs.HostClaims.{HostStaysOut, HostRollIsBatch, HostOwnRegister, RoundChecked, HostRoundsChecked, HostEndedAccepted, HostBound, HostHonestAccepted, HostStaysValid, HostOnlyPhaseOrRound}
+use Rattle.claims.proofs.HostSteps.{Holds, bytes-hold, replies, image-left, trace-over, history-over, no-clear-over, Keeps, over-step, over-run, keeps-run, roll-over, calls-over, uncleared}
 
 -- ---- from a clear that is taken
 
@@ -53,8 +32,11 @@ module _ (start : Host) (b : Beginning) (s : Starts start b) where
   abbrev pub st : State
   st = state (decode (start .image)) (start .register)
 
+  abbrev pub first : Bytes
+  first = hostAfter (clear b) start .image
+
   keeps : Keeps start st
-  keeps = record { image = over-images .bytes-hold (start .image) (s .sized) (s .octets); register = λ i. start .register }
+  keeps = record { image = bytes-hold (start .image) (s .sized) (s .octets); register = λ i. start .register }
 
   pub taken : reply (clear b) st ≡ Taken
   taken = sym (over-step (clear b) start st keeps .0) ∙ s .taken
@@ -65,14 +47,50 @@ module _ (start : Host) (b : Beginning) (s : Starts start b) where
   pub newly : Keeps (hostAfter (clear b) start) (after (clear b) st)
   newly = over-step (clear b) start st keeps .1
 
-  begins : Holds (hostAfter (clear b) start .image) (initial b .session)
-  begins = subst (Holds (hostAfter (clear b) start .image)) same (newly .image)
-    where
-      same : after (clear b) st .session ≡ initial b .session
-      same = unfold ownInitial initial in ap (λ (z : State). z .session) (clear-taken st b taken .1)
+  pub keeps-initial : Keeps (hostAfter (clear b) start) (ownInitial b .now)
+  keeps-initial = subst (Keeps (hostAfter (clear b) start)) (clear-taken st b taken .1) newly
 
-  traced : (cs : List Call) → Holds (hostTrace cs (hostAfter (clear b) start .image)) (trace cs (initial b) .session)
-  traced cs = over-images .any-register cs (hostAfter (clear b) start .image) (initial b) begins
+  begins : Holds first (initial b .session)
+  unfolding ownInitial initial
+  begins = keeps-initial .image
+
+  pub traced : (cs : List Call) → Holds (hostTrace cs first) (trace cs (initial b) .session)
+  traced cs = trace-over cs first (initial b) begins
+
+  pub lodged : (cs : List Call) → hostHistory cs first (emptyHistory b) ≡ trace cs (initial b) .history
+  unfolding initial
+  lodged cs = history-over cs first (initial b) begins
+
+  -- the reply of one more call
+  pub answered : (cs : List Call) (x : Step) (register : Bytes) → hostReply x (host (hostTrace cs first) register) ≡ reply x (state (trace cs (initial b) .session) register)
+  answered cs x register = replies (hostTrace cs first) register (trace cs (initial b) .session) (traced cs) x
+
+  -- what is shown of the session that a list of steps reaches is shown of the session in the image
+  in-image : (Of : Session → Type 0) (cs : List Call) → Of (trace cs (initial b) .session) → Of (decode (hostTrace cs first))
+  in-image Of cs h = subst Of (sym (traced cs .session)) h
+
+  -- and of what was lodged
+  in-both : (Of : Session → History → Type 0) (cs : List Call) → Of (trace cs (initial b) .session) (trace cs (initial b) .history)
+      → Of (decode (hostTrace cs first)) (hostHistory cs first (emptyHistory b))
+  in-both Of cs h = rw (traced cs .session, lodged cs) h
+
+  -- a check of a round that was taken
+  checked : (cs : List Call) (k : ℕ) → StepChecked b cs k → RoundChecked first cs k
+  checked cs k c =
+      let before = c .before in
+      let done = call (check k (c .inputs)) (c .register) in
+      record {
+        before = before;
+        register = c .register;
+        inputs = c .inputs;
+        later = c .later;
+        listed = c .listed;
+        uncleared = no-clear-over (c .later) (hostAfter (check k (c .inputs)) (host (hostTrace before first) (c .register)) .image) (extend done (trace before (initial b)))
+            (unfold extend in image-left (hostTrace before first) (c .register) (trace before (initial b) .session) (traced before) (check k (c .inputs))) (c .uncleared);
+        taken = answered before (check k (c .inputs)) (c .register) ∙ c .taken;
+        checks = λ octets. in-image (λ (z : Session). Checks z k (c .inputs)) before (c .checks octets);
+        stored = rw (traced before .session, traced cs .session) (c .stored);
+      }
 
 -- ---- the claims
 
@@ -88,30 +106,45 @@ host-stays-out start b before between mark s e u d =
     let out = withdrawn-stays-out (st start b s) b before between mark (taken start b s) (sym (w .0) ∙ e) (uncleared between (hostAfter (withdraw mark) found) (after (withdraw mark) there) (w .1) u) (sym (c .0) ∙ d) in
     rw (c .1 .image .session, l .register) out
 
--- what is shown of the session that a list of steps reaches is shown of the session in the image
-in-image : (P : Session → Type 0) (start : Host) (b : Beginning) (cs : List Call) (s : Starts start b) → P (trace cs (initial b) .session) → P (decode (hostTrace cs (hostAfter (clear b) start .image)))
-in-image P start b cs s h = subst P (sym (traced start b s cs .session)) h
+pub host-own-register : HostOwnRegister
+unfolding hostTrace hostCalls hostRun
+host-own-register [] h = refl
+host-own-register (x ∷ xs) h = host-own-register xs (hostAfter x h)
+
+pub host-roll-is-batch : HostRollIsBatch
+host-roll-is-batch start b steps s l =
+    let h = hostAfter (clear b) start in
+    let t = ownTrace steps (ownInitial b) in
+    let now : decode (hostRun steps h .image) ≡ t .now .session = keeps-run steps h (ownInitial b) (keeps-initial start b s) .image .session in
+    let roll : hostRoll steps h [] ≡ t .roll = (unfold ownInitial in roll-over steps h (ownInitial b) (keeps-initial start b s)) in
+    let batch : hostHistory (hostCalls steps h) (h .image) (emptyHistory b) ≡ t .history =
+    ap (λ (cs : List Call). hostHistory cs (h .image) (emptyHistory b)) (calls-over steps h (ownInitial b .now) (keeps-initial start b s))
+    ∙ lodged start b s (calls steps (ownInitial b .now)) ∙ own-register b steps .1 in
+    rw (now, roll, batch) (roll-is-batch b steps (rw now at l))
 
 pub host-rounds-checked : HostRoundsChecked
-host-rounds-checked start b cs s = in-image (λ (z : Session). (k : ℕ) → k < z .progress .checked → Checked b cs k) start b cs s (rounds-checked b cs (readable start b s))
+host-rounds-checked start b cs s k l = checked start b s cs k (rounds-checked b cs (readable start b s) k (rw (traced start b s cs .session) at l))
 
 pub host-ended-accepted : HostEndedAccepted
-host-ended-accepted start b cs s =
-    in-image (λ (z : Session). z .progress .phase ≡ 5 → (k : ℕ) → k < z .numbers .rounds → Checked b cs k) start b cs s (ended-accepted b cs (readable start b s))
+host-ended-accepted start b cs s e k l =
+    checked start b s cs k (ended-accepted b cs (readable start b s) (rw (traced start b s cs .session) at e) k (rw (traced start b s cs .session) at l))
+
+pub host-bound : HostBound
+host-bound start b cs s register k x e =
+    let same = sym (lodged start b s cs) in (
+      subst (λ (h : History). Bound h k x) same (checks-bound b cs (readable start b s) register k x (sym (answered start b s cs (check k x) register) ∙ e)),
+      λ octets all lent. subst (λ (h : History). Hashed h k x) same (checks-hashed b cs octets all k x lent),
+    )
 
 pub host-stays-valid : HostStaysValid
 host-stays-valid start b cs s =
-    in-image (λ (z : Session). Valid z × (z .numbers ≡ sheetOf (trace cs (initial b) .history .sheet) .numbers)) start b cs s (reachable-valid b cs (readable start b s))
-
--- the reply of one more call
-pub answered : (start : Host) (b : Beginning) (cs : List Call) (s : Starts start b) (x : Step) (register : Bytes)
-    → hostReply x (host (hostTrace cs (hostAfter (clear b) start .image)) register) ≡ reply x (state (trace cs (initial b) .session) register)
-answered start b cs s x register = over-images .one-step x (hostTrace cs (hostAfter (clear b) start .image)) register (trace cs (initial b) .session) (traced start b s cs) .0
+    in-both start b s (λ (z : Session) (h : History). Valid z × (z .numbers ≡ sheetOf (h .sheet) .numbers)) cs (reachable-valid b cs (readable start b s))
 
 pub host-only-phase-or-round : HostOnlyPhaseOrRound
 host-only-phase-or-round start b cs s x register place e =
-    in-image (λ (z : Session). Undue x z) start b cs s (only-phase-or-round b cs (readable start b s) x register place (sym (answered start b cs s x register) ∙ e))
+    in-image start b s (λ (z : Session). Undue x z) cs (only-phase-or-round b cs (readable start b s) x register place (sym (answered start b s cs x register) ∙ e))
 
 pub host-honest-accepted : HostHonestAccepted
 host-honest-accepted start b cs s register material round x turn =
-    answered start b cs s (check round x) register ∙ honest-accepted b cs (readable start b s) register material round x turn
+    answered start b s cs (check round x) register
+    ∙ honest-accepted b cs (readable start b s) register material round x (rw (traced start b s cs .session, lodged start b s cs) at turn)

@@ -2,7 +2,6 @@ pub mod Images
 pub mod Typed
 pub mod HostSteps
 pub mod HostClaims
-pub mod Bound
 pub mod AnySession
 pub mod Endings
 pub mod Decided

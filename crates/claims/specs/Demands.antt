@@ -31,15 +31,12 @@ use Rattle.session.specs.Machine.{Step, check, state}
 use Rattle.session_image.specs.Image.{imageLength, decode}
 use Rattle.session_image.specs.Images.{host, hostReply}
 use Rattle.session_histories.specs.Conditions.{SheetTaken, Lent, Takes}
-use Rattle.session_histories.specs.Claims.{RollIsBatch, OwnRegister}
 use Rattle.session_histories.specs.Examples.{all-rows}
 use Rattle.claims.specs.Papers.{Distributed, DecryptsTogether, DigestOfBits, TablesByRule}
 use Rattle.claims.specs.Produces.{WritesFirst, WritesSecond}
 use Rattle.claims.specs.Extracts.{TakesOpenings}
 use Rattle.claims.specs.Exactly.{CallsExactly}
-use Rattle.claims.specs.HostSteps.{OverImages}
-use Rattle.claims.specs.HostClaims.{HostStaysOut, HostRoundsChecked, HostEndedAccepted, HostHonestAccepted, HostStaysValid, HostOnlyPhaseOrRound}
-use Rattle.claims.specs.Bound.{HostBound}
+use Rattle.claims.specs.HostClaims.{HostStaysOut, HostRollIsBatch, HostOwnRegister, HostRoundsChecked, HostEndedAccepted, HostBound, HostHonestAccepted, HostStaysValid, HostOnlyPhaseOrRound}
 use Rattle.claims.specs.Replies.{RepliesTold}
 use Rattle.claims.specs.AnySession.{AnySession}
 use Rattle.claims.specs.Endings.{RefusalEnds, ClearBegins, ScratchZeroed}
@@ -98,8 +95,6 @@ pub record Demand2 : Type 0 where
   pub digest-of-bits : DigestOfBits
   pub tables-by-rule : TablesByRule
   pub examples : Examples
-  -- what is shown of steps and of lists of steps over sessions holds of the exported calls over images
-  pub over-images : OverImages
   -- of every reply that a call gives, the remainder by 256 is 0 exactly if the call is taken, and else the number of the refusal; the quotient is its place, or the value of a call that has one
   pub replies-told : RepliesTold
 
@@ -208,5 +203,5 @@ pub record Demand3 : Type 0 where
   pub stays-valid : HostStaysValid
   pub only-phase-or-round : HostOnlyPhaseOrRound
   -- without host writing, the ballots admitted and not withdrawn are the batch
-  pub roll-is-batch : RollIsBatch
-  pub own-register : OwnRegister
+  pub roll-is-batch : HostRollIsBatch
+  pub own-register : HostOwnRegister

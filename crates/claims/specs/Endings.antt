@@ -3,7 +3,7 @@
 use mathlib.Core.Path.{_≡_}
 use mathlib.Core.Logic.{_≢_, _⊎_}
 use mathlib.Core.Bool.{false}
-use mathlib.Core.List.{List, [], _∷_}
+use mathlib.Core.List.{List}
 use Prim.Native.Nat.{ℕ, _≤_}
 use lib.ListN.{length}
 use Rattle.codec.specs.Bytes.{Bytes, Octets, zeros}
@@ -19,14 +19,7 @@ use Rattle.session_image.specs.Image.{imageLength, decode}
 use Rattle.session_image.specs.Images.{Host, host, hostReply, hostAfter}
 use Rattle.session_histories.specs.Runs.{Call, clears}
 use Rattle.session_histories.specs.Conditions.{Reaches}
-use Rattle.claims.specs.HostSteps.{hostTrace}
-
--- no clear is taken, where each call is lent the image that the last one left, and any register
-unfoldable pub HostNoClear : List Call → (image : Bytes) → Type 0
-HostNoClear [] image = Unit
-HostNoClear (c ∷ cs) image =
-    let h = host image (c .register) in
-    (clears (c .step) (hostReply (c .step) h) ≡ false) × HostNoClear cs (hostAfter (c .step) h .image)
+use Rattle.claims.specs.HostSteps.{hostTrace, HostNoClear}
 
 -- an image from which every step but clear is refused 31, and which stays as it is until a clear is taken
 pub record Over (image : Bytes) : Type 0 where

@@ -1,7 +1,7 @@
 -- From the producer's calls to the turn (document 01, the paragraph on demand 3's last sentence), in one statement over what the exported calls answer and leave, where the host
 -- writes no register: each call is lent the image and the register that the last one left. Assumes nothing.
 use mathlib.Core.Path.{_≡_}
-use mathlib.Core.List.{List}
+use mathlib.Core.List.{List, []}
 use Prim.Native.Nat.{ℕ}
 use lib.ListN.{length, getD, drop}
 use Rattle.codec.specs.Bytes.{Bytes}
@@ -17,10 +17,8 @@ use Rattle.session.specs.Steps.{on}
 use Rattle.session.specs.Machine.{Step, clear, claim, commit, draw, check}
 use Rattle.session_image.specs.Image.{decode}
 use Rattle.session_image.specs.Images.{Host, hostReply, hostAfter, ChallengesCalled}
-use Rattle.session_histories.specs.Runs.{ownInitial, ownTrace}
 use Rattle.session_histories.specs.Elections.{Countable, election}
-use Rattle.claims.specs.HostSteps.{hostRun}
-use Rattle.claims.specs.HostClaims.{HostUncleared, Starts}
+use Rattle.claims.specs.HostSteps.{hostRun, HostUncleared, hostRoll, Starts}
 
 -- an election: clear and any calls, claim and any calls, commit of a round and any calls, draw and any calls. `wrote` is what was lodged
 module _ (sheet : Bytes) (start : Host) (before between later last : List Step) (round : ℕ) (seed : Bytes) (wrote : FirstRoom) where
@@ -56,7 +54,7 @@ FromCalls = (sheet : Bytes) (start : Host) (before between later last : List Ste
     (room wrote : FirstRoom) (out told : Bytes) (second-room second-wrote : SecondRoom) (scratch : Bytes)
     -- jdn_produce_first is taken for the ballots that were admitted and not withdrawn at the claim, and leaves `wrote`, which is lodged
     → FirstCalled sheet material room Taken wrote
-    → material .ballots ≡ concatenated (ownTrace before (ownInitial (on sheet)) .roll)
+    → material .ballots ≡ concatenated (hostRoll before (hostAfter (clear (on sheet)) start) [])
     → Conducted sheet start before between later last round seed wrote
     → let h = at-end sheet start before between later last round seed wrote in
     -- jdn_challenges answers 0 and leaves `told`, and jdn_produce_second is taken with the side and the challenges in it

@@ -1,85 +1,94 @@
--- What is shown of lists of a session's steps (histories, specs/Claims.antt), of lists of the exported calls over images: from a call of clear that is taken, over any bytes of
--- an image's length. Assumes nothing.
+-- The claims about lists of the exported calls over images, from a call of clear that is taken (the second and the third demand; document 01, the paragraph on demand 3's last
+-- sentence). Assumes nothing.
 use mathlib.Core.Path.{_≡_}
-use mathlib.Core.Bool.{false}
-use mathlib.Core.List.{List, [], _∷_}
+use mathlib.Core.List.{List, [], _∷_, _++_, List·Memᴰ, map}
 use Prim.Native.Nat.{ℕ, _<_}
 use lib.ListN.{length}
 use Rattle.codec.specs.Bytes.{Bytes, Octets}
 use Rattle.codec.specs.declared.Reply.the-variants.{Taken, Refused}
+use Rattle.sha3.specs.Sponge.{sha3}
 use Rattle.sheet.specs.Reader.{sheetOf}
+use Rattle.round.specs.Layout.{ballotLength}
 use Rattle.round.specs.Producer.{Material}
+use Rattle.session_digests.specs.Digests.{concatenated, ballotDigests}
 use Rattle.session_check.specs.Check.{Inputs}
 use Rattle.session_progress.specs.Progress.{ended-accepted}
-use Rattle.session_image.specs.Image.{imageLength, decode}
-use Rattle.session.specs.Steps.{Beginning}
+use Rattle.session_image.specs.Image.{decode}
+use Rattle.session.specs.Steps.{Beginning, storedFor}
 use Rattle.session.specs.Machine.{Step, clear, withdraw, close, check}
-use Rattle.session_histories.specs.Runs.{Call, clears, initial, trace}
-use Rattle.session_histories.specs.Conditions.{Valid}
-use Rattle.session_histories.specs.Claims.{ClosedWithout, Checked, Turn, Undue}
+use Rattle.session_histories.specs.Runs.{emptyHistory, Call, call}
+use Rattle.session_histories.specs.Conditions.{Valid, Checks}
+use Rattle.session_histories.specs.Claims.{ClosedWithout, Turn, Undue}
+use Rattle.session_histories.specs.Bound.{Bound, Hashed, LodgesAll, LentBytes}
 use Rattle.session_image.specs.Images.{Host, host, hostReply, hostAfter}
-use Rattle.claims.specs.HostSteps.{hostRun, hostTrace}
+use Rattle.claims.specs.HostSteps.{hostTrace, hostHistory, HostNoClear, hostRun, hostCalls, HostUncleared, hostRoll, Starts, FromClear}
 
--- no clear is taken
-unfoldable pub HostUncleared : List Step → Host → Type 0
-HostUncleared [] h = Unit
-HostUncleared (x ∷ xs) h = (clears x (hostReply x h) ≡ false) × HostUncleared xs (hostAfter x h)
+-- ---- each call is lent what the last one left
 
--- what such a list starts from: a clear that is taken
-pub record Starts (h : Host) (b : Beginning) : Type 0 where
-  pub sized : length (h .image) ≡ imageLength
-  pub octets : Octets (h .image)
-  pub taken : hostReply (clear b) h ≡ Taken
-
--- each call is lent what the last one left: a mark whose withdrawal was taken is in no batch closed later, before the next clear taken
+-- a mark whose withdrawal was taken is in no batch closed later, before the next clear taken
 abbrev pub HostStaysOut : Type 0
 HostStaysOut = (start : Host) (b : Beginning) (before between : List Step) (mark : ℕ) → Starts start b
     → let found = hostRun before (hostAfter (clear b) start) in
-    let last = hostRun between (hostAfter (withdraw mark) found) in
+    let gone = hostAfter (withdraw mark) found in
+    let last = hostRun between gone in
     hostReply (withdraw mark) found ≡ Taken
-    → HostUncleared between (hostAfter (withdraw mark) found)
+    → HostUncleared between gone
     → hostReply close last ≡ Taken
     → ClosedWithout mark (last .register) (decode (hostAfter close last .image))
 
+-- the ballots admitted and not withdrawn are the batch: its digests are theirs, in order, and each has a ballot's length
+abbrev pub HostRollIsBatch : Type 0
+HostRollIsBatch = (start : Host) (b : Beginning) (steps : List Step) → Starts start b
+    → let h = hostAfter (clear b) start in
+    let s = decode (hostRun steps h .image) in
+    let batch = hostHistory (hostCalls steps h) (h .image) (emptyHistory b) .batch in
+    let roll = hostRoll steps h [] in
+    0 < s .progress .phase
+    → (batch ≡ map sha3 roll) × ((y : Bytes) → List·Memᴰ y roll → length y ≡ ballotLength (s .numbers .ring))
+    × (ballotDigests (ballotLength (s .numbers .ring)) (length batch) (concatenated roll) ≡ batch)
+
+-- and such a list is one of those below, so that a turn's batch can be that roll
+abbrev pub HostOwnRegister : Type 0
+HostOwnRegister = (steps : List Step) (h : Host) → hostTrace (hostCalls steps h) (h .image) ≡ hostRun steps h .image
+
 -- ---- each call is lent the image that the last one left, and any register
 
-module _ (start : Host) (b : Beginning) (cs : List Call) where
-  -- the image that such a list leaves
-  abbrev last : Bytes
-  last = hostTrace cs (hostAfter (clear b) start .image)
+-- a check of a round that was taken, since the last clear taken: `before` are the calls before it, `later` those behind it
+pub record RoundChecked (first : Bytes) (cs : List Call) (round : ℕ) : Type 0 where
+  pub before : List Call
+  pub register : Bytes
+  pub inputs : Inputs
+  pub later : List Call
+  pub listed : cs ≡ before ++ (call (check round inputs) register ∷ later)
+  pub uncleared : HostNoClear later (hostAfter (check round inputs) (host (hostTrace before first) register) .image)
+  -- it was taken, so all that a check of this round asks for was found
+  pub taken : hostReply (check round inputs) (host (hostTrace before first) register) ≡ Taken
+  pub checks : Octets (inputs .head) → Checks (decode (hostTrace before first)) round inputs
+  -- what it was held against is what the image holds at the end: numbers, closed count, the digests of sheet, closing, claims and the round's first message, and the seed
+  pub stored : storedFor (decode (hostTrace before first)) round ≡ storedFor (decode (hostTrace cs first)) round
 
-  -- every round that the image counts as checked was checked
-  abbrev pub RoundsCheckedIn : Type 0
-  RoundsCheckedIn = (k : ℕ) → k < decode last .progress .checked → Checked b cs k
-
-  -- where the image says that the session ended accepted, every round was checked
-  abbrev pub EndedAcceptedIn : Type 0
-  EndedAcceptedIn = decode last .progress .phase ≡ ended-accepted → (k : ℕ) → k < decode last .numbers .rounds → Checked b cs k
-
-  -- a round of the producer's that is lodged is accepted at its turn
-  abbrev pub HonestAcceptedIn : Type 0
-  HonestAcceptedIn = (register : Bytes) (material : Material) (round : ℕ) (x : Inputs) → Turn (trace cs (initial b)) material round x
-      → hostReply (check round x) (host last register) ≡ Taken
-
-  -- the session in the image is valid, and has the numbers of the sheet of the last clear taken
-  abbrev pub StaysValidIn : Type 0
-  StaysValidIn = Valid (decode last) × (decode last .numbers ≡ sheetOf (trace cs (initial b) .history .sheet) .numbers)
-
-  -- so 31 is only ever met for wrong phase or round
-  abbrev pub OnlyPhaseOrRoundIn : Type 0
-  OnlyPhaseOrRoundIn = (x : Step) (register : Bytes) (place : ℕ) → hostReply x (host last register) ≡ Refused 31 place → Undue x (decode last)
-
+-- every round that the image counts as checked was checked
 abbrev pub HostRoundsChecked : Type 0
-HostRoundsChecked = (start : Host) (b : Beginning) (cs : List Call) → Starts start b → RoundsCheckedIn start b cs
+HostRoundsChecked = FromClear (λ b cs first last h. (k : ℕ) → k < decode last .progress .checked → RoundChecked first cs k)
 
+-- where the image says that the session ended accepted, every round was checked
 abbrev pub HostEndedAccepted : Type 0
-HostEndedAccepted = (start : Host) (b : Beginning) (cs : List Call) → Starts start b → EndedAcceptedIn start b cs
+HostEndedAccepted = FromClear (λ b cs first last h. decode last .progress .phase ≡ ended-accepted → (k : ℕ) → k < decode last .numbers .rounds → RoundChecked first cs k)
 
+-- a check that is taken was lent what was lodged, or what it was lent and what was lodged collide, in strings of bytes where what is lent is bytes
+abbrev pub HostBound : Type 0
+HostBound = FromClear (λ b cs first last h. (register : Bytes) (k : ℕ) (x : Inputs) → hostReply (check k x) (host last register) ≡ Taken
+    → Bound h k x × (Octets (b .sheet) → LodgesAll cs → LentBytes x → Hashed h k x))
+
+-- a round of the producer's that is lodged is accepted at its turn
 abbrev pub HostHonestAccepted : Type 0
-HostHonestAccepted = (start : Host) (b : Beginning) (cs : List Call) → Starts start b → HonestAcceptedIn start b cs
+HostHonestAccepted = FromClear (λ b cs first last h. (register : Bytes) (material : Material) (round : ℕ) (x : Inputs) → Turn (decode last) h material round x
+    → hostReply (check round x) (host last register) ≡ Taken)
 
+-- the session in the image is valid, and has the numbers of the sheet of the last clear taken
 abbrev pub HostStaysValid : Type 0
-HostStaysValid = (start : Host) (b : Beginning) (cs : List Call) → Starts start b → StaysValidIn start b cs
+HostStaysValid = FromClear (λ b cs first last h. Valid (decode last) × (decode last .numbers ≡ sheetOf (h .sheet) .numbers))
 
+-- so 31 is only ever met for wrong phase or round
 abbrev pub HostOnlyPhaseOrRound : Type 0
-HostOnlyPhaseOrRound = (start : Host) (b : Beginning) (cs : List Call) → Starts start b → OnlyPhaseOrRoundIn start b cs
+HostOnlyPhaseOrRound = FromClear (λ b cs first last h. (x : Step) (register : Bytes) (place : ℕ) → hostReply x (host last register) ≡ Refused 31 place → Undue x (decode last))

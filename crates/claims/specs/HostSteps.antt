@@ -1,59 +1,67 @@
--- Lists of the exported calls over images (document 01, "Register and session"). What one call answers and leaves, as its contract has it (src/steps.rt), is in session_calls,
--- specs/Images.antt. A call does to the session in the image what the step does to the session, and so does a list of calls: what is shown of lists of steps holds of what the
--- exported calls do (specs/HostClaims.antt). Assumes nothing.
+-- Lists of the exported calls over images (document 01, "Register and session"). What one call answers and leaves, as its contract has it (jackdawnail, src/steps.rt), is in
+-- session_image, specs/Images.antt. What was lodged and the roll are read off the calls that were taken. Assumes nothing.
 use mathlib.Core.Path.{_≡_}
+use mathlib.Core.Bool.{false}
 use mathlib.Core.List.{List, [], _∷_}
 use lib.ListN.{length}
 use Rattle.codec.specs.Bytes.{Bytes, Octets}
-use Rattle.session.specs.declared.Session.{Session}
-use Rattle.session.specs.Machine.{Step, state, reply, after}
-use Rattle.session_image.specs.Image.{imageLength, decode, Typed}
+use Rattle.codec.specs.Reply.{leaves}
+use Rattle.codec.specs.declared.Reply.the-variants.{Taken}
+use Rattle.session.specs.Steps.{Beginning}
+use Rattle.session.specs.Machine.{Step, clear, state}
+use Rattle.session_image.specs.Image.{imageLength, decode}
 use Rattle.session_image.specs.Images.{Host, host, hostReply, hostAfter}
-use Rattle.session_histories.specs.Runs.{Trace, Call, run, trace}
+use Rattle.session_histories.specs.Runs.{History, emptyHistory, historyAfter, rollAfter, clears, Call, call}
 
--- an image of the right length that is read as this session, whose fields are as their types say
-pub record Holds (image : Bytes) (s : Session) : Type 0 where
-  pub sized : length image ≡ imageLength
-  pub session : decode image ≡ s
-  pub typed : Typed s
+-- ---- each is lent the image that the last one left, and any register
 
--- ---- lists of calls
-
--- each is lent the image and the register that the last one left
-unfoldable pub hostRun : List Step → Host → Host
-hostRun [] h = h
-hostRun (x ∷ xs) h = hostRun xs (hostAfter x h)
-
--- each is lent the image that the last one left, and any register
 unfoldable pub hostTrace : List Call → (image : Bytes) → Bytes
 hostTrace [] image = image
 hostTrace (c ∷ cs) image = hostTrace cs (hostAfter (c .step) (host image (c .register)) .image)
 
--- ---- what they do to the session in the image
+-- what was taken since the last clear taken
+unfoldable pub hostHistory : List Call → (image : Bytes) → History → History
+hostHistory [] image h = h
+hostHistory (c ∷ cs) image h =
+    let lent = host image (c .register) in
+    hostHistory cs (hostAfter (c .step) lent .image) (leaves (hostReply (c .step) lent) (historyAfter (c .step) (state (decode image) (c .register)) h) h)
 
--- whatever bytes of the right length the host lends hold a session
-abbrev pub BytesHold : Type 0
-BytesHold = (image : Bytes) → length image ≡ imageLength → Octets image → Holds image (decode image)
+-- no clear is taken
+unfoldable pub HostNoClear : List Call → (image : Bytes) → Type 0
+HostNoClear [] image = Unit
+HostNoClear (c ∷ cs) image =
+    let lent = host image (c .register) in
+    (clears (c .step) (hostReply (c .step) lent) ≡ false) × HostNoClear cs (hostAfter (c .step) lent .image)
 
--- one call answers and leaves what the step does
-abbrev pub StepOverImage : Type 0
-StepOverImage = (x : Step) (image register : Bytes) (s : Session) → Holds image s
-    → let h = host image register in
-    let st = state s register in
-    (hostReply x h ≡ reply x st) × Holds (hostAfter x h .image) (after x st .session) × (hostAfter x h .register ≡ after x st .register)
+-- ---- each is lent the image and the register that the last one left
 
--- and so do lists of calls; the replies in them are those of one call, after a shorter list
-abbrev pub RunOverImage : Type 0
-RunOverImage = (xs : List Step) (image register : Bytes) (s : Session) → Holds image s
-    → let h = hostRun xs (host image register) in
-    let st = run xs (state s register) in
-    Holds (h .image) (st .session) × (h .register ≡ st .register)
+unfoldable pub hostRun : List Step → Host → Host
+hostRun [] h = h
+hostRun (x ∷ xs) h = hostRun xs (hostAfter x h)
 
-abbrev pub TraceOverImage : Type 0
-TraceOverImage = (cs : List Call) (image : Bytes) (l : Trace) → Holds image (l .session) → Holds (hostTrace cs image) (trace cs l .session)
+-- the same as calls, with the registers that they are lent
+unfoldable pub hostCalls : List Step → Host → List Call
+hostCalls [] h = []
+hostCalls (x ∷ xs) h = call x (h .register) ∷ hostCalls xs (hostAfter x h)
 
-pub record OverImages : Type 0 where
-  pub bytes-hold : BytesHold
-  pub one-step : StepOverImage
-  pub own-register : RunOverImage
-  pub any-register : TraceOverImage
+-- no clear is taken
+abbrev pub HostUncleared : List Step → Host → Type 0
+HostUncleared xs h = HostNoClear (hostCalls xs h) (h .image)
+
+-- the roll, which is the ballots admitted and not withdrawn
+unfoldable pub hostRoll : List Step → Host → List Bytes → List Bytes
+hostRoll [] h roll = roll
+hostRoll (x ∷ xs) h roll = hostRoll xs (hostAfter x h) (leaves (hostReply x h) (rollAfter x roll) roll)
+
+-- ---- from a clear that is taken, over any bytes of an image's length
+
+pub record Starts (h : Host) (b : Beginning) : Type 0 where
+  pub sized : length (h .image) ≡ imageLength
+  pub octets : Octets (h .image)
+  pub taken : hostReply (clear b) h ≡ Taken
+
+-- of every list of calls from such a clear on, each lent any register: of the clear, the calls, the image that the first of them is lent, the image that the last one leaves, and what was lodged
+abbrev pub FromClear : (Beginning → List Call → (first last : Bytes) → History → Type 0) → Type 0
+FromClear Of = (start : Host) (b : Beginning) (cs : List Call) → Starts start b
+    → let first = hostAfter (clear b) start .image in
+    Of b cs first (hostTrace cs first) (hostHistory cs first (emptyHistory b))

@@ -5,7 +5,6 @@ pub mod Scheme
 pub mod Exactly
 pub mod HostSteps
 pub mod HostClaims
-pub mod Bound
 pub mod AnySession
 pub mod Endings
 pub mod Decided

@@ -21,7 +21,8 @@ use Rattle.session.specs.Session.{trailAt}
 use Rattle.session.specs.Machine.{reply}
 use Rattle.session_histories.specs.Runs.{Message, message, History}
 use Rattle.session_histories.specs.Conditions.{Reaches}
-use Rattle.session_histories.specs.Bound.{Agrees, lentMessage, lentBatch, batchString, claimsString, messageString, Bound, ChecksBound}
+use Rattle.session_histories.specs.Bound.{Agrees, lentMessage, lentBatch, batchString, claimsString, messageString, Bound}
+use Rattle.session_histories.specs.Internal.{ChecksBound}
 use Rattle.session_histories.proofs.Stepped.{early-taken}
 use Rattle.session_histories.proofs.Checked.{reaches-exactly}
 use Rattle.session_histories.proofs.Kept.{Kept, kept}

@@ -27,7 +27,8 @@ use Rattle.round_lengths.specs.Sheets.{parametersOf}
 use Rattle.session_check.specs.Check.{Inputs}
 use Rattle.session.specs.Steps.{on, claimedBy, committedBy, drawnBy, acceptedBy}
 use Rattle.session.specs.Machine.{Step, admit, close, claim, draw, reply}
-use Rattle.session_histories.specs.Runs.{historyAfter, Message, message, Trace, OwnTrace, Begins, ownInitial, ownExtend, ownTrace}
+use Rattle.session_histories.specs.Runs.{historyAfter, Message, message}
+use Rattle.session_histories.specs.Internal.{Trace, OwnTrace, Begins, ownInitial, ownExtend, ownTrace}
 use Rattle.session_histories.specs.Conditions.{SheetTaken}
 use Rattle.session_histories.specs.Claims.{Produced, Turn}
 use Rattle.session_histories.specs.Elections.{rounds, batch, Countable, inputsFor, commits, checks, election}
@@ -226,7 +227,7 @@ module _ (sheet : Bytes) (m : ℕ) (ballot : ℕ → Bytes) (material : ℕ → 
       answers = refl;
     }
 
-    turn : Turn reached (material n) n x
+    turn : Turn (reached .session) (reached .history) (material n) n x
     turn = record {
       phase = h .going l;
       due = sym (h .checked);

@@ -20,7 +20,8 @@ use Rattle.session_digests.specs.Digests.{concatenated, ballotDigests}
 use Rattle.round.specs.Layout.{ballotLength}
 use Rattle.session.specs.Steps.{on, cleared, admittedBy, closedBy}
 use Rattle.session.specs.Machine.{Step, admit, close, reply}
-use Rattle.session_histories.specs.Runs.{historyAfter, rollAfter, OwnTrace, Begins, ownInitial, ownExtend, ownTrace}
+use Rattle.session_histories.specs.Runs.{historyAfter, rollAfter}
+use Rattle.session_histories.specs.Internal.{OwnTrace, Begins, ownInitial, ownExtend, ownTrace}
 use Rattle.session_histories.specs.Elections.{batch, Countable}
 use Rattle.session_histories.proofs.Exact.{admitted-exactly, closed-exactly}
 use Rattle.session_histories.proofs.Kept.{kept-own}

@@ -15,8 +15,10 @@ use Rattle.session_digests.proofs.Laws.{concatenated-more}
 use Rattle.session_check.specs.Check.{Inputs}
 use Rattle.session.specs.Steps.{Beginning}
 use Rattle.session.specs.Machine.{Step, clear, admit, withdraw, close, claim, commit, draw, check, State, reply}
-use Rattle.session_histories.specs.Runs.{Message, message, History, Call, lent, emptyHistory, historyAfter, Trace, extend, trace, initial}
-use Rattle.session_histories.specs.Bound.{lentMessage, lentBatch, batchString, claimsString, Hashed, Lodges, LodgesAll, LentBytes, ChecksHashed}
+use Rattle.session_histories.specs.Runs.{Message, message, History, Call, emptyHistory, historyAfter}
+use Rattle.session_histories.specs.Internal.{lent, Trace, extend, trace, initial}
+use Rattle.session_histories.specs.Bound.{lentMessage, lentBatch, batchString, claimsString, Hashed, Lodges, LodgesAll, LentBytes}
+use Rattle.session_histories.specs.Internal.{ChecksHashed}
 use Rattle.session_histories.proofs.Replies.{left}
 
 octets-none : Octets []

@@ -32,7 +32,8 @@ use Rattle.session.specs.declared.Session.{Session}
 use Rattle.session.specs.Session.{trailAt}
 use Rattle.session.specs.Steps.{Beginning, storedFor, checkEarly, checkLate, checkTests}
 use Rattle.session.specs.Machine.{check, state, reply}
-use Rattle.session_histories.specs.Runs.{Trace, Call, Begins, trace, initial}
+use Rattle.session_histories.specs.Runs.{Call}
+use Rattle.session_histories.specs.Internal.{Trace, Begins, trace, initial}
 use Rattle.session_histories.specs.Conditions.{SheetTaken}
 use Rattle.session_histories.specs.Claims.{Produced, Turn}
 use Rattle.session_histories.proofs.Valid.{sheet-exactly}
@@ -83,7 +84,7 @@ module _ (s : Session) (material : Material) (round : ℕ) (x : Inputs) (sheet-t
 
 -- ---- at its turn
 
-module _ (l : Trace) (k : Kept (l .session) (l .history)) (material : Material) (round : ℕ) (x : Inputs) (turn : Turn l material round x) where
+module _ (l : Trace) (k : Kept (l .session) (l .history)) (material : Material) (round : ℕ) (x : Inputs) (turn : Turn (l .session) (l .history) material round x) where
   abbrev s : Session
   s = l .session
 
@@ -149,6 +150,6 @@ module _ (l : Trace) (k : Kept (l .session) (l .history)) (material : Material) 
 -- a round that the producer wrote for the session's sheet and batch, lodged, is accepted at its turn, whatever was drawn
 pub honest-accepted : (b : Beginning) (cs : List Call) → Begins b
     → let l = trace cs (initial b) in
-    (register : Bytes) (material : Material) (round : ℕ) (x : Inputs) → Turn l material round x → reply (check round x) (state (l .session) register) ≡ Taken
+    (register : Bytes) (material : Material) (round : ℕ) (x : Inputs) → Turn (l .session) (l .history) material round x → reply (check round x) (state (l .session) register) ≡ Taken
 unfolding reply
 honest-accepted b cs e register material round x turn = turn-accepted (trace cs (initial b)) (kept b cs e) material round x turn

@@ -25,7 +25,8 @@ use Rattle.session_progress.specs.declared.Progress.{Progress}
 use Rattle.session.specs.Session.{changed}
 use Rattle.session.specs.Steps.{Beginning, cleared, admittedBy, closedBy, claimedBy, committedBy, drawnBy, acceptedBy, refusedBy}
 use Rattle.session.specs.Machine.{Step, clear, admit, withdraw, close, claim, commit, draw, check, State, state, next, reply, after}
-use Rattle.session_histories.specs.Runs.{Message, message, Call, History, Begins, emptyHistory, historyAfter, Trace, extend, trace, initial, OwnTrace, ownInitial, ownExtend, ownTrace}
+use Rattle.session_histories.specs.Runs.{Message, message, Call, History, emptyHistory, historyAfter}
+use Rattle.session_histories.specs.Internal.{Begins, Trace, extend, trace, initial, OwnTrace, ownInitial, ownExtend, ownTrace}
 use Rattle.session_histories.specs.Conditions.{SheetTaken, Valid, Admits, Closes, Claims, Commits, Draws}
 use Rattle.session_histories.proofs.Valid.{sheet-exactly}
 use Rattle.session_histories.proofs.Stepped.{taken-turn, stepped-with}

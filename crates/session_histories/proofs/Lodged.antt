@@ -12,7 +12,8 @@ use Rattle.codec.specs.declared.Reply.the-variants.{Taken}
 use Rattle.session.specs.declared.Session.{Session}
 use Rattle.session.specs.Steps.{committedBy, drawnBy, acceptedBy, refusedBy}
 use Rattle.session.specs.Machine.{Step, clear, admit, withdraw, close, claim, commit, draw, check, State, state, next, reply}
-use Rattle.session_histories.specs.Runs.{History, historyAfter, rollAfter, clears, OwnTrace, ownExtend, ownTrace}
+use Rattle.session_histories.specs.Runs.{History, historyAfter, rollAfter, clears}
+use Rattle.session_histories.specs.Internal.{OwnTrace, ownExtend, ownTrace}
 use Rattle.session_histories.proofs.Stepped.{Uncleared, none, more, stepped-all}
 use Rattle.session_histories.proofs.Exact.{admitted-exactly, withdrawn-exactly, closed-exactly, claimed-exactly, committed-exactly}
 

@@ -19,7 +19,8 @@ use Rattle.session_digests.proofs.Laws.{Long}
 use Rattle.session.specs.declared.Session.{Session}
 use Rattle.session.specs.Steps.{Beginning, cleared, admittedBy, closedBy, claimedBy, committedBy, drawnBy, acceptedBy, refusedBy}
 use Rattle.session.specs.Machine.{Step, clear, admit, withdraw, close, claim, commit, draw, check, State, state, next, reply, after}
-use Rattle.session_histories.specs.Runs.{Message, message, Call, History, Begins, emptyHistory, historyAfter, Trace, extend, trace, initial}
+use Rattle.session_histories.specs.Runs.{Message, message, Call, History, emptyHistory, historyAfter}
+use Rattle.session_histories.specs.Internal.{Begins, Trace, extend, trace, initial}
 use Rattle.session_histories.proofs.Stepped.{taken-turn, stepped-with}
 use Rattle.session_histories.proofs.Exact.{closed-exactly, claimed-exactly, committed-exactly, drawn-exactly}
 use Rattle.session_histories.proofs.Kept.{Kept, kept-step, kept}

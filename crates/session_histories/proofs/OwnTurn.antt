@@ -21,7 +21,8 @@ use Rattle.session_check.specs.Check.{Inputs}
 use Rattle.session_progress.specs.Progress.{drawn}
 use Rattle.session.specs.Steps.{Beginning, claimedBy, committedBy}
 use Rattle.session.specs.Machine.{Step, clear, admit, withdraw, close, claim, commit, draw, check, next, reply, after}
-use Rattle.session_histories.specs.Runs.{History, historyAfter, rollAfter, clears, message, Trace, OwnTrace, Begins, ownInitial, ownExtend, ownTrace}
+use Rattle.session_histories.specs.Runs.{History, historyAfter, rollAfter, clears, message}
+use Rattle.session_histories.specs.Internal.{Trace, OwnTrace, Begins, ownInitial, ownExtend, ownTrace}
 use Rattle.session_histories.specs.Claims.{Produced, Turn}
 use Rattle.session_histories.proofs.Stepped.{Uncleared, none, more}
 use Rattle.session_histories.proofs.Exact.{claimed-exactly, committed-exactly}
@@ -182,7 +183,7 @@ module _ (b : Beginning) (readable : Begins b) (before between later last : List
       abbrev reached : Trace
       reached = record { session = with-seed .now .session; history = with-seed .history }
 
-      turn : Turn reached material round x
+      turn : Turn (reached .session) (reached .history) material round x
       turn = record {
         phase = phase;
         due = due;

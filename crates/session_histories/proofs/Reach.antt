@@ -18,7 +18,8 @@ use Rattle.session.specs.declared.Session.{Session}
 use Rattle.session.specs.Session.{valid}
 use Rattle.session.specs.Steps.{Beginning, dueTest, storedFor, clearTests, admitTests, withdrawTests, closeTests, claimTests, commitTests, drawTests, checkEarly, checkLate, checkTests}
 use Rattle.session.specs.Machine.{Step, clear, admit, withdraw, close, claim, commit, draw, check, State, state, reply, after}
-use Rattle.session_histories.specs.Runs.{Call, Begins, ownInitial, initial, trace}
+use Rattle.session_histories.specs.Runs.{Call}
+use Rattle.session_histories.specs.Internal.{Begins, ownInitial, initial, trace}
 use Rattle.session_histories.specs.Conditions.{Valid}
 use Rattle.session_histories.specs.Claims.{Undue}
 use Rattle.session_histories.proofs.Replies.{Others, others, others-append, later-others, head-holds}

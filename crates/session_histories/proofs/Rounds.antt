@@ -17,8 +17,9 @@ use Rattle.session.specs.declared.Session.{Session}
 use Rattle.session.specs.Session.{trailAt}
 use Rattle.session.specs.Steps.{Beginning, storedFor, cleared, admittedBy, closedBy, claimedBy, committedBy, drawnBy, acceptedBy, refusedBy}
 use Rattle.session.specs.Machine.{Step, clear, admit, withdraw, close, claim, commit, draw, check, State, state, next, reply, after}
-use Rattle.session_histories.specs.Runs.{Begins, Trace, Call, call, lent, clears, NoClear, extend, trace, initial}
-use Rattle.session_histories.specs.Claims.{Checked}
+use Rattle.session_histories.specs.Runs.{Call, call, clears}
+use Rattle.session_histories.specs.Internal.{Begins, Trace, lent, NoClear, extend, trace, initial}
+use Rattle.session_histories.specs.Internal.{StepChecked}
 use Rattle.session_histories.proofs.Stepped.{clears-refused, stepped, taken-turn}
 use Rattle.session_histories.proofs.Exact.{closed-exactly, claimed-exactly, committed-exactly, drawn-exactly}
 use Rattle.session_histories.proofs.Checked.{accepted-exactly}
@@ -109,7 +110,7 @@ module _ (b : Beginning) (readable : Begins b) where
   at-more cs c = trace-append cs (c ∷ []) (initial b) ∙ (unfold trace in refl)
 
   record All (cs : List Call) : Type 0 where
-    of : (k : ℕ) → k < at cs .session .progress .checked → Checked b cs k
+    of : (k : ℕ) → k < at cs .session .progress .checked → StepChecked b cs k
 
   module _ (cs : List Call) (c : Call) (h : All cs) where
     abbrev s : Session
@@ -119,7 +120,7 @@ module _ (b : Beginning) (readable : Begins b) where
     t = at (cs ++ (c ∷ [])) .session
 
     -- a check that was taken before
-    longer : clears (c .step) (reply (c .step) (lent (at cs) c)) ≡ false → (k : ℕ) → storedFor s k ≡ storedFor t k → Checked b cs k → Checked b (cs ++ (c ∷ [])) k
+    longer : clears (c .step) (reply (c .step) (lent (at cs) c)) ≡ false → (k : ℕ) → storedFor s k ≡ storedFor t k → StepChecked b cs k → StepChecked b (cs ++ (c ∷ [])) k
     longer e k d w =
         let this = call (check k (w .inputs)) (w .register) in
         let where-at : at cs ≡ trace (w .later) (extend this (at (w .before))) = ap at (w .listed) ∙ trace-append (w .before) (this ∷ w .later) (initial b) ∙ (unfold trace in refl) in
@@ -136,7 +137,7 @@ module _ (b : Beginning) (readable : Begins b) where
         }
 
     -- one that is taken now
-    new : (k : ℕ) (x : Inputs) → c .step ≡ check k x → reply (check k x) (lent (at cs) c) ≡ Taken → storedFor s k ≡ storedFor t k → Checked b (cs ++ (c ∷ [])) k
+    new : (k : ℕ) (x : Inputs) → c .step ≡ check k x → reply (check k x) (lent (at cs) c) ≡ Taken → storedFor s k ≡ storedFor t k → StepChecked b (cs ++ (c ∷ [])) k
     new k x e r d = record {
       before = cs;
       register = c .register;
@@ -157,13 +158,13 @@ module _ (b : Beginning) (readable : Begins b) where
         now = ap (λ (l : Trace). l .session) (sym (at-more cs c))
 
         go : (x : Step) → c .step ≡ x → Move s (c .register) x (after (c .step) (lent (at cs) c) .session) → (k : ℕ) → k < after (c .step) (lent (at cs) c) .session .progress .checked
-            → Checked b (cs ++ (c ∷ [])) k
+            → StepChecked b (cs ++ (c ∷ [])) k
         go x e (restarted z) k l = absurd (omega arith)
         go x e (same u n d) k l =
             longer (ap (λ (y : Step). clears y (reply y (lent (at cs) c))) e ∙ u) k (d (omega arith) k ∙ ap (λ (w : Session). storedFor w k) now) (h .of k (omega arith))
         go x e (counted {round = round} {x = y} i r n d) k l = by (last (s .progress .checked) k (omega (arith, add-one (s .progress .checked))))
           where
-            by : (k < s .progress .checked) ⊎ (k ≡ s .progress .checked) → Checked b (cs ++ (c ∷ [])) k
+            by : (k < s .progress .checked) ⊎ (k ≡ s .progress .checked) → StepChecked b (cs ++ (c ∷ [])) k
             by (inl j) = longer (ap (λ (y : Step). clears y (reply y (lent (at cs) c))) e) k (d k ∙ ap (λ (w : Session). storedFor w k) now) (h .of k j)
             by (inr j) = rw (j ∙ sym i) (new round y e r (d round ∙ ap (λ (w : Session). storedFor w round) now))
 
@@ -175,13 +176,13 @@ module _ (b : Beginning) (readable : Begins b) where
   every cs = all [] cs (record { of = λ k l. absurd (unfold trace initial cleared in omega arith) })
 
 -- every round that a session counts as checked was checked
-pub rounds-checked : (b : Beginning) (cs : List Call) → Begins b → (k : ℕ) → k < trace cs (initial b) .session .progress .checked → Checked b cs k
+pub rounds-checked : (b : Beginning) (cs : List Call) → Begins b → (k : ℕ) → k < trace cs (initial b) .session .progress .checked → StepChecked b cs k
 rounds-checked b cs e = every b e cs .of
 
 -- and of a session that ended accepted every round was
 pub ended-accepted : (b : Beginning) (cs : List Call) → Begins b
     → let s = trace cs (initial b) .session in
-    s .progress .phase ≡ 5 → (k : ℕ) → k < s .numbers .rounds → Checked b cs k
+    s .progress .phase ≡ 5 → (k : ℕ) → k < s .numbers .rounds → StepChecked b cs k
 ended-accepted b cs e ended k l =
     let all : Complete (trace cs (initial b) .session) = complete-trace cs (initial b) (λ w. absurd (unfold initial cleared in omega arith)) in
     every b e cs .of k (omega (arith, all ended))

@@ -14,7 +14,8 @@ use Rattle.round.proofs.Many.{last}
 use Rattle.session_digests.specs.Digests.{ballotDigests}
 use Rattle.round.specs.Layout.{ballotLength}
 use Rattle.session.specs.Machine.{Step, next, reply}
-use Rattle.session_histories.specs.Runs.{historyAfter, rollAfter, OwnTrace, ownExtend, ownTrace}
+use Rattle.session_histories.specs.Runs.{historyAfter, rollAfter}
+use Rattle.session_histories.specs.Internal.{OwnTrace, ownExtend, ownTrace}
 use Rattle.session_histories.specs.Elections.{batch}
 use Rattle.session_histories.proofs.Kept.{Kept, kept-extend}
 use Rattle.session_histories.proofs.OwnTurn.{extend-taken}

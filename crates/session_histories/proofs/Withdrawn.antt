@@ -14,7 +14,8 @@ use Rattle.register.specs.Register.{registerLength, markAt, stateAt, digestAt, 
 use Rattle.register.proofs.Entries.{stands, admitted-marks, admitted-states, admitted-mark, withdrawn-marks, withdrawn-state, withdrawn-states}
 use Rattle.session.specs.Steps.{Beginning, cleared, admittedBy, closedBy, claimedBy, committedBy, drawnBy, acceptedBy, refusedBy}
 use Rattle.session.specs.Machine.{Step, clear, admit, withdraw, close, claim, commit, draw, check, State, next, reply, after}
-use Rattle.session_histories.specs.Runs.{clears, run}
+use Rattle.session_histories.specs.Runs.{clears}
+use Rattle.session_histories.specs.Internal.{run}
 use Rattle.session_histories.specs.Conditions.{Admits, Withdraws}
 use Rattle.session_histories.specs.Claims.{ClosedWithout}
 use Rattle.session_histories.proofs.Stepped.{Uncleared, none, more, stepped, after-taken}

@@ -7,16 +7,14 @@ use mathlib.Core.List.{List, [], _∷_, _++_}
 use Prim.Native.Nat.{ℕ}
 use lib.ListN.{length}
 use Rattle.codec.specs.Bytes.{Bytes, Octets, bytes}
-use Rattle.codec.specs.declared.Reply.the-variants.{Taken}
 use Rattle.sha3.specs.Sponge.{sha3}
 use Rattle.sheet.specs.Reader.{sheetOf}
 use Rattle.round.specs.Extractor.{Collision}
 use Rattle.round.specs.Layout.{ballotLength}
 use Rattle.session_digests.specs.Digests.{concatenated, ballotDigests}
 use Rattle.session_check.specs.Check.{Inputs}
-use Rattle.session.specs.Steps.{Beginning}
-use Rattle.session.specs.Machine.{Step, clear, admit, withdraw, close, claim, commit, draw, check, state, reply}
-use Rattle.session_histories.specs.Runs.{Message, message, History, Call, Begins, initial, trace}
+use Rattle.session.specs.Machine.{Step, clear, admit, withdraw, close, claim, commit, draw, check}
+use Rattle.session_histories.specs.Runs.{Message, message, History, Call}
 
 -- what is lent is what was lodged, or the strings in which the two stand collide
 abbrev pub Agrees : {A : Type 0} (string : A → Bytes) (lent lodged : A) → Type 0
@@ -85,15 +83,3 @@ pub record LentBytes (x : Inputs) : Type 0 where
   pub head : Octets (x .head)
   pub shares0 : Octets (x .shares0)
   pub shares1 : Octets (x .shares1)
-
--- ---- lists of steps from a newly cleared session, each lent any register
-
--- every check that is taken is bound
-abbrev pub ChecksBound : Type 0
-ChecksBound = (b : Beginning) (cs : List Call) → Begins b
-    → let l = trace cs (initial b) in
-    (register : Bytes) (k : ℕ) (x : Inputs) → reply (check k x) (state (l .session) register) ≡ Taken → Bound (l .history) k x
-
--- by strings of bytes, where what is lent is bytes
-abbrev pub ChecksHashed : Type 0
-ChecksHashed = (b : Beginning) (cs : List Call) → Octets (b .sheet) → LodgesAll cs → (k : ℕ) (x : Inputs) → LentBytes x → Hashed (trace cs (initial b) .history) k x

@@ -3,5 +3,6 @@ pub mod Sheets
 pub mod Conditions
 pub mod Claims
 pub mod Bound
+pub mod Internal
 pub mod Examples
 pub mod Elections

@@ -1,19 +1,14 @@
--- Lists of a session's steps (document 01, "Register and session", and the paragraph on demand 3's last sentence): what was taken since the last clear taken, and the ballots
--- admitted and not withdrawn. Assumes nothing.
+-- What a step that is taken adds to what was lodged and to the roll (document 01, "Register and session", and the paragraph on demand 3's last sentence). Assumes nothing.
 use mathlib.Core.Bool.{Bool, true, false, cond}
-use mathlib.Core.Path.{_≡_}
 use mathlib.Core.List.{List, [], _∷_, _++_}
 use Prim.Native.Nat.{ℕ}
 use lib.Dec.{eqb}
-use Rattle.codec.specs.Bytes.{Bytes, zeros}
-use Rattle.codec.specs.Reply.{first, leaves}
+use Rattle.codec.specs.Bytes.{Bytes}
 use Rattle.codec.specs.declared.Reply.{Reply}
 use Rattle.codec.specs.declared.Reply.the-variants.{Taken, Refused}
-use Rattle.sheet.specs.Sheet.{order}
-use Rattle.register.specs.Register.{registerLength, standingDigests, markOf}
-use Rattle.session.specs.declared.Session.{Session}
-use Rattle.session.specs.Steps.{Beginning, cleared}
-use Rattle.session.specs.Machine.{Step, clear, admit, withdraw, close, claim, commit, draw, check, State, state, reply, after}
+use Rattle.register.specs.Register.{standingDigests, markOf}
+use Rattle.session.specs.Steps.{Beginning}
+use Rattle.session.specs.Machine.{Step, clear, admit, withdraw, close, claim, commit, draw, check, State}
 
 -- a first message, as it is lent
 pub record Message : Type 0 where
@@ -79,11 +74,6 @@ clears (commit k head shares0 shares1) r = false
 clears (draw seed) r = false
 clears (check k x) r = false
 
--- a session, and what was taken
-pub record Trace : Type 0 where
-  pub session : Session
-  pub history : History
-
 -- a step, and the register that it is lent
 pub record Call : Type 0 where
   pub step : Step
@@ -91,64 +81,3 @@ pub record Call : Type 0 where
 
 abbrev pub call : Step → Bytes → Call
 call x reg = record { step = x; register = reg }
-
-abbrev pub lent : Trace → Call → State
-lent l c = state (l .session) (c .register)
-
--- a session with its register, what was taken, and the roll
-pub record OwnTrace : Type 0 where
-  pub now : State
-  pub history : History
-  pub roll : List Bytes
-
--- a clear with this is taken, lent a register
-abbrev pub Begins : Beginning → Type 0
-Begins b = first (order (b .sheet)) ≡ Taken
-
--- newly cleared
-unfoldable pub initial : Beginning → Trace
-initial b = record { session = cleared b; history = emptyHistory b }
-
--- with the register that clear leaves
-unfoldable pub ownInitial : Beginning → OwnTrace
-ownInitial b = record { now = state (cleared b) (zeros registerLength); history = emptyHistory b; roll = [] }
-
--- ---- each step is given the session and the register that the last one left
-
-unfoldable pub run : List Step → State → State
-run [] st = st
-run (x ∷ xs) st = run xs (after x st)
-
--- the same with the history and the roll
-unfoldable pub ownExtend : Step → OwnTrace → OwnTrace
-ownExtend x t = record {
-  now = after x (t .now);
-  history = leaves (reply x (t .now)) (historyAfter x (t .now) (t .history)) (t .history);
-  roll = leaves (reply x (t .now)) (rollAfter x (t .roll)) (t .roll);
-}
-
-unfoldable pub ownTrace : List Step → OwnTrace → OwnTrace
-ownTrace [] t = t
-ownTrace (x ∷ xs) t = ownTrace xs (ownExtend x t)
-
--- ---- each step is given the session that the last one left, and any register
-
-unfoldable pub extend : Call → Trace → Trace
-extend c l = record {
-  session = after (c .step) (lent l c) .session;
-  history = leaves (reply (c .step) (lent l c)) (historyAfter (c .step) (lent l c) (l .history)) (l .history);
-}
-
-unfoldable pub trace : List Call → Trace → Trace
-trace [] l = l
-trace (c ∷ cs) l = trace cs (extend c l)
-
--- no clear is taken
-unfoldable pub NoClear : List Call → Trace → Type 0
-NoClear [] l = Unit
-NoClear (c ∷ cs) l = (clears (c .step) (reply (c .step) (lent l c)) ≡ false) × NoClear cs (extend c l)
-
--- steps as calls that are lent the register that the last step left
-unfoldable pub calls : List Step → State → List Call
-calls [] st = []
-calls (x ∷ xs) st = record { step = x; register = st .register } ∷ calls xs (after x st)
