@@ -1,4 +1,4 @@
-# make try        builds the proved library and the host program, runs a whole small election from nothing and checks it on another case
+# make try        builds the proved library and the host program, runs a whole small election from nothing and checks it from the published files
 # make test       the gate: every proof from nothing, the must-fail edits, and the tests outside the proof
 # make host-test  the tests of the host program: elections, damaged files, crashes
 # make install    header, library, pkg-config file and host program, to DESTDIR/PREFIX
