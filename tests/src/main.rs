@@ -8,6 +8,7 @@ mod documents;
 mod empty;
 mod polynomials;
 mod random;
+mod reading;
 mod ring;
 mod round;
 mod scheme;
@@ -24,8 +25,9 @@ use tally::Tally;
 
 type Part = (&'static str, fn(&mut Tally));
 
-const PARTS: [Part; 10] = [
+const PARTS: [Part; 11] = [
     ("documents", documents::run),
+    ("reading", reading::run),
     ("sha3", sha3::run),
     ("digest", digest::run),
     ("ring", ring::run),

@@ -10,7 +10,8 @@ use Rattle.modular.proofs.Near.{near-le, near-add, near-negative, near-plain}
 use Rattle.ring.specs.Poly.{Poly, plus, minus, scale, mul, Alike}
 use Rattle.ring.proofs.Polynomials.{plus-comm, plus-assoc, plus-left-comm, scale-plus, scale-left-comm, mul-plus, plus-mul, mul-scale, scale-mul, mul-poly-assoc, mul-poly-left-comm, alike-eq, alike-refl, alike-sym, _so_, alike-plus, alike-minus}
 use Rattle.ring.proofs.Sizes.{near-product}
-use Rattle.bgv.specs.Scheme.{noisy, Small, key, cipher-u, cipher-v, opened, plain, decrypted, Sound}
+use Rattle.bgv.specs.Scheme.{noisy, Small, key, cipher-u, cipher-v, opened, plain, decrypted}
+use Rattle.bgv.specs.Internal.{Sound}
 use Rattle.bgv.proofs.Form.{noisy-alike, alike-drop}
 use Rattle.bgv.proofs.Round.{positive}
 

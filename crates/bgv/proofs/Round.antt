@@ -1,19 +1,21 @@
 -- One round: what is rebuilt from two shares is what decryption opens, less p times both masks, so that reconstruction equals decryption; and the mask
--- that is worked out from a share is the one that was lent. Assumes nothing.
+-- that is recoveredMask out from a share is the one that was lent. Assumes nothing.
 use mathlib.Core.Path.{_≡_, refl, sym, ap, _∙_}
 use Prim.Native.Nat.{ℕ, _+_, _-_, _*_, _/_, _%_, _^_, _≤_, _<_}
 use native.Mathlib.Nat.{add-mul, mul-add, one-mul, mul-comm, mul-assoc, mul-le-mul, div-mul-le-self}
 use native.Mathlib.Omega.{arith}
 use lib.IntN.{ℤ, pos, natAbs, negℤ, _+ℤ_, _-ℤ_, _*ℤ_}
 use Rattle.modular.specs.Modulo.{Same, centre, remainder}
-use Rattle.modular.specs.Division.{Coprime, divide}
+use Rattle.modular.specs.Division.{divide}
+use Rattle.modular.specs.Internal.{Coprime}
 use Rattle.modular.proofs.Congruence.{same-refl, same-eq, same-sym, _then_, same-mod, same-add, same-mul}
 use Rattle.modular.proofs.Centring.{centre-unique, centre-remainder, remainder-mod}
 use Rattle.modular.proofs.Division.{times-divide, divide-times}
 use Rattle.modular.proofs.WholeNumbers.{abs-negative, abs-sum, abs-multiple, remainder-sum, remainder-less, remainder-drops}
 use Rattle.ring.specs.Poly.{Poly, plus, minus, scale, mul, Alike}
 use Rattle.ring.proofs.Polynomials.{plus-comm, plus-assoc, plus-left-comm, scale-plus, scale-left-comm, plus-mul, alike-eq, alike-refl, _so_, alike-plus, alike-minus, alike-mul}
-use Rattle.bgv.specs.Scheme.{noisy, Wholes, residues, Bounded, Small, opened, plain, decrypted, share, worked, rebuilt, reconstructed, Sound}
+use Rattle.bgv.specs.Scheme.{noisy, Wholes, residues, Bounded, Small, opened, plain, decrypted, share, recoveredMask, rebuilt, reconstructed}
+use Rattle.bgv.specs.Internal.{Sound}
 use Rattle.bgv.proofs.Form.{alike-drop}
 
 -- ---- document 01's condition gives the room
@@ -38,9 +40,9 @@ module _ {q p D B : ℕ} (ok : Sound q p D B) where
   -- ---- masks
 
   module _ {N : ℕ} (s u t : Poly) where
-    -- a share with the mask that is worked out from it is that share
-    pub share-worked : Alike q N (share q N p s u (worked q N p s u t)) t
-    unfolding noisy worked
+    -- a share with the mask that is recoveredMask out from it is that share
+    pub share-worked : Alike q N (share q N p s u (recoveredMask q N p s u t)) t
+    unfolding noisy recoveredMask
     share-worked = alike-plus alike-refl masked so alike-eq (ap (plus (mul q N s u)) (plus-comm t (scale (q - 1) (mul q N s u)))) so alike-drop (mul q N s u) t positive
       where
         masked : Alike q N (scale p (residues q (λ k. centre q (divide q p (minus q t (mul q N s u) k))))) (minus q t (mul q N s u))
@@ -49,9 +51,9 @@ module _ {q p D B : ℕ} (ok : Sound q p D B) where
               same-mul (same-refl {x = p}) (same-eq (centre-remainder q x positive) then same-mod) then times-divide (ok .positive) (ok .apart) (minus q t (mul q N s u) k);
         }
 
-    -- the mask that is worked out from a share is the lent one
-    pub worked-share : (E : Wholes) → Bounded N B E → Alike q N t (share q N p s u E) → (k : ℕ) → k < N → worked q N p s u t k ≡ E k
-    unfolding worked noisy
+    -- the mask that is recoveredMask out from a share is the lent one
+    pub worked-share : (E : Wholes) → Bounded N B E → Alike q N t (share q N p s u E) → (k : ℕ) → k < N → recoveredMask q N p s u t k ≡ E k
+    unfolding recoveredMask noisy
     worked-share E bounded made k l =
         centre-unique q (divide q p (minus q t (mul q N s u) k)) (E k) (ok .odd)
         (sym (remainder-mod q (E k)) ∙ sym (divide-times (ok .positive) (ok .apart) (minus q t (mul q N s u) k) (remainder q (E k)) (masked .at k l) .is))

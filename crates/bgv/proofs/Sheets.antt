@@ -8,7 +8,7 @@ use Rattle.sheet.specs.Sheet.{reading}
 use Rattle.sheet_numbers.specs.declared.Numbers.{Numbers}
 use Rattle.sheet.specs.declared.Reading.the-variants.{Taken}
 use Rattle.sheet.proofs.Taken.{taken}
-use Rattle.bgv.specs.Scheme.{Sound}
+use Rattle.bgv.specs.Internal.{Sound}
 use Rattle.bgv.proofs.Round.{sound}
 
 pub sheet-sound : (text : Bytes) (k : Numbers) → reading text ≡ Taken k → Sound (k .modulus) (plain k) (noiseOf k) (maskOf k)

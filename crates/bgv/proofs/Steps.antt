@@ -6,9 +6,11 @@ use native.Mathlib.Omega.{arith}
 use lib.ListN.{length}
 use Rattle.codec.specs.Bytes.{Bytes, put, zeros}
 use Rattle.ring.specs.Poly.{Poly, plus, scale, mul, Below}
-use Rattle.ring.specs.Slots.{slot, encode, store, Slots}
+use Rattle.ring.specs.Slots.{slot, encode}
+use Rattle.ring.specs.Internal.{store, Slots}
 use Rattle.ring.proofs.Polynomials.{alike-eq, alike-refl, _so_, alike-plus, alike-scale}
-use Rattle.scratch.specs.Call.{coefficients, Stands}
+use Rattle.scratch.specs.Call.{coefficients}
+use Rattle.scratch.specs.Internal.{InSlot}
 use Rattle.scratch.proofs.Slots.{Holds, holds-alike, holds-slot, stored, stored-length, stored-other, put-length, put-other, stands-alike, stands-after, stands-stored}
 use Rattle.scratch.proofs.Loads.{Loaded, written-load, both-length, first-kept, length1, x1, y1, add-slots-asks}
 use Rattle.bgv.specs.Scheme.{noisy}
@@ -37,14 +39,14 @@ module _ (q n : ℕ) (high : n ≤ 2048) (some : 3 ≤ q) (few : q < 2 ^ 56) whe
     pub add-asks : Slots n 0 16384 w2 × Below q n (slot w2 0) × Below q n (slot w2 16384)
     add-asks = add-slots-asks q n high some few w2 (two-length ∙ l) x2 y2
 
-    pub combined : (w3 : Bytes) → w3 ≡ store q n w2 0 (plus (slot w2 0) (slot w2 16384)) → Stands q n (noisy q n p a (slot w 0) (slot w 16384)) w w3
+    pub combined : (w3 : Bytes) → w3 ≡ store q n w2 0 (plus (slot w2 0) (slot w2 16384)) → InSlot q n (noisy q n p a (slot w 0) (slot w 16384)) w w3
     combined w3 e3 =
         stands-alike (stands-stored q n (plus (slot w2 0) (slot w2 16384)) w w2 w3 (omega (arith, two-length)) two-length e3)
         (alike-plus (holds-alike x2) (holds-alike y2 so alike-scale p (holds-alike (y1 q n high some few w a l w1 e1 y))) so alike-eq (sym (noisy-turned q n p a (slot w 0) (slot w 16384))))
 
   -- two polynomials are put at 0 and at 16,384, and then combined
   pub stands-noisy : (p : ℕ) (f g : Poly) (w w1 w2 : Bytes) → length w ≡ 1048576 → Loaded q n 0 f w w1 → Loaded q n 16384 g w1 w2
-      → (a : Poly) (w3 : Bytes) → Stands q n (noisy q n p a (slot w2 0) (slot w2 16384)) w2 w3 → Stands q n (noisy q n p a f g) w w3
+      → (a : Poly) (w3 : Bytes) → InSlot q n (noisy q n p a (slot w2 0) (slot w2 16384)) w2 w3 → InSlot q n (noisy q n p a f g) w w3
   stands-noisy p f g w w1 w2 l x y a w3 h =
       stands-after (both-length q n high some few f g w w1 w2 l x y)
       (stands-alike h (noisy-alike q n p alike-refl (holds-alike (first-kept q n high some few f g w w1 w2 l x y)) (holds-alike (y .holds))))
@@ -67,7 +69,7 @@ module _ (q n : ℕ) (high : n ≤ 2048) (some : 3 ≤ q) (few : q < 2 ^ 56) whe
     pub message-asks : Slots n 0 16384 w1 × Below q n (slot w1 0) × Below q n (slot w1 16384)
     message-asks = add-slots-asks q n high some few w1 (length-message ∙ l) x-kept (y .holds)
 
-    pub stands-message : (w2 : Bytes) → w2 ≡ store q n w1 0 (plus (slot w1 0) (slot w1 16384)) → Stands q n (plus (slot w 0) (coefficients m)) w w2
+    pub stands-message : (w2 : Bytes) → w2 ≡ store q n w1 0 (plus (slot w1 0) (slot w1 16384)) → InSlot q n (plus (slot w 0) (coefficients m)) w w2
     stands-message w2 e2 =
         stands-alike (stands-stored q n (plus (slot w1 0) (slot w1 16384)) w w1 w2 (omega (arith, length-message)) length-message e2)
         (alike-plus (holds-alike x-kept) (holds-alike (y .holds)))

@@ -16,7 +16,7 @@ use Rattle.modular.proofs.Congruence.{mod-mul-left}
 use Rattle.modular.proofs.Centring.{centre-mod}
 use Rattle.ring.specs.Poly.{Poly}
 use Rattle.ring.specs.Slots.{poly}
-use Rattle.scratch.specs.Call.{Stands}
+use Rattle.scratch.specs.Internal.{InSlot}
 use Rattle.scratch.proofs.Slots.{stands-poly}
 use Rattle.bgv.specs.Scheme.{plain, within}
 
@@ -41,7 +41,7 @@ module _ (d : Bytes) (f : Poly) where
   voted-all n h = put-whole d (list n f) (length-list n f ∙ sym h)
 
 -- the vote goes by what the coefficients are modulo q
-pub plain-stands : (q p n : ℕ) (f : Poly) (w w' : Bytes) → 0 < q → q < 2 ^ 56 → Stands q n f w w' → list n (plain q p (poly w')) ≡ list n (plain q p f)
+pub plain-stands : (q p n : ℕ) (f : Poly) (w w' : Bytes) → 0 < q → q < 2 ^ 56 → InSlot q n f w w' → list n (plain q p (poly w')) ≡ list n (plain q p f)
 unfolding plain
 plain-stands q p n f w w' h b s = list-cong n (λ k l. ap (remainder p) (ap (centre q) (stands-poly q n f w w' s h b k l) ∙ centre-mod q (f k)))
 
@@ -50,7 +50,7 @@ unfolding divide
 divide-mod q p x = mod-mul-left q x (inverse q p)
 
 -- and so does the bound of a mask that is worked out
-pub quotients-stand : (q p n K : ℕ) (f : Poly) (w w' : Bytes) → 0 < q → q < 2 ^ 56 → Stands q n f w w'
+pub quotients-stand : (q p n K : ℕ) (f : Poly) (w w' : Bytes) → 0 < q → q < 2 ^ 56 → InSlot q n f w w'
     → within K n (λ k. centre q (divide q p (poly w' k))) ≡ within K n (λ k. centre q (divide q p (f k)))
 unfolding within
 quotients-stand q p n K f w w' h b s =

@@ -23,7 +23,7 @@ use Rattle.sheet_lines.specs.Reader.{digit, step, values, line, rows as rowsIn}
 use Rattle.sheet.specs.Reader.{formed, sheetOf}
 use Rattle.sheet.specs.Sheet.{unfit, reading, replyOf}
 use Rattle.sheet.specs.Examples.{textI}
-use Rattle.bgv.specs.Scheme.{Wholes, noisy, centred, key, cipher-u, cipher-v, opened, plain, decrypted, other, lentMask, share, worked, within, rebuilt, reconstructed}
+use Rattle.bgv.specs.Scheme.{Wholes, noisy, centred, key, cipher-u, cipher-v, opened, plain, decrypted, other, lentMask, share, recoveredMask, within, rebuilt, reconstructed}
 
 -- ---- the paper's polynomials and numbers
 
@@ -106,15 +106,15 @@ reply r = pos (numberOf r) ∷ pos (placeOf r) ∷ []
 abbrev masked : List ℤ → Reply
 masked E = first (test 12 0 (not (within (mask 2 4 0) 4 (lentMask (words (map (remainder (2 ^ 64)) E))))) ∷ [])
 
--- what is worked out, and what the paper has
-pub record Row : Type 0 where
+-- what is recoveredMask out, and what the paper has
+pub record Example : Type 0 where
   pub got : List ℤ
   pub said : List ℤ
 
-abbrev row : List ℤ → List ℤ → Row
+abbrev row : List ℤ → List ℤ → Example
 row g w = record { got = g; said = w }
 
-pub rows : List Row
+pub rows : List Example
 rows =
     row (reduced (key 97 4 2 a s e)) (numbers (3 ∷ 7 ∷ 94 ∷ 92 ∷ []))  -- A
     ∷ row (reduced (cipher-u 97 4 2 a r e')) (numbers (0 ∷ 3 ∷ 5 ∷ 0 ∷ []))  -- B
@@ -124,8 +124,8 @@ rows =
     ∷ row (reduced (other 97 s s0)) (numbers (88 ∷ 77 ∷ 66 ∷ 57 ∷ []))  -- D
     ∷ row (reduced (share 97 4 2 s0 u (whole E0))) (numbers (29 ∷ 16 ∷ 13 ∷ 95 ∷ []))  -- E
     ∷ row (reduced (share 97 4 2 s1 u (whole E1))) (numbers (81 ∷ 74 ∷ 0 ∷ 90 ∷ []))  -- F
-    ∷ row (four (worked 97 4 2 s0 u t0)) E0  -- E and F back: the masks worked out from the shares
-    ∷ row (four (worked 97 4 2 s1 u t1)) E1
+    ∷ row (four (recoveredMask 97 4 2 s0 u t0)) E0  -- E and F back: the masks recoveredMask out from the shares
+    ∷ row (four (recoveredMask 97 4 2 s1 u t1)) E1
     ∷ row (four (centred 97 (rebuilt 97 v t0 t1))) (- 5 ∷ pos 10 ∷ - 5 ∷ pos 7 ∷ [])  -- G
     ∷ row (four (λ k. pos (reconstructed 97 2 v t0 t1 k))) (numbers (1 ∷ 0 ∷ 1 ∷ 1 ∷ []))
     ∷ row (pos (remainder 2 (centre 97 94)) ∷ pos (remainder 2 (- 3)) ∷ []) (numbers (1 ∷ 1 ∷ []))  -- 94 by 2, which is -3 by 2
@@ -137,6 +137,6 @@ rows =
     ∷ []
 
 -- each row is as the paper says
-pub examples : map (λ (x : Row). x .got) rows ≡ map (λ (x : Row). x .said) rows
-unfolding rows centre remainder divide inverse multiplier sum turn coefficient mul plus scale meaning ternary noisy cipher-v opened plain worked rebuilt first within allBelow list poly signed words bytes number reading written lines listed decimal formed sheetOf rowsIn line values step digit any outside unsound sheet-plain unfit power least most
+pub examples : map (λ (x : Example). x .got) rows ≡ map (λ (x : Example). x .said) rows
+unfolding rows centre remainder divide inverse multiplier sum turn coefficient mul plus scale meaning ternary noisy cipher-v opened plain recoveredMask rebuilt first within allBelow list poly signed words bytes number reading written lines listed decimal formed sheetOf rowsIn line values step digit any outside unsound sheet-plain unfit power least most
 examples = refl

@@ -1,13 +1,12 @@
 -- BGV encryption and its distributed decryption (document 000, sections 5.3 and 6.1; document 01, "Ring and scheme" and "One round"), with N, q and the
 -- plaintext modulus p as parameters. A polynomial's coefficients count modulo q. Assumes nothing.
-use Prim.Native.Nat.{ℕ, suc, _+_, _-_, _*_, _/_, _%_, _≤_, _<_}
-use mathlib.Core.Path.{_≡_}
+use Prim.Native.Nat.{ℕ, suc, _≤_, _<_}
 use mathlib.Core.Bool.{Bool}
 use lib.IntN.{ℤ, natAbs}
 use Rattle.codec.specs.Bytes.{Bytes, signed}
 use Rattle.codec.specs.Lists.{list, allBelow}
 use Rattle.modular.specs.Modulo.{centre, remainder}
-use Rattle.modular.specs.Division.{Coprime, divide}
+use Rattle.modular.specs.Division.{divide}
 use Rattle.ring.specs.Poly.{Poly, plus, minus, scale, mul}
 use Rattle.ring.specs.Slots.{poly}
 
@@ -79,9 +78,9 @@ lentMask mask = λ k. signed (poly mask k)
 abbrev pub share : (q N p : ℕ) (s u : Poly) → Wholes → Poly
 share q N p s u E = noisy q N p s u (residues q E)
 
--- the mask worked out from a share t: (t - s_i u) / p modulo q, then centred
-unfoldable pub worked : (q N p : ℕ) (s u t : Poly) → Wholes
-worked q N p s u t = λ k. centre q (divide q p (minus q t (mul q N s u) k))
+-- the mask recoveredMask out from a share t: (t - s_i u) / p modulo q, then centred
+unfoldable pub recoveredMask : (q N p : ℕ) (s u t : Poly) → Wholes
+recoveredMask q N p s u t = λ k. centre q (divide q p (minus q t (mul q N s u) k))
 
 -- v - t0 - t1
 unfoldable pub rebuilt : (q : ℕ) (v t0 t1 : Poly) → Poly
@@ -91,10 +90,3 @@ abbrev pub reconstructed : (q p : ℕ) (v t0 t1 : Poly) → Poly
 reconstructed q p v t0 t1 = plain q p (rebuilt q v t0 t1)
 
 -- ---- what the theorems ask of the numbers
-
--- q is odd, p has no factor in common with it, and a noise of D and p times two masks of B do not wrap
-pub record Sound (q p D B : ℕ) : Type 0 where
-  pub odd : q % 2 ≡ 1
-  pub positive : 0 < p
-  pub apart : Coprime p q
-  pub room : D + 2 * p * B ≤ (q - 1) / 2

@@ -8,11 +8,13 @@ ghost use Rattle.codec.specs.Slices.{given, left};
 ghost use Rattle.codec.specs.Bytes.{put};
 ghost use Rattle.codec.specs.Lists.{list, allBelow};
 ghost use Rattle.modular.specs.Modulo.{centre};
-ghost use Rattle.modular.specs.Division.{Coprime, divide};
+ghost use Rattle.modular.specs.Division.{divide};
+ghost use Rattle.modular.specs.Internal.{Coprime};
 ghost use Rattle.ring.specs.Poly.{plus, minus, mul, Below};
 ghost use Rattle.ring.specs.Slots.{coefficientBytes, poly, slot, encode};
 ghost use Rattle.ring.specs.Ternary.{ternary};
-ghost use Rattle.scratch.specs.Call.{scratchLength, coefficients, Polynomial, Stands, Free};
+ghost use Rattle.scratch.specs.Call.{scratchLength, coefficients};
+ghost use Rattle.scratch.specs.Internal.{Polynomial, InSlot, Free};
 ghost use Rattle.bgv.specs.Scheme as scheme;
 ghost use Rattle.bgv.specs.Scheme.{lentMask, within};
 
@@ -24,7 +26,7 @@ const ROOM: usize = 32768;
 pub fn combine(work: &mut [u8], a: &[u8], p: u64, n: usize, q: u64)
     requires { ⌜ Polynomial n q (now a) × (length (now work) ≡ scratchLength) × (p < q) ⌝ }
     requires { ⌜ Below q n (slot (now work) 0) × Below q n (slot (now work) 16384) ⌝ }
-    ensures { λ _. ⌜ Stands q n (scheme.noisy q n p (poly (now (a .entry))) (slot (now (work .entry)) 0) (slot (now (work .entry)) 16384))
+    ensures { λ _. ⌜ InSlot q n (scheme.noisy q n p (poly (now (a .entry))) (slot (now (work .entry)) 0) (slot (now (work .entry)) 16384))
         (now (work .entry)) (now (work .exit)) ⌝ }
 {
     ring_product::multiply(work, 0, ROOM, a, n, q);
@@ -35,7 +37,7 @@ pub fn combine(work: &mut [u8], a: &[u8], p: u64, n: usize, q: u64)
 // a x + p y, for ternary bytes x and y.
 pub fn noisy(work: &mut [u8], a: &[u8], x: &[u8], y: &[u8], p: u64, n: usize, q: u64)
     requires { ⌜ Polynomial n q (now a) × (length (now work) ≡ scratchLength) × (length (now x) ≡ n) × (length (now y) ≡ n) × (p < q) ⌝ }
-    ensures { λ _. ⌜ Stands q n (scheme.noisy q n p (poly (now (a .entry))) (ternary q (now (x .entry))) (ternary q (now (y .entry))))
+    ensures { λ _. ⌜ InSlot q n (scheme.noisy q n p (poly (now (a .entry))) (ternary q (now (x .entry))) (ternary q (now (y .entry))))
         (now (work .entry)) (now (work .exit)) ⌝ }
 {
     ring::load_ternary(work, 0, x, q);
@@ -47,7 +49,7 @@ pub fn noisy(work: &mut [u8], a: &[u8], x: &[u8], y: &[u8], p: u64, n: usize, q:
 pub fn noisy_lent(work: &mut [u8], a: &[u8], x: &[u8], y: &[u8], p: u64, n: usize, q: u64)
     requires { ⌜ Polynomial n q (now a) × Polynomial n q (now x) × Polynomial n q (now y) × (length (now work) ≡ scratchLength)
         × (p < q) ⌝ }
-    ensures { λ _. ⌜ Stands q n (scheme.noisy q n p (poly (now (a .entry))) (poly (now (x .entry))) (poly (now (y .entry))))
+    ensures { λ _. ⌜ InSlot q n (scheme.noisy q n p (poly (now (a .entry))) (poly (now (x .entry))) (poly (now (y .entry))))
         (now (work .entry)) (now (work .exit)) ⌝ }
 {
     codec::copy(work, 0, x);
@@ -93,7 +95,7 @@ pub fn load_bytes(work: &mut [u8], at: usize, m: &[u8])
 pub fn add_message(work: &mut [u8], m: &[u8], n: usize, q: u64)
     requires { ⌜ (n ≤ 2048) × (3 ≤ q) × (q < 2 ^ 56) × (length (now work) ≡ scratchLength) × (length (now m) ≡ n)
         × Below q n (coefficients (now m)) × Below q n (slot (now work) 0) ⌝ }
-    ensures { λ _. ⌜ Stands q n (plus (slot (now (work .entry)) 0) (coefficients (now (m .entry)))) (now (work .entry))
+    ensures { λ _. ⌜ InSlot q n (plus (slot (now (work .entry)) 0) (coefficients (now (m .entry)))) (now (work .entry))
         (now (work .exit)) ⌝ }
 {
     load_bytes(work, ERROR, m);
@@ -124,7 +126,7 @@ pub fn noisy_difference(
 )
     requires { ⌜ Polynomial n q (now a) × Polynomial n q (now x0) × Polynomial n q (now y0) × (length (now work) ≡ scratchLength)
         × (length (now x) ≡ n) × (length (now y) ≡ n) × (p < q) ⌝ }
-    ensures { λ _. ⌜ Stands q n (scheme.noisy q n p (poly (now (a .entry))) (scheme.other q (ternary q (now (x .entry)))
+    ensures { λ _. ⌜ InSlot q n (scheme.noisy q n p (poly (now (a .entry))) (scheme.other q (ternary q (now (x .entry)))
         (poly (now (x0 .entry)))) (scheme.other q (ternary q (now (y .entry))) (poly (now (y0 .entry))))) (now (work .entry))
         (now (work .exit)) ⌝ }
 {
@@ -136,7 +138,7 @@ pub fn noisy_difference(
 // v - x u, for x at 0.
 fn less_product(work: &mut [u8], u: &[u8], v: &[u8], n: usize, q: u64)
     requires { ⌜ Polynomial n q (now u) × Polynomial n q (now v) × (length (now work) ≡ scratchLength) × Below q n (slot (now work) 0) ⌝ }
-    ensures { λ _. ⌜ Stands q n (minus q (poly (now (v .entry))) (mul q n (slot (now (work .entry)) 0) (poly (now (u .entry)))))
+    ensures { λ _. ⌜ InSlot q n (minus q (poly (now (v .entry))) (mul q n (slot (now (work .entry)) 0) (poly (now (u .entry)))))
         (now (work .entry)) (now (work .exit)) ⌝ }
 {
     ring_product::multiply(work, 0, ROOM, u, n, q);
@@ -147,7 +149,7 @@ fn less_product(work: &mut [u8], u: &[u8], v: &[u8], n: usize, q: u64)
 // v - s u, for ternary bytes s.
 pub fn opened(work: &mut [u8], s: &[u8], u: &[u8], v: &[u8], n: usize, q: u64)
     requires { ⌜ Polynomial n q (now u) × Polynomial n q (now v) × (length (now work) ≡ scratchLength) × (length (now s) ≡ n) ⌝ }
-    ensures { λ _. ⌜ Stands q n (scheme.opened q n (ternary q (now (s .entry))) (poly (now (u .entry))) (poly (now (v .entry))))
+    ensures { λ _. ⌜ InSlot q n (scheme.opened q n (ternary q (now (s .entry))) (poly (now (u .entry))) (poly (now (v .entry))))
         (now (work .entry)) (now (work .exit)) ⌝ }
 {
     ring::load_ternary(work, 0, s, q);
@@ -157,7 +159,7 @@ pub fn opened(work: &mut [u8], s: &[u8], u: &[u8], v: &[u8], n: usize, q: u64)
 // v - t0 - t1.
 pub fn rebuilt(work: &mut [u8], v: &[u8], t0: &[u8], t1: &[u8], n: usize, q: u64)
     requires { ⌜ Polynomial n q (now v) × Polynomial n q (now t0) × Polynomial n q (now t1) × (length (now work) ≡ scratchLength) ⌝ }
-    ensures { λ _. ⌜ Stands q n (scheme.rebuilt q (poly (now (v .entry))) (poly (now (t0 .entry))) (poly (now (t1 .entry))))
+    ensures { λ _. ⌜ InSlot q n (scheme.rebuilt q (poly (now (v .entry))) (poly (now (t0 .entry))) (poly (now (t1 .entry))))
         (now (work .entry)) (now (work .exit)) ⌝ }
 {
     codec::copy(work, 0, v);
@@ -206,7 +208,7 @@ pub fn load_mask(work: &mut [u8], mask: &[u8], n: usize, q: u64)
 pub fn share(work: &mut [u8], s: &[u8], u: &[u8], mask: &[u8], p: u64, n: usize, q: u64)
     requires { ⌜ Polynomial n q (now s) × Polynomial n q (now u) × (length (now mask) ≡ 8 * n) × (length (now work) ≡ scratchLength)
         × (p < q) ⌝ }
-    ensures { λ _. ⌜ Stands q n (scheme.share q n p (poly (now (s .entry))) (poly (now (u .entry))) (lentMask (now (mask .entry))))
+    ensures { λ _. ⌜ InSlot q n (scheme.share q n p (poly (now (s .entry))) (poly (now (u .entry))) (lentMask (now (mask .entry))))
         (now (work .entry)) (now (work .exit)) ⌝ }
 {
     codec::copy(work, 0, s);
@@ -247,7 +249,7 @@ pub fn mask_within(
 ) -> bool
     requires { ⌜ Polynomial n q (now half) × Polynomial n q (now u) × Polynomial n q (now t) × (length (now work) ≡ scratchLength)
         × (0 < p) × (p ≤ 251) × Coprime p q ⌝ }
-    ensures { λ r. ⌜ (r ≡ within bound n (scheme.worked q n p (poly (given half)) (poly (given u)) (poly (given t))))
+    ensures { λ r. ⌜ (r ≡ within bound n (scheme.recoveredMask q n p (poly (given half)) (poly (given u)) (poly (given t))))
         × Free (given work) (left work) ⌝ }
 {
     codec::copy(work, 0, half);

@@ -18,8 +18,8 @@ use Rattle.sheet.specs.Sheet.{order}
 use Rattle.round.specs.Layout.{ballotLength}
 use Rattle.round.specs.Producer.{Material}
 use Rattle.round.proofs.Many.{first-refused}
-use Rattle.round_lengths.specs.Sheets.{parametersOf, ballotsIn}
-use Rattle.session_check.specs.Check.{Inputs, storedTests, earlyTests}
+use Rattle.round_lengths.specs.Sheets.{ballotsIn}
+use Rattle.session_check.specs.Check.{storedTests, earlyTests}
 use Rattle.session_check.proofs.Laws.{early-exactly}
 use Rattle.session.specs.declared.Session.{Session}
 use Rattle.session.specs.Steps.{storedFor, checkEarly, checkLate, checkTests, refusedBy}
@@ -31,6 +31,8 @@ use Rattle.session_histories.specs.Claims.{Produced}
 use Rattle.session_histories.proofs.Valid.{sheet-exactly}
 use Rattle.session_histories.proofs.Honest.{late-none}
 use Rattle.claims.specs.AnySession.{BeforeTheRound, accepted, not-due, sheet's, length as wrong-length, differs, AnySession}
+use Rattle.commitment.specs.Parameters.{parametersOf}
+use Rattle.session_check.specs.Stored.{Inputs}
 
 -- ---- the tests before the round
 

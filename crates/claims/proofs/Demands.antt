@@ -15,7 +15,7 @@ use Rattle.round.proofs.Extraction.{extraction}
 use Rattle.round.proofs.ExtractionHashed.{hashed}
 use Rattle.round.proofs.ExtractionOutput.{output, lowest}
 use Rattle.round.proofs.Refuses.{parts-exactly, refuses-exactly, takes-accepted, refuses-alike, lending}
-use Rattle.round_lengths.specs.Sheets.{parametersOf, ballotsIn}
+use Rattle.round_lengths.specs.Sheets.{ballotsIn}
 use Rattle.session.specs.Machine.{state, reply}
 use Rattle.session_image.specs.Image.{decode}
 use Rattle.session_image.specs.Images.{hostReply}
@@ -36,6 +36,7 @@ use Rattle.claims.proofs.Yields.{extractor-takes}
 use Rattle.claims.proofs.Produces.{positive, fits, first-exactly, second-call-exactly}
 use Rattle.claims.proofs.Extracts.{extractor-exactly, lent-takes}
 use Rattle.claims.specs.Demands.{SheetExactly, StepExactly, HonestBallots, Demand2, ExtractorExactly, Extracts, AcceptedYields, RoundsYield, RefusesAsChecks, ProducerWrites, HonestRounds, Demand3}
+use Rattle.commitment.specs.Parameters.{parametersOf}
 
 -- ---- over an image
 

@@ -1,4 +1,4 @@
--- The claims of specs/Endings.antt, from what an ended session does (histories, proofs/Ended.antt). Assumes nothing.
+-- The claims of specs/Endings.antt, from what an ended session does (session_histories, proofs/Ended.antt). Assumes nothing.
 use mathlib.Core.Path.{_≡_, refl, sym, ap, subst, _∙_}
 use mathlib.Core.Logic.{_≢_, _⊎_, inl, inr}
 use mathlib.Core.Bool.{Bool, true, false}
@@ -11,10 +11,10 @@ use borrow.Author.Tests.{eq-eqb, eqb-true}
 use Rattle.codec.specs.Bytes.{Bytes, Octets, zeros}
 use Rattle.codec.specs.declared.Reply.the-variants.{Taken, Refused}
 use Rattle.codec.proofs.Replies.{not-taken}
-use Rattle.scratch.specs.Call.{swept}
-use Rattle.scratch.proofs.Sweeping.{swept-taken, swept-refused, kept-length, kept-state}
+use Rattle.scratch.specs.Call.{zeroized}
+use Rattle.scratch.proofs.Zeroizing.{zeroized-taken, zeroized-refused, kept-length, kept-state}
 use Rattle.register.specs.Register.{registerLength}
-use Rattle.session_check.specs.Check.{Inputs}
+use Rattle.session_check.specs.Stored.{Inputs}
 use Rattle.session.specs.declared.Session.{Session}
 use Rattle.session.specs.Steps.{on, cleared, refusedBy}
 use Rattle.session.specs.Machine.{Step, clear, check, State, state, reply, after}
@@ -151,11 +151,11 @@ refusal-ends = record {
 
 pub scratch-zeroed : ScratchZeroed
 scratch-zeroed = record {
-  taken = λ scratch. swept-taken Taken scratch refl;
-  refused = λ number place scratch n m. swept-refused (Refused number place) number place scratch refl n m;
-  left = unswept;
+  taken = λ scratch. zeroized-taken Taken scratch refl;
+  refused = λ number place scratch n m. zeroized-refused (Refused number place) number place scratch refl n m;
+  left = unzeroized;
 }
   where
-    unswept : (number place : ℕ) (scratch : Bytes) → (number ≡ 1) ⊎ (number ≡ 31) → swept (Refused number place) scratch ≡ scratch
-    unswept number place scratch (inl e) = kept-length (Refused number place) number place scratch refl e
-    unswept number place scratch (inr e) = kept-state (Refused number place) number place scratch refl (λ f. omega arith) e
+    unzeroized : (number place : ℕ) (scratch : Bytes) → (number ≡ 1) ⊎ (number ≡ 31) → zeroized (Refused number place) scratch ≡ scratch
+    unzeroized number place scratch (inl e) = kept-length (Refused number place) number place scratch refl e
+    unzeroized number place scratch (inr e) = kept-state (Refused number place) number place scratch refl (λ f. omega arith) e

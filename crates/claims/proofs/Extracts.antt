@@ -9,12 +9,12 @@ use Rattle.codec.specs.Reply.{None}
 use Rattle.codec.specs.declared.Reply.the-variants.{Taken}
 use Rattle.codec.proofs.Replies.{taken-exactly}
 use Rattle.scratch.specs.Call.{scratchLength}
-use Rattle.round.specs.Round.{Parameters}
+use Rattle.commitment.specs.Parameters.{Parameters, parametersOf}
 use Rattle.round.specs.Extractor.{Openings, ExtractRoom, extractRoom, Lent, extractTests}
 use Rattle.round.proofs.OpeningsAccepted.{openings-exactly}
 use Rattle.round.proofs.Tests.{equal-same}
 use Rattle.round_lengths.specs.Calls.{messageSized, openingsSized, openingsTests}
-use Rattle.round_lengths.specs.Sheets.{parametersOf, ballotsIn}
+use Rattle.round_lengths.specs.Sheets.{ballotsIn}
 use Rattle.round_extract.proofs.Tested.{lent-message, lent-openings, extract-lengths}
 use Rattle.round_extract.specs.Replies.{extractReply}
 use Rattle.session_histories.specs.Conditions.{SheetTaken}

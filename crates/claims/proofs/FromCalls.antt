@@ -11,15 +11,15 @@ use Rattle.codec.specs.declared.Reply.{Reply}
 use Rattle.codec.specs.declared.Reply.the-variants.{Taken}
 use Rattle.scratch.specs.Call.{scratchLength}
 use Rattle.sheet_numbers.specs.declared.Numbers.{Numbers}
-use Rattle.round.specs.Round.{Parameters}
+use Rattle.commitment.specs.Parameters.{Parameters, parametersOf}
 use Rattle.round.specs.Producer.{Material, producedClaims, producedOpening, producedAnswers}
 use Rattle.round.specs.Writes.{FirstRoom, SecondRoom}
 use Rattle.round.proofs.Produced.{length-producedClaims}
-use Rattle.round_lengths.specs.Sheets.{parametersOf, ballotsIn}
+use Rattle.round_lengths.specs.Sheets.{ballotsIn}
 use Rattle.session_digests.specs.Digests.{concatenated}
 use Rattle.session_digests.specs.Draw.{drawnSide, drawnChallenges}
 use Rattle.round_produce.specs.Replies.{FirstCalled, SecondCalled}
-use Rattle.session_check.specs.Check.{Inputs, inputsOf}
+use Rattle.session_check.specs.Stored.{Inputs, inputsOf}
 use Rattle.session.specs.declared.Session.{Session}
 use Rattle.session.specs.Steps.{on, challengesOut}
 use Rattle.session.specs.Machine.{Step, clear, claim, commit, draw, check, reply, after}

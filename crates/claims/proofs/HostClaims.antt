@@ -11,7 +11,7 @@ use Rattle.session.specs.Steps.{Beginning}
 use Rattle.session.specs.Machine.{Step, clear, withdraw, close, check, State, state, reply, after}
 use Rattle.session_histories.specs.Runs.{History, emptyHistory, Call, call}
 use Rattle.session_histories.specs.Internal.{Begins, StepChecked, initial, ownInitial, run, ownTrace, extend, trace, calls}
-use Rattle.session_histories.specs.Conditions.{Valid, Checks}
+use Rattle.session_histories.specs.Conditions.{ValidSession, Checks}
 use Rattle.session_histories.specs.Claims.{Undue}
 use Rattle.session_histories.specs.Bound.{Bound, Hashed}
 use Rattle.session_histories.proofs.Withdrawn.{withdrawn-stays-out}
@@ -138,7 +138,7 @@ host-bound start b cs s register k x e =
 
 pub host-stays-valid : HostStaysValid
 host-stays-valid start b cs s =
-    in-both start b s (λ (z : Session) (h : History). Valid z × (z .numbers ≡ sheetOf (h .sheet) .numbers)) cs (reachable-valid b cs (readable start b s))
+    in-both start b s (λ (z : Session) (h : History). ValidSession z × (z .numbers ≡ sheetOf (h .sheet) .numbers)) cs (reachable-valid b cs (readable start b s))
 
 pub host-only-phase-or-round : HostOnlyPhaseOrRound
 host-only-phase-or-round start b cs s x register place e =

@@ -9,7 +9,8 @@ use Rattle.codec.specs.Reply.{leaves}
 use Rattle.codec.specs.declared.Reply.{Reply}
 use Rattle.session.specs.declared.Session.{Session}
 use Rattle.session.specs.Machine.{Step, State, state, reply, after}
-use Rattle.session_image.specs.Image.{imageLength, encode, decode, Typed}
+use Rattle.session_image.specs.Image.{imageLength, encode, decode}
+use Rattle.session_image.specs.Internal.{Typed}
 use Rattle.session_image.proofs.Law.{length-encode, load-store}
 use Rattle.session_image.specs.Images.{Host, host, hostReply, hostAfter}
 use Rattle.session_histories.specs.Runs.{historyAfter, rollAfter, clears, Call, call}

@@ -8,12 +8,11 @@ use Rattle.sheet.specs.Reader.{sheetOf}
 use Rattle.sheet.specs.Sheet.{order, readingBy, reading}
 use Rattle.sheet.specs.declared.Reading.the-variants as reading
 use Rattle.keccak_bits.proofs.Sponge.{sha3-bits}
-use Rattle.bgv.specs.Scheme.{Sound}
+use Rattle.bgv.specs.Internal.{Sound}
 use Rattle.bgv.proofs.Form.{halves, split-key}
 use Rattle.bgv.proofs.Round as round
 use Rattle.bgv.proofs.Sheets.{sheet-sound}
-use Rattle.round.specs.Round.{Parameters}
-use Rattle.round_lengths.specs.Sheets.{parametersOf}
+use Rattle.commitment.specs.Parameters.{Parameters, parametersOf}
 use Rattle.keccak.specs.Table.{offsets-rule}
 use Rattle.keccak.specs.Tables.{constants-rule}
 use Rattle.claims.specs.Papers.{Distributed, DigestOfBits, TablesByRule}

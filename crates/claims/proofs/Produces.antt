@@ -13,13 +13,13 @@ use Rattle.codec.specs.declared.Reply.the-variants.{Taken}
 use Rattle.codec.proofs.Laws.{both}
 use Rattle.codec.proofs.Replies.{taken-exactly}
 use Rattle.sheet.specs.Sheet.{order}
-use Rattle.round.specs.Round.{Parameters}
+use Rattle.commitment.specs.Parameters.{Parameters, parametersOf}
 use Rattle.round.specs.Producer.{Material, askedRanged, producerTests}
 use Rattle.round.proofs.Many.{append-none, none-append}
 use Rattle.round.proofs.Passed.{producer-exactly, second-exactly}
 use Rattle.round.specs.Writes.{firstRoom, secondRoom}
 use Rattle.round_lengths.specs.Calls.{lengthsTest, materialSized, firstSized, secondSized, firstTests, secondTests}
-use Rattle.round_lengths.specs.Sheets.{parametersOf, ballotsIn}
+use Rattle.round_lengths.specs.Sheets.{ballotsIn}
 use Rattle.round_lengths.proofs.Sizes.{material-exactly, first-sizes, first-sized, second-sizes, second-sized}
 use Rattle.round_produce.specs.Replies.{firstReply, secondReply}
 use Rattle.session_histories.specs.Conditions.{SheetTaken}

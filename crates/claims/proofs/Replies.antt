@@ -22,15 +22,15 @@ use Rattle.ring.specs.Poly.{Poly}
 use Rattle.commitment.specs.Commitment.{Keys}
 use Rattle.stern.specs.Shortness.{answer1Of, answer2Of, answer3Of, tests1, tests2, tests3, answerTests}
 use Rattle.round.specs.Layout.{Opening, each, pairsOf, digestsAt, answerAt}
-use Rattle.round.specs.Round.{Parameters, Round, challengeAt, votesTests, answersTests, roundTests}
+use Rattle.round.specs.Round.{Round, challengeAt, votesTests, answersTests, roundTests}
 use Rattle.round.specs.Producer.{Material, maskTests, permutationTests, noiseTests, producerTests}
 use Rattle.round.specs.Extractor.{Openings, open0, open1, sideTests, extractTests}
 use Rattle.round_lengths.specs.Calls.{firstTests, secondTests, openingsTests}
-use Rattle.round_lengths.specs.Sheets.{parametersOf}
+use Rattle.commitment.specs.Parameters.{Parameters, parametersOf}
 use Rattle.round_extract.specs.Extraction.{answered, extraction}
 use Rattle.round_produce.specs.Replies.{firstReply, secondReply}
 use Rattle.round_extract.specs.Replies.{extractReply}
-use Rattle.session_check.specs.Check.{Inputs, storedTests, earlyTests, lateTests}
+use Rattle.session_check.specs.Check.{storedTests, earlyTests, lateTests}
 use Rattle.session.specs.declared.Session.{Session}
 use Rattle.session.specs.Session.{valid}
 use Rattle.session.specs.Steps.{clearTests, admitTests, withdrawTests, closeTests, claimTests, commitTests, drawTests, checkEarly, checkLate, checkTests, challengesTests, turnoutTests, turnoutBy}
@@ -38,6 +38,7 @@ use Rattle.session_image.specs.Image.{imageLength, decode}
 use Rattle.session_image.specs.Images.{Host, lentReply, hostReply, challengesReply, turnoutReply, turnoutAnswer, countedAnswer}
 use Rattle.session.specs.Machine.{Step, clear, admit, withdraw, close, claim, commit, draw, check, State, state, reply}
 use Rattle.claims.specs.Replies.{Told, Packed, RepliesTold}
+use Rattle.session_check.specs.Stored.{Inputs}
 
 -- ---- orders
 

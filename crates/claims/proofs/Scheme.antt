@@ -18,12 +18,11 @@ use Rattle.ring.proofs.Ranges.{below-sound, below-complete}
 use Rattle.sheet.specs.Sheet.{order}
 use Rattle.scratch.specs.Call.{scratchLength, lengthTest, bytesBelow, coefficientsBelow}
 use Rattle.bgv.specs.Scheme.{within, lentMask}
-use Rattle.round.specs.Round.{Parameters}
+use Rattle.commitment.specs.Parameters.{Parameters, parametersOf}
 use Rattle.round.specs.Accepted.{EachBelow}
 use Rattle.round.proofs.Many.{append-none, none-append}
 use Rattle.round.proofs.Ranged.{each-exactly}
 use Rattle.round.proofs.Tests.{within-sound, within-complete}
-use Rattle.round_lengths.specs.Sheets.{parametersOf}
 use Rattle.scheme_calls.specs.Orders.{keygenOrder, encryptOrder, decryptOrder, splitOrder, shareOrder, reconstructOrder, commitmentOrder}
 use Rattle.session_histories.specs.Conditions.{SheetTaken}
 use Rattle.session_histories.proofs.Valid.{bytes-pass, sheet-exactly}

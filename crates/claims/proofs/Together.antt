@@ -23,7 +23,8 @@ use Rattle.sheet.specs.Reader.{sheetOf}
 use Rattle.sheet.specs.Sheet.{order}
 use Rattle.scratch.specs.Call.{scratchLength, bytesBelow, coefficients}
 use Rattle.scratch.proofs.Order.{length-at}
-use Rattle.bgv.specs.Scheme.{Bounded, Small, key, cipher-u, cipher-v, opened, decrypted, other, share, lentMask, Sound}
+use Rattle.bgv.specs.Scheme.{Bounded, Small, key, cipher-u, cipher-v, opened, decrypted, other, share, lentMask}
+use Rattle.bgv.specs.Internal.{Sound}
 use Rattle.bgv.proofs.Ballot.{honest-noise, honest-decrypts}
 use Rattle.bgv.proofs.Form.{halves, opened-alike}
 use Rattle.bgv.proofs.Round as round
@@ -32,11 +33,10 @@ use Rattle.scheme.specs.Calls.{encryptTests, shareTests, encryptWrites, splitWr
 use Rattle.stern.proofs.Honest.{slot-alike}
 use Rattle.stern.proofs.Layouts.{part-first, part-rest}
 use Rattle.round_shares.proofs.ShareAlgebra.{plain-alike}
-use Rattle.round.specs.Round.{Parameters}
+use Rattle.commitment.specs.Parameters.{Parameters, parametersOf}
 use Rattle.round.proofs.ExtractionSizes.{small-alike, small-ternary}
 use Rattle.round.proofs.Many.{append-none}
 use Rattle.round.proofs.Tests.{within-sound}
-use Rattle.round_lengths.specs.Sheets.{parametersOf}
 use Rattle.scheme_calls.specs.Orders.{keyOf, ciphertextOf, voteOf, splitOf, shareOf, voteOfShares}
 use Rattle.session_histories.specs.Conditions.{SheetTaken}
 use Rattle.session_histories.proofs.Valid.{sheet-exactly}

@@ -21,7 +21,8 @@ use Rattle.session.specs.declared.Session.{Session}
 use Rattle.session.specs.Session.{changed}
 use Rattle.session.specs.Steps.{Beginning, cleared, admittedBy, closedBy, claimedBy, committedBy, drawnBy, acceptedBy, refusedBy}
 use Rattle.session.specs.Machine.{Step, clear, admit, withdraw, close, claim, commit, draw, check, State, next, reply, after}
-use Rattle.session_image.specs.Image.{imageLength, fields, start, decode, Typed}
+use Rattle.session_image.specs.Image.{imageLength, fields, start, decode}
+use Rattle.session_image.specs.Internal.{Typed}
 use Rattle.session_histories.specs.Conditions.{Clears, Admits, Closes, Commits, Draws}
 use Rattle.session_histories.proofs.Stepped.{stepped, taken-turn}
 use Rattle.session_histories.proofs.Exact.{cleared-exactly, admitted-exactly, closed-exactly, committed-exactly, drawn-exactly}

@@ -17,15 +17,15 @@ use Rattle.sheet.specs.Sheet.{order}
 use Rattle.scratch.specs.Call.{scratchLength}
 use Rattle.stern.specs.Shortness.{answerLength}
 use Rattle.round.specs.Layout.{answersLength}
-use Rattle.round.specs.Round.{Parameters, Round, Lengths, challengeAt, roundTests}
+use Rattle.round.specs.Round.{Round, Lengths, challengeAt, roundTests}
 use Rattle.round.specs.Extractor.{Openings, extractRoom, Lent, extractTests}
 use Rattle.round.specs.Refuses.{openingBy, answerBy, OfLent, OpensLent, AnswersLent}
 use Rattle.round.proofs.Answers.{answersLength-more, prefix-le}
 use Rattle.round.proofs.Many.{for-sides, for-challenges, append-none}
 use Rattle.round.proofs.Refuses.{takes-accepted}
-use Rattle.round_lengths.specs.Sheets.{parametersOf, ballotsIn}
+use Rattle.round_lengths.specs.Sheets.{ballotsIn}
 use Rattle.round_extract.specs.Replies.{extractReply}
-use Rattle.session_check.specs.Check.{Inputs, drawnRound, lateTests}
+use Rattle.session_check.specs.Check.{lateTests}
 use Rattle.session_check.proofs.Laws.{round-sized, early-exactly}
 use Rattle.session.specs.declared.Session.{Session}
 use Rattle.session.specs.Steps.{storedFor, checkEarly, checkLate, checkTests}
@@ -35,7 +35,9 @@ use Rattle.session_image.specs.Images.{hostReply}
 use Rattle.session_histories.proofs.Valid.{ready, sheet-exactly}
 use Rattle.claims.proofs.Images.{lent-exactly}
 use Rattle.claims.proofs.Extracts.{lent-takes}
-use Rattle.claims.specs.Demands.{AcceptedCheck, roundOf, AcceptedOpening, AcceptedAnswer}
+use Rattle.claims.specs.Demands.{AcceptedCheck, checkedRound, AcceptedOpening, AcceptedAnswer}
+use Rattle.commitment.specs.Parameters.{Parameters, parametersOf}
+use Rattle.session_check.specs.Stored.{Inputs, drawnRound}
 
 -- ---- what an accepted check found, for m ballots
 
@@ -59,14 +61,14 @@ passed-by s round x e =
     }
 
 -- the count of its session is that of the lent ballots
-passed : {text : Bytes} (x : Openings) (c : AcceptedCheck text) → OfLent x (roundOf c) → Passed text (ballotsIn text (x .ballots)) (roundOf c)
+passed : {text : Bytes} (x : Openings) (c : AcceptedCheck text) → OfLent x (checkedRound c) → Passed text (ballotsIn text (x .ballots)) (checkedRound c)
 unfolding hostReply reply
 passed {text} x c o =
     let s = decode (c .image) in
     let taken = lent-exactly (c .image) (λ t. first (checkTests t (c .round) (c .inputs))) .0 (c .taken) .1 in
-    let held = subst (λ (t : Bytes). Passed t (s .progress .closed) (roundOf c)) (c .sheet) (passed-by s (c .round) (c .inputs) taken) in
+    let held = subst (λ (t : Bytes). Passed t (s .progress .closed) (checkedRound c)) (c .sheet) (passed-by s (c .round) (c .inputs) taken) in
     let count : ballotsIn text (x .ballots) ≡ s .progress .closed = div-eq-of-eq-mul-right (omega arith) (sym (ap length (o .ballots)) ∙ held .lengths .ballots) in
-    subst (λ (m : ℕ). Passed text m (roundOf c)) (sym count) held
+    subst (λ (m : ℕ). Passed text m (checkedRound c)) (sym count) held
 
 -- ---- the extractor over two openings and three answers that were accepted
 
@@ -79,11 +81,11 @@ module _ (text : Bytes) (x : Openings) (o0 : AcceptedOpening text x 0) (o1 : Acc
   m = ballotsIn text (x .ballots)
 
   abbrev opened : ℕ → Round
-  opened zero = roundOf (o0 .check)
-  opened (suc i) = roundOf (o1 .check)
+  opened zero = checkedRound (o0 .check)
+  opened (suc i) = checkedRound (o1 .check)
 
   abbrev answered : ℕ → Round
-  answered c = cond (eqb c 1) (roundOf (a1 .check)) (cond (eqb c 2) (roundOf (a2 .check)) (roundOf (a3 .check)))
+  answered c = cond (eqb c 1) (checkedRound (a1 .check)) (cond (eqb c 2) (checkedRound (a2 .check)) (checkedRound (a3 .check)))
 
   opens : (i : ℕ) → i < 2 → OpensLent x i (opened i)
   opens = for-sides (λ i. OpensLent x i (opened i)) (o0 .opens) (o1 .opens)

@@ -9,12 +9,13 @@ use Rattle.codec.specs.declared.Reply.{Reply}
 use Rattle.codec.specs.declared.Reply.the-variants.{Taken, Refused}
 use Rattle.sheet.specs.Sheet.{order}
 use Rattle.round.specs.Producer.{Material}
-use Rattle.round_lengths.specs.Sheets.{parametersOf, ballotsIn}
-use Rattle.session_check.specs.Check.{Inputs}
+use Rattle.round_lengths.specs.Sheets.{ballotsIn}
+use Rattle.commitment.specs.Parameters.{parametersOf}
 use Rattle.session_image.specs.Image.{decode}
 use Rattle.session.specs.Machine.{check}
 use Rattle.session_image.specs.Images.{Host, hostReply, hostAfter}
 use Rattle.session_histories.specs.Claims.{Produced}
+use Rattle.session_check.specs.Stored.{Inputs}
 
 -- taken, or refused for what comes before the round itself: 31, the lent sheet's own 1 to 5, 1 or 16
 pub data BeforeTheRound (sheet : Bytes) : Reply → Type 0 where

@@ -1,5 +1,5 @@
 -- "The first case that holds in the order given decides, and no refusal comes otherwise" (document 01, "Refused because of the state"), for each exported call; and the orders'
--- numbers as that paragraph gives them. Assumes nothing.
+-- refusalNumbers as that paragraph gives them. Assumes nothing.
 use mathlib.Core.Path.{_≡_}
 use mathlib.Core.Logic.{_↔_}
 use mathlib.Core.Bool.{not}
@@ -18,13 +18,13 @@ use Rattle.round.specs.Producer.{Material}
 use Rattle.round.specs.Writes.{FirstRoom, SecondRoom}
 use Rattle.round.specs.Extractor.{Openings, ExtractRoom}
 use Rattle.round_lengths.specs.Calls.{firstTests, secondTests, openingsTests}
-use Rattle.round_lengths.specs.Sheets.{parametersOf}
+use Rattle.commitment.specs.Parameters.{parametersOf}
 use Rattle.sheet_numbers.specs.declared.Numbers.{Numbers}
 use Rattle.scheme.specs.Calls.{keygenTests, encryptTests, decryptTests, splitTests, shareTests, reconstructTests, commitmentTests}
 use Rattle.scheme_calls.specs.Orders.{keygenOrder, encryptOrder, decryptOrder, splitOrder, shareOrder, reconstructOrder, commitmentOrder}
 use Rattle.round_produce.specs.Replies.{firstReply, secondReply}
 use Rattle.round_extract.specs.Replies.{extractReply}
-use Rattle.session_check.specs.Check.{Inputs}
+use Rattle.session_check.specs.Stored.{Inputs}
 use Rattle.session.specs.Steps.{Beginning, challengesTests, turnoutTests, checkEarly}
 use Rattle.session.specs.Machine.{Step, clear, admit, withdraw, close, claim, commit, draw, State, state, tests}
 use Rattle.session.specs.declared.Session.{Session}
@@ -63,30 +63,30 @@ pub record FirstDecides : Type 0 where
   pub challenges : (image : Bytes) (round : ℕ) (out : Bytes) → Decided (challengesReply image round out) (imageTest image ∷ challengesTests (decode image) round out)
   pub turnout : (image reg : Bytes) (enrolled : ℕ) → Decided (turnoutReply image reg enrolled) (imageTest image ∷ turnoutTests (decode image) reg enrolled)
 
--- ---- the numbers of the orders
+-- ---- the refusalNumbers of the orders
 
-abbrev pub numbers : List Test → List ℕ
-numbers ts = map (λ (t : Test). t .number) ts
+abbrev pub refusalNumbers : List Test → List ℕ
+refusalNumbers ts = map (λ (t : Test). t .number) ts
 
 -- "Sheet and clear: 1, 2, 3, 4, 5. Admit: 31, 1, 5, 32, 33, 35. Withdraw: 31, 1, 34, 33. Close: 31, 1, 36. Claim: 31, 1, 5. Commit, draw: 31, 1. Turnout (any phase): 31, 1, 3.
 -- Check: 31, the sheet's 1 to 5, 1, 16, 5, 6, 7, 8; .. then by ballot 12, 13. .. Remaining calls: 1, 5, 12." What 16 compares are five tests; only jdn_share is lent a mask
 pub record OrdersAsWritten : Type 0 where
-  pub sheet : (text : Bytes) → numbers (order text) ≡ 1 ∷ 2 ∷ 3 ∷ 4 ∷ 5 ∷ []
+  pub sheet : (text : Bytes) → refusalNumbers (order text) ≡ 1 ∷ 2 ∷ 3 ∷ 4 ∷ 5 ∷ []
   -- the register's length, then the sheet
-  pub clear : (b : Beginning) (st : State) → numbers (tests (clear b) st) ≡ 1 ∷ 1 ∷ 2 ∷ 3 ∷ 4 ∷ 5 ∷ []
-  pub admit : (ballot : Bytes) (st : State) → numbers (tests (admit ballot) st) ≡ 31 ∷ 1 ∷ 5 ∷ 32 ∷ 33 ∷ 35 ∷ []
-  pub withdraw : (mark : ℕ) (st : State) → numbers (tests (withdraw mark) st) ≡ 31 ∷ 1 ∷ 34 ∷ 33 ∷ []
-  pub close : (st : State) → numbers (tests close st) ≡ 31 ∷ 1 ∷ 36 ∷ []
-  pub claim : (claims : Bytes) (st : State) → numbers (tests (claim claims) st) ≡ 31 ∷ 1 ∷ 5 ∷ []
-  pub commit : (round : ℕ) (head shares0 shares1 : Bytes) (st : State) → numbers (tests (commit round head shares0 shares1) st) ≡ 31 ∷ 1 ∷ []
-  pub draw : (seed : Bytes) (st : State) → numbers (tests (draw seed) st) ≡ 31 ∷ 1 ∷ []
-  pub check-early : (s : Session) (round : ℕ) (x : Inputs) → numbers (checkEarly s round x) ≡ 31 ∷ 1 ∷ 2 ∷ 3 ∷ 4 ∷ 5 ∷ 1 ∷ 16 ∷ 16 ∷ 16 ∷ 16 ∷ 16 ∷ []
-  pub challenges : (s : Session) (round : ℕ) (out : Bytes) → numbers (challengesTests s round out) ≡ 31 ∷ 1 ∷ []
-  pub turnout : (s : Session) (reg : Bytes) (enrolled : ℕ) → numbers (turnoutTests s reg enrolled) ≡ 31 ∷ 1 ∷ 3 ∷ []
-  pub keygen : (k : Numbers) (s e b scratch : Bytes) → numbers (keygenTests k s e b scratch) ≡ 1 ∷ 5 ∷ []
-  pub encrypt : (k : Numbers) (r e1 e2 m ciphertext scratch : Bytes) → numbers (encryptTests k r e1 e2 m ciphertext scratch) ≡ 1 ∷ 5 ∷ []
-  pub decrypt : (k : Numbers) (s ciphertext vote scratch : Bytes) → numbers (decryptTests k s ciphertext vote scratch) ≡ 1 ∷ 5 ∷ []
-  pub split : (k : Numbers) (s e s0 e0 out scratch : Bytes) → numbers (splitTests k s e s0 e0 out scratch) ≡ 1 ∷ 5 ∷ []
-  pub share : (k : Numbers) (half u mask t scratch : Bytes) → numbers (shareTests k half u mask t scratch) ≡ 1 ∷ 5 ∷ 12 ∷ []
-  pub reconstruct : (k : Numbers) (v t0 t1 vote scratch : Bytes) → numbers (reconstructTests k v t0 t1 vote scratch) ≡ 1 ∷ 5 ∷ []
-  pub commitment : (k : Numbers) (m r pair scratch : Bytes) → numbers (commitmentTests k m r pair scratch) ≡ 1 ∷ 5 ∷ []
+  pub clear : (b : Beginning) (st : State) → refusalNumbers (tests (clear b) st) ≡ 1 ∷ 1 ∷ 2 ∷ 3 ∷ 4 ∷ 5 ∷ []
+  pub admit : (ballot : Bytes) (st : State) → refusalNumbers (tests (admit ballot) st) ≡ 31 ∷ 1 ∷ 5 ∷ 32 ∷ 33 ∷ 35 ∷ []
+  pub withdraw : (mark : ℕ) (st : State) → refusalNumbers (tests (withdraw mark) st) ≡ 31 ∷ 1 ∷ 34 ∷ 33 ∷ []
+  pub close : (st : State) → refusalNumbers (tests close st) ≡ 31 ∷ 1 ∷ 36 ∷ []
+  pub claim : (claims : Bytes) (st : State) → refusalNumbers (tests (claim claims) st) ≡ 31 ∷ 1 ∷ 5 ∷ []
+  pub commit : (round : ℕ) (head shares0 shares1 : Bytes) (st : State) → refusalNumbers (tests (commit round head shares0 shares1) st) ≡ 31 ∷ 1 ∷ []
+  pub draw : (seed : Bytes) (st : State) → refusalNumbers (tests (draw seed) st) ≡ 31 ∷ 1 ∷ []
+  pub check-early : (s : Session) (round : ℕ) (x : Inputs) → refusalNumbers (checkEarly s round x) ≡ 31 ∷ 1 ∷ 2 ∷ 3 ∷ 4 ∷ 5 ∷ 1 ∷ 16 ∷ 16 ∷ 16 ∷ 16 ∷ 16 ∷ []
+  pub challenges : (s : Session) (round : ℕ) (out : Bytes) → refusalNumbers (challengesTests s round out) ≡ 31 ∷ 1 ∷ []
+  pub turnout : (s : Session) (reg : Bytes) (enrolled : ℕ) → refusalNumbers (turnoutTests s reg enrolled) ≡ 31 ∷ 1 ∷ 3 ∷ []
+  pub keygen : (k : Numbers) (s e b scratch : Bytes) → refusalNumbers (keygenTests k s e b scratch) ≡ 1 ∷ 5 ∷ []
+  pub encrypt : (k : Numbers) (r e1 e2 m ciphertext scratch : Bytes) → refusalNumbers (encryptTests k r e1 e2 m ciphertext scratch) ≡ 1 ∷ 5 ∷ []
+  pub decrypt : (k : Numbers) (s ciphertext vote scratch : Bytes) → refusalNumbers (decryptTests k s ciphertext vote scratch) ≡ 1 ∷ 5 ∷ []
+  pub split : (k : Numbers) (s e s0 e0 out scratch : Bytes) → refusalNumbers (splitTests k s e s0 e0 out scratch) ≡ 1 ∷ 5 ∷ []
+  pub share : (k : Numbers) (half u mask t scratch : Bytes) → refusalNumbers (shareTests k half u mask t scratch) ≡ 1 ∷ 5 ∷ 12 ∷ []
+  pub reconstruct : (k : Numbers) (v t0 t1 vote scratch : Bytes) → refusalNumbers (reconstructTests k v t0 t1 vote scratch) ≡ 1 ∷ 5 ∷ []
+  pub commitment : (k : Numbers) (m r pair scratch : Bytes) → refusalNumbers (commitmentTests k m r pair scratch) ≡ 1 ∷ 5 ∷ []

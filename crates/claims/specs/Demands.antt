@@ -14,23 +14,23 @@ use Rattle.ring.specs.Poly.{Poly, Alike}
 use Rattle.sheet.specs.Sheet.{order}
 use Rattle.scratch.specs.Call.{scratchLength}
 use Rattle.bgv.specs.Scheme.{Small, key, cipher-u, cipher-v, opened, decrypted}
-use Rattle.bgv.specs.Examples.{Row}
-use Rattle.round.specs.Round.{Parameters, Round, roundTests}
-use Rattle.round.specs.Producer.{Material, Sized, producedRound}
+use Rattle.bgv.specs.Examples.{Example}
+use Rattle.round.specs.Round.{Round, roundTests}
+use Rattle.round.specs.Producer.{Material, MaterialSized, producedRound}
 use Rattle.round.specs.Suitable.{Suitable}
 use Rattle.round.specs.Extractor as extractor
 use Rattle.round.specs.Extractor.{Openings, extractRoom, extractTests, kind, extracted, Found, Hashed, Lowest, Output}
 use Rattle.round.specs.Refuses.{openingTests, repetitionTests, OpensLent, AnswersLent, lentRound, Lending, ChecksTake, ChecksRefuse}
-use Rattle.round_lengths.specs.Sheets.{parametersOf, ballotsIn}
+use Rattle.round_lengths.specs.Sheets.{ballotsIn}
 use Rattle.round.specs.Writes.{firstRoom, secondRoom}
 use Rattle.round_produce.specs.Replies.{firstReply, secondReply}
 use Rattle.round_extract.specs.Replies.{extractReply}
-use Rattle.session_check.specs.Check.{Inputs, drawnRound}
+use Rattle.commitment.specs.Parameters.{Parameters, parametersOf}
 use Rattle.session.specs.Steps.{storedFor}
 use Rattle.session.specs.Machine.{Step, check, state}
 use Rattle.session_image.specs.Image.{imageLength, decode}
 use Rattle.session_image.specs.Images.{host, hostReply}
-use Rattle.session_histories.specs.Conditions.{SheetTaken, Lent, Takes}
+use Rattle.session_histories.specs.Conditions.{SheetTaken, HeadIsBytes, Takes}
 use Rattle.session_histories.specs.Examples.{all-rows}
 use Rattle.claims.specs.Papers.{Distributed, DecryptsTogether, DigestOfBits, TablesByRule}
 use Rattle.claims.specs.Produces.{WritesFirst, WritesSecond}
@@ -42,6 +42,7 @@ use Rattle.claims.specs.AnySession.{AnySession}
 use Rattle.claims.specs.Endings.{RefusalEnds, ClearBegins, ScratchZeroed}
 use Rattle.claims.specs.Decided.{FirstDecides, OrdersAsWritten}
 use Rattle.claims.specs.FromCalls.{FromCalls, TurnsCome}
+use Rattle.session_check.specs.Stored.{Inputs, drawnRound}
 
 -- ---- 2. Everything equals the papers, a round is accepted exactly if every listed check holds, and a withdrawn mark is in no closed batch.
 
@@ -52,7 +53,7 @@ SheetExactly = (text : Bytes) → (first (order text) ≡ Taken) ↔ SheetTaken 
 -- a step is taken exactly if the image has its length and its conditions hold of the session in it: a check in every round if all of `Checks` holds, a ballot is admitted if all of
 -- `Admits` does, where "full" means 4,096 entries, and so on; what is lent is bytes
 abbrev pub StepExactly : Type 0
-StepExactly = (x : Step) (image register : Bytes) → Lent x
+StepExactly = (x : Step) (image register : Bytes) → HeadIsBytes x
     → (hostReply x (host image register) ≡ Taken) ↔ ((length image ≡ imageLength) × Takes x (state (decode image) register))
 
 -- a ballot made with short r, e' and e'' under a key that matches the sheet's b has noise within D, and decrypts to its message
@@ -67,7 +68,7 @@ HonestBallots = (text : Bytes) → first (order text) ≡ Taken
 
 -- worked examples A to K
 abbrev pub Examples : Type 0
-Examples = map (λ (x : Row). x .got) all-rows ≡ map (λ (x : Row). x .said) all-rows
+Examples = map (λ (x : Example). x .got) all-rows ≡ map (λ (x : Example). x .said) all-rows
 
 pub record Demand2 : Type 0 where
   pub sheet-exactly : SheetExactly
@@ -126,17 +127,17 @@ pub record AcceptedCheck (text : Bytes) : Type 0 where
   pub taken : hostReply (check round inputs) (host image register) ≡ Taken
 
 -- what it was lent, with the side and the challenges that the seed in its image draws for its round
-abbrev pub roundOf : {text : Bytes} → AcceptedCheck text → Round
-roundOf c = drawnRound (storedFor (decode (c .image)) (c .round)) (c .inputs)
+abbrev pub checkedRound : {text : Bytes} → AcceptedCheck text → Round
+checkedRound c = drawnRound (storedFor (decode (c .image)) (c .round)) (c .inputs)
 
 -- one that opened this side, and one that answered this challenge in the lent repetition, as lent to the extractor, over its first message, ballots and claims. One check may do both
 pub record AcceptedOpening (text : Bytes) (x : Openings) (side : ℕ) : Type 0 where
   pub check : AcceptedCheck text
-  pub opens : OpensLent x side (roundOf check)
+  pub opens : OpensLent x side (checkedRound check)
 
 pub record AcceptedAnswer (text : Bytes) (x : Openings) (challenge : ℕ) : Type 0 where
   pub check : AcceptedCheck text
-  pub answers : AnswersLent (parametersOf text .N) x challenge (roundOf check)
+  pub answers : AnswersLent (parametersOf text .N) x challenge (checkedRound check)
 
 -- if both openings and all three answers to one repetition are accepted against one first message, ballots and claims, they yield one of the three, which the extractor takes and finds. What is lent is bytes
 abbrev pub AcceptedYields : Type 0
@@ -178,7 +179,7 @@ ProducerWrites = (text : Bytes) (x : Material)
 abbrev pub HonestRounds : Type 0
 HonestRounds = (text : Bytes) → first (order text) ≡ Taken
     → let P = parametersOf text in
-    (m : ℕ) (x : Material) → Sized P m x → Suitable P m x → (side : ℕ) → side < 2 → (challenges : Bytes) → length challenges ≡ P .repeats
+    (m : ℕ) (x : Material) → MaterialSized P m x → Suitable P m x → (side : ℕ) → side < 2 → (challenges : Bytes) → length challenges ≡ P .repeats
     → ((i : ℕ) → i < P .repeats → (1 ≤ getD challenges i 0) × (getD challenges i 0 ≤ 3)) → None (roundTests P m (producedRound P m x side challenges))
 
 pub record Demand3 : Type 0 where

@@ -10,8 +10,8 @@ use Rattle.codec.specs.Bytes.{Bytes, Octets, zeros}
 use Rattle.codec.specs.declared.Reply.the-variants.{Taken, Refused}
 use Rattle.sha3.specs.Sponge.{sha3}
 use Rattle.sheet.specs.Reader.{sheetOf}
-use Rattle.scratch.specs.Call.{swept}
-use Rattle.session_check.specs.Check.{Inputs}
+use Rattle.scratch.specs.Call.{zeroized}
+use Rattle.session_check.specs.Stored.{Inputs}
 use Rattle.session_progress.specs.Progress.{gathering, ended-refused}
 use Rattle.session.specs.Steps.{on}
 use Rattle.session.specs.Machine.{Step, clear, check}
@@ -51,6 +51,6 @@ ClearBegins = (sheet : Bytes) (h : Host) → Octets (h .image) → hostReply (cl
 
 -- "scratch is zeroed": by every call, unless 1 or 31 refuses it, and then it is left
 pub record ScratchZeroed : Type 0 where
-  pub taken : (scratch : Bytes) → swept Taken scratch ≡ zeros (length scratch)
-  pub refused : (number place : ℕ) (scratch : Bytes) → number ≢ 1 → number ≢ 31 → swept (Refused number place) scratch ≡ zeros (length scratch)
-  pub left : (number place : ℕ) (scratch : Bytes) → (number ≡ 1) ⊎ (number ≡ 31) → swept (Refused number place) scratch ≡ scratch
+  pub taken : (scratch : Bytes) → zeroized Taken scratch ≡ zeros (length scratch)
+  pub refused : (number place : ℕ) (scratch : Bytes) → number ≢ 1 → number ≢ 31 → zeroized (Refused number place) scratch ≡ zeros (length scratch)
+  pub left : (number place : ℕ) (scratch : Bytes) → (number ≡ 1) ⊎ (number ≡ 31) → zeroized (Refused number place) scratch ≡ scratch

@@ -15,21 +15,21 @@ use Rattle.session_progress.specs.Progress.{drawn}
 use Rattle.session.specs.declared.Session.{Session}
 use Rattle.session_image.specs.Image.{imageLength, decode}
 use Rattle.session_image.specs.Images.{challengesReply, turnoutReply}
-use Rattle.session_histories.specs.Conditions.{SheetTaken, Valid}
+use Rattle.session_histories.specs.Conditions.{SheetTaken, ValidSession}
 use Rattle.claims.specs.Scheme.{Keygens, Encrypts, Decrypts, Splits, Shares, Reconstructs, CommitsTo}
 
 -- ---- over a session
 
 -- from draw on, also once the session has ended, for any of its rounds; the output is the side and a challenge for each repetition
 pub record TellsChallenges (s : Session) (round : ℕ) (out : Bytes) : Type 0 where
-  pub sound : Valid s  -- 31
+  pub sound : ValidSession s  -- 31
   pub phase : drawn ≤ s .progress .phase  -- 31
   pub within : round < s .numbers .rounds  -- 31
   pub size : length out ≡ 1 + s .numbers .repeats  -- 1
 
 -- in any phase
 pub record Counts (s : Session) (reg : Bytes) (enrolled : ℕ) : Type 0 where
-  pub sound : Valid s  -- 31
+  pub sound : ValidSession s  -- 31
   pub register-size : length reg ≡ 163840  -- 1
   pub some : 1 ≤ enrolled  -- 3
   pub few : enrolled ≤ 1000000  -- 3

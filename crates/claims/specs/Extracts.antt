@@ -5,10 +5,10 @@ use Prim.Native.Nat.{ℕ, _*_, _≤_}
 use lib.ListN.{length}
 use Rattle.codec.specs.Bytes.{Bytes}
 use Rattle.scratch.specs.Call.{scratchLength}
-use Rattle.round.specs.Round.{Parameters}
+use Rattle.commitment.specs.Parameters.{Parameters, parametersOf}
 use Rattle.round.specs.Extractor.{Openings, Lent}
 use Rattle.round.specs.OpeningsAccepted.{OpeningsAccepted}
-use Rattle.round_lengths.specs.Sheets.{parametersOf, ballotsIn}
+use Rattle.round_lengths.specs.Sheets.{ballotsIn}
 use Rattle.session_histories.specs.Conditions.{SheetTaken}
 
 module _ (text : Bytes) (x : Openings) where

@@ -11,7 +11,7 @@ use Rattle.session_digests.specs.Digests.{concatenated}
 use Rattle.round.specs.Producer.{Material}
 use Rattle.round.specs.Writes.{FirstRoom, SecondRoom}
 use Rattle.round_produce.specs.Replies.{FirstCalled, SecondCalled}
-use Rattle.session_check.specs.Check.{inputsOf}
+use Rattle.session_check.specs.Stored.{inputsOf}
 use Rattle.session_progress.specs.Progress as phases
 use Rattle.session.specs.Steps.{on}
 use Rattle.session.specs.Machine.{Step, clear, claim, commit, draw, check}
@@ -65,7 +65,7 @@ FromCalls = (sheet : Bytes) (start : Host) (before between later last : List Ste
     → hostReply
     (check round (inputsOf sheet (material .ballots) (wrote .claims) (wrote .head) (wrote .shares0) (wrote .shares1) (second-wrote .opening) (second-wrote .answers) scratch)) h ≡ Taken
 
--- and turns come, so that this is not empty: over ballots that can be admitted, and material over them for every round, the calls of an election (histories, specs/Elections.antt)
+-- and turns come, so that this is not empty: over ballots that can be admitted, and material over them for every round, the calls of an election (session_histories, specs/Elections.antt)
 -- after a clear that is taken leave an image that says ended accepted
 abbrev pub TurnsCome : Type 0
 TurnsCome = (sheet : Bytes) (start : Host) (m : ℕ) (ballot : ℕ → Bytes) (material : ℕ → Material) (claims seed : Bytes) → Starts start (on sheet)

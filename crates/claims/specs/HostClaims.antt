@@ -11,13 +11,13 @@ use Rattle.sheet.specs.Reader.{sheetOf}
 use Rattle.round.specs.Layout.{ballotLength}
 use Rattle.round.specs.Producer.{Material}
 use Rattle.session_digests.specs.Digests.{concatenated, ballotDigests}
-use Rattle.session_check.specs.Check.{Inputs}
+use Rattle.session_check.specs.Stored.{Inputs}
 use Rattle.session_progress.specs.Progress.{ended-accepted}
 use Rattle.session_image.specs.Image.{decode}
 use Rattle.session.specs.Steps.{Beginning, storedFor}
 use Rattle.session.specs.Machine.{Step, clear, withdraw, close, check}
 use Rattle.session_histories.specs.Runs.{emptyHistory, Call, call}
-use Rattle.session_histories.specs.Conditions.{Valid, Checks}
+use Rattle.session_histories.specs.Conditions.{ValidSession, Checks}
 use Rattle.session_histories.specs.Claims.{ClosedWithout, Turn, Undue}
 use Rattle.session_histories.specs.Bound.{Bound, Hashed, LodgesAll, LentBytes}
 use Rattle.session_image.specs.Images.{Host, host, hostReply, hostAfter}
@@ -87,7 +87,7 @@ HostHonestAccepted = FromClear (λ b cs first last h. (register : Bytes) (materi
 
 -- the session in the image is valid, and has the numbers of the sheet of the last clear taken
 abbrev pub HostStaysValid : Type 0
-HostStaysValid = FromClear (λ b cs first last h. Valid (decode last) × (decode last .numbers ≡ sheetOf (h .sheet) .numbers))
+HostStaysValid = FromClear (λ b cs first last h. ValidSession (decode last) × (decode last .numbers ≡ sheetOf (h .sheet) .numbers))
 
 -- so 31 is only ever met for wrong phase or round
 abbrev pub HostOnlyPhaseOrRound : Type 0

@@ -15,9 +15,8 @@ use Rattle.ring.specs.Slots.{coefficientBytes}
 use Rattle.sheet.specs.Sheet.{order}
 use Rattle.sha3.specs.Sponge.{sha3}
 use Rattle.keccak_bits.specs.Sponge.{bitsOf, sha3-256}
-use Rattle.bgv.specs.Scheme.{Wholes, Bounded, Small, key, opened, decrypted, other, share, worked, reconstructed}
-use Rattle.round.specs.Round.{Parameters}
-use Rattle.round_lengths.specs.Sheets.{parametersOf}
+use Rattle.bgv.specs.Scheme.{Wholes, Bounded, Small, key, opened, decrypted, other, share, recoveredMask, reconstructed}
+use Rattle.commitment.specs.Parameters.{Parameters, parametersOf}
 use Rattle.scheme_calls.specs.Orders.{encryptOrder, splitOrder, shareOrder, keyOf, ciphertextOf, voteOf, splitOf, shareOf, voteOfShares}
 
 module _ (P : Parameters) where
@@ -29,10 +28,10 @@ module _ (P : Parameters) where
     pub errors : Alike q N (plus e0 (other q e e0)) e
     pub keys : Alike q N (plus (key q N p a s0 e0) (key q N p a (other q s s0) (other q e e0))) (key q N p a s e)
 
-  -- Play: "samples bounded E_i and outputs t_i = s_i u + p E_i", as jdn_share does. The mask that a check works out from t_i is E_i, and any t is made by the mask worked out from it
+  -- Play: "samples bounded E_i and outputs t_i = s_i u + p E_i", as jdn_share does. The mask that a check works out from t_i is E_i, and any t is made by the mask recoveredMask out from it
   pub record Played (s u : Poly) : Type 0 where
-    pub mask : (E : Wholes) → Bounded N B E → (t : Poly) → Alike q N t (share q N p s u E) → (i : ℕ) → i < N → worked q N p s u t i ≡ E i
-    pub made : (t : Poly) → Alike q N (share q N p s u (worked q N p s u t)) t
+    pub mask : (E : Wholes) → Bounded N B E → (t : Poly) → Alike q N t (share q N p s u E) → (i : ℕ) → i < N → recoveredMask q N p s u t i ≡ E i
+    pub made : (t : Poly) → Alike q N (share q N p s u (recoveredMask q N p s u t)) t
 
   -- Rec, as in jdn_reconstruct, of what two players give is Dec, as in jdn_decrypt: for halves that add up, masks within B and noise within D
   abbrev pub Reconstructed : (s u v : Poly) → Type 0

@@ -6,10 +6,10 @@ use lib.ListN.{length}
 use Rattle.codec.specs.Bytes.{Bytes}
 use Rattle.scratch.specs.Call.{scratchLength}
 use Rattle.round.specs.Layout.{headLength, answersLength}
-use Rattle.round.specs.Round.{Parameters}
-use Rattle.round.specs.Producer.{Material, Sized}
+use Rattle.commitment.specs.Parameters.{Parameters, parametersOf}
+use Rattle.round.specs.Producer.{Material, MaterialSized}
 use Rattle.round.specs.Suitable.{Suitable, Asked}
-use Rattle.round_lengths.specs.Sheets.{parametersOf, ballotsIn}
+use Rattle.round_lengths.specs.Sheets.{ballotsIn}
 use Rattle.session_histories.specs.Conditions.{SheetTaken}
 
 module _ (text : Bytes) (x : Material) where
@@ -24,7 +24,7 @@ module _ (text : Bytes) (x : Material) where
   pub record WritesFirst (head shares0 shares1 claims scratch : Bytes) : Type 0 where
     pub sheet : SheetTaken text  -- the sheet's own 1 to 5
     pub few : m ≤ 4096  -- 1
-    pub sized : Sized P m x  -- 1
+    pub sized : MaterialSized P m x  -- 1
     pub head-size : length head ≡ headLength (P .N) (P .repeats)  -- 1
     pub shares0-size : length shares0 ≡ 8 * P .N * m  -- 1
     pub shares1-size : length shares1 ≡ 8 * P .N * m  -- 1
@@ -36,7 +36,7 @@ module _ (text : Bytes) (x : Material) where
   pub record WritesSecond (side : ℕ) (challenges opening answers scratch : Bytes) : Type 0 where
     pub sheet : SheetTaken text  -- the sheet's own 1 to 5
     pub few : m ≤ 4096  -- 1
-    pub sized : Sized P m x  -- 1
+    pub sized : MaterialSized P m x  -- 1
     pub challenges-size : length challenges ≡ P .repeats  -- 1
     pub opening-size : length opening ≡ 22 * P .N  -- 1
     pub answers-size : length answers ≡ answersLength (P .N) challenges  -- 1

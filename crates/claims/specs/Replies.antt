@@ -13,7 +13,7 @@ use Rattle.sheet.specs.Calls.{describeReply}
 use Rattle.round.specs.Producer.{Material}
 use Rattle.round.specs.Writes.{FirstRoom, SecondRoom}
 use Rattle.round.specs.Extractor.{Openings, ExtractRoom, kind}
-use Rattle.round_lengths.specs.Sheets.{parametersOf, ballotsIn}
+use Rattle.round_lengths.specs.Sheets.{ballotsIn}
 use Rattle.register.specs.Register as entries
 use Rattle.scheme_calls.specs.Orders.{keygenOrder, encryptOrder, decryptOrder, splitOrder, shareOrder, reconstructOrder, commitmentOrder}
 use Rattle.round_extract.specs.Extraction.{answered}
@@ -22,6 +22,7 @@ use Rattle.round_extract.specs.Replies.{extractReply, extractFound}
 use Rattle.session.specs.Machine.{Step}
 use Rattle.session_image.specs.Image.{decode}
 use Rattle.session_image.specs.Images.{Host, hostReply, challengesReply, turnoutReply, turnoutAnswer}
+use Rattle.commitment.specs.Parameters.{parametersOf}
 
 -- what C reads off an answer: its remainder by 256 is 0 exactly if the call is taken, and else the number of the refusal; the quotient is then its place
 pub record Told (reply : Reply) (answer : ℕ) : Type 0 where

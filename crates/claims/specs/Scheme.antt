@@ -8,9 +8,8 @@ use Rattle.ring.specs.Poly.{Below}
 use Rattle.ring.specs.Slots.{poly}
 use Rattle.scratch.specs.Call.{scratchLength}
 use Rattle.bgv.specs.Scheme.{Bounded, lentMask}
-use Rattle.round.specs.Round.{Parameters}
+use Rattle.commitment.specs.Parameters.{Parameters, parametersOf}
 use Rattle.round.specs.Accepted.{EachBelow}
-use Rattle.round_lengths.specs.Sheets.{parametersOf}
 use Rattle.session_histories.specs.Conditions.{SheetTaken}
 
 -- ---- what they share

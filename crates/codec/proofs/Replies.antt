@@ -5,8 +5,13 @@ use mathlib.Core.Bool.{Bool, true, false, cond}
 use mathlib.Core.List.{List, [], _∷_, _++_}
 use Prim.Native.Nat.{ℕ}
 use native.Mathlib.Omega.{arith}
+use borrow.Author.Needs.{needs}
+use borrow.Author.Tests.{le-ltb, lt-ltb, le-leb, lt-leb, eq-eqb, ne-eqb}
 use Rattle.codec.specs.declared.Reply.the-variants.{Taken, Refused}
 use Rattle.codec.specs.Reply.{Test, test, first, None, Decides}
+
+-- what `search` closes a refusal by: the tests before it were passed, and its own was not
+pub ruleset order = (needs, le-ltb, lt-ltb, le-leb, lt-leb, eq-eqb, ne-eqb)
 
 pub not-taken : {A : Type 0} (n p : ℕ) → Refused n p ≡ Taken → A
 not-taken n p e = absurd (let z : _≡_ {A = ℕ} 0 1 = cc in omega arith)

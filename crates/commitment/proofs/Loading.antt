@@ -14,9 +14,10 @@ use Rattle.ring.specs.Slots.{poly, slot, encode}
 use Rattle.ring.specs.Ternary.{ternary}
 use Rattle.ring.proofs.Bridge.{length-encode, encode-alike}
 use Rattle.ring.proofs.Ranges.{below-ternary}
-use Rattle.scratch.specs.Call.{Polynomial}
-use Rattle.scratch.proofs.Shelf.{Shelf, shelf-below, shelf-alike, shelf-load, shelf-copy, shelf-none}
-use Rattle.commitment.specs.Commitment.{Keys, Three, Alike3, threeOf, threeAt, committed, pairBytes, opens, PairStands, withThree}
+use Rattle.scratch.specs.Internal.{Polynomial}
+use Rattle.scratch.proofs.Slotted.{Slotted, slotted-below, slotted-alike, slotted-load, slotted-copy, slotted-none}
+use Rattle.commitment.specs.Commitment.{Keys, Three, Alike3, threeOf, committed, pairBytes, opens}
+use Rattle.commitment.specs.Internal.{threeAt, PairInSlots, withThree}
 use Rattle.commitment.proofs.Additive.{row-alike, second-alike}
 
 -- a lent part of ternary bytes, loaded
@@ -27,49 +28,49 @@ loaded-part q n r t w w' at to h i e =
 module _ (q n : ℕ) (high : n ≤ 2048) (positive : 0 < q) (few : q < 2 ^ 56) where
   -- ---- from four slots that hold r and m
 
-  module _ (r : Three) (m : Poly) (w w2 : Bytes) (long : length w ≡ 1048576) (four : Shelf q n (r .r1 ∷ r .r2 ∷ r .r3 ∷ m ∷ []) w2) where
+  module _ (r : Three) (m : Poly) (w w2 : Bytes) (long : length w ≡ 1048576) (four : Slotted q n (r .r1 ∷ r .r2 ∷ r .r3 ∷ m ∷ []) w2) where
     pub commit-asks : (length w2 ≡ 1048576) × (Below q n (slot w2 0) × Below q n (slot w2 16384) × Below q n (slot w2 32768) × Below q n (slot w2 49152))
     commit-asks = (
       four .long,
       (
-        shelf-below q n high positive few four 0 (omega arith),
-        shelf-below q n high positive few four 1 (omega arith),
-        shelf-below q n high positive few four 2 (omega arith),
-        shelf-below q n high positive few four 3 (omega arith),
+        slotted-below q n high positive few four 0 (omega arith),
+        slotted-below q n high positive few four 1 (omega arith),
+        slotted-below q n high positive few four 2 (omega arith),
+        slotted-below q n high positive few four 3 (omega arith),
       ),
     )
 
     loaded : Alike3 q n (threeAt w2) r
     loaded = record {
-      r1 = shelf-alike q n high positive few four 0 (omega arith);
-      r2 = shelf-alike q n high positive few four 1 (omega arith);
-      r3 = shelf-alike q n high positive few four 2 (omega arith);
+      r1 = slotted-alike q n high positive few four 0 (omega arith);
+      r2 = slotted-alike q n high positive few four 1 (omega arith);
+      r3 = slotted-alike q n high positive few four 2 (omega arith);
     }
 
-    pub commit-made : (k : Keys) (w3 : Bytes) → PairStands q n (committed q n k (threeAt w2) (slot w2 49152)) w2 w3 → PairStands q n (committed q n k r m) w w3
+    pub commit-made : (k : Keys) (w3 : Bytes) → PairInSlots q n (committed q n k (threeAt w2) (slot w2 49152)) w2 w3 → PairInSlots q n (committed q n k r m) w w3
     commit-made k w3 h = record {
       sized = h .sized ∙ four .long ∙ sym long;
       one = h .one ∙ encode-alike (row-alike q n k loaded);
-      two = h .two ∙ encode-alike (second-alike q n k loaded (shelf-alike q n high positive few four 3 (omega arith)));
+      two = h .two ∙ encode-alike (second-alike q n k loaded (slotted-alike q n high positive few four 3 (omega arith)));
     }
 
   -- ---- from lent bytes
 
   module _ (w w1 w2 m r : Bytes) (long : length w ≡ 1048576) (octets : Octets m) (lent : Polynomial n q m) (e1 : w1 ≡ withThree n w (threeOf q n r)) (e2 : w2 ≡ put w1 49152 m) where
-    three : Shelf q n (threeOf q n r .r1 ∷ threeOf q n r .r2 ∷ threeOf q n r .r3 ∷ []) w1
+    three : Slotted q n (threeOf q n r .r1 ∷ threeOf q n r .r2 ∷ threeOf q n r .r3 ∷ []) w1
     unfolding withThree
     three =
-        let a = shelf-load q n high positive few (shelf-none q n high positive few long) 0 (omega arith) (omega arith) (threeOf q n r .r1) (below-ternary q n (part r 0 n) positive) refl in
-        let b = shelf-load q n high positive few a 1 (omega arith) (omega arith) (threeOf q n r .r2) (below-ternary q n (part r n n) positive) refl in
-        shelf-load q n high positive few b 2 (omega arith) (omega arith) (threeOf q n r .r3) (below-ternary q n (part r (2 * n) n) positive) e1
+        let a = slotted-load q n high positive few (slotted-none q n high positive few long) 0 (omega arith) (omega arith) (threeOf q n r .r1) (below-ternary q n (part r 0 n) positive) refl in
+        let b = slotted-load q n high positive few a 1 (omega arith) (omega arith) (threeOf q n r .r2) (below-ternary q n (part r n n) positive) refl in
+        slotted-load q n high positive few b 2 (omega arith) (omega arith) (threeOf q n r .r3) (below-ternary q n (part r (2 * n) n) positive) e1
 
-    four : Shelf q n (threeOf q n r .r1 ∷ threeOf q n r .r2 ∷ threeOf q n r .r3 ∷ poly m ∷ []) w2
-    four = shelf-copy q n high positive few three 3 (omega arith) (omega arith) m octets (lent .sized) (lent .below) e2
+    four : Slotted q n (threeOf q n r .r1 ∷ threeOf q n r .r2 ∷ threeOf q n r .r3 ∷ poly m ∷ []) w2
+    four = slotted-copy q n high positive few three 3 (omega arith) (omega arith) m octets (lent .sized) (lent .below) e2
 
     pub pair-asks : (length w2 ≡ 1048576) × (Below q n (slot w2 0) × Below q n (slot w2 16384) × Below q n (slot w2 32768) × Below q n (slot w2 49152))
     pair-asks = commit-asks (threeOf q n r) (poly m) w w2 long four
 
-    pub pair-made : (k : Keys) (w3 : Bytes) → PairStands q n (committed q n k (threeAt w2) (slot w2 49152)) w2 w3 → PairStands q n (committed q n k (threeOf q n r) (poly m)) w w3
+    pub pair-made : (k : Keys) (w3 : Bytes) → PairInSlots q n (committed q n k (threeAt w2) (slot w2 49152)) w2 w3 → PairInSlots q n (committed q n k (threeOf q n r) (poly m)) w w3
     pair-made = commit-made (threeOf q n r) (poly m) w w2 long four
 
 -- ---- the pair is compared with lent bytes
@@ -85,7 +86,7 @@ same-append (x ∷ a) b (y ∷ c) d l = ap (λ (t : Bool). lib.Dec.eqb x y && t)
     and-assoc true t u = refl
     and-assoc false t u = refl
 
-module _ (q n : ℕ) (k : Keys) (c : Bytes) (r : Three) (m : Poly) (w w' : Bytes) (sized : length c ≡ 16 * n) (h : PairStands q n (committed q n k r m) w w') where
+module _ (q n : ℕ) (k : Keys) (c : Bytes) (r : Three) (m : Poly) (w w' : Bytes) (sized : length c ≡ 16 * n) (h : PairInSlots q n (committed q n k r m) w w') where
   -- the test by halves
   opens-halves : opens q n k c r m ≡ (same (part c 0 (8 * n)) (part w' 0 (8 * n)) && same (part c (8 * n) (8 * n)) (part w' 49152 (8 * n)))
   unfolding opens pairBytes

@@ -6,15 +6,16 @@ use native.Mathlib.Omega.{arith}
 use lib.ListN.{length, take, drop, replicate, length-replicate}
 use Rattle.codec.specs.Bytes.{Bytes, part, put}
 use Rattle.codec.proofs.Laws.{length-part, part-part, part-put}
-use Rattle.sheet.specs.Sheet.{reading, loaded, filled, polynomials}
+use Rattle.sheet.specs.Sheet.{reading, polynomials}
+use Rattle.sheet.specs.Internal.{loaded, filled}
 use Rattle.sheet.specs.declared.Reading.{Reading}
 use Rattle.sheet.specs.declared.Reading.the-variants.{Taken}
 use Rattle.sheet.proofs.Taken.{taken, length-polynomials}
 use Rattle.sheet_numbers.specs.declared.Numbers.{Numbers}
-use Rattle.scratch.specs.Call.{Polynomial}
+use Rattle.scratch.specs.Internal.{Polynomial}
 use Rattle.scratch.proofs.Lent.{Lent, lent}
-use Rattle.commitment.specs.Commitment.{PublicKeys}
-use Rattle.commitment.specs.Loaded.{aOf, bOf, keyBytes, Loaded}
+use Rattle.commitment.specs.Internal.{PublicKeys, Loaded}
+use Rattle.commitment.specs.Loaded.{aOf, bOf, keyBytes}
 use Rattle.commitment.specs.Parameters.{parameters, parametersBy, parametersOf}
 
 -- ---- the sheet's k1, k2, k3 in a part of the bytes

@@ -9,12 +9,14 @@ use lib.ListN.{length, take, drop, getD}
 use Rattle.codec.specs.Bytes.{Bytes, Octets, part, put}
 use Rattle.modular.proofs.Congruence.{same-eq, same-mod, _then_}
 use Rattle.ring.specs.Poly.{Poly, plus, mul, zero-poly, modulo, Alike, Below}
-use Rattle.ring.specs.Slots.{poly, slot, encode, store, Slots}
+use Rattle.ring.specs.Slots.{poly, slot, encode}
+use Rattle.ring.specs.Internal.{store, Slots}
 use Rattle.ring.proofs.Bridge.{poly-part, store-alike, after-multiply, length-multiplied, slot-multiplied, slot-beside}
 use Rattle.ring.proofs.Polynomials.{plus-comm, plus-assoc, plus-left-comm, mul-poly-comm, alike-plus, alike-mul}
-use Rattle.scratch.specs.Call.{Polynomial}
-use Rattle.scratch.proofs.Shelf.{Shelf, place, place-length, shelf-below, shelf-alike, shelf-slots, shelf-store, shelf-add, shelf-copy-slot, shelf-multiply, shelf-none, shelf-next}
-use Rattle.commitment.specs.Commitment.{keysOf, threeAt, row, second, committed, PublicKeys, PairStands, withProduct}
+use Rattle.scratch.specs.Internal.{Polynomial}
+use Rattle.scratch.proofs.Slotted.{Slotted, place, place-length, slotted-below, slotted-alike, slotted-slots, slotted-store, slotted-add, slotted-copy-slot, slotted-multiply, slotted-none, slotted-next}
+use Rattle.commitment.specs.Commitment.{keysOf, row, second, committed}
+use Rattle.commitment.specs.Internal.{threeAt, PublicKeys, PairInSlots, withProduct}
 
 -- a lent part of the keys
 pub key-alike : (q n : ℕ) (k a : Bytes) (at : ℕ) → a ≡ part k at (8 * n) → Alike q n (poly a) (slot k at)
@@ -57,28 +59,28 @@ module _ (q n : ℕ) (high : n ≤ 2048) (positive : 0 < q) (few : q < 2 ^ 56) w
           e ∙ ap (λ (x : Bytes). store q n x to (plus (slot x to) (slot x from))) is
           ∙ store-alike w1 to (alike-plus (record { at = λ j l. same-eq (beside j l) }) (record { at = λ j l. same-eq (there j l) then same-mod }))
 
-  -- ---- the same for a shelf
+  -- ---- the same for a slotted
 
-  pub shelf-product : {fs : List Poly} {w w' : Bytes} → Shelf q n fs w → (j i : ℕ) → j < length fs → i < length fs → length fs ≤ 5 → (a b : Poly) → Alike q n a b
+  pub slotted-product : {fs : List Poly} {w w' : Bytes} → Slotted q n fs w → (j i : ℕ) → j < length fs → i < length fs → length fs ≤ 5 → (a b : Poly) → Alike q n a b
       → w' ≡ withProduct q n w (16384 * j) (16384 * i) a
-      → Shelf q n (place (place fs i (mul q n (getD fs i zero-poly) b)) j (plus (getD fs j zero-poly) (mul q n (getD fs i zero-poly) b))) w'
+      → Slotted q n (place (place fs i (mul q n (getD fs i zero-poly) b)) j (plus (getD fs j zero-poly) (mul q n (getD fs i zero-poly) b))) w'
   unfolding withProduct
-  shelf-product {fs} {w} s j i h l five a b x e =
-      let m = alike-mul (shelf-alike q n high positive few s i l) x in
-      let t = shelf-multiply q n high positive few s i l (omega arith) a b 81920 x (omega arith) (omega arith) refl in
-      shelf-store q n high positive few t j (omega (arith, place-length fs i (mul q n (getD fs i zero-poly) b) l)) (omega arith) _ _ (alike-plus (shelf-alike q n high positive few s j h) m) e
+  slotted-product {fs} {w} s j i h l five a b x e =
+      let m = alike-mul (slotted-alike q n high positive few s i l) x in
+      let t = slotted-multiply q n high positive few s i l (omega arith) a b 81920 x (omega arith) (omega arith) refl in
+      slotted-store q n high positive few t j (omega (arith, place-length fs i (mul q n (getD fs i zero-poly) b) l)) (omega arith) _ _ (alike-plus (slotted-alike q n high positive few s j h) m) e
 
   -- what adding a product asks
-  pub product-asks : {fs : List Poly} {w : Bytes} → Shelf q n fs w → (j i : ℕ) → j < length fs → i < length fs → length fs ≤ 5 → (i < j) ⊎ (j < i) → (a : Bytes) → Polynomial n q a
+  pub product-asks : {fs : List Poly} {w : Bytes} → Slotted q n fs w → (j i : ℕ) → j < length fs → i < length fs → length fs ≤ 5 → (i < j) ⊎ (j < i) → (a : Bytes) → Polynomial n q a
       → Polynomial n q a × (length w ≡ 1048576) × Slots n (16384 * j) (16384 * i) w × (16384 * j + 8 * n ≤ 81920) × (16384 * i + 8 * n ≤ 81920) × Below q n (slot w (16384 * j)) × Below q n (slot w (16384 * i))
   product-asks s j i h l five d a p = (
     p,
     s .long,
-    shelf-slots q n high positive few s j i (omega arith) (omega arith) d,
+    slotted-slots q n high positive few s j i (omega arith) (omega arith) d,
     omega arith,
     omega arith,
-    shelf-below q n high positive few s j h,
-    shelf-below q n high positive few s i l,
+    slotted-below q n high positive few s j h,
+    slotted-below q n high positive few s i l,
   )
 
   -- ---- a pair
@@ -125,41 +127,41 @@ module _ (q n : ℕ) (high : n ≤ 2048) (positive : 0 < q) (few : q < 2 ^ 56) w
     abbrev m : Poly
     m = slot w 49152
 
-    pub shelf0 : Shelf q n (r1 ∷ r2 ∷ r3 ∷ m ∷ []) w
-    shelf0 =
-        let a = shelf-next q n high positive few (shelf-none q n high positive few long) octets 0 refl (omega arith) (below .0) in
-        let b = shelf-next q n high positive few a octets 1 refl (omega arith) (below .1) in
-        let c = shelf-next q n high positive few b octets 2 refl (omega arith) (below .2) in
-        shelf-next q n high positive few c octets 3 refl (omega arith) (below .3)
+    pub slotted0 : Slotted q n (r1 ∷ r2 ∷ r3 ∷ m ∷ []) w
+    slotted0 =
+        let a = slotted-next q n high positive few (slotted-none q n high positive few long) octets 0 refl (omega arith) (below .0) in
+        let b = slotted-next q n high positive few a octets 1 refl (omega arith) (below .1) in
+        let c = slotted-next q n high positive few b octets 2 refl (omega arith) (below .2) in
+        slotted-next q n high positive few c octets 3 refl (omega arith) (below .3)
 
     module _ (w1 : Bytes) (e1 : w1 ≡ put w 65536 (encode n (slot w 32768))) where
-      pub shelf1 : Shelf q n (r1 ∷ r2 ∷ r3 ∷ m ∷ r3 ∷ []) w1
-      shelf1 = shelf-copy-slot q n high positive few shelf0 4 2 (omega arith) (omega arith) (omega arith) e1
+      pub slotted1 : Slotted q n (r1 ∷ r2 ∷ r3 ∷ m ∷ r3 ∷ []) w1
+      slotted1 = slotted-copy-slot q n high positive few slotted0 4 2 (omega arith) (omega arith) (omega arith) e1
 
       module _ (w2 : Bytes) (e2 : w2 ≡ withProduct q n w1 49152 65536 (poly k3)) where
         abbrev p3 : Poly
         p3 = mul q n r3 (slot k (16 * n))
 
-        pub shelf2 : Shelf q n (r1 ∷ r2 ∷ r3 ∷ plus m p3 ∷ p3 ∷ []) w2
-        shelf2 = shelf-product shelf1 3 4 (omega arith) (omega arith) (omega arith) (poly k3) (slot k (16 * n)) (key-alike q n k k3 (16 * n) is3) e2
+        pub slotted2 : Slotted q n (r1 ∷ r2 ∷ r3 ∷ plus m p3 ∷ p3 ∷ []) w2
+        slotted2 = slotted-product slotted1 3 4 (omega arith) (omega arith) (omega arith) (poly k3) (slot k (16 * n)) (key-alike q n k k3 (16 * n) is3) e2
 
         module _ (w3 : Bytes) (e3 : w3 ≡ store q n w2 49152 (plus (slot w2 49152) (slot w2 16384))) where
-          pub shelf3 : Shelf q n (r1 ∷ r2 ∷ r3 ∷ plus (plus m p3) r2 ∷ p3 ∷ []) w3
-          shelf3 = shelf-add q n high positive few shelf2 3 (omega arith) (omega arith) (slot w2 16384) r2 (shelf-alike q n high positive few shelf2 1 (omega arith)) e3
+          pub slotted3 : Slotted q n (r1 ∷ r2 ∷ r3 ∷ plus (plus m p3) r2 ∷ p3 ∷ []) w3
+          slotted3 = slotted-add q n high positive few slotted2 3 (omega arith) (omega arith) (slot w2 16384) r2 (slotted-alike q n high positive few slotted2 1 (omega arith)) e3
 
           module _ (w4 : Bytes) (e4 : w4 ≡ withProduct q n w3 0 16384 (poly k1)) where
             abbrev p1 : Poly
             p1 = mul q n r2 (slot k 0)
 
-            pub shelf4 : Shelf q n (plus r1 p1 ∷ p1 ∷ r3 ∷ plus (plus m p3) r2 ∷ p3 ∷ []) w4
-            shelf4 = shelf-product shelf3 0 1 (omega arith) (omega arith) (omega arith) (poly k1) (slot k 0) (key-alike q n k k1 0 is1) e4
+            pub slotted4 : Slotted q n (plus r1 p1 ∷ p1 ∷ r3 ∷ plus (plus m p3) r2 ∷ p3 ∷ []) w4
+            slotted4 = slotted-product slotted3 0 1 (omega arith) (omega arith) (omega arith) (poly k1) (slot k 0) (key-alike q n k k1 0 is1) e4
 
             module _ (w5 : Bytes) (e5 : w5 ≡ withProduct q n w4 0 32768 (poly k2)) where
               abbrev p2 : Poly
               p2 = mul q n r3 (slot k (8 * n))
 
-              shelf5 : Shelf q n (plus (plus r1 p1) p2 ∷ p1 ∷ p2 ∷ plus (plus m p3) r2 ∷ p3 ∷ []) w5
-              shelf5 = shelf-product shelf4 0 2 (omega arith) (omega arith) (omega arith) (poly k2) (slot k (8 * n)) (key-alike q n k k2 (8 * n) is2) e5
+              slotted5 : Slotted q n (plus (plus r1 p1) p2 ∷ p1 ∷ p2 ∷ plus (plus m p3) r2 ∷ p3 ∷ []) w5
+              slotted5 = slotted-product slotted4 0 2 (omega arith) (omega arith) (omega arith) (poly k2) (slot k (8 * n)) (key-alike q n k k2 (8 * n) is2) e5
 
               is-row : plus (plus r1 p1) p2 ≡ row q n (keysOf n k) (threeAt w)
               unfolding row
@@ -169,9 +171,9 @@ module _ (q n : ℕ) (high : n ≤ 2048) (positive : 0 < q) (few : q < 2 ^ 56) w
               unfolding second
               is-second = rw (mul-poly-comm q n r3 (slot k (16 * n))) (simp (plus-assoc, plus-comm, plus-left-comm))
 
-              pub pair-stands : PairStands q n (committed q n (keysOf n k) (threeAt w) m) w w5
+              pub pair-stands : PairInSlots q n (committed q n (keysOf n k) (threeAt w) m) w w5
               pair-stands = record {
-                sized = shelf5 .long ∙ sym long;
-                one = shelf5 .stands 0 (omega arith) ∙ ap (λ (f : Poly). encode n (modulo q f)) is-row;
-                two = shelf5 .stands 3 (omega arith) ∙ ap (λ (f : Poly). encode n (modulo q f)) is-second;
+                sized = slotted5 .long ∙ sym long;
+                one = slotted5 .stands 0 (omega arith) ∙ ap (λ (f : Poly). encode n (modulo q f)) is-row;
+                two = slotted5 .stands 3 (omega arith) ∙ ap (λ (f : Poly). encode n (modulo q f)) is-second;
               }

@@ -1,15 +1,12 @@
 -- The commitment to a polynomial m with three short polynomials and three public ones (document 01, "Ring and scheme"), with N and q as
 -- parameters. Assumes nothing.
-use mathlib.Core.Path.{_≡_}
 use mathlib.Core.Bool.{Bool}
 use mathlib.Core.List.{_++_}
 use Prim.Native.Nat.{ℕ, _*_}
-use lib.ListN.{length}
-use Rattle.codec.specs.Bytes.{Bytes, part, put, zeros, same}
+use Rattle.codec.specs.Bytes.{Bytes, part, same}
 use Rattle.ring.specs.Poly.{Poly, plus, minus, mul, Alike}
-use Rattle.ring.specs.Slots.{coefficientBytes, slot, encode, store}
+use Rattle.ring.specs.Slots.{coefficientBytes, slot}
 use Rattle.ring.specs.Ternary.{ternary}
-use Rattle.scratch.specs.Call.{Free, Polynomial}
 
 -- the public k1, k2, k3
 pub record Keys : Type 0 where
@@ -75,30 +72,3 @@ unfoldable pub opens : (q N : ℕ) → Keys → Bytes → Three → Poly → Boo
 opens q N k c r m = same c (pairBytes q N (committed q N k r m))
 
 -- ---- what the code is given, and what it leaves in scratch
-
--- the sheet's k1, k2, k3 in 24n bytes
-pub record PublicKeys (n q : ℕ) (k : Bytes) : Type 0 where
-  pub sized : length k ≡ 24 * n
-  pub one : Polynomial n q (part k 0 (8 * n))
-  pub two : Polynomial n q (part k (8 * n) (8 * n))
-  pub three : Polynomial n q (part k (16 * n) (8 * n))
-
--- the slot at `to` with the product of a and what stands at `from` added; the product is left at `from`, and its room is zeroed
-unfoldable pub withProduct : (q n : ℕ) (w : Bytes) (to from : ℕ) → Poly → Bytes
-withProduct q n w to from a =
-    let f = mul q n (slot w from) a in
-    store q n (put (store q n w from f) 81920 (zeros (24 * n))) to (plus (slot w to) f)
-
--- the three r put into the first three slots
-unfoldable pub withThree : (n : ℕ) → Bytes → Three → Bytes
-withThree n w r = put (put (put w 0 (encode n (r .r1))) 16384 (encode n (r .r2))) 32768 (encode n (r .r3))
-
--- slots hold r1, r2, r3 and m in this order, from 0 on
-abbrev pub threeAt : Bytes → Three
-threeAt w = record { r1 = slot w 0; r2 = slot w 16384; r3 = slot w 32768 }
-
--- a pair stands in scratch, in bytes: its first half where r1 stood, its second where m stood; the rest is free
-pub record PairStands (q N : ℕ) (c : Pair) (w w' : Bytes) : Type 0 where
-  pub sized : Free w w'
-  pub one : part w' 0 (8 * N) ≡ coefficientBytes q N (c .one)
-  pub two : part w' 49152 (8 * N) ≡ coefficientBytes q N (c .two)

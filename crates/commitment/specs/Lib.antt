@@ -1,3 +1,4 @@
 pub mod Commitment
 pub mod Loaded
 pub mod Parameters
+pub mod Internal

@@ -6,10 +6,12 @@ ghost use Prim.Native.Nat.{_+_, _*_, _≤_};
 ghost use lib.ListN.{length};
 ghost use Rattle.codec.specs.Slices.{given, left};
 ghost use Rattle.ring.specs.Poly.{Below};
-ghost use Rattle.ring.specs.Slots.{poly, slot, Slots};
-ghost use Rattle.scratch.specs.Call.{scratchLength, Polynomial, Free};
-ghost use Rattle.commitment.specs.Commitment.{keysOf, threeOf, threeAt, committed, opens, PublicKeys, PairStands, withProduct};
-ghost use Rattle.commitment.specs.Commitment.{withThree};
+ghost use Rattle.ring.specs.Slots.{poly, slot};
+ghost use Rattle.ring.specs.Internal.{Slots};
+ghost use Rattle.scratch.specs.Call.{scratchLength};
+ghost use Rattle.scratch.specs.Internal.{Polynomial, Free};
+ghost use Rattle.commitment.specs.Commitment.{keysOf, threeOf, committed, opens};
+ghost use Rattle.commitment.specs.Internal.{threeAt, PublicKeys, PairInSlots, withProduct, withThree};
 
 const TWO: usize = 16384;
 
@@ -37,7 +39,7 @@ pub fn commit(work: &mut [u8], k: &[u8], n: usize, q: u64)
     requires { ⌜ PublicKeys n q (now k) × (length (now work) ≡ scratchLength) ⌝ }
     requires { ⌜ Below q n (slot (now work) 0) × Below q n (slot (now work) 16384) × Below q n (slot (now work) 32768)
         × Below q n (slot (now work) 49152) ⌝ }
-    ensures { λ _. ⌜ PairStands q n (committed q n (keysOf n (now (k .entry))) (threeAt (now (work .entry)))
+    ensures { λ _. ⌜ PairInSlots q n (committed q n (keysOf n (now (k .entry))) (threeAt (now (work .entry)))
         (slot (now (work .entry)) 49152)) (now (work .entry)) (now (work .exit)) ⌝ }
 {
     ring::copy_slot(work, SPARE, THREE, n);
@@ -60,7 +62,7 @@ pub fn load_three(work: &mut [u8], r: &[u8], n: usize, q: u64)
 // The pair of a lent polynomial m and of the three r in ternary bytes.
 pub fn pair(work: &mut [u8], k: &[u8], m: &[u8], r: &[u8], n: usize, q: u64)
     requires { ⌜ PublicKeys n q (now k) × Polynomial n q (now m) × (length (now r) ≡ 3 * n) × (length (now work) ≡ scratchLength) ⌝ }
-    ensures { λ _. ⌜ PairStands q n (committed q n (keysOf n (now (k .entry))) (threeOf q n (now (r .entry))) (poly (now (m .entry))))
+    ensures { λ _. ⌜ PairInSlots q n (committed q n (keysOf n (now (k .entry))) (threeOf q n (now (r .entry))) (poly (now (m .entry))))
         (now (work .entry)) (now (work .exit)) ⌝ }
 {
     load_three(work, r, n, q);

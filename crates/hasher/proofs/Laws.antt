@@ -10,7 +10,7 @@ use Rattle.sha3.proofs.Absorbing.{absorb-append}
 use Rattle.sha3.specs.Sponge.{padding, squeeze, sha3}
 use Rattle.sha3.proofs.Parts.{done}
 use Rattle.hasher.specs.declared.Hasher.{Hasher}
-use Rattle.hasher.specs.Hasher.{made, holding, updated, finished}
+use Rattle.hasher.specs.Internal.{made, holding, updated, finished}
 
 -- two parts, of any hasher
 pub updated-append : (h : Hasher) (a b : Bytes) → updated (updated h a) b ≡ updated h (a ++ b)

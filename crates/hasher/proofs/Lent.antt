@@ -37,7 +37,7 @@ use denote.Triple.Statement.{Contract, Triple}
 use denote.Triple.Call.{calls-at}
 use denote.Triple.Clauses.{ensured, lasts}
 use Rattle.hasher.specs.declared.Hasher.{Hasher}
-use Rattle.hasher.specs.Hasher.{updated}
+use Rattle.hasher.specs.Internal.{updated}
 use Rattle.hasher.proofs.Hasher as T
 use Rattle.hasher.proofs.Hasher.Laws as T′
 use Rattle.hasher.proofs.Hasher.update as update

@@ -1,1 +1,1 @@
-pub mod Hasher
+pub mod Internal

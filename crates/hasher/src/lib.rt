@@ -3,7 +3,7 @@
 ghost use mathlib.Core.Path.{_≡_};
 ghost use mathlib.Core.List.{[], _++_};
 ghost use Rattle.sha3.specs.Sponge.{sha3};
-ghost use Rattle.hasher.specs.Hasher.{made, holding, updated, finished};
+ghost use Rattle.hasher.specs.Internal.{made, holding, updated, finished};
 
 // The sponge's state, and the place of the next byte in its block.
 pub struct Hasher {

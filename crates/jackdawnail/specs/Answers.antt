@@ -5,14 +5,14 @@ use Prim.Native.Nat.{ℕ}
 use Rattle.codec.specs.Bytes.{Bytes}
 use Rattle.codec.specs.Reply.{Test, first, leaves, packed}
 use Rattle.sha3.specs.Digest.{digestReply, digestOut}
-use Rattle.scratch.specs.Call.{swept}
+use Rattle.scratch.specs.Call.{zeroized}
 use Rattle.sheet.specs.Calls.{describeReply, describeOut}
 
 -- for an order of tests and what is written
-pub record Answered (tests : List Test) (writes : Bytes) (answer : ℕ) (out out' scratch scratch' : Bytes) : Type 0 where
+pub record CallReplied (tests : List Test) (writes : Bytes) (answer : ℕ) (out out' scratch scratch' : Bytes) : Type 0 where
   pub replied : answer ≡ packed (first tests)
   pub written : out' ≡ leaves (first tests) writes out
-  pub cleared : scratch' ≡ swept (first tests) scratch
+  pub cleared : scratch' ≡ zeroized (first tests) scratch
 
 -- the plain digest of a message
 pub record Digested (message : Bytes) (answer : ℕ) (out out' : Bytes) : Type 0 where

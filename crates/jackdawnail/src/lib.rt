@@ -7,7 +7,7 @@ ghost use Rattle.codec.specs.Slices.{given, left};
 ghost use Rattle.scheme_calls.specs.Orders.{keygenOrder, encryptOrder, decryptOrder, splitOrder, shareOrder, reconstructOrder};
 ghost use Rattle.scheme_calls.specs.Orders.{commitmentOrder};
 ghost use Rattle.scheme_calls.specs.Orders.{keyOf, ciphertextOf, voteOf, splitOf, shareOf, voteOfShares, pairOf};
-ghost use Rattle.jackdawnail.specs.Answers.{Answered, Digested, Described};
+ghost use Rattle.jackdawnail.specs.Answers.{CallReplied, Digested, Described};
 
 // SHA3-256 of a message into 32 lent bytes.
 #[no_mangle]
@@ -34,7 +34,7 @@ pub extern "C" fn jdn_keygen(
     b: &mut [u8],
     scratch: &mut [u8],
 ) -> u64
-    ensures { λ answer. ⌜ Answered (keygenOrder (given sheet) (given s) (given e) (given b) (given scratch))
+    ensures { λ answer. ⌜ CallReplied (keygenOrder (given sheet) (given s) (given e) (given b) (given scratch))
         (keyOf (given sheet) (given s) (given e)) answer (given b) (left b) (given scratch) (left scratch) ⌝ }
 {
     codec::pack(scheme_calls::keygen(sheet, s, e, b, scratch))
@@ -51,7 +51,7 @@ pub extern "C" fn jdn_encrypt(
     ciphertext: &mut [u8],
     scratch: &mut [u8],
 ) -> u64
-    ensures { λ answer. ⌜ Answered (encryptOrder (given sheet) (given r) (given e1) (given e2) (given m) (given ciphertext) (given scratch))
+    ensures { λ answer. ⌜ CallReplied (encryptOrder (given sheet) (given r) (given e1) (given e2) (given m) (given ciphertext) (given scratch))
         (ciphertextOf (given sheet) (given r) (given e1) (given e2) (given m)) answer (given ciphertext) (left ciphertext) (given scratch)
         (left scratch) ⌝ }
 {
@@ -67,7 +67,7 @@ pub extern "C" fn jdn_decrypt(
     vote: &mut [u8],
     scratch: &mut [u8],
 ) -> u64
-    ensures { λ answer. ⌜ Answered (decryptOrder (given sheet) (given s) (given ciphertext) (given vote) (given scratch))
+    ensures { λ answer. ⌜ CallReplied (decryptOrder (given sheet) (given s) (given ciphertext) (given vote) (given scratch))
         (voteOf (given sheet) (given s) (given ciphertext)) answer (given vote) (left vote) (given scratch) (left scratch) ⌝ }
 {
     codec::pack(scheme_calls::decrypt(sheet, s, ciphertext, vote, scratch))
@@ -84,7 +84,7 @@ pub extern "C" fn jdn_split(
     out: &mut [u8],
     scratch: &mut [u8],
 ) -> u64
-    ensures { λ answer. ⌜ Answered (splitOrder (given sheet) (given s) (given e) (given s0) (given e0) (given out) (given scratch))
+    ensures { λ answer. ⌜ CallReplied (splitOrder (given sheet) (given s) (given e) (given s0) (given e0) (given out) (given scratch))
         (splitOf (given sheet) (given s) (given e) (given s0) (given e0)) answer (given out) (left out) (given scratch) (left scratch) ⌝ }
 {
     codec::pack(scheme_calls::split(sheet, s, e, s0, e0, out, scratch))
@@ -100,7 +100,7 @@ pub extern "C" fn jdn_share(
     t: &mut [u8],
     scratch: &mut [u8],
 ) -> u64
-    ensures { λ answer. ⌜ Answered (shareOrder (given sheet) (given «key_share») (given u) (given mask) (given t) (given scratch))
+    ensures { λ answer. ⌜ CallReplied (shareOrder (given sheet) (given «key_share») (given u) (given mask) (given t) (given scratch))
         (shareOf (given sheet) (given «key_share») (given u) (given mask)) answer (given t) (left t) (given scratch) (left scratch) ⌝ }
 {
     codec::pack(scheme_calls::share(sheet, key_share, u, mask, t, scratch))
@@ -116,7 +116,7 @@ pub extern "C" fn jdn_reconstruct(
     vote: &mut [u8],
     scratch: &mut [u8],
 ) -> u64
-    ensures { λ answer. ⌜ Answered (reconstructOrder (given sheet) (given v) (given t0) (given t1) (given vote) (given scratch))
+    ensures { λ answer. ⌜ CallReplied (reconstructOrder (given sheet) (given v) (given t0) (given t1) (given vote) (given scratch))
         (voteOfShares (given sheet) (given v) (given t0) (given t1)) answer (given vote) (left vote) (given scratch) (left scratch) ⌝ }
 {
     codec::pack(scheme_calls::reconstruct(sheet, v, t0, t1, vote, scratch))
@@ -131,7 +131,7 @@ pub extern "C" fn jdn_commitment(
     pair: &mut [u8],
     scratch: &mut [u8],
 ) -> u64
-    ensures { λ answer. ⌜ Answered (commitmentOrder (given sheet) (given m) (given r) (given pair) (given scratch))
+    ensures { λ answer. ⌜ CallReplied (commitmentOrder (given sheet) (given m) (given r) (given pair) (given scratch))
         (pairOf (given sheet) (given m) (given r)) answer (given pair) (left pair) (given scratch) (left scratch) ⌝ }
 {
     codec::pack(scheme_calls::commitment(sheet, m, r, pair, scratch))

@@ -117,7 +117,7 @@ pub extern "C" fn jdn_extract(
         let before = extractIn out scratch in let found = extractFound (given sheet) x before in
         ⌜ (answer ≡ answered found) × ExtractCalled (given sheet) x before found (extractOut out scratch) ⌝ }
 {
-    round_extract::pack(round_extract::calls::extract(
+    round_extract::pack_extraction(round_extract::calls::extract(
         sheet,
         head,
         shares0,

@@ -7,7 +7,7 @@ ghost use Rattle.session_check.specs.Check.{inputsIn};
 ghost use Rattle.session.specs.Steps.{on};
 ghost use Rattle.session.specs.Machine.{clear, admit, withdraw, close, claim, commit, draw};
 ghost use Rattle.session_image.specs.Image.{imageLength};
-ghost use Rattle.session_image.specs.Images.{host, Called, CalledAlone, CheckCalled, ChallengesCalled, turnoutAnswer};
+ghost use Rattle.session_image.specs.Images.{host, StepCalled, StepCalledAlone, CheckCalled, ChallengesCalled, turnoutAnswer};
 
 // The length of the image of a session.
 #[no_mangle]
@@ -36,7 +36,7 @@ pub extern "C" fn jdn_register_length() -> u64
 // Starts anew, on a sheet and with an empty register, whatever the image holds.
 #[no_mangle]
 pub extern "C" fn jdn_clear(image: &mut [u8], reg: &mut [u8], sheet: &[u8]) -> u64
-    ensures { λ answer. ⌜ Called (clear (on (given sheet))) (host (given image) (given reg)) answer (host (left image) (left reg)) ⌝ }
+    ensures { λ answer. ⌜ StepCalled (clear (on (given sheet))) (host (given image) (given reg)) answer (host (left image) (left reg)) ⌝ }
 {
     session_image::calls::clear(image, reg, sheet)
 }
@@ -44,7 +44,7 @@ pub extern "C" fn jdn_clear(image: &mut [u8], reg: &mut [u8], sheet: &[u8]) -> u
 // Admits a ballot: mark, u, v.
 #[no_mangle]
 pub extern "C" fn jdn_admit(image: &mut [u8], reg: &mut [u8], ballot: &[u8]) -> u64
-    ensures { λ answer. ⌜ Called (admit (given ballot)) (host (given image) (given reg)) answer (host (left image) (left reg)) ⌝ }
+    ensures { λ answer. ⌜ StepCalled (admit (given ballot)) (host (given image) (given reg)) answer (host (left image) (left reg)) ⌝ }
 {
     session_image::calls::admit(image, reg, ballot)
 }
@@ -52,7 +52,7 @@ pub extern "C" fn jdn_admit(image: &mut [u8], reg: &mut [u8], ballot: &[u8]) -> 
 // Withdraws the ballot with a mark.
 #[no_mangle]
 pub extern "C" fn jdn_withdraw(image: &mut [u8], reg: &mut [u8], mark: u32) -> u64
-    ensures { λ answer. ⌜ Called (withdraw mark) (host (given image) (given reg)) answer (host (left image) (left reg)) ⌝ }
+    ensures { λ answer. ⌜ StepCalled (withdraw mark) (host (given image) (given reg)) answer (host (left image) (left reg)) ⌝ }
 {
     session_image::calls::withdraw(image, reg, mark)
 }
@@ -60,7 +60,7 @@ pub extern "C" fn jdn_withdraw(image: &mut [u8], reg: &mut [u8], mark: u32) -> u
 // Closes the batch of the standing entries.
 #[no_mangle]
 pub extern "C" fn jdn_close(image: &mut [u8], reg: &[u8]) -> u64
-    ensures { λ answer. ⌜ Called close (host (given image) (given reg)) answer (host (left image) (given reg)) ⌝ }
+    ensures { λ answer. ⌜ StepCalled close (host (given image) (given reg)) answer (host (left image) (given reg)) ⌝ }
 {
     session_image::calls::close(image, reg)
 }
@@ -68,7 +68,7 @@ pub extern "C" fn jdn_close(image: &mut [u8], reg: &[u8]) -> u64
 // Takes the claims.
 #[no_mangle]
 pub extern "C" fn jdn_claim(image: &mut [u8], claims: &[u8]) -> u64
-    ensures { λ answer. ⌜ CalledAlone (claim (given claims)) (given image) answer (left image) ⌝ }
+    ensures { λ answer. ⌜ StepCalledAlone (claim (given claims)) (given image) answer (left image) ⌝ }
 {
     session_image::calls::claim(image, claims)
 }
@@ -82,7 +82,7 @@ pub extern "C" fn jdn_commit(
     shares0: &[u8],
     shares1: &[u8],
 ) -> u64
-    ensures { λ answer. ⌜ CalledAlone (commit round (given head) (given shares0) (given shares1)) (given image) answer (left image) ⌝ }
+    ensures { λ answer. ⌜ StepCalledAlone (commit round (given head) (given shares0) (given shares1)) (given image) answer (left image) ⌝ }
 {
     session_image::calls::commit(image, round, head, shares0, shares1)
 }
@@ -90,7 +90,7 @@ pub extern "C" fn jdn_commit(
 // Takes the seed of 32 bytes.
 #[no_mangle]
 pub extern "C" fn jdn_draw(image: &mut [u8], seed: &[u8]) -> u64
-    ensures { λ answer. ⌜ CalledAlone (draw (given seed)) (given image) answer (left image) ⌝ }
+    ensures { λ answer. ⌜ StepCalledAlone (draw (given seed)) (given image) answer (left image) ⌝ }
 {
     session_image::calls::draw(image, seed)
 }

@@ -10,23 +10,21 @@ use lib.Pow.{pow-pos, pow-add, shr-shr, shr-lt, field, split, high, mod-mod-pow}
 use Rattle.keccak.specs.Keccak.{bit, rotate, complement}
 use Rattle.keccak.proofs.Rotation.{kept}
 
+-- two operations agree on bits where they agree on 0 and 1
+pub on-bits : (f g : ℕ → ℕ → ℕ) → f 0 0 ≡ g 0 0 → f 0 1 ≡ g 0 1 → f 1 0 ≡ g 1 0 → f 1 1 ≡ g 1 1 → (a b : ℕ) → a < 2 → b < 2 → f a b ≡ g a b
+on-bits f g p q r s zero zero ha hb = p
+on-bits f g p q r s zero (suc zero) ha hb = q
+on-bits f g p q r s zero (suc (suc b)) ha hb = absurd (omega arith)
+on-bits f g p q r s (suc zero) zero ha hb = r
+on-bits f g p q r s (suc zero) (suc zero) ha hb = s
+on-bits f g p q r s (suc zero) (suc (suc b)) ha hb = absurd (omega arith)
+on-bits f g p q r s (suc (suc a)) b ha hb = absurd (omega arith)
+
 xor-bits : (a b : ℕ) → a < 2 → b < 2 → bitXor a b ≡ (a + b) % 2
-xor-bits zero zero ha hb = refl
-xor-bits zero (suc zero) ha hb = refl
-xor-bits zero (suc (suc b)) ha hb = absurd (omega arith)
-xor-bits (suc zero) zero ha hb = refl
-xor-bits (suc zero) (suc zero) ha hb = refl
-xor-bits (suc zero) (suc (suc b)) ha hb = absurd (omega arith)
-xor-bits (suc (suc a)) b ha hb = absurd (omega arith)
+xor-bits = on-bits bitXor (λ a b. (a + b) % 2) refl refl refl refl
 
 and-bits : (a b : ℕ) → a < 2 → b < 2 → bitAnd a b ≡ a * b
-and-bits zero zero ha hb = refl
-and-bits zero (suc zero) ha hb = refl
-and-bits zero (suc (suc b)) ha hb = absurd (omega arith)
-and-bits (suc zero) zero ha hb = refl
-and-bits (suc zero) (suc zero) ha hb = refl
-and-bits (suc zero) (suc (suc b)) ha hb = absurd (omega arith)
-and-bits (suc (suc a)) b ha hb = absurd (omega arith)
+and-bits = on-bits bitAnd _*_ refl refl refl refl
 
 pub bit-xor : (a b z : ℕ) → bit (bitXor a b) z ≡ (bit a z + bit b z) % 2
 unfolding bit

@@ -8,8 +8,8 @@ use native.Mathlib.Omega.{arith}
 use lib.Bits.{bitXor, bitAnd, bitOr, or-shr, or-mod, xor-lt, and-lt, or-lt, xor-comm}
 use lib.Pow.{shr-shr}
 use Rattle.keccak.specs.Keccak.{bit, rotate, complement}
-use Rattle.keccak.specs.Complemented.{flip, _⊻_}
-use Rattle.keccak.proofs.Bits.{bit-xor, bit-and, bit-complement, rotate-lt, bit-rotate}
+use Rattle.keccak.specs.Internal.{flip, _⊻_}
+use Rattle.keccak.proofs.Bits.{on-bits, bit-xor, bit-and, bit-complement, rotate-lt, bit-rotate}
 use Rattle.keccak.proofs.Lanes.{complement-lt}
 
 -- ---- numbers are equal by their bits
@@ -34,13 +34,7 @@ by-bits (suc n) a b ha hb e =
     omega arith
 
 or-bits : (a b : ℕ) → a < 2 → b < 2 → bitOr a b ≡ max a b
-or-bits zero zero ha hb = refl
-or-bits zero (suc zero) ha hb = refl
-or-bits zero (suc (suc b)) ha hb = absurd (omega arith)
-or-bits (suc zero) zero ha hb = refl
-or-bits (suc zero) (suc zero) ha hb = refl
-or-bits (suc zero) (suc (suc b)) ha hb = absurd (omega arith)
-or-bits (suc (suc a)) b ha hb = absurd (omega arith)
+or-bits = on-bits bitOr max refl refl refl refl
 
 bit-or : (a b z : ℕ) → bit (bitOr a b) z ≡ max (bit a z) (bit b z)
 unfolding bit

@@ -7,8 +7,7 @@ use native.Mathlib.Omega.{arith}
 use lib.Bits.{bitXor, bitAnd, bitOr, xor-lt}
 use lib.ListN.{getD}
 use Rattle.keccak.specs.Keccak.{State, lane, five, lanes, offsets, rotate, complement, parity, effect, theta, rho, pi, chi, chiRow, iota, round, rounds, constants}
-use Rattle.keccak.specs.Chi.{chiRow0, chiRow1, chiRow2, chiRow3, chiRow4, chiFlipped}
-use Rattle.keccak.specs.Complemented.{_⊻_, flip, flipped, six, roundFlipped}
+use Rattle.keccak.specs.Internal.{chiRow0, chiRow1, chiRow2, chiRow3, chiRow4, chiFlipped, _⊻_, flip, flipped, six, roundFlipped}
 use Rattle.keccak.proofs.Complement.{flip-lt, flip-flip, flip-xor, flip-rotate, chiLane, by-and, by-or, twice}
 use Rattle.keccak.proofs.Bits.{rotate-lt}
 use Rattle.keccak.proofs.Lanes.{Words, at-five, by-row, offset-lt, parity-at, parity-lt, effect-at, theta-at, theta-words, rho-at, rho-words, pi-at, pi-words, rounds-words}
@@ -136,53 +135,23 @@ moved s w =
 module _ (x0 x1 x2 x3 x4 : ℕ) (h0 : x0 < 2 ^ 64) (h1 : x1 < 2 ^ 64) (h2 : x2 < 2 ^ 64) (h3 : x3 < 2 ^ 64) (h4 : x4 < 2 ^ 64) where
   row0-flipped : chiRow0 (complement x0 ∷ x1 ∷ complement x2 ∷ complement x3 ∷ x4 ∷ []) ≡ chiLane x0 x1 x2 ∷ complement (chiLane x1 x2 x3) ∷ complement (chiLane x2 x3 x4) ∷ chiLane x3 x4 x0 ∷ chiLane x4 x0 x1 ∷ []
   unfolding chiRow0
-  row0-flipped =
-      row5
-      (by-or true x0 x1 x2 h0 h1 h2)
-      (ap (λ (v : ℕ). bitXor x1 (bitOr v (complement x3))) (twice x2 h2) ∙ by-or false x1 x2 x3 h1 h2 h3)
-      (by-and true x2 x3 x4 h2 h3 h4)
-      (by-or true x3 x4 x0 h3 h4 h0)
-      (by-and false x4 x0 x1 h4 h0 h1)
+  row0-flipped = row5 (by-or true x0 x1 x2 h0 h1 h2) (ap (λ (v : ℕ). bitXor x1 (bitOr v (complement x3))) (twice x2 h2) ∙ by-or false x1 x2 x3 h1 h2 h3) (by-and true x2 x3 x4 h2 h3 h4) (by-or true x3 x4 x0 h3 h4 h0) (by-and false x4 x0 x1 h4 h0 h1)
 
   row1-flipped : chiRow1 (complement x0 ∷ x1 ∷ complement x2 ∷ x3 ∷ x4 ∷ []) ≡ chiLane x0 x1 x2 ∷ chiLane x1 x2 x3 ∷ chiLane x2 x3 x4 ∷ complement (chiLane x3 x4 x0) ∷ chiLane x4 x0 x1 ∷ []
   unfolding chiRow1
-  row1-flipped =
-      row5
-      (by-or true x0 x1 x2 h0 h1 h2)
-      (by-and false x1 x2 x3 h1 h2 h3)
-      (by-or true x2 x3 x4 h2 h3 h4)
-      (by-or false x3 x4 x0 h3 h4 h0)
-      (by-and false x4 x0 x1 h4 h0 h1)
+  row1-flipped = row5 (by-or true x0 x1 x2 h0 h1 h2) (by-and false x1 x2 x3 h1 h2 h3) (by-or true x2 x3 x4 h2 h3 h4) (by-or false x3 x4 x0 h3 h4 h0) (by-and false x4 x0 x1 h4 h0 h1)
 
   row2-flipped : chiRow2 (complement x0 ∷ x1 ∷ complement x2 ∷ x3 ∷ x4 ∷ []) ≡ chiLane x0 x1 x2 ∷ chiLane x1 x2 x3 ∷ complement (chiLane x2 x3 x4) ∷ chiLane x3 x4 x0 ∷ chiLane x4 x0 x1 ∷ []
   unfolding chiRow2
-  row2-flipped =
-      row5
-      (by-or true x0 x1 x2 h0 h1 h2)
-      (by-and false x1 x2 x3 h1 h2 h3)
-      (by-and true x2 x3 x4 h2 h3 h4)
-      (by-or true x3 x4 x0 h3 h4 h0)
-      (by-and false x4 x0 x1 h4 h0 h1)
+  row2-flipped = row5 (by-or true x0 x1 x2 h0 h1 h2) (by-and false x1 x2 x3 h1 h2 h3) (by-and true x2 x3 x4 h2 h3 h4) (by-or true x3 x4 x0 h3 h4 h0) (by-and false x4 x0 x1 h4 h0 h1)
 
   row3-flipped : chiRow3 (x0 ∷ complement x1 ∷ x2 ∷ complement x3 ∷ complement x4 ∷ []) ≡ chiLane x0 x1 x2 ∷ chiLane x1 x2 x3 ∷ complement (chiLane x2 x3 x4) ∷ chiLane x3 x4 x0 ∷ chiLane x4 x0 x1 ∷ []
   unfolding chiRow3
-  row3-flipped =
-      row5
-      (by-and false x0 x1 x2 h0 h1 h2)
-      (by-or true x1 x2 x3 h1 h2 h3)
-      (ap (λ (v : ℕ). bitXor x2 (bitOr v (complement x4))) (twice x3 h3) ∙ by-or false x2 x3 x4 h2 h3 h4)
-      (ap (λ (v : ℕ). bitXor v (bitAnd (complement x4) x0)) (twice x3 h3) ∙ by-and false x3 x4 x0 h3 h4 h0)
-      (by-or true x4 x0 x1 h4 h0 h1)
+  row3-flipped = row5 (by-and false x0 x1 x2 h0 h1 h2) (by-or true x1 x2 x3 h1 h2 h3) (ap (λ (v : ℕ). bitXor x2 (bitOr v (complement x4))) (twice x3 h3) ∙ by-or false x2 x3 x4 h2 h3 h4) (ap (λ (v : ℕ). bitXor v (bitAnd (complement x4) x0)) (twice x3 h3) ∙ by-and false x3 x4 x0 h3 h4 h0) (by-or true x4 x0 x1 h4 h0 h1)
 
   row4-flipped : chiRow4 (complement x0 ∷ x1 ∷ x2 ∷ complement x3 ∷ x4 ∷ []) ≡ complement (chiLane x0 x1 x2) ∷ chiLane x1 x2 x3 ∷ chiLane x2 x3 x4 ∷ chiLane x3 x4 x0 ∷ chiLane x4 x0 x1 ∷ []
   unfolding chiRow4
-  row4-flipped =
-      row5
-      (by-and true x0 x1 x2 h0 h1 h2)
-      (by-or true x1 x2 x3 h1 h2 h3)
-      (by-and false x2 x3 x4 h2 h3 h4)
-      (by-or true x3 x4 x0 h3 h4 h0)
-      (by-and false x4 x0 x1 h4 h0 h1)
+  row4-flipped = row5 (by-and true x0 x1 x2 h0 h1 h2) (by-or true x1 x2 x3 h1 h2 h3) (by-and false x2 x3 x4 h2 h3 h4) (by-or true x3 x4 x0 h3 h4 h0) (by-and false x4 x0 x1 h4 h0 h1)
 
 chi-flipped : (b : State) → Words b → chiFlipped (flipped (movedOf six) b) ≡ flipped six (chi b)
 unfolding chiFlipped flipped movedOf thetaOf effectOf columnOf chi chiRow

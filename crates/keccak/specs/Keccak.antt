@@ -1,4 +1,4 @@
--- Keccak-f[1600] of FIPS 202, section 3: the step mappings of 3.2 (keccak_steps: specs/Steps.antt), the round and the permutation of 24 rounds. Assumes nothing.
+-- Keccak-f[1600] of FIPS 202, section 3: the step mappings of 3.2 (specs/Steps.antt), the round and the permutation of 24 rounds. Assumes nothing.
 use Prim.Native.Nat.{ℕ, zero, suc}
 use mathlib.Core.List.{List, [], _∷_}
 use lib.ListN.{getD}

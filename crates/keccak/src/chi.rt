@@ -1,6 +1,6 @@
 // Chi of FIPS 202, section 3.2.4, on a state with some lanes complemented.
 ghost use mathlib.Core.Path.{_≡_};
-ghost use Rattle.keccak.specs.Chi.{chiRow0, chiRow1, chiRow2, chiRow3, chiRow4, chiFlipped};
+ghost use Rattle.keccak.specs.Internal.{chiRow0, chiRow1, chiRow2, chiRow3, chiRow4, chiFlipped};
 
 // Chi on the five rows of a state whose lanes stand complemented as theta, rho and pi leave them.
 fn chi_row0(r: [u64; 5]) -> [u64; 5]

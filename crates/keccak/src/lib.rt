@@ -9,7 +9,7 @@ use crate::steps::rho_step;
 use crate::steps::theta_step;
 ghost use mathlib.Core.Path.{_≡_};
 ghost use Rattle.keccak.specs.Keccak.{keccak};
-ghost use Rattle.keccak.specs.Complemented.{flipped, six, roundFlipped};
+ghost use Rattle.keccak.specs.Internal.{flipped, six, roundFlipped};
 
 // The constants of the 24 rounds (FIPS 202, 3.2.5).
 const CONSTANTS: [u64; 24] = [

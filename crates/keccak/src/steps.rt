@@ -1,4 +1,4 @@
-// The step mappings of FIPS 202, section 3.2, on five rows of five lanes, by value; chi has a crate of its own.
+// The step mappings of FIPS 202, section 3.2, on five rows of five lanes, by value; chi has a module of its own.
 ghost use mathlib.Core.Path.{_≡_};
 ghost use Prim.Native.Nat.{_<_};
 ghost use Rattle.keccak.specs.Steps.{rotate, xorRow, parity, effect, theta, rho, rhoRow, pi, iota, Offsets};

@@ -18,7 +18,7 @@ use Rattle.keccak.specs.Keccak.{State, lane, lanes, bit, keccak}
 use Rattle.keccak.proofs.Bits.{bit-xor}
 use Rattle.keccak.proofs.Lanes.{Words, at-five, by-row, rounds-words}
 use Rattle.sha3.specs.Absorb.{zeroState}
-use Rattle.sha3.specs.Blocks.{xorBlock, absorbBlocks}
+use Rattle.sha3.specs.Internal.{xorBlock, absorbBlocks}
 use Rattle.sha3.specs.Fips as blocks
 use Rattle.sha3.specs.Sponge.{padding, squeeze, sha3}
 use Rattle.sha3.proofs.Padding.{length-padding, octets-padding}

@@ -10,7 +10,8 @@ use mathlib.Core.Logic.{_≢_}
 use borrow.Author.Tests.{eqb-true, eqb-false, eq-eqb, ne-eqb}
 use lib.Dec.{eqb}
 use Rattle.modular.specs.Modulo.{Same}
-use Rattle.modular.specs.Division.{Coprime, multiplier, inverse, divide}
+use Rattle.modular.specs.Division.{multiplier, inverse, divide}
+use Rattle.modular.specs.Internal.{Coprime}
 use Rattle.modular.proofs.Congruence.{same-refl, same-eq, same-sym, _then_, same-mod, same-add, same-mul, same-more, with-opposite}
 
 -- ---- Euclid: some multiple of q is -1 modulo p

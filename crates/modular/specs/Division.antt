@@ -1,12 +1,7 @@
 -- Division by p modulo q, for any p that has no factor in common with q (document 01, refusal 12: a mask "worked out from t_i"). Assumes nothing.
-use mathlib.Core.Path.{_≡_}
 use mathlib.Core.Bool.{cond}
 use Prim.Native.Nat.{ℕ, zero, suc, _+_, _*_, _/_, _%_}
 use lib.Dec.{eqb}
-
--- p and q have no factor in common but 1
-abbrev pub Coprime : ℕ → ℕ → Type 0
-Coprime p q = (f : ℕ) → p % f ≡ 0 → q % f ≡ 0 → f ≡ 1
 
 -- the k below n with 1 + q * k a multiple of p, the largest; 0 if there is none
 unfoldable pub multiplier : (q p n : ℕ) → ℕ

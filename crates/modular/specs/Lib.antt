@@ -1,2 +1,3 @@
 pub mod Modulo
 pub mod Division
+pub mod Internal

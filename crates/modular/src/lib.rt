@@ -3,7 +3,8 @@ ghost use mathlib.Core.Path.{_≡_};
 ghost use Prim.Native.Nat.{_+_, _-_, _*_, _%_, _^_, _<_, _≤_};
 ghost use lib.IntN.{natAbs};
 ghost use Rattle.modular.specs.Modulo.{centre, remainder};
-ghost use Rattle.modular.specs.Division.{Coprime, multiplier, divide};
+ghost use Rattle.modular.specs.Division.{multiplier, divide};
+ghost use Rattle.modular.specs.Internal.{Coprime};
 
 // a + b. Whether q is subtracted is computed, as a jump on it is foretold wrongly half the time: s + 2^62 - q is at least 2^62 where s
 // is at least q, and only there, so that `over` is 1 there and else 0. What is divided by 2^62 is shifted.

@@ -10,7 +10,8 @@ use Rattle.codec.specs.Bytes.{Bytes}
 use Rattle.codec.specs.Reply.{Test, first, leaves}
 use Rattle.codec.specs.declared.Reply.the-variants.{Taken, Refused}
 use Rattle.register.specs.Register.{capacity, stateAt, find}
-use Rattle.register.specs.Orders.{admissionTests, withdrawalTests, Wrote}
+use Rattle.register.specs.Orders.{admissionTests, withdrawalTests}
+use Rattle.register.specs.Internal.{Wrote}
 
 module _ (reg : Bytes) (used mark : ℕ) {i : ℕ} (f : i ≡ find reg mark used) where
   -- ---- admission

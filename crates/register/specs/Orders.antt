@@ -1,13 +1,11 @@
 -- What the register refuses by its entries (document 01, "Refused because of the state"), in the orders of admit and withdraw: 32 mark standing, 33 mark withdrawn, 34 mark
 -- unknown, 35 no entry free. Of several entries with one mark the first decides. Assumes nothing.
-use mathlib.Core.Path.{_≡_}
 use mathlib.Core.Bool.{not, _&&_}
 use mathlib.Core.List.{List, [], _∷_}
 use Prim.Native.Nat.{ℕ}
 use lib.Dec.{eqb, ltb}
 use Rattle.codec.specs.Bytes.{Bytes}
-use Rattle.codec.specs.Reply.{Test, test, first, leaves}
-use Rattle.codec.specs.declared.Reply.{Reply}
+use Rattle.codec.specs.Reply.{Test, test}
 use Rattle.register.specs.Register.{capacity, stateAt, find}
 
 module _ (reg : Bytes) (used mark : ℕ) where
@@ -27,8 +25,3 @@ module _ (reg : Bytes) (used mark : ℕ) where
       test 34 0 (eqb i used)
       ∷ test 33 0 (not (eqb (stateAt reg i) 1))
       ∷ []
-
--- what a call that writes to one lent slice comes to, for an order of tests and what it writes
-pub record Wrote (tests : List Test) (writes : Bytes) (reply : Reply) (out out' : Bytes) : Type 0 where
-  pub replied : reply ≡ first tests
-  pub written : out' ≡ leaves (first tests) writes out

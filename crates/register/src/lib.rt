@@ -5,7 +5,8 @@ ghost use Prim.Native.Nat.{_+_, _*_, _≤_};
 ghost use lib.Dec.{eqb};
 ghost use lib.ListN.{length};
 ghost use Rattle.codec.specs.Slices.{given, left};
-ghost use Rattle.register.specs.Orders.{admissionTests, withdrawalTests, Wrote};
+ghost use Rattle.register.specs.Orders.{admissionTests, withdrawalTests};
+ghost use Rattle.register.specs.Internal.{Wrote};
 ghost use Rattle.register.specs.Register as def;
 
 // The length of a register.

@@ -14,7 +14,8 @@ use Rattle.codec.proofs.Numbers.{length-bytes, number-bytes, bytes-number, leng
 use Rattle.codec.specs.Lists.{list}
 use Rattle.codec.proofs.Lists.{length-list, list-cong}
 use Rattle.ring.specs.Poly.{Poly, modulo, Alike, Below}
-use Rattle.ring.specs.Slots.{poly, slot, encode, store}
+use Rattle.ring.specs.Slots.{poly, slot, encode}
+use Rattle.ring.specs.Internal.{store}
 
 -- ---- coefficients and bytes
 

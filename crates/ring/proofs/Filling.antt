@@ -7,8 +7,9 @@ use lib.ListN.{length}
 use Rattle.codec.specs.Bytes.{Bytes, bytes, number, part, put}
 use Rattle.codec.proofs.Laws.{put-none, put-append, part-put-before, part-put-after}
 use Rattle.codec.proofs.Numbers.{length-bytes}
-use Rattle.ring.specs.Poly.{Poly}
-use Rattle.ring.specs.Slots.{slot, encode, Slots}
+use Rattle.ring.specs.Poly.{Poly, modulo}
+use Rattle.ring.specs.Slots.{slot, encode}
+use Rattle.ring.specs.Internal.{store, Slots}
 use Rattle.ring.proofs.Bridge.{encode-none, encode-more, length-encode}
 
 -- scratch w whose slot has the first i coefficients of f
@@ -59,3 +60,24 @@ module _ (w : Bytes) (at : ℕ) (f : Poly) where
           go : (from + 8 * n ≤ at) ⊎ (at + 8 * n ≤ from) → part d (from + 8 * i) 8 ≡ part w (from + 8 * i) 8
           go (inl e) = filled-behind d (from + 8 * i) k h (omega arith)
           go (inr e) = filled-ahead d (from + 8 * i) k h (omega arith)
+
+-- what a loop over a slot holds: the first i of n coefficients stand there, and scratch is as long as it was
+pub record Filling (w : Bytes) (at : ℕ) (f : Poly) (n : ℕ) (d : Bytes) (i : ℕ) : Type 0 where
+  pub within : i ≤ n
+  pub sized : length d ≡ length w
+  pub is : d ≡ filled w at f i
+
+pub filling-none : {w : Bytes} {at : ℕ} {f : Poly} {n : ℕ} → Filling w at f n w 0
+filling-none {w} {at} {f} = record { within = omega arith; sized = refl; is = filled-none w at f }
+
+module _ {w : Bytes} {at : ℕ} {f : Poly} {n : ℕ} {d : Bytes} {i : ℕ} (s : Filling w at f n d i) where
+  pub filling-more : {e : Bytes} {v : ℕ} → i < n → at + 8 * (i + 1) ≤ length w → v ≡ f i → length e ≡ length d → e ≡ put d (at + 8 * i) (bytes 8 v) → Filling w at f n e (i + 1)
+  filling-more {e} {v} l h p z r = record { within = omega arith; sized = z ∙ s .sized; is = filled-more w at f i d e v (s .is) h p r }
+
+  pub filling-all : n ≤ i → d ≡ put w at (encode n f)
+  filling-all h = let e : i ≡ n = omega arith in s .is ∙ ap (filled w at f) e ∙ filled-all w at f n
+
+-- the same of coefficients modulo q
+pub filling-stored : {w : Bytes} {at n : ℕ} {d : Bytes} {i : ℕ} (q : ℕ) (a : Poly) → Filling w at (modulo q a) n d i → n ≤ i → d ≡ store q n w at a
+unfolding store
+filling-stored q a s h = filling-all s h

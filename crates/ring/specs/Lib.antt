@@ -1,4 +1,4 @@
 pub mod Poly
 pub mod Slots
 pub mod Ternary
-pub mod Method
+pub mod Internal

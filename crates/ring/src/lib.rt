@@ -8,9 +8,9 @@ ghost use Rattle.codec.specs.Bytes.{put};
 ghost use Rattle.codec.specs.Lists.{list, allBelow};
 ghost use Rattle.modular.specs.Modulo.{remainder};
 ghost use Rattle.ring.specs.Poly.{plus, minus, scale, Below};
-ghost use Rattle.ring.specs.Slots.{poly, fromSigned, slot, encode, store, Slots};
+ghost use Rattle.ring.specs.Slots.{poly, slot, encode};
+ghost use Rattle.ring.specs.Internal.{fromSigned, store, Slots, sign};
 ghost use Rattle.ring.specs.Ternary.{meaning, ternary, count};
-ghost use Rattle.ring.specs.Method.{sign};
 
 // ---- range tests and counts
 

@@ -6,7 +6,7 @@ use native.Mathlib.Numerals.{add-one}
 use native.Mathlib.Omega.{arith}
 use Rattle.modular.proofs.Digits.{digits-le, low-digit, high-digit, by-digits}
 use Rattle.ring.specs.Poly.{Poly, sum}
-use Rattle.ring_product.specs.Method.{Columns, Digits}
+use Rattle.ring_product.specs.Internal.{Columns, Digits}
 use Rattle.ring.proofs.Sums.{sum-split}
 
 gather : (lo mid hi u v w z : ℕ) → lo + u + (mid + (v + w) + (hi + z) * 268435456) * 268435456 ≡ lo + (mid + hi * 268435456) * 268435456 + (u + (v + w + z * 268435456) * 268435456)

@@ -11,7 +11,8 @@ use Rattle.codec.proofs.Laws.{length-put, put-append, put-put, le-or}
 use Rattle.modular.proofs.Congruence.{same-eq, _then_, same-mod, same-mul}
 use Rattle.codec.proofs.Apart.{put-comm}
 use Rattle.ring.specs.Poly.{Poly, sum, turn, coefficient, mul, modulo, Alike, Below}
-use Rattle.ring.specs.Slots.{slot, encode, store, Slots}
+use Rattle.ring.specs.Slots.{slot, encode}
+use Rattle.ring.specs.Internal.{store, Slots}
 use Rattle.ring.proofs.Sums.{sum-same}
 use Rattle.ring.proofs.Coefficients.{turn-low, turn-high}
 use Rattle.ring.proofs.Polynomials.{mul-at}

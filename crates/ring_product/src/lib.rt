@@ -5,8 +5,9 @@ ghost use Prim.Native.Nat.{_+_, _-_, _*_, _%_, _^_, _≤_, _<_};
 ghost use lib.ListN.{length};
 ghost use Rattle.codec.specs.Bytes.{put, zeros};
 ghost use Rattle.ring.specs.Poly.{sum, turn, mul, Below};
-ghost use Rattle.ring.specs.Slots.{poly, slot, store};
-ghost use Rattle.ring_product.specs.Method.{Columns};
+ghost use Rattle.ring.specs.Slots.{poly, slot};
+ghost use Rattle.ring.specs.Internal.{store};
+ghost use Rattle.ring_product.specs.Internal.{Columns};
 
 // Coefficient j of the row from which every coefficient of a product by a is taken: a backwards, and then -a backwards.
 fn mirrored(a: &[u8], j: usize, n: usize, q: u64) -> u64

@@ -11,12 +11,12 @@ use Rattle.codec.specs.Bytes.{Bytes, Octets}
 use Rattle.codec.specs.Reply.{None, first}
 use Rattle.codec.specs.declared.Reply.the-variants.{Taken}
 use Rattle.codec.proofs.Replies.{taken-exactly}
-use Rattle.bgv.specs.Scheme.{Sound}
+use Rattle.bgv.specs.Internal.{Sound}
 use Rattle.round.specs.Layout.{Opening, each, headLength, pairsOf, digestsAt, openingOf, answerAt}
-use Rattle.round.specs.Round.{Parameters, Round, challengeAt, sharesOf, ranged, roundTests}
+use Rattle.round.specs.Round.{Round, challengeAt, sharesOf, ranged, roundTests}
 use Rattle.round.specs.Accepted.{Answered, InRange, SideOpened, Accepted}
 use Rattle.round.specs.Extractor.{sideTests}
-use Rattle.round.specs.Producer.{Material, Sized, producerTests, producedRound}
+use Rattle.round.specs.Producer.{Material, MaterialSized, producerTests, producedRound}
 use Rattle.round.proofs.Many.{none-append, append-none, each-none, none-each}
 use Rattle.round.proofs.Produced.{length-producedHead, octets-producedHead}
 use Rattle.round.proofs.Ranged.{ranged-exactly}
@@ -24,6 +24,7 @@ use Rattle.round.proofs.Answered.{answered-exactly}
 use Rattle.round.proofs.Tests.{answer-tests, ballot-tests, splits-exactly}
 use Rattle.round.proofs.Sides.{side-exactly}
 use Rattle.round.proofs.Honest.{honest-round}
+use Rattle.commitment.specs.Parameters.{Parameters}
 
 module _ (P : Parameters) (m : ℕ) (positive : 0 < P .q) (fits : P .q ≤ 2 ^ 64) (r : Round) where
   open Parameters P using (q, N, repeats, k)
@@ -91,7 +92,7 @@ module _ (P : Parameters) (m : ℕ) (positive : 0 < P .q) (fits : P .q ≤ 2 ^ 6
         (λ e. accepted (t .0 e), λ c. t .1 (tests-pass c))
 
 -- so the producer's round is accepted
-pub honest-accepted : (P : Parameters) (m : ℕ) (x : Material) → Sound (P .q) (P .p) (P .D) (P .B) → 2 < P .q → P .q ≤ 2 ^ 64 → Sized P m x → None (producerTests P m x true)
+pub honest-accepted : (P : Parameters) (m : ℕ) (x : Material) → Sound (P .q) (P .p) (P .D) (P .B) → 2 < P .q → P .q ≤ 2 ^ 64 → MaterialSized P m x → None (producerTests P m x true)
     → (side : ℕ) → side < 2 → (challenges : Bytes) → length challenges ≡ P .repeats → ((i : ℕ) → i < P .repeats → (1 ≤ getD challenges i 0) × (getD challenges i 0 ≤ 3))
     → Accepted P m (producedRound P m x side challenges)
 honest-accepted P m x ok three fits sized none side low challenges size valid =

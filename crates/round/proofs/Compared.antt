@@ -17,12 +17,13 @@ use Rattle.modular.specs.Modulo.{Same, remainder}
 use Rattle.modular.specs.Division.{inverse, divide}
 use Rattle.modular.proofs.Congruence.{same-eq, same-refl, same-mul}
 use Rattle.ring.specs.Poly.{Poly, plus, modulo, Alike, Below}
-use Rattle.ring.specs.Slots.{poly, slot, encode, store}
+use Rattle.ring.specs.Slots.{poly, slot, encode}
+use Rattle.ring.specs.Internal.{store}
 use Rattle.ring.proofs.Bridge.{poly-part, slot-later}
 use Rattle.ring.proofs.Polynomials.{alike-refl, alike-minus, alike-mul}
-use Rattle.scratch.specs.Call.{Polynomial}
-use Rattle.bgv.specs.Scheme.{worked, within, plain, rebuilt, reconstructed}
-use Rattle.scratch.proofs.Shelf.{Shelf, shelf-none, shelf-copy, shelf-add, shelf-below}
+use Rattle.scratch.specs.Internal.{Polynomial}
+use Rattle.bgv.specs.Scheme.{recoveredMask, within, plain, rebuilt, reconstructed}
+use Rattle.scratch.proofs.Slotted.{Slotted, slotted-none, slotted-copy, slotted-add, slotted-below}
 use Rattle.commitment.proofs.Opening.{encode-bytes}
 use Rattle.round.proofs.ExtractionSizes.{same-centre}
 
@@ -32,15 +33,15 @@ module _ (n q : ℕ) (w w1 b0 : Bytes) (long : length w ≡ 1048576) (octets : O
   positive : 0 < q
   positive = let s = p0 .modulus-low in omega arith
 
-  copied : Shelf q n (poly b0 ∷ []) w1
-  copied = shelf-copy q n (p0 .ring-high) positive (p0 .modulus-high) (shelf-none q n (p0 .ring-high) positive (p0 .modulus-high) long) 0 (omega arith) (omega arith) b0 octets (p0 .sized) (p0 .below) e1
+  copied : Slotted q n (poly b0 ∷ []) w1
+  copied = slotted-copy q n (p0 .ring-high) positive (p0 .modulus-high) (slotted-none q n (p0 .ring-high) positive (p0 .modulus-high) long) 0 (omega arith) (omega arith) b0 octets (p0 .sized) (p0 .below) e1
 
   pub add-asks : (8 * n ≤ length w1) × Below q n (slot w1 0)
-  add-asks = (let h = p0 .ring-high in omega (arith, copied .long), shelf-below q n (p0 .ring-high) positive (p0 .modulus-high) copied 0 (omega arith))
+  add-asks = (let h = p0 .ring-high in omega (arith, copied .long), slotted-below q n (p0 .ring-high) positive (p0 .modulus-high) copied 0 (omega arith))
 
   module _ (w2 b1 b : Bytes) (e2 : w2 ≡ store q n w1 0 (plus (slot w1 0) (poly b1))) where
-    added : Shelf q n (plus (poly b0) (poly b1) ∷ []) w2
-    added = shelf-add q n (p0 .ring-high) positive (p0 .modulus-high) copied 0 (omega arith) (omega arith) (poly b1) (poly b1) alike-refl e2
+    added : Slotted q n (plus (poly b0) (poly b1) ∷ []) w2
+    added = slotted-add q n (p0 .ring-high) positive (p0 .modulus-high) copied 0 (omega arith) (omega arith) (poly b1) (poly b1) alike-refl e2
 
     pub added-length : length w2 ≡ length w
     added-length = added .long ∙ sym long
@@ -64,8 +65,8 @@ unfolding divide
 same-divide {q} p e = same-mul e (same-refl {x = inverse q p}) .is
 
 module _ (q n p : ℕ) where
-  pub within-alike : (bound : ℕ) (s : Poly) {u u' t t' : Poly} → Alike q n u u' → Alike q n t t' → within bound n (worked q n p s u t) ≡ within bound n (worked q n p s u' t')
-  unfolding within worked
+  pub within-alike : (bound : ℕ) (s : Poly) {u u' t t' : Poly} → Alike q n u u' → Alike q n t t' → within bound n (recoveredMask q n p s u t) ≡ within bound n (recoveredMask q n p s u' t')
+  unfolding within recoveredMask
   within-alike bound s eu et =
       ap (allBelow (suc bound)) (list-cong n (λ k l. ap natAbs (same-centre (record { is = ap (λ (x : ℕ). x % q) (same-divide p (alike-minus et (alike-mul alike-refl eu) .at k l)) }))))
 

@@ -4,10 +4,9 @@ use Prim.Native.Nat.{_-_, _*_}
 use lib.ListN.{take, drop}
 use Rattle.codec.specs.Bytes.{Bytes}
 use Rattle.sheet_numbers.specs.declared.Numbers.{Numbers}
-use Rattle.scratch.specs.Call.{Polynomial}
-use Rattle.commitment.specs.Commitment.{PublicKeys}
-use Rattle.commitment.specs.Loaded.{Loaded}
-pub use Rattle.commitment.proofs.Cut.{a-cut, b-cut, keys-cut}
+use Rattle.scratch.specs.Internal.{Polynomial}
+use Rattle.commitment.specs.Internal.{PublicKeys, Loaded}
+use Rattle.commitment.proofs.Cut.{a-cut, b-cut, keys-cut}
 
 module _ (k : Numbers) (s : Bytes) (l : Loaded k s) where
   pub a-lent : Polynomial (k .ring) (k .modulus) (take (8 * k .ring - 0) (drop 0 s))

@@ -11,7 +11,8 @@ use Rattle.codec.proofs.Lists.{list-cong}
 use Rattle.ring.specs.Poly.{Poly, plus, Alike}
 use Rattle.ring.specs.Slots.{slot}
 use Rattle.ring.proofs.Polynomials.{alike-eq, alike-sym, alike-refl, _so_, alike-plus}
-use Rattle.bgv.specs.Scheme.{Small, opened, decrypted, worked, reconstructed, Sound}
+use Rattle.bgv.specs.Scheme.{Small, opened, decrypted, recoveredMask, reconstructed}
+use Rattle.bgv.specs.Internal.{Sound}
 use Rattle.bgv.proofs.Form.{noisy-adds, noisy-alike}
 use Rattle.bgv.proofs.Round.{share-worked, reconstructs}
 use Rattle.commitment.specs.Commitment.{pairOf}
@@ -23,7 +24,7 @@ use Rattle.stern.proofs.FourEquations.{setting-valid}
 use Rattle.stern.proofs.Sound.{extract}
 use Rattle.stern.proofs.Extraction.{none-passes1, none-passes2, none-passes3, solves-meets}
 use Rattle.round.specs.Layout.{uAt, vAt, shareAt, pairAt}
-use Rattle.round.specs.Round.{Parameters}
+use Rattle.commitment.specs.Parameters.{Parameters}
 use Rattle.round.specs.Extractor.{Openings, Lent, isZero, pairs, digests, open0, open1, extractTests, unknowns, vector-s, vector-e, kind, Collision, Key, Found, collision1, collision2, collision3, short-s, short-e, secret}
 use Rattle.round.specs.OpeningsAccepted.{OpeningsAccepted}
 use Rattle.round.proofs.Ranged.{each-exactly}
@@ -128,7 +129,7 @@ module _ (P : Parameters) (m : ℕ) (x : Openings) where
                 let u = uAt N (x .ballots) j in
                 let t0 = shareAt N (x .shares0) j in
                 let t1 = shareAt N (x .shares1) j in
-                reconstructs ok (open0 P m x .s) (open1 P m x .s) f u (vAt N (x .ballots) j) t0 t1 (worked q N p (open0 P m x .s) u t0) (worked q N p (open1 P m x .s) u t1) sums
+                reconstructs ok (open0 P m x .s) (open1 P m x .s) f u (vAt N (x .ballots) j) t0 t1 (recoveredMask q N p (open0 P m x .s) u t0) (recoveredMask q N p (open1 P m x .s) u t1) sums
                 (alike-sym (share-worked ok (open0 P m x .s) u t0)) (alike-sym (share-worked ok (open1 P m x .s) u t1)) noise (accepted .side0 .masked j l) (accepted .side1 .masked j l)
 
       -- ---- by the kind

@@ -10,7 +10,7 @@ use Rattle.vector.specs.Vector.{vector, ternaries, add, subtract}
 use Rattle.vector.specs.Permutation.{entries, apply}
 use Rattle.stern.specs.Argument.{Setting, Answer1, Answer2, Answer3, string1, string2, string3}
 use Rattle.stern.specs.Shortness.{setting, answer1Of, answer2Of, answer3Of}
-use Rattle.round.specs.Round.{Parameters}
+use Rattle.commitment.specs.Parameters.{Parameters}
 use Rattle.round.specs.Extractor.{Openings, Hashed, pairs}
 
 octets-words : (xs : List ℕ) → Octets (words xs)

@@ -13,14 +13,15 @@ use Rattle.ring.specs.Poly.{Poly, modulo, Alike}
 use Rattle.ring.specs.Slots.{encode}
 use Rattle.ring.proofs.Bridge.{length-encode}
 use Rattle.ring.proofs.Polynomials.{alike-refl, alike-sym, _so_, alike-minus, alike-mul}
-use Rattle.bgv.specs.Scheme.{opened, plain, Sound}
+use Rattle.bgv.specs.Scheme.{opened, plain}
+use Rattle.bgv.specs.Internal.{Sound}
 use Rattle.bgv.proofs.Form.{noisy-alike}
 use Rattle.commitment.specs.Commitment.{Three, Alike3}
 use Rattle.commitment.proofs.Additive.{row-alike}
 use Rattle.stern.proofs.Honest.{slot-alike}
 use Rattle.stern.proofs.Layouts.{three-read}
 use Rattle.round.specs.Layout.{uAt, vAt}
-use Rattle.round.specs.Round.{Parameters}
+use Rattle.commitment.specs.Parameters.{Parameters}
 use Rattle.round.specs.Extractor.{Openings, Lent, threeBytes, extractTests, vector-s, vector-e, kind, extracted, Nonzero, ShortVector, Key, Found, vectorOf, Output, Lowest}
 use Rattle.round.proofs.Ranged.{each-exactly}
 use Rattle.round.proofs.ExtractionSizes.{zeros-alike, same-centre, small-alike}

@@ -13,7 +13,7 @@ use Rattle.ring.specs.Poly.{Poly, plus, zero-poly, Alike}
 use Rattle.commitment.specs.Commitment.{Three, Pair, threeOf, plus3, row, second, Opens}
 use Rattle.stern.specs.Shortness.{polynomial, threeFrom}
 use Rattle.stern.specs.Claims.{Meets}
-use Rattle.round.specs.Round.{Parameters}
+use Rattle.commitment.specs.Parameters.{Parameters}
 use Rattle.round.specs.Extractor.{Openings, threeBytes, isZero, pairs, unknowns, Nonzero, ShortVector}
 use Rattle.round.proofs.Many.{last}
 use Rattle.round.proofs.Tests.{differ}

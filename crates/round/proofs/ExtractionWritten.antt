@@ -23,11 +23,12 @@ use Rattle.ring.specs.Ternary.{ternary}
 use Rattle.ring.proofs.Bridge.{length-encode}
 use Rattle.ring.proofs.Ranges.{below-complete}
 use Rattle.ring.proofs.Sizes.{ternary-value}
-use Rattle.bgv.specs.Scheme.{Small, Sound}
+use Rattle.bgv.specs.Scheme.{Small}
+use Rattle.bgv.specs.Internal.{Sound}
 use Rattle.commitment.specs.Commitment.{Three}
 use Rattle.stern.specs.Shortness.{polynomial}
 use Rattle.stern.proofs.Layouts.{three-read}
-use Rattle.round.specs.Round.{Parameters}
+use Rattle.commitment.specs.Parameters.{Parameters}
 use Rattle.round.specs.Extractor.{Openings, Lent, threeBytes, ternaryBytes, extractTests, unknowns, vector-s, vector-e, kind, extracted, ShortVector, Key, Found, collision1, collision2, collision3, short-s, short-e, secret}
 use Rattle.round.proofs.Extraction.{extraction}
 

@@ -19,7 +19,8 @@ use Rattle.ring.specs.Slots.{coefficientBytes, poly}
 use Rattle.ring.proofs.Bridge.{encode-alike}
 use Rattle.ring.proofs.Polynomials.{alike-refl, alike-sym, _so_, alike-plus}
 use Rattle.ring.proofs.Ranges.{below-complete}
-use Rattle.bgv.specs.Scheme.{plain, decrypted, share, worked, within, lentMask, reconstructed, Sound}
+use Rattle.bgv.specs.Scheme.{plain, decrypted, share, recoveredMask, within, lentMask, reconstructed}
+use Rattle.bgv.specs.Internal.{Sound}
 use Rattle.bgv.proofs.Form.{noisy-alike, halves, split-key}
 use Rattle.bgv.proofs.Round.{worked-share, reconstructs}
 use Rattle.commitment.specs.Commitment.{Pair, threeOf, committed, pairBytes, opens}
@@ -30,8 +31,8 @@ use Rattle.stern.specs.Shortness.{inRange, honestAnswer, answerTests}
 use Rattle.stern.specs.Claims.{Split}
 use Rattle.stern.proofs.Honest.{honest-range, honest-none}
 use Rattle.round.specs.Layout.{Opening, each, uAt, vAt, shareAt, claimAt, pairsOf, pairAt, digestsAt, openingOf, answerAt}
-use Rattle.round.specs.Round.{Parameters, Round, challengeAt, sharesOf, openingRanged, headRanged, answersRanged, ranged, splits, opensKey, opensPairs, maskTest, claimTest, roundTests}
-use Rattle.round.specs.Producer.{Material, Sized, secret-s, secret-e, half-s, half-e, hides-s, hides-e, maskAt, permutationAt, drawnAt, pairBytesOf, producerTests, pairsBytes, producedPairs, producedHead, producedShares, producedClaims, producedOpening, producedAnswers, producedRound}
+use Rattle.round.specs.Round.{Round, challengeAt, sharesOf, openingRanged, headRanged, answersRanged, ranged, splits, opensKey, opensPairs, maskTest, claimTest, roundTests}
+use Rattle.round.specs.Producer.{Material, MaterialSized, secret-s, secret-e, half-s, half-e, hides-s, hides-e, maskAt, permutationAt, drawnAt, pairBytesOf, producerTests, pairsBytes, producedPairs, producedHead, producedShares, producedClaims, producedOpening, producedAnswers, producedRound}
 use Rattle.round.specs.Suitable.{Suitable}
 use Rattle.round.proofs.Many.{none-append, each-none, stretch}
 use Rattle.round.proofs.Written.{Coefficients, below-append, below-joined, below-part, ranged-first, coefficients-written, coefficients-append, coefficients-joined, coefficients-vector, coefficients-part}
@@ -39,6 +40,7 @@ use Rattle.round.proofs.Produced.{pairs-written, pair-s-written, pair-e
 use Rattle.round.proofs.Ranged.{each-exactly, ballots-exactly}
 use Rattle.round.proofs.Tests.{equal-same, within-complete, splits-exactly}
 use Rattle.round.proofs.Passed.{producer-exactly}
+use Rattle.commitment.specs.Parameters.{Parameters}
 
 module _ (P : Parameters) (m : ℕ) (x : Material) where
   open Parameters P using (q, N, p, B, D, repeats, a, k)
@@ -98,7 +100,7 @@ module _ (P : Parameters) (m : ℕ) (x : Material) where
     shares-below side =
         coefficients-vector (coefficients-joined N m (λ j. coefficientBytes q N (share q N p (half-s P m x side) (u j) (lentMask (maskAt P m x side j)))) (λ j l. written-below _))
 
-    module _ (sized : Sized P m x) (none : None (producerTests P m x true)) where
+    module _ (sized : MaterialSized P m x) (none : None (producerTests P m x true)) where
       fit : Suitable P m x
       fit = producer-exactly P m x positive fits .0 none
 
@@ -226,12 +228,12 @@ module _ (P : Parameters) (m : ℕ) (x : Material) where
             ap₂ _&&_ (pair-opens (pairAt N head side) (hides-s P m x side) (opening .rs) (half-s P m x side) (opening .s) (pair-s-written P m x side low) (w .2) opened-s)
             (pair-opens (pairAt N head (2 + side)) (hides-e P m x side) (opening .re) (half-e P m x side) (opening .e) (pair-e-written P m x side low) (w .3) opened-e)
 
-        mask-bounded : (j : ℕ) → j < m → within B N (worked q N p (opening .s) (u j) (shareAt N (producedShares P m x side) j)) ≡ true
+        mask-bounded : (j : ℕ) → j < m → within B N (recoveredMask q N p (opening .s) (u j) (shareAt N (producedShares P m x side) j)) ≡ true
         mask-bounded j l =
             let E = lentMask (maskAt P m x side j) in
             let made = share-alike P m x positive fits side j l so noisy-alike q N p (alike-sym opened-s) alike-refl alike-refl in
             let is = worked-share ok (opening .s) (u j) (shareAt N (producedShares P m x side) j) E (fit .masked side j low l) made in
-            within-complete B N (worked q N p (opening .s) (u j) (shareAt N (producedShares P m x side) j)) (record { at = λ i h. rw (is i h) (fit .masked side j low l .at i h) })
+            within-complete B N (recoveredMask q N p (opening .s) (u j) (shareAt N (producedShares P m x side) j)) (record { at = λ i h. rw (is i h) (fit .masked side j low l .at i h) })
 
         module _ (challenges : Bytes) (size : length challenges ≡ repeats) (valid : (i : ℕ) → i < repeats → (1 ≤ getD challenges i 0) × (getD challenges i 0 ≤ 3)) where
           abbrev round : Round
@@ -262,7 +264,7 @@ module _ (P : Parameters) (m : ℕ) (x : Material) where
           ballot-none : (j : ℕ) → j < m
               → None (maskTest q N p B (opening .s) (x .ballots) (sharesOf round side) j ∷ claimTest q N p (x .ballots) (producedClaims P m x) (producedShares P m x 0) (producedShares P m x 1) j ∷ [])
           ballot-none j l =
-              let shares = ap (λ (s : Bytes). within B N (worked q N p (opening .s) (u j) (shareAt N s j))) (opened-shares side challenges side low) in
+              let shares = ap (λ (s : Bytes). within B N (recoveredMask q N p (opening .s) (u j) (shareAt N s j))) (opened-shares side challenges side low) in
               (ap not (shares ∙ mask-bounded j l), (ap not (equal-same (claim-is j l)), tt))
 
           -- the producer's round meets none of 5 to 13

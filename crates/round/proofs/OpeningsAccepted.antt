@@ -12,7 +12,7 @@ use Rattle.codec.specs.Reply.{Test, None}
 use Rattle.codec.proofs.Laws.{both}
 use Rattle.stern.specs.Shortness.{inRange, answerTests}
 use Rattle.round.specs.Layout.{Opening}
-use Rattle.round.specs.Round.{Parameters, ofSide, openingRanged}
+use Rattle.round.specs.Round.{ofSide, openingRanged}
 use Rattle.round.specs.Accepted.{Answered, HeadRanged, SideOpened}
 use Rattle.round.specs.Extractor.{Openings, Lent, pairs, digests, open0, open1, lentRanged, sideTests, extractTests}
 use Rattle.round.specs.OpeningsAccepted.{OpeningsRanged, OpeningsAccepted}
@@ -21,6 +21,7 @@ use Rattle.round.proofs.Ranged.{opening-exactly, answer-exactly, messag
 use Rattle.round.proofs.Answered.{answered-exactly}
 use Rattle.round.proofs.Tests.{splits-exactly}
 use Rattle.round.proofs.Sides.{side-exactly}
+use Rattle.commitment.specs.Parameters.{Parameters}
 
 module _ (P : Parameters) (m : ℕ) (x : Openings) where
   open Parameters P using (q, N, repeats, k)

@@ -23,13 +23,14 @@ use Rattle.vector.specs.Vector.{vector}
 use Rattle.vector.specs.Permutation.{entries, permutes}
 use Rattle.vector.proofs.Counts.{permutes-sound, permutes-complete}
 use Rattle.round.specs.Layout.{each, uAt, vAt}
-use Rattle.round.specs.Round.{Parameters, isChallenge, ballotsRanged}
+use Rattle.round.specs.Round.{isChallenge, ballotsRanged}
 use Rattle.round.specs.Accepted.{EachBelow, BallotsRanged}
 use Rattle.round.specs.Producer.{Material, secret-s, maskAt, permutationAt, materialRanged, askedRanged, producerTests}
 use Rattle.round.specs.Suitable.{Suitable, Asked}
 use Rattle.round.proofs.Many.{for-sides, append-none, none-append, each-none, none-each}
 use Rattle.round.proofs.Ranged.{each-exactly, ballots-exactly}
 use Rattle.round.proofs.Tests.{equal-same, within-sound, within-complete}
+use Rattle.commitment.specs.Parameters.{Parameters}
 
 module _ (P : Parameters) (m : ℕ) (x : Material) where
   open Parameters P using (q, N, B, D, repeats)

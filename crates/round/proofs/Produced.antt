@@ -20,8 +20,8 @@ use Rattle.stern.specs.Shortness.{setting, firstBytes, answerLength, honestDige
 use Rattle.stern.proofs.Layouts.{four-read}
 use Rattle.stern.proofs.Honest.{length-pairBytes, slot-alike}
 use Rattle.round.specs.Layout.{joined, headLength, uAt, vAt, shareAt, claimAt, keyAt, pairsOf, pairAt, digestsAt, openingOf, answersLength, answerAt}
-use Rattle.round.specs.Round.{Parameters}
-use Rattle.round.specs.Producer.{Material, Sized, secret-s, half-s, half-e, hides-s, hides-e, maskAt, permutationAt, drawnAt, pairBytesOf, pairsBytes, producedPairs, producedHead, producedShares, producedClaims, producedOpening, producedAnswers}
+use Rattle.commitment.specs.Parameters.{Parameters}
+use Rattle.round.specs.Producer.{Material, MaterialSized, secret-s, half-s, half-e, hides-s, hides-e, maskAt, permutationAt, drawnAt, pairBytesOf, pairsBytes, producedPairs, producedHead, producedShares, producedClaims, producedOpening, producedAnswers}
 use Rattle.round.proofs.Many.{stretch, length-joined, joined-at}
 use Rattle.round.proofs.Written.{octets-encode, octets-joined}
 use Rattle.round.proofs.Answers.{length-answers, answers-at, length-honestAnswer}
@@ -160,7 +160,7 @@ module _ (P : Parameters) (m : ℕ) (x : Material) where
 
   -- ---- what the lengths of the material are for
 
-  module _ (sized : Sized P m x) where
+  module _ (sized : MaterialSized P m x) where
     hides-s-sized : (side : ℕ) → side < 2 → length (hides-s P m x side) ≡ 3 * N
     hides-s-sized side h = length-part (x .secrets) (2 * N + 3 * N * side) (3 * N) (let e = sized .secrets in omega (arith, stretch (3 * N) side 2 h))
 

@@ -19,12 +19,13 @@ use Rattle.ring.proofs.Ranges.{below-sound, below-complete}
 use Rattle.vector.specs.Vector.{vector}
 use Rattle.stern.specs.Shortness.{inRange, answer1Of, answer2Of, answer3Of}
 use Rattle.round.specs.Layout.{uAt, pairAt, openingOf, answerAt}
-use Rattle.round.specs.Round.{Parameters, Round, challengeAt, isChallenge, ballotsRanged, openingRanged, headRanged, answersRanged, ranged}
+use Rattle.round.specs.Round.{Round, challengeAt, isChallenge, ballotsRanged, openingRanged, headRanged, answersRanged, ranged}
 use Rattle.round.specs.Accepted.{EachBelow, AnswerRanged, BallotsRanged, HeadRanged, OpeningRanged, MessageRanged, InRange}
 use Rattle.round.proofs.Many.{for-challenges, stretch}
 use Rattle.round.proofs.Orders.{front}
 use Rattle.round.proofs.Written.{slot-part, below-slot, below-append}
 use Rattle.round.proofs.Compared.{first-below, second-below}
+use Rattle.commitment.specs.Parameters.{Parameters}
 
 -- ---- numbers of a list
 

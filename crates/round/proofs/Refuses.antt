@@ -15,7 +15,7 @@ use Rattle.codec.proofs.Laws.{both}
 use Rattle.codec.proofs.Lists.{all-sound, all-complete}
 use Rattle.stern.specs.Shortness.{answerLength, inRange, answerTests}
 use Rattle.round.specs.Layout.{each, answerAt}
-use Rattle.round.specs.Round.{Parameters, Round, challengeAt, isChallenge, openingRanged, answersRanged, ranged, splits, roundTests}
+use Rattle.round.specs.Round.{Round, challengeAt, isChallenge, openingRanged, answersRanged, ranged, splits, roundTests}
 use Rattle.round.specs.Extractor.{Openings, Lent, pairs, digests, open0, open1, lentRanged, sideTests, extractTests}
 use Rattle.round.specs.Refuses.{openedRanged, openingTests, repetitionTests, openingBy, answerBy, OfLent, OpensLent, AnswersLent, lentRound, Lending, ChecksTake, ChecksRefuse, no-repetition, opening, answer}
 use Rattle.round.proofs.Answers.{answers-at}
@@ -23,6 +23,7 @@ use Rattle.round.proofs.Ranged.{message, message-and}
 use Rattle.round.proofs.Orders.{swap, opening-order, answer-order, one-order, order-parts, parts-order, order-first}
 use Rattle.round.proofs.Tests.{answer-tests, ballot-tests}
 use Rattle.round.proofs.Many.{for-challenges, none-append, append-none, each-none, none-each}
+use Rattle.commitment.specs.Parameters.{Parameters}
 
 -- ---- a check is its two parts
 

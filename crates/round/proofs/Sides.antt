@@ -11,12 +11,13 @@ use Rattle.codec.specs.Bytes.{Bytes, Octets}
 use Rattle.codec.specs.Reply.{Test, None}
 use Rattle.codec.proofs.Laws.{same-equal}
 use Rattle.round.specs.Layout.{Opening, headLength}
-use Rattle.round.specs.Round.{Parameters, ofSide, headRanged, maskTest, claimTest}
+use Rattle.round.specs.Round.{ofSide, headRanged, maskTest, claimTest}
 use Rattle.round.specs.Accepted.{HeadRanged, SideOpened}
 use Rattle.round.specs.Extractor.{sideTests}
 use Rattle.round.proofs.Many.{each-none, none-each}
 use Rattle.round.proofs.Ranged.{head-exactly}
 use Rattle.round.proofs.Tests.{equal-same, within-sound, within-complete, key-exactly, pairs-exactly}
+use Rattle.commitment.specs.Parameters.{Parameters}
 
 module _ (P : Parameters) (m : ℕ) (positive : 0 < P .q) (fits : P .q ≤ 2 ^ 64) (ballots claims head shares0 shares1 : Bytes)
     (sized : length head ≡ headLength (P .N) (P .repeats)) (octets : Octets head) (ranged : HeadRanged P m head) (side : ℕ) (low : side < 2) (o : Opening) where

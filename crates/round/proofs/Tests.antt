@@ -21,11 +21,12 @@ use Rattle.commitment.proofs.Opening.{encode-slot, encode-decides, opens-exactl
 use Rattle.stern.specs.Shortness.{answerTests}
 use Rattle.stern.proofs.Honest.{slot-alike}
 use Rattle.round.specs.Layout.{Opening, headLength, keyAt, pairsOf, pairAt, digestsAt, openingOf, answerAt}
-use Rattle.round.specs.Round.{Parameters, Round, challengeAt, sharesOf, headRanged, splits, opensKey, opensPairs, maskTest, claimTest}
+use Rattle.round.specs.Round.{Round, challengeAt, sharesOf, headRanged, splits, opensKey, opensPairs, maskTest, claimTest}
 use Rattle.round.specs.Accepted.{HeadRanged}
 use Rattle.round.proofs.Written.{slot-part}
 use Rattle.round.proofs.Many.{stretch}
 use Rattle.round.proofs.Ranged.{head-exactly}
+use Rattle.commitment.specs.Parameters.{Parameters}
 
 -- ---- the tests of a repetition and of a ballot
 

@@ -10,14 +10,15 @@ use Rattle.codec.specs.Lists.{list}
 use Rattle.sha3.specs.Sponge.{sha3}
 use Rattle.ring.specs.Poly.{plus, Alike, Below}
 use Rattle.ring.specs.Ternary.{count}
-use Rattle.bgv.specs.Scheme.{Bounded, key, worked, reconstructed}
+use Rattle.bgv.specs.Scheme.{Bounded, key, recoveredMask, reconstructed}
 use Rattle.commitment.specs.Commitment.{Keys, threeOf, pairOf, Opens}
 use Rattle.vector.specs.Vector.{vector}
 use Rattle.vector.specs.Permutation.{Permutes, entries}
 use Rattle.stern.specs.Argument.{Setting, Answer1, Answer2, Answer3, one-by2, one-by3, two-by1, two-by3, three-by1, three-by2}
 use Rattle.stern.specs.Shortness.{setting, firstOf, answer1Of, answer2Of, answer3Of}
 use Rattle.round.specs.Layout.{Opening, uAt, vAt, shareAt, claimAt, keyAt, pairsOf, pairAt, digestsAt, openingOf, answerAt}
-use Rattle.round.specs.Round.{Parameters, Round, challengeAt, ofSide}
+use Rattle.round.specs.Round.{Round, challengeAt, ofSide}
+use Rattle.commitment.specs.Parameters.{Parameters}
 
 -- each number of a list is below v
 abbrev pub EachBelow : ℕ → List ℕ → Type 0
@@ -111,8 +112,8 @@ module _ (P : Parameters) (m : ℕ) where
     -- 8: the pairs of s_i and e_i are those of the opening
     pub s-committed : Opens q N k (pairOf N (pairAt N head side)) (threeOf q N (o .rs)) (o .s)
     pub e-committed : Opens q N k (pairOf N (pairAt N head (2 + side))) (threeOf q N (o .re)) (o .e)
-    -- 12: the mask of each ballot, worked out from the opened side's share, is at most B
-    pub masked : (j : ℕ) → j < m → Bounded N B (worked q N p (o .s) (uAt N ballots j) (shareAt N (ofSide side shares0 shares1) j))
+    -- 12: the mask of each ballot, recoveredMask out from the opened side's share, is at most B
+    pub masked : (j : ℕ) → j < m → Bounded N B (recoveredMask q N p (o .s) (uAt N ballots j) (shareAt N (ofSide side shares0 shares1) j))
     -- 13: the claim of each ballot is the vote
     pub claimed : (j : ℕ) → j < m → claimAt N claims j ≡ list N (reconstructed q p (vAt N ballots j) (shareAt N shares0 j) (shareAt N shares1 j))
 

@@ -19,8 +19,9 @@ use Rattle.vector.specs.Vector.{vector}
 use Rattle.stern.specs.Argument.{Setting, Answer1, Answer2, Answer3, solution, one-by2, one-by3, two-by1, two-by3, three-by1, three-by2}
 use Rattle.stern.specs.Shortness.{polynomial, threeFrom, setting, answerLength, answer1Of, answer2Of, answer3Of, tests1, tests2, tests3, inRange}
 use Rattle.round.specs.Layout.{Opening, ballotLength, headLength, uAt, vAt, claimAt, pairsOf, digestsAt, openingOf}
-use Rattle.round.specs.Round.{Parameters, ballotsRanged, openingRanged, headRanged, splitTest, halfTests, votesTests}
+use Rattle.round.specs.Round.{ballotsRanged, openingRanged, headRanged, splitTest, halfTests, votesTests}
 use Rattle.round.specs.Accepted.{EachBelow}
+use Rattle.commitment.specs.Parameters.{Parameters}
 
 -- what the extractor is lent: the first message, ballots, claims, both openings, a repetition and its three answers
 pub record Openings : Type 0 where

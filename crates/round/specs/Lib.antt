@@ -1,8 +1,6 @@
 pub mod Layout
 pub mod Round
 pub mod Accepted
-pub mod Method
-pub mod Sheets
 pub mod Producer
 pub mod Writes
 pub mod Lent
@@ -11,3 +9,4 @@ pub mod Extractor
 pub mod OpeningsAccepted
 pub mod Refuses
 pub mod RoundSlices
+pub mod Internal

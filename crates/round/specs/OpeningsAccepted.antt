@@ -1,7 +1,7 @@
 -- What the extractor takes (document 01, the extractor's paragraph: "the openings and answers, tested as in a check, are accepted"), in the propositions of an accepted
 -- round (specs/Accepted.antt); the numbers beside them are those of the refusals that they exclude. The lengths (1) stand apart: `Lent`, specs/Extractor.antt. Assumes nothing.
 use Prim.Native.Nat.{ℕ, _<_}
-use Rattle.round.specs.Round.{Parameters}
+use Rattle.commitment.specs.Parameters.{Parameters}
 use Rattle.round.specs.Accepted.{Answered, AnswerRanged, OpeningRanged, MessageRanged, KeySplits, SideOpened}
 use Rattle.round.specs.Extractor.{Openings, pairs, digests, open0, open1}
 

@@ -19,7 +19,8 @@ use Rattle.vector.specs.Permutation.{entries, permutes}
 use Rattle.stern.specs.Argument.{Drawn}
 use Rattle.stern.specs.Shortness.{drawnOf, honestDigests, honestAnswer}
 use Rattle.round.specs.Layout.{each, joined, ballotLength, uAt, vAt, ballotsBelow}
-use Rattle.round.specs.Round.{Parameters, Round, isChallenge}
+use Rattle.round.specs.Round.{Round, isChallenge}
+use Rattle.commitment.specs.Parameters.{Parameters}
 
 -- what both calls are lent: s, e and the three r of s0, of s1, of e0, of e1 in ternary bytes; s0, e0; E of both sides; every R, P and salt; the ballots
 pub record Material : Type 0 where
@@ -117,8 +118,8 @@ noiseTests q N D m secrets ballots =
 -- ---- what is written, each part over the slices that it is made from
 
 -- a committed pair, with its three r in ternary bytes
-abbrev pub pairOf : (q N : ℕ) (k : Keys) (hides : Bytes) → Poly → Bytes
-pairOf q N k hides f = pairBytes q N (committed q N k (threeOf q N hides) f)
+abbrev pub committedPair : (q N : ℕ) (k : Keys) (hides : Bytes) → Poly → Bytes
+committedPair q N k hides f = pairBytes q N (committed q N k (threeOf q N hides) f)
 
 module _ (q N : ℕ) (secrets s0 e0 : Bytes) where
   -- the opening of a side
@@ -129,10 +130,10 @@ module _ (q N : ℕ) (secrets s0 e0 : Bytes) where
   -- the committed pairs of s0, s1, e0, e1
   unfoldable pub pairsBytes : (k : Keys) → Bytes
   pairsBytes k =
-      pairOf q N k (hidesSIn N secrets 0) (halfOf q (sIn N secrets) s0 0)
-      ++ (pairOf q N k (hidesSIn N secrets 1) (halfOf q (sIn N secrets) s0 1)
-      ++ (pairOf q N k (hidesEIn N secrets 0) (halfOf q (eIn N secrets) e0 0)
-      ++ pairOf q N k (hidesEIn N secrets 1) (halfOf q (eIn N secrets) e0 1)))
+      committedPair q N k (hidesSIn N secrets 0) (halfOf q (sIn N secrets) s0 0)
+      ++ (committedPair q N k (hidesSIn N secrets 1) (halfOf q (sIn N secrets) s0 1)
+      ++ (committedPair q N k (hidesEIn N secrets 0) (halfOf q (eIn N secrets) e0 0)
+      ++ committedPair q N k (hidesEIn N secrets 1) (halfOf q (eIn N secrets) e0 1)))
 
   -- b_i
   abbrev pub keyBytesOf : (p : ℕ) (a : Poly) → ℕ → Bytes
@@ -200,7 +201,7 @@ module _ (P : Parameters) (m : ℕ) (x : Material) where
   drawnAt = drawnIn N (x .vectors) (x .permutations) (x .salts)
 
   -- the lengths, which refusal 1 asks for
-  pub record Sized : Type 0 where
+  pub record MaterialSized : Type 0 where
     pub secrets : length (x .secrets) ≡ 14 * N
     pub s0 : length (x .s0) ≡ 8 * N
     pub e0 : length (x .e0) ≡ 8 * N
@@ -227,7 +228,7 @@ module _ (P : Parameters) (m : ℕ) (x : Material) where
   -- ---- the first call: the first message and the claims
 
   abbrev pub pairBytesOf : (hides : Bytes) → Poly → Bytes
-  pairBytesOf = pairOf q N k
+  pairBytesOf = committedPair q N k
 
   abbrev pub producedPairs : Bytes
   producedPairs = pairsBytes q N (x .secrets) (x .s0) (x .e0) k

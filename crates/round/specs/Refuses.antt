@@ -13,8 +13,9 @@ use Rattle.codec.specs.Lists.{allBelow}
 use Rattle.vector.specs.Vector.{vector}
 use Rattle.stern.specs.Shortness.{inRange, answerTests}
 use Rattle.round.specs.Layout.{joined, pairsOf, digestsAt, openingOf, answerAt}
-use Rattle.round.specs.Round.{Parameters, Round, challengeAt, isChallenge, sharesOf, ballotsRanged, openingRanged, headRanged, splitTest}
+use Rattle.round.specs.Round.{Round, challengeAt, isChallenge, sharesOf, ballotsRanged, openingRanged, headRanged, splitTest}
 use Rattle.round.specs.Extractor.{Openings, sideTests}
+use Rattle.commitment.specs.Parameters.{Parameters}
 
 -- ---- the tests of a check in two parts, in its order
 

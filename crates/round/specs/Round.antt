@@ -11,11 +11,11 @@ use Rattle.codec.specs.Reply.{Test, test}
 use Rattle.codec.specs.Lists.{list, allBelow, all}
 use Rattle.ring.specs.Poly.{Poly, plus}
 use Rattle.ring.specs.Slots.{coefficientBytes, poly}
-use Rattle.bgv.specs.Scheme.{key, worked, within, reconstructed}
+use Rattle.bgv.specs.Scheme.{key, recoveredMask, within, reconstructed}
 use Rattle.commitment.specs.Commitment.{threeOf, opens}
 use Rattle.vector.specs.Vector.{vector}
 use Rattle.stern.specs.Shortness.{inRange, answerTests}
-pub use Rattle.commitment.specs.Parameters.{Parameters}
+use Rattle.commitment.specs.Parameters.{Parameters}
 use Rattle.round.specs.Layout.{Opening, each, ballotLength, uAt, vAt, ballotsBelow, shareAt, claimAt, headLength, keyAt, pairsOf, pairAt, digestsAt, openingOf, answersLength, answerAt}
 
 -- what is lent to a check of one round
@@ -36,20 +36,6 @@ challengeAt r i = getD (r .challenges) i 0
 -- a challenge is 1, 2 or 3
 abbrev pub isChallenge : ℕ → Bool
 isChallenge c = leb 1 c && leb c 3
-
--- the same from the slices one by one
-abbrev pub roundOf : (side : ℕ) (challenges ballots claims head shares0 shares1 opening answers : Bytes) → Round
-roundOf side challenges ballots claims head shares0 shares1 opening answers = record {
-  side = side;
-  challenges = challenges;
-  ballots = ballots;
-  claims = claims;
-  head = head;
-  shares0 = shares0;
-  shares1 = shares1;
-  opening = opening;
-  answers = answers;
-}
 
 -- the first of two for side 0, the second for side 1
 abbrev pub ofSide : ℕ → Bytes → Bytes → Bytes
@@ -75,9 +61,9 @@ answersRanged q N repeats challenges answers =
 
 -- ---- by ballot 12, 13
 
--- 12: the mask of ballot j, worked out from the opened half s of the secret and that side's share, is at most B
+-- 12: the mask of ballot j, recoveredMask out from the opened half s of the secret and that side's share, is at most B
 abbrev pub maskTest : (q N p B : ℕ) (s : Poly) (ballots shares : Bytes) → ℕ → Test
-maskTest q N p B s ballots shares j = test 12 j (not (within B N (worked q N p s (uAt N ballots j) (shareAt N shares j))))
+maskTest q N p B s ballots shares j = test 12 j (not (within B N (recoveredMask q N p s (uAt N ballots j) (shareAt N shares j))))
 
 -- 13: the claim of ballot j is the vote
 abbrev pub claimTest : (q N p : ℕ) (ballots claims shares0 shares1 : Bytes) → ℕ → Test

@@ -1,12 +1,7 @@
 -- What a check and the extractor are lent, from the names of their slices in a contract: what stands in them at entry, and in its room at exit. Assumes nothing.
 use Prim.Native.Nat.{ℕ}
 use Rattle.codec.specs.Slices.{Slice, given, left}
-use Rattle.round.specs.Round.{Round, roundOf}
 use Rattle.round.specs.Extractor.{Openings, openingsOf, ExtractRoom, extractRoom}
-
-abbrev pub roundIn : (side : ℕ) (challenges ballots claims head shares0 shares1 opening answers : Slice) → Round
-roundIn side challenges ballots claims head shares0 shares1 opening answers =
-    roundOf side (given challenges) (given ballots) (given claims) (given head) (given shares0) (given shares1) (given opening) (given answers)
 
 abbrev pub openingsIn : (head shares0 shares1 ballots claims opening0 opening1 : Slice) (repetition : ℕ) (answer1 answer2 answer3 : Slice) → Openings
 openingsIn head shares0 shares1 ballots claims opening0 opening1 repetition answer1 answer2 answer3 =

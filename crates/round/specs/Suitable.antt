@@ -9,7 +9,7 @@ use Rattle.bgv.specs.Scheme.{Bounded, Small, key, opened, lentMask}
 use Rattle.vector.specs.Vector.{vector}
 use Rattle.vector.specs.Permutation.{Permutes, entries}
 use Rattle.round.specs.Layout.{uAt, vAt}
-use Rattle.round.specs.Round.{Parameters}
+use Rattle.commitment.specs.Parameters.{Parameters}
 use Rattle.round.specs.Accepted.{EachBelow, BallotsRanged}
 use Rattle.round.specs.Producer.{Material, secret-s, secret-e, maskAt, permutationAt}
 

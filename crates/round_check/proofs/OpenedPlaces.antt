@@ -12,7 +12,8 @@ use lib.ListN.{length}
 use Rattle.codec.specs.Bytes.{Bytes, part}
 use Rattle.codec.proofs.Laws.{both}
 use Rattle.sheet_numbers.specs.Bounds.{power}
-use Rattle.round_check.specs.Opened.{isOpened, sliceOf, openedShare, openedPlace}
+use Rattle.round_check.specs.Opened.{isOpened, openedPlace}
+use Rattle.round_check.specs.Internal.{sliceOf, openedShare}
 
 -- stretch j of those of m bytes each ends within l bytes
 pub whole-stretch : (l m j : ℕ) → j < l / m → m * j + m ≤ l

@@ -1,10 +1,7 @@
 -- Ballot j's opened share (document 01, "Layouts"): the stretch of whichever side's slice was opened, or an empty one. Assumes nothing.
 use mathlib.Core.Bool.{Bool, cond, _&&_}
-use mathlib.Core.List.{[]}
-use Prim.Native.Nat.{ℕ, zero, suc, _+_, _*_, _/_, _%_, _^_}
+use Prim.Native.Nat.{ℕ, _+_, _*_, _/_, _%_, _^_}
 use lib.Dec.{ltb, leb, eqb}
-use lib.ListN.{length}
-use Rattle.codec.specs.Bytes.{Bytes, part}
 use Rattle.sheet_numbers.specs.Bounds.{power}
 
 -- whether there is one: side is 0 or 1, N a ring size, the slices are equal and whole ballots, and j is not past them
@@ -17,14 +14,6 @@ isOpened side N length0 length1 j =
     && (eqb length0 length1
     && (eqb (length0 % (8 * N)) 0
     && ltb j (length0 / (8 * N)))))))
-
--- the slice of a side
-abbrev pub sliceOf : (side : ℕ) (shares0 shares1 : Bytes) → Bytes
-sliceOf zero shares0 shares1 = shares0
-sliceOf (suc i) shares0 shares1 = shares1
-
-unfoldable pub openedShare : (side N : ℕ) (shares0 shares1 : Bytes) (j : ℕ) → Bytes
-openedShare side N shares0 shares1 j = cond (isOpened side N (length shares0) (length shares1) j) (part (sliceOf side shares0 shares1) (8 * N * j) (8 * N)) []
 
 -- the place of its first byte in that slice plus one; 0 for an empty stretch
 unfoldable pub openedPlace : (side N length0 length1 j : ℕ) → ℕ

@@ -2,7 +2,7 @@
 pub mod opened;
 
 use codec::Reply;
-use round_side::openings::refused;
+use codec::refused;
 use round_side::openings::splits;
 use round_side::openings::test_opening;
 use round_side::openings::test_votes;
@@ -19,15 +19,15 @@ ghost use Rattle.codec.specs.Bytes.{Bytes};
 ghost use Rattle.codec.specs.Slices.{given, left};
 ghost use Rattle.ring.specs.Slots.{slot};
 ghost use Rattle.sheet_numbers.specs.Plain.{plain, maskOf};
-ghost use Rattle.sheet_numbers.specs.Usable.{Usable};
-ghost use Rattle.scratch.specs.Call.{scratchLength, Judged};
-ghost use Rattle.commitment.specs.Loaded.{Loaded};
+ghost use Rattle.sheet_numbers.specs.Internal.{Usable};
+ghost use Rattle.scratch.specs.Call.{scratchLength};
+ghost use Rattle.scratch.specs.Internal.{Judged};
+ghost use Rattle.commitment.specs.Internal.{Loaded};
 ghost use Rattle.round.specs.Layout.{ballotLength, answersLength};
-ghost use Rattle.round.specs.Round.{Lengths, roundOf, ofSide, ranged, answersTests, votesTests, roundLater, roundTests};
-ghost use Rattle.round.specs.RoundSlices.{roundIn};
-ghost use Rattle.round.specs.Sheets.{parameters};
-ghost use Rattle.round.specs.Method.{Batch, Shares};
-ghost use Rattle.round_side.specs.Lent.{Opened, RoundInRange};
+ghost use Rattle.round.specs.Round.{Lengths, ofSide, ranged, answersTests, votesTests, roundLater, roundTests};
+ghost use Rattle.round.specs.Internal.{roundOf, roundIn, Batch, Shares};
+ghost use Rattle.commitment.specs.Parameters.{parameters};
+ghost use Rattle.round_side.specs.Internal.{Opened, RoundInRange};
 
 // 5: whether all that is lent is in range. The polynomials of the sheet, whatever they are, do not enter.
 fn round_ranged(

@@ -12,16 +12,17 @@ use lib.Seq.{ext-getD}
 use Rattle.codec.specs.Bytes.{Bytes, part, put, words, same}
 use Rattle.codec.proofs.Laws.{length-part, part-append, part-put, same-refl, same-equal, not-same}
 use Rattle.codec.specs.Lists.{allBelow}
-use Rattle.commitment.specs.Commitment.{Keys, Pair, pairBytes, PairStands}
+use Rattle.commitment.specs.Commitment.{Keys, Pair, pairBytes}
+use Rattle.commitment.specs.Internal.{PairInSlots}
 use Rattle.vector.specs.Vector.{Vector, vector, ternaries, add, subtract}
 use Rattle.vector.specs.Permutation.{entries, apply}
 use Rattle.vector.proofs.Vectors.{each-length, add-vector, apply-each, allBelow-each, vector-sound, words-injective, length-entries, ternaries-vector}
 use Rattle.stern.specs.Argument.{Setting, Answer1, Answer2, Answer3, one-by2, one-by3, two-by1, two-by3, three-by1, three-by2}
-use Rattle.stern.specs.Shortness.{equations, sides}
+use Rattle.stern.specs.Shortness.{equations, rightHandSides}
 use Rattle.stern.proofs.Honest.{length-pairBytes}
 use Rattle.stern.proofs.Sound.{parts}
 use Rattle.stern.proofs.Strings.{stands-bytes}
-use Rattle.round_collision.specs.Collision.{Ground, ComparedBy, lowestOf, differing}
+use Rattle.round_collision.specs.Internal.{Ground, ComparedBy, lowestOf, differing}
 
 -- ---- strings, part by part
 
@@ -61,13 +62,13 @@ pub still-ground : {q n : ℕ} {k c w w' d d' : Bytes} → Ground q n k c w d �
 still-ground g ew ed =
     record { keys = g .keys; sized-work = ew ∙ g .sized-work; sized-room = rw ed (g .sized-room); sized-pairs = g .sized-pairs; below-pairs = g .below-pairs }
 
-module _ (q n : ℕ) (d : Bytes) {d' w w' : Bytes} (p : Pair) (room : 16 * n ≤ length d) (h : PairStands q n p w w') (e : d' ≡ put d 0 (part w' 0 (8 * n) ++ part w' 49152 (8 * n))) where
+module _ (q n : ℕ) (d : Bytes) {d' w w' : Bytes} (p : Pair) (room : 16 * n ≤ length d) (h : PairInSlots q n p w w') (e : d' ≡ put d 0 (part w' 0 (8 * n) ++ part w' 49152 (8 * n))) where
   kept-pair : part d' 0 (16 * n) ≡ pairBytes q n p
   kept-pair =
       ap₂ (λ (s : Bytes) (k : ℕ). part s 0 k) (e ∙ ap (put d 0) (stands-bytes q n p w w' h)) (sym (length-pairBytes q n p)) ∙ part-put d 0 (pairBytes q n p) (omega (arith, length-pairBytes q n p))
 
   -- compared with one that stands in scratch
-  pub pairs-compared : (t : Pair) {v' : Bytes} {r : Bool} → PairStands q n t w' v' → r ≡ same (part d' 0 (16 * n)) (part v' 0 (8 * n) ++ part v' 49152 (8 * n)) → length d' ≡ length d
+  pub pairs-compared : (t : Pair) {v' : Bytes} {r : Bool} → PairInSlots q n t w' v' → r ≡ same (part d' 0 (16 * n)) (part v' 0 (8 * n) ++ part v' 49152 (8 * n)) → length d' ≡ length d
       → ComparedBy (pairBytes q n p) (pairBytes q n t) r w v' d d'
   pairs-compared t {v'} g f l = record { told = f ∙ ap₂ same kept-pair (stands-bytes q n t w' v' g); kept-work = g .sized ∙ h .sized; kept-room = l }
 
@@ -82,10 +83,10 @@ start-length n s l = length-append (part s (504 * n) 32) (part s 0 (168 * n)) �
 
 -- what is lent of two answers for each string, with lengths that are differences of places
 pub lent-equations : (q n : ℕ) (k : Keys) (c s t : Bytes) (i j : ℕ) → i ≡ 336 * n → j ≡ 336 * n
-    → same (words (subtract q (equations q n k (take (14 * n) (vector (take i (drop (168 * n) s))))) (sides q n c))) (words (equations q n k (take (14 * n) (vector (take j (drop (168 * n) t))))))
-    ≡ same (words (subtract q (equations q n k (take (14 * n) (vector (part s (168 * n) (336 * n))))) (sides q n c))) (words (equations q n k (take (14 * n) (vector (part t (168 * n) (336 * n))))))
+    → same (words (subtract q (equations q n k (take (14 * n) (vector (take i (drop (168 * n) s))))) (rightHandSides q n c))) (words (equations q n k (take (14 * n) (vector (take j (drop (168 * n) t))))))
+    ≡ same (words (subtract q (equations q n k (take (14 * n) (vector (part s (168 * n) (336 * n))))) (rightHandSides q n c))) (words (equations q n k (take (14 * n) (vector (part t (168 * n) (336 * n))))))
 lent-equations q n k c s t i j ei ej =
-    ap₂ (λ (x y : ℕ). same (words (subtract q (equations q n k (take (14 * n) (vector (take x (drop (168 * n) s))))) (sides q n c))) (words (equations q n k (take (14 * n) (vector (take y (drop (168 * n) t))))))) ei ej
+    ap₂ (λ (x y : ℕ). same (words (subtract q (equations q n k (take (14 * n) (vector (take x (drop (168 * n) s))))) (rightHandSides q n c))) (words (equations q n k (take (14 * n) (vector (take y (drop (168 * n) t))))))) ei ej
 
 pub lent-gathered : (n : ℕ) (s t : Bytes) (i j k : ℕ) → i ≡ 336 * n → j ≡ 168 * n → k ≡ 336 * n
     → same (take i (drop (42 * n) s)) (words (apply (entries (take j t)) (vector (take k (drop (168 * n) t)))))

@@ -1,1 +1,1 @@
-pub mod Collision
+pub mod Internal

@@ -14,9 +14,9 @@ ghost use Rattle.commitment.specs.Commitment.{keysOf, pairBytes};
 ghost use Rattle.vector.specs.Vector.{vector, ternaries, add, subtract};
 ghost use Rattle.vector.specs.Permutation.{entries, apply};
 ghost use Rattle.stern.specs.Argument.{string2, string3, one-by2, one-by3};
-ghost use Rattle.stern.specs.Shortness.{equations, sides, setting, answer1Of, answer2Of, answer3Of};
-ghost use Rattle.stern.specs.Method.{equationPair};
-ghost use Rattle.round_collision.specs.Collision.{Answers, Ground, Masked, Compared, ComparedBy, lowestOf, Searched};
+ghost use Rattle.stern.specs.Shortness.{equations, rightHandSides, setting, answer1Of, answer2Of, answer3Of};
+ghost use Rattle.stern.specs.Internal.{equationPair};
+ghost use Rattle.round_collision.specs.Internal.{ThreeAnswers, Ground, MaskedVectors, Compared, ComparedBy, lowestOf, Searched};
 
 // ---- string 1: P and the equations
 
@@ -47,7 +47,7 @@ fn is_kept(room: &[u8], work: &[u8], n: usize) -> bool
     )
 }
 
-// Whether two equations of the vector u, less their right-hand sides, are those of the vector r.
+// Whether two equations of the vector u, less their right-hand rightHandSides, are those of the vector r.
 fn pairs_agree(
     work: &mut [u8],
     room: &mut [u8],
@@ -61,7 +61,7 @@ fn pairs_agree(
     n: usize,
     q: u64,
 ) -> bool
-    requires { ⌜ Ground q n (now k) (now c) (now work) (now room) × Masked q n (now u) (now r) × (first + 6 * n ≤ 42 * n)
+    requires { ⌜ Ground q n (now k) (now c) (now work) (now room) × MaskedVectors q n (now u) (now r) × (first + 6 * n ≤ 42 * n)
         × (message + n ≤ 42 * n) × (from + 4 * n ≤ 8 * n) ⌝ }
     ensures { λ yes. let pair = equationPair q n (keysOf n (given k)) (given c) in
         ⌜ ComparedBy (pairBytes q n (pair true (given u) first message from)) (pairBytes q n (pair false (given r) first message from)) yes
@@ -84,9 +84,9 @@ fn equations_agree(
     n: usize,
     q: u64,
 ) -> bool
-    requires { ⌜ Ground q n (now k) (now c) (now work) (now room) × Masked q n (now u) (now r) ⌝ }
+    requires { ⌜ Ground q n (now k) (now c) (now work) (now room) × MaskedVectors q n (now u) (now r) ⌝ }
     ensures { λ yes. ⌜ ComparedBy (words (subtract q (equations q n (keysOf n (given k)) (take (14 * n) (vector (given u))))
-        (sides q n (given c)))) (words (equations q n (keysOf n (given k)) (take (14 * n) (vector (given r))))) yes (given work)
+        (rightHandSides q n (given c)))) (words (equations q n (keysOf n (given k)) (take (14 * n) (vector (given r))))) yes (given work)
         (left work) (given room) (left room) ⌝ }
 {
     if !pairs_agree(work, room, k, c, u, r, 2 * n, 0, 0, n, q) {
@@ -252,7 +252,7 @@ pub fn collision(
     n: usize,
     q: u64,
 ) -> u8
-    requires { ⌜ Ground q n (now k) (now c) (now work) (now room) × Answers q n (now answer1) (now answer2) (now answer3) ⌝ }
+    requires { ⌜ Ground q n (now k) (now c) (now work) (now room) × ThreeAnswers q n (now answer1) (now answer2) (now answer3) ⌝ }
     ensures { λ digest. let s = setting q n (keysOf n (given k)) (given c) in
         ⌜ Searched s (answer1Of n (given answer1)) (answer2Of n (given answer2)) (answer3Of n (given answer3)) digest (given work)
         (left work) (given room) (left room) ⌝ }

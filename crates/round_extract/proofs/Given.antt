@@ -6,19 +6,19 @@ use Rattle.codec.specs.Bytes.{Bytes}
 use Rattle.codec.specs.Reply.{leaves}
 use Rattle.codec.specs.declared.Reply.{Reply}
 use Rattle.codec.specs.declared.Reply.the-variants as reply
-use Rattle.sheet.specs.Sheet.{reading, loaded}
+use Rattle.sheet.specs.Sheet.{reading}
+use Rattle.sheet.specs.Internal.{loaded}
 use Rattle.sheet_numbers.specs.declared.Numbers.{Numbers}
 use Rattle.sheet.specs.declared.Reading.{Reading}
 use Rattle.sheet.specs.declared.Reading.the-variants.{Taken, Refused}
-use Rattle.scratch.specs.Call.{swept}
-use Rattle.scratch.proofs.Lent.{lent}
-use Rattle.round.specs.Round.{Parameters}
-use Rattle.round.specs.Sheets.{parameters}
+use Rattle.scratch.specs.Call.{zeroized}
+use Rattle.scratch.proofs.Lent.{lent, order-taken, order-refused}
+use Rattle.commitment.specs.Parameters.{Parameters, parameters, parametersOf}
+use Rattle.commitment.proofs.Sheets.{parameters-are}
 use Rattle.round.specs.Extractor.{Openings, ExtractRoom, extractRoom}
 use Rattle.round_lengths.specs.Calls.{openingsTests}
-use Rattle.round_lengths.specs.Sheets.{parametersOf}
-use Rattle.round_lengths.proofs.OverSheet.{parameters-are, order-taken, order-refused}
-use Rattle.round_extract.specs.Extraction.{extraction, answered, ExtractLeft, ExtractWritten}
+use Rattle.round_extract.specs.Extraction.{extraction, answered, ExtractLeft}
+use Rattle.round_extract.specs.Internal.{ExtractWritten}
 use Rattle.round_extract.specs.declared.Extraction.{Extraction}
 use Rattle.round_extract.specs.declared.Extraction.the-variants as found
 use Rattle.round_extract.specs.Replies.{extractReply, extractFound, ExtractCalled}
@@ -34,7 +34,7 @@ extract-over text load e x before {answer} {after} f = record {
 }
 
 -- it is refused
-pub extract-unread : (text : Bytes) {s : Reading} {i : ℕ} → s ≡ reading text → s ≡ Refused i → (x : Openings) (room : ExtractRoom) {w : Bytes} → w ≡ swept (reply.Refused i 0) (room .scratch)
+pub extract-unread : (text : Bytes) {s : Reading} {i : ℕ} → s ≡ reading text → s ≡ Refused i → (x : Openings) (room : ExtractRoom) {w : Bytes} → w ≡ zeroized (reply.Refused i 0) (room .scratch)
     → ExtractCalled text x room (found.Refused i 0) (extractRoom (room .out) w)
 unfolding extractReply extraction leaves
 extract-unread text {s} {i} f e x room {w} z = record {

@@ -10,16 +10,17 @@ use Rattle.codec.specs.Reply.{first, None}
 use Rattle.codec.specs.declared.Reply.the-variants.{Taken}
 use Rattle.codec.proofs.Replies.{taken-exactly}
 use Rattle.codec.specs.Lists.{allBelow}
-use Rattle.scratch.specs.Call.{scratchLength, Polynomial}
+use Rattle.scratch.specs.Call.{scratchLength}
+use Rattle.scratch.specs.Internal.{Polynomial}
 use Rattle.vector.specs.Vector.{vector}
 use Rattle.vector.specs.Permutation.{entries, permutes}
 use Rattle.stern.specs.Shortness.{answer2Of, answer3Of}
 use Rattle.round.specs.Layout.{pairsOf}
-use Rattle.round.specs.Round.{Parameters}
+use Rattle.commitment.specs.Parameters.{Parameters}
 use Rattle.round.specs.Extractor.{Openings, ExtractRoom, Lent, open0, open1, lentRanged, sideTests, extractTests}
 use Rattle.round.proofs.Many.{append-none}
 use Rattle.round_sides.proofs.Passed.{openings-passed}
-use Rattle.round_collision.specs.Collision.{Answers}
+use Rattle.round_collision.specs.Internal.{ThreeAnswers}
 use Rattle.round_lengths.specs.Calls.{countOf, openingsTests}
 use Rattle.round_lengths.proofs.Sizes.{all-right}
 use Rattle.round_extract.proofs.Tested.{lent-message, lent-openings, extract-lengths}
@@ -48,7 +49,7 @@ module _ (P : Parameters) (x : Openings) (room : ExtractRoom) {a : Bytes} (publi
       (extract-lengths P x room m octets (r .1) (r .2), taken-exactly (extractTests P m x) .0 (r .3))
 
   pub search-ready : ((length (room .scratch) ≡ scratchLength) × (length (room .out) ≡ 24 * N) × (80 * N ≤ length (x .head)) × (length (x .opening0) ≡ 22 * N) × (length (x .opening1) ≡ 22 * N))
-      × ((allBelow q (vector (pairsOf N (x .head))) ≡ true) × Answers q N (x .answer1) (x .answer2) (x .answer3))
+      × ((allBelow q (vector (pairsOf N (x .head))) ≡ true) × ThreeAnswers q N (x .answer1) (x .answer2) (x .answer3))
   search-ready =
       let l = lengths .0 .0 in
       let p = extract-passed P m x (lengths .1) in

@@ -8,7 +8,7 @@ use Rattle.codec.specs.Reply.{first}
 use Rattle.codec.specs.declared.Reply.{Reply}
 use Rattle.codec.specs.declared.Reply.the-variants.{Refused}
 use Rattle.scratch.specs.Call.{scratchLength}
-use Rattle.round.specs.Round.{Parameters}
+use Rattle.commitment.specs.Parameters.{Parameters}
 use Rattle.round.specs.Extractor.{Openings, ExtractRoom, Lent, extractTests}
 use Rattle.round_lengths.specs.Calls.{countOf, messageSized, openingsSized, openingsTests}
 use Rattle.round_lengths.proofs.Sizes.{too-many, wrong-first, wrong-second, right, message-sizes, openings-sizes}

@@ -2,13 +2,13 @@
 -- once the sheet is taken: its answer, its output and scratch. Assumes nothing.
 use mathlib.Core.Path.{_≡_}
 use Prim.Native.Nat.{ℕ, _+_, _*_}
-use Rattle.codec.specs.Reply.{first, leaves}
+use Rattle.codec.specs.Reply.{leaves}
 use Rattle.codec.specs.declared.Reply.{Reply}
 use Rattle.codec.specs.declared.Reply.the-variants as reply
-use Rattle.scratch.specs.Call.{swept}
-use Rattle.round.specs.Round.{Parameters}
+use Rattle.scratch.specs.Call.{zeroized}
+use Rattle.commitment.specs.Parameters.{Parameters}
 use Rattle.round.specs.Extractor.{Openings, ExtractRoom, kind, extracted}
-use Rattle.round_lengths.specs.Calls.{countOf, openingsTests}
+use Rattle.round_lengths.specs.Calls.{countOf}
 use Rattle.round_extract.specs.declared.Extraction.{Extraction}
 use Rattle.round_extract.specs.declared.Extraction.the-variants.{Found, Refused}
 
@@ -26,7 +26,4 @@ answered (Refused number place) = number + 256 * place
 pub record ExtractLeft (P : Parameters) (x : Openings) (before : ExtractRoom) (reply : Reply) (answer : Extraction) (after : ExtractRoom) : Type 0 where
   pub told : answer ≡ extraction reply (kind P (countOf (P .N) (x .ballots)) x)
   pub out : after .out ≡ leaves reply (extracted P (countOf (P .N) (x .ballots)) x) (before .out)
-  pub scratch : after .scratch ≡ swept reply (before .scratch)
-
-abbrev pub ExtractWritten : Parameters → Openings → (before : ExtractRoom) → Extraction → (after : ExtractRoom) → Type 0
-ExtractWritten P x before answer after = ExtractLeft P x before (first (openingsTests P x before)) answer after
+  pub scratch : after .scratch ≡ zeroized reply (before .scratch)

@@ -1,2 +1,3 @@
 pub mod Extraction
 pub mod Replies
+pub mod Internal

@@ -7,9 +7,10 @@ use Rattle.codec.specs.declared.Reply.{Reply}
 use Rattle.sheet.specs.Sheet.{order}
 use Rattle.round.specs.Extractor.{Openings, ExtractRoom, kind}
 use Rattle.round_lengths.specs.Calls.{openingsTests}
-use Rattle.round_lengths.specs.Sheets.{parametersOf, ballotsIn}
+use Rattle.round_lengths.specs.Sheets.{ballotsIn}
 use Rattle.round_extract.specs.Extraction.{extraction, ExtractLeft}
 use Rattle.round_extract.specs.declared.Extraction.{Extraction}
+use Rattle.commitment.specs.Parameters.{parametersOf}
 
 unfoldable pub extractReply : (text : Bytes) → Openings → ExtractRoom → Reply
 extractReply text x room = first (order text ++ openingsTests (parametersOf text) x room)

@@ -47,7 +47,7 @@ pub fn extract(
         ),
         sheet::Reading::Refused { number } => {
             let reply = Reply::Refused { number, place: 0 };
-            scratch::sweep(reply, scratch);
+            scratch::zeroize(reply, scratch);
             Extraction::Refused { number, place: 0 }
         }
     }

@@ -7,10 +7,11 @@ use codec::Reply;
 use sheet_numbers::Numbers;
 ghost use mathlib.Core.Path.{_≡_};
 ghost use Rattle.codec.specs.Slices.{given};
-ghost use Rattle.commitment.specs.Loaded.{Loaded};
+ghost use Rattle.commitment.specs.Internal.{Loaded};
 ghost use Rattle.round.specs.RoundSlices.{openingsIn, extractIn, extractOut};
-ghost use Rattle.round.specs.Sheets.{parameters};
-ghost use Rattle.round_extract.specs.Extraction.{answered, ExtractWritten};
+ghost use Rattle.commitment.specs.Parameters.{parameters};
+ghost use Rattle.round_extract.specs.Extraction.{answered};
+ghost use Rattle.round_extract.specs.Internal.{ExtractWritten};
 
 // What the extractor's call answers: the kind of what it found, or refused with document 01's number and place.
 pub enum Extraction {
@@ -19,7 +20,7 @@ pub enum Extraction {
 }
 
 // The answer as the one number that the C host is answered.
-pub fn pack(answer: Extraction) -> u64
+pub fn pack_extraction(answer: Extraction) -> u64
     ensures { λ r. ⌜ r ≡ answered answer ⌝ }
 {
     match answer {

@@ -1,17 +1,17 @@
 // What the extractor's call refuses, before anything is looked for.
 use codec::Reply;
+use codec::refused;
 use round_lengths::count_of;
 use round_lengths::message_sized;
 use round_lengths::openings_sized;
-use round_lengths::refused;
 use sheet_numbers::Numbers;
 ghost use mathlib.Core.Path.{_≡_};
 ghost use Rattle.codec.specs.Slices.{given, left};
 ghost use Rattle.codec.specs.Reply.{first};
-ghost use Rattle.scratch.specs.Call.{swept};
-ghost use Rattle.commitment.specs.Loaded.{Loaded};
+ghost use Rattle.scratch.specs.Call.{zeroized};
+ghost use Rattle.commitment.specs.Internal.{Loaded};
 ghost use Rattle.round.specs.RoundSlices.{openingsIn, extractIn};
-ghost use Rattle.round.specs.Sheets.{parameters};
+ghost use Rattle.commitment.specs.Parameters.{parameters};
 ghost use Rattle.round_lengths.specs.Calls.{openingsTests};
 
 // 1, and then both openings and the three answers in the extractor's order.
@@ -35,16 +35,16 @@ pub fn openings_tests(
     requires { ⌜ Loaded k (now public) ⌝ }
     ensures { λ reply. let x = openingsIn head shares0 shares1 ballots claims opening0 opening1 repetition answer1 answer2 answer3 in
         ⌜ (reply ≡ first (openingsTests (parameters k (given public)) x (extractIn out scratch)))
-        × (left scratch ≡ swept reply (given scratch)) ⌝ }
+        × (left scratch ≡ zeroized reply (given scratch)) ⌝ }
 {
     let n = k.ring as usize;
     let repeats = k.repeats as usize;
     let count = count_of(ballots, n);
     if count > 4096 {
-        return refused();
+        return refused(1);
     }
     if !message_sized(head, shares0, shares1, ballots, claims, count, repeats, n) {
-        return refused();
+        return refused(1);
     }
     if !openings_sized(
         opening0,
@@ -56,7 +56,7 @@ pub fn openings_tests(
         scratch,
         n,
     ) {
-        return refused();
+        return refused(1);
     }
     round_sides::both_sides::check_openings(
         scratch,

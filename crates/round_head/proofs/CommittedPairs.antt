@@ -8,27 +8,29 @@ use Rattle.codec.specs.Bytes.{Bytes, part, put}
 use Rattle.codec.proofs.Laws.{part-part, written-behind}
 use Rattle.modular.proofs.Congruence.{same-mod, same-eq, _then_}
 use Rattle.ring.specs.Poly.{Poly, minus, modulo, Alike, Below}
-use Rattle.ring.specs.Slots.{poly, slot, encode, store}
+use Rattle.ring.specs.Slots.{poly, slot, encode}
+use Rattle.ring.specs.Internal.{store}
 use Rattle.ring.specs.Ternary.{ternary}
 use Rattle.ring.proofs.Bridge.{encode-alike}
 use Rattle.ring.proofs.Polynomials.{alike-refl}
-use Rattle.scratch.specs.Call.{Polynomial}
+use Rattle.scratch.specs.Internal.{Polynomial}
 use Rattle.scratch.proofs.Loads.{Loaded, ternary-load, loaded-asks, subtracted}
 use Rattle.bgv.specs.Scheme.{other}
 use Rattle.sheet_numbers.specs.declared.Numbers.{Numbers}
 use Rattle.commitment.specs.Loaded.{keyBytes}
-use Rattle.commitment.specs.Commitment.{Keys, Pair, keysOf, threeOf, threeAt, committed, pairBytes, PairStands, withThree}
+use Rattle.commitment.specs.Commitment.{Keys, Pair, keysOf, threeOf, committed, pairBytes}
+use Rattle.commitment.specs.Internal.{threeAt, PairInSlots, withThree}
 use Rattle.commitment.proofs.Additive.{second-alike}
 use Rattle.commitment.proofs.Loading.{pair-asks, pair-made}
 use Rattle.commitment.proofs.Opening.{poly-modulo}
 use Rattle.stern.proofs.Honest.{length-pairBytes}
-use Rattle.round.specs.Producer.{sIn, eIn, hidesSIn, hidesEIn, pairOf, pairsBytes}
-use Rattle.round.proofs.Cut.{keys-cut}
+use Rattle.round.specs.Producer.{sIn, eIn, hidesSIn, hidesEIn, committedPair, pairsBytes}
+use Rattle.commitment.proofs.Cut.{keys-cut}
 use Rattle.round.proofs.Written.{octets-encode, coefficients-written}
 use Rattle.round_head.proofs.Joining.{cut}
 
 -- a pair that stands in scratch, written at a place
-pub halves-written : {q n : ℕ} {c : Pair} {w w' : Bytes} (at : ℕ) (d d' : Bytes) → PairStands q n c w w' → d' ≡ put d at (part w' 0 (8 * n) ++ part w' 49152 (8 * n)) → d' ≡ put d at (pairBytes q n c)
+pub halves-written : {q n : ℕ} {c : Pair} {w w' : Bytes} (at : ℕ) (d d' : Bytes) → PairInSlots q n c w w' → d' ≡ put d at (part w' 0 (8 * n) ++ part w' 49152 (8 * n)) → d' ≡ put d at (pairBytes q n c)
 unfolding pairBytes
 halves-written at d d' h e = e ∙ ap (put d at) (ap₂ _++_ (h .one) (h .two))
 
@@ -74,7 +76,7 @@ module _ (q n : ℕ) (w w1 w2 x x0 r : Bytes) (half : Polynomial n q x0) (long :
     pub commit-asks : (length w3 ≡ 1048576) × (Below q n (slot w3 0) × Below q n (slot w3 16384) × Below q n (slot w3 32768) × Below q n (slot w3 49152))
     commit-asks = pair-asks q n (half .ring-high) positive (half .modulus-high) w w1 w3 message r long (octets-encode n (modulo q f)) public e1 put-there
 
-    pub other-committed : (k : Keys) (w4 : Bytes) → PairStands q n (committed q n k (threeAt w3) (slot w3 49152)) w3 w4 → PairStands q n (committed q n k (threeOf q n r) (other q (ternary q x) (poly x0))) w w4
+    pub other-committed : (k : Keys) (w4 : Bytes) → PairInSlots q n (committed q n k (threeAt w3) (slot w3 49152)) w3 w4 → PairInSlots q n (committed q n k (threeOf q n r) (other q (ternary q x) (poly x0))) w w4
     other-committed k w4 h =
         let s = pair-made q n (half .ring-high) positive (half .modulus-high) w w1 w3 message r long (octets-encode n (modulo q f)) public e1 put-there k w4 h in
         record {
@@ -134,7 +136,7 @@ four-pairs q n k secrets s0 e0 d d1 d2 s t fits e1 e2 es et =
     written-behind d d1 d2 s t (16 * n) (48 * n) (omega arith) (omega arith) e1 e2
     ∙ ap₂ (λ (x y : Bytes). put d (16 * n) (x ++ y)) es et
     ∙ ap (put d (16 * n))
-    (append-assoc (pairOf q n k (hidesSIn n secrets 0) (poly s0)) (pairOf q n k (hidesSIn n secrets 1) (other q (ternary q (sIn n secrets)) (poly s0)))
+    (append-assoc (committedPair q n k (hidesSIn n secrets 0) (poly s0)) (committedPair q n k (hidesSIn n secrets 1) (other q (ternary q (sIn n secrets)) (poly s0)))
     (bothPairs q n k (hidesEIn n secrets 0) (hidesEIn n secrets 1) (eIn n secrets) e0))
 
 -- with the sheet's keys as they are lent

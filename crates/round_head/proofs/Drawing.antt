@@ -13,20 +13,21 @@ use Rattle.sha3.proofs.Squeezing.{length-sha3}
 use Rattle.commitment.specs.Commitment.{Keys}
 use Rattle.vector.specs.Vector.{vector}
 use Rattle.stern.specs.Argument.{Drawn, first}
-use Rattle.stern.specs.Shortness.{Material, setting, drawnOf, honestDigests}
+use Rattle.stern.specs.Shortness.{setting, drawnOf, honestDigests}
+use Rattle.stern.specs.Internal.{RepetitionMaterial}
 use Rattle.round.specs.Layout.{joined, headLength}
 use Rattle.round.proofs.Many.{stretch, length-joined}
 use Rattle.round.proofs.Produced.{length-digests}
 use Rattle.round.proofs.Written.{coefficients-vector, coefficients-part}
 use Rattle.round.specs.Producer.{drawnIn}
-use Rattle.round_head.specs.Method.{Drawings}
+use Rattle.round_head.specs.Internal.{Drawings}
 use Rattle.round_head.proofs.Joining.{Filled, filled-first, filled-more}
 
 -- ---- lent with lengths that are differences of places
 
 module _ (q n : ℕ) (x r p s : Bytes) (r-at p-at s-at r-long p-long s-long : ℕ) (er : r-long ≡ 336 * n) (ep : p-long ≡ 168 * n) (es : s-long ≡ 96) where
-  pub material-lent : Material q n x (part r r-at (336 * n)) (part p p-at (168 * n)) (part s s-at 96)
-      → Material q n x (take r-long (drop r-at r)) (take p-long (drop p-at p)) (take s-long (drop s-at s))
+  pub material-lent : RepetitionMaterial q n x (part r r-at (336 * n)) (part p p-at (168 * n)) (part s s-at 96)
+      → RepetitionMaterial q n x (take r-long (drop r-at r)) (take p-long (drop p-at p)) (take s-long (drop s-at s))
   material-lent m = rw (er, ep, es) m
 
   pub drawn-lent : drawnOf (take p-long (drop p-at p)) (take r-long (drop r-at r)) (take s-long (drop s-at s)) ≡ drawnOf (part p p-at (168 * n)) (part r r-at (336 * n)) (part s s-at 96)
@@ -77,7 +78,7 @@ module _ (n repeats : ℕ) where
           ap₂ (λ (j l : ℕ). allBelow q (vector (part vectors j l))) from long
           ∙ coefficients-vector (coefficients-part vectors (42 * n * i) (42 * n) (d .below) (omega (arith, d .vectors-sized, stretch (336 * n) i repeats h)))
 
-      pub material : Material q n secrets (part vectors r-at (336 * n)) (part permutations p-at (168 * n)) (part salts s-at 96)
+      pub material : RepetitionMaterial q n secrets (part vectors r-at (336 * n)) (part permutations p-at (168 * n)) (part salts s-at 96)
       material = record {
         size-x = d .secrets-sized;
         size-r = length-part vectors r-at (336 * n) (drawn-ends .0);

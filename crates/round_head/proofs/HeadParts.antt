@@ -15,9 +15,9 @@ use Rattle.sheet_numbers.specs.declared.Numbers.{Numbers}
 use Rattle.bgv.specs.Scheme.{key, other}
 use Rattle.commitment.specs.Loaded.{aOf}
 use Rattle.round.specs.Layout.{headLength}
-use Rattle.round.specs.Round.{Parameters}
+use Rattle.commitment.specs.Parameters.{Parameters}
 use Rattle.round.specs.Producer.{sIn, eIn, keyBytesOf, pairsBytes, digestsBytes, headBytes}
-use Rattle.round.proofs.Cut.{a-cut}
+use Rattle.commitment.proofs.Cut.{a-cut}
 use Rattle.round_head.proofs.CommittedPairs.{length-pairs}
 use Rattle.round_head.proofs.Drawing.{length-digestsOf}
 use Rattle.round_head.proofs.Joining.{cut, two-whole}

@@ -4,14 +4,17 @@ ghost use mathlib.Core.Path.{_≡_};
 ghost use Prim.Native.Nat.{_+_, _*_, _≤_};
 ghost use lib.ListN.{length};
 ghost use Rattle.codec.specs.Bytes.{part, put};
-ghost use Rattle.scratch.specs.Call.{scratchLength, Free};
-ghost use Rattle.commitment.specs.Commitment.{keysOf, PublicKeys};
-ghost use Rattle.stern.specs.Shortness.{Material, drawnOf, honestDigests};
-ghost use Rattle.commitment.specs.Loaded.{keyBytes, Loaded};
+ghost use Rattle.scratch.specs.Call.{scratchLength};
+ghost use Rattle.scratch.specs.Internal.{Free};
+ghost use Rattle.commitment.specs.Commitment.{keysOf};
+ghost use Rattle.commitment.specs.Internal.{PublicKeys, Loaded};
+ghost use Rattle.stern.specs.Shortness.{drawnOf, honestDigests};
+ghost use Rattle.stern.specs.Internal.{RepetitionMaterial};
+ghost use Rattle.commitment.specs.Loaded.{keyBytes};
 ghost use Rattle.round.specs.Layout.{headLength};
 ghost use Rattle.codec.specs.Slices.{given, left};
 ghost use Rattle.round.specs.Producer.{digestsBytes};
-ghost use Rattle.round_head.specs.Method.{Drawings};
+ghost use Rattle.round_head.specs.Internal.{Drawings};
 
 // One repetition, at places of what was drawn.
 fn digests_at(
@@ -32,7 +35,7 @@ fn digests_at(
     requires { ⌜ PublicKeys n q (now k) × (length (now work) ≡ scratchLength) × (at + 96 ≤ length (now out))
         × (vector + 336 * n ≤ length (now vectors))
         × (permutation + 168 * n ≤ length (now permutations)) × (salt + 96 ≤ length (now salts))
-        × Material q n (now secrets) (part (now vectors) vector (336 * n)) (part (now permutations) permutation (168 * n))
+        × RepetitionMaterial q n (now secrets) (part (now vectors) vector (336 * n)) (part (now permutations) permutation (168 * n))
         (part (now salts) salt 96) ⌝ }
     ensures { λ _. let drawn = drawnOf (part (given permutations) permutation (168 * n)) (part (given vectors) vector (336 * n))
         (part (given salts) salt 96) in

@@ -7,12 +7,14 @@ ghost use lib.ListN.{length};
 ghost use Rattle.codec.specs.Bytes.{part, put};
 ghost use Rattle.ring.specs.Slots.{poly};
 ghost use Rattle.ring.specs.Ternary.{ternary};
-ghost use Rattle.scratch.specs.Call.{scratchLength, Polynomial, Free};
+ghost use Rattle.scratch.specs.Call.{scratchLength};
+ghost use Rattle.scratch.specs.Internal.{Polynomial, Free};
 ghost use Rattle.bgv.specs.Scheme.{other};
-ghost use Rattle.commitment.specs.Commitment.{keysOf, threeOf, committed, PublicKeys, PairStands};
-ghost use Rattle.commitment.specs.Loaded.{keyBytes, Loaded};
+ghost use Rattle.commitment.specs.Commitment.{keysOf, threeOf, committed};
+ghost use Rattle.commitment.specs.Internal.{PublicKeys, PairInSlots, Loaded};
+ghost use Rattle.commitment.specs.Loaded.{keyBytes};
 ghost use Rattle.codec.specs.Slices.{given, left};
-ghost use Rattle.round.specs.Producer.{pairOf, pairsBytes};
+ghost use Rattle.round.specs.Producer.{committedPair, pairsBytes};
 
 // Writes the pair that stands in scratch out: its first half at the head, its second where the message stood.
 fn write_halves(out: &mut [u8], at: usize, work: &[u8], n: usize)
@@ -36,7 +38,7 @@ fn lent_pair(
 )
     requires { ⌜ PublicKeys n q (now k) × Polynomial n q (now x0) × (length (now r) ≡ 3 * n) × (length (now work) ≡ scratchLength)
         × (at + 16 * n ≤ length (now out)) ⌝ }
-    ensures { λ _. ⌜ (left out ≡ put (given out) at (pairOf q n (keysOf n (given k)) (given r) (poly (given x0))))
+    ensures { λ _. ⌜ (left out ≡ put (given out) at (committedPair q n (keysOf n (given k)) (given r) (poly (given x0))))
         × Free (given work) (left work) ⌝ }
 {
     commitment::pair(work, k, x0, r, n, q);
@@ -49,7 +51,7 @@ fn pair_difference(work: &mut [u8], k: &[u8], x: &[u8], x0: &[u8], r: &[u8], n: 
         × (length (now work) ≡ scratchLength) ⌝ }
     ensures { λ _. let half = other q (ternary q (given x)) (poly (given x0)) in
         let made = committed q n (keysOf n (given k)) (threeOf q n (given r)) half in
-        ⌜ PairStands q n made (given work) (left work) ⌝ }
+        ⌜ PairInSlots q n made (given work) (left work) ⌝ }
 {
     commitment::load_three(work, r, n, q);
     ring::load_ternary(work, commitment::MESSAGE, x, q);
@@ -72,7 +74,7 @@ fn other_pair(
     requires { ⌜ PublicKeys n q (now k) × Polynomial n q (now x0) × (length (now x) ≡ n) × (length (now r) ≡ 3 * n)
         × (length (now work) ≡ scratchLength) × (at + 16 * n ≤ length (now out)) ⌝ }
     ensures { λ _. let half = other q (ternary q (given x)) (poly (given x0)) in
-        ⌜ (left out ≡ put (given out) at (pairOf q n (keysOf n (given k)) (given r) half))
+        ⌜ (left out ≡ put (given out) at (committedPair q n (keysOf n (given k)) (given r) half))
         × Free (given work) (left work) ⌝ }
 {
     pair_difference(work, k, x, x0, r, n, q);
@@ -93,9 +95,9 @@ fn both_pairs(
 )
     requires { ⌜ PublicKeys n q (now k) × Polynomial n q (now x0) × (length (now x) ≡ n) × (length (now r) ≡ 6 * n)
         × (length (now work) ≡ scratchLength) × (at + 32 * n ≤ length (now out)) ⌝ }
-    ensures { λ _. let one = pairOf q n (keysOf n (given k)) (part (given r) 0 (3 * n)) (poly (given x0)) in
+    ensures { λ _. let one = committedPair q n (keysOf n (given k)) (part (given r) 0 (3 * n)) (poly (given x0)) in
         let half = other q (ternary q (given x)) (poly (given x0)) in
-        let two = pairOf q n (keysOf n (given k)) (part (given r) (3 * n) (3 * n)) half in
+        let two = committedPair q n (keysOf n (given k)) (part (given r) (3 * n) (3 * n)) half in
         ⌜ (left out ≡ put (given out) at (one ++ two)) × Free (given work) (left work) ⌝ }
 {
     let second = at + 16 * n;

@@ -1,3 +1,2 @@
-pub mod OverSheet
-pub mod Swept
+pub mod Zeroized
 pub mod Sizes

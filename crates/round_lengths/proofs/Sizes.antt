@@ -18,11 +18,12 @@ use Rattle.scratch.specs.Call.{scratchLength}
 use Rattle.scratch.proofs.Order.{length-at, refuses, passes}
 use Rattle.stern.specs.Shortness.{answerLength}
 use Rattle.round.specs.Layout.{ballotLength, headLength, answersLength}
-use Rattle.round.specs.Round.{Parameters, Round, Lengths}
-use Rattle.round.specs.Producer.{Material, Sized}
+use Rattle.round.specs.Round.{Round, Lengths}
+use Rattle.round.specs.Producer.{Material, MaterialSized}
 use Rattle.round.specs.Writes.{FirstRoom}
 use Rattle.round.proofs.Tests.{equal-same}
 use Rattle.round_lengths.specs.Calls.{lengthsTest, materialSized, firstSized, secondSized, messageSized, openingsSized}
+use Rattle.commitment.specs.Parameters.{Parameters}
 
 -- ---- the order: two groups of lengths and then the rest, by the number of ballots
 
@@ -75,7 +76,7 @@ module _ (P : Parameters) (m : ℕ) (x : Material) (e : materialSized (P .N) (P 
   unfolding materialSized
   halves = both (same keyed keyed-wanted) (same repeated repeated-wanted) e
 
-  pub material-sizes : Sized P m x
+  pub material-sizes : MaterialSized P m x
   material-sizes = record {
     secrets = length-at keyed keyed-wanted 0 (halves .0);
     s0 = length-at keyed keyed-wanted 1 (halves .0);
@@ -88,7 +89,7 @@ module _ (P : Parameters) (m : ℕ) (x : Material) (e : materialSized (P .N) (P 
     salts = length-at repeated repeated-wanted 2 (halves .1);
   }
 
-pub material-exactly : (P : Parameters) (m : ℕ) (x : Material) → (materialSized (P .N) (P .repeats) m x ≡ true) ↔ Sized P m x
+pub material-exactly : (P : Parameters) (m : ℕ) (x : Material) → (materialSized (P .N) (P .repeats) m x ≡ true) ↔ MaterialSized P m x
 unfolding materialSized
 material-exactly P m x = (
   material-sizes P m x,

@@ -10,7 +10,7 @@ use Rattle.codec.specs.Reply.{Test, test}
 use Rattle.scratch.specs.Call.{scratchLength}
 use Rattle.stern.specs.Shortness.{answerLength}
 use Rattle.round.specs.Layout.{ballotLength, headLength, answersLength}
-use Rattle.round.specs.Round.{Parameters}
+use Rattle.commitment.specs.Parameters.{Parameters}
 use Rattle.round.specs.Producer.{Material, askedRanged, producerTests}
 use Rattle.round.specs.Writes.{FirstRoom, SecondRoom}
 use Rattle.round.specs.Extractor.{Openings, ExtractRoom, extractTests}

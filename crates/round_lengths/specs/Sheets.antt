@@ -3,7 +3,6 @@ use Prim.Native.Nat.{ℕ}
 use Rattle.codec.specs.Bytes.{Bytes}
 use Rattle.sheet.specs.Reader.{sheetOf}
 use Rattle.round_lengths.specs.Calls.{countOf}
-pub use Rattle.commitment.specs.Parameters.{parametersOf}
 
 abbrev pub ballotsIn : (text ballots : Bytes) → ℕ
 ballotsIn text ballots = countOf (sheetOf text .numbers .ring) ballots

@@ -5,22 +5,11 @@ use sheet_numbers::Numbers;
 ghost use mathlib.Core.Path.{_≡_};
 ghost use Prim.Native.Nat.{_+_, _*_, _/_, _≤_};
 ghost use lib.ListN.{length};
-ghost use Rattle.codec.specs.declared.Reply.the-variants.{Refused};
 ghost use Rattle.round.specs.Layout.{answersLength};
 ghost use Rattle.codec.specs.Slices.{given};
 ghost use Rattle.round.specs.Lent.{materialIn, firstIn};
-ghost use Rattle.sheet_numbers.specs.Usable.{Usable};
+ghost use Rattle.sheet_numbers.specs.Internal.{Usable};
 ghost use Rattle.round_lengths.specs.Calls.{countOf, materialSized, firstSized, secondSized, messageSized, openingsSized};
-
-// 1: a slice of wrong length.
-pub fn refused() -> Reply
-    ensures { λ reply. ⌜ reply ≡ Refused 1 0 ⌝ }
-{
-    Reply::Refused {
-        number: 1,
-        place: 0,
-    }
-}
 
 // The product of two small numbers.
 fn times(a: usize, b: usize) -> usize

@@ -12,8 +12,8 @@ use Rattle.sheet_numbers.specs.declared.Numbers.{Numbers}
 use Rattle.bgv.specs.Scheme.{key}
 use Rattle.commitment.specs.Loaded.{aOf, bOf}
 use Rattle.round.specs.Producer.{keyMatches}
-use Rattle.round.specs.Sheets.{parameters}
-use Rattle.round.proofs.Cut.{a-cut, b-cut}
+use Rattle.commitment.specs.Parameters.{parameters}
+use Rattle.commitment.proofs.Cut.{a-cut, b-cut}
 
 module _ (k : Numbers) (s secrets : Bytes) where
   abbrev n : ℕ

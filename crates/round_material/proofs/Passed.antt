@@ -12,14 +12,14 @@ use Rattle.codec.specs.Lists.{list, allBelow}
 use Rattle.codec.proofs.Lists.{all-sound}
 use Rattle.ring.specs.Poly.{Below}
 use Rattle.ring.proofs.Ranges.{below-sound}
-use Rattle.scratch.specs.Call.{Polynomial}
+use Rattle.scratch.specs.Internal.{Polynomial}
 use Rattle.scratch.proofs.Ranges.{ranged}
 use Rattle.vector.specs.Vector.{vector}
 use Rattle.vector.specs.Permutation.{entries, permutes}
 use Rattle.vector.proofs.Counts.{permutes-complete}
 use Rattle.round.specs.Layout.{uAt}
-use Rattle.round.specs.Round.{Parameters}
-use Rattle.round.specs.Producer.{Material, Sized, permutationIn, materialRanged, producerTests}
+use Rattle.commitment.specs.Parameters.{Parameters}
+use Rattle.round.specs.Producer.{Material, MaterialSized, permutationIn, materialRanged, producerTests}
 use Rattle.round.specs.Suitable.{Suitable}
 use Rattle.round.proofs.Passed.{producer-exactly}
 use Rattle.round_material.proofs.Sequence.{all-below}
@@ -49,7 +49,7 @@ module _ (P : Parameters) (m : ℕ) (x : Material) (asked : Bool) (taken : first
     pub fit : Suitable P m x
     fit = producer-exactly P m x (omega arith) (omega arith) .0 (none-refused .1)
 
-    pub passed : Sized P m x → Passed P m x
+    pub passed : MaterialSized P m x → Passed P m x
     passed sized =
         let r = all-below q N m (x .secrets) (x .s0) (x .e0) (x .vectors) (x .ballots) (in-range .1) in
         let f = fit in

@@ -15,10 +15,10 @@ use Rattle.codec.specs.Lists.{list, allBelow}
 use Rattle.ring.specs.Slots.{poly}
 use Rattle.vector.specs.Vector.{vector}
 use Rattle.round.specs.Layout.{ballotsBelow}
-use Rattle.round.specs.Round.{Parameters}
+use Rattle.commitment.specs.Parameters.{Parameters}
 use Rattle.round.specs.Producer.{Material, materialRanged, secretTests, maskTests, permutationTests, noiseTests, producerTests}
 use Rattle.round.proofs.Many.{refused-there, continued}
-use Rattle.round_material.specs.Tested.{MaterialTested}
+use Rattle.round_material.specs.Internal.{MaterialTested}
 
 -- the reply of both, where both are worked out
 pub both-decided : (rs ts : List Test) (r t : Reply) → r ≡ first rs → t ≡ first ts → leaves r t r ≡ first (rs ++ ts)

@@ -7,13 +7,14 @@ ghost use Rattle.codec.specs.Bytes.{same};
 ghost use Rattle.ring.specs.Slots.{coefficientBytes, poly};
 ghost use Rattle.ring.specs.Ternary.{ternary};
 ghost use Rattle.sheet_numbers.specs.Plain.{plain};
-ghost use Rattle.sheet_numbers.specs.Usable.{Usable};
-ghost use Rattle.scratch.specs.Call.{scratchLength, Polynomial, Free};
+ghost use Rattle.sheet_numbers.specs.Internal.{Usable};
+ghost use Rattle.scratch.specs.Call.{scratchLength};
+ghost use Rattle.scratch.specs.Internal.{Polynomial, Free};
 ghost use Rattle.bgv.specs.Scheme.{key};
-ghost use Rattle.commitment.specs.Loaded.{Loaded};
+ghost use Rattle.commitment.specs.Internal.{Loaded};
 ghost use Rattle.codec.specs.Slices.{given, left};
 ghost use Rattle.round.specs.Producer.{keyMatches};
-ghost use Rattle.round.specs.Sheets.{parameters};
+ghost use Rattle.commitment.specs.Parameters.{parameters};
 
 // Whether b is a s + p e, for ternary bytes s and e.
 fn is_key(work: &mut [u8], k: Numbers, a: &[u8], b: &[u8], s: &[u8], e: &[u8]) -> bool

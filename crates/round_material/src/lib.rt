@@ -1,5 +1,5 @@
 // The tests of what the producer of a round is lent (document 01, the producer's order after the lengths: 5, 14, 12, 9, 15), in the
-// stretches of crates/transcript/specs/Producer.antt.
+// stretches of crates/round/specs/Producer.antt.
 mod keys;
 mod masks;
 mod noise;
@@ -15,15 +15,17 @@ ghost use lib.ListN.{length};
 ghost use Rattle.codec.specs.Bytes.{zeros};
 ghost use Rattle.codec.specs.Reply.{first, leaves};
 ghost use Rattle.sheet_numbers.specs.Plain.{noiseOf, maskOf};
-ghost use Rattle.scratch.specs.Call.{scratchLength, Free};
-ghost use Rattle.commitment.specs.Loaded.{Loaded};
+ghost use Rattle.scratch.specs.Call.{scratchLength};
+ghost use Rattle.scratch.specs.Internal.{Free};
+ghost use Rattle.commitment.specs.Internal.{Loaded};
 ghost use Rattle.round.specs.Layout.{ballotLength};
 ghost use Rattle.codec.specs.Slices.{given, left};
-ghost use Rattle.round.specs.Lent.{materialNow, materialIn};
-ghost use Rattle.round.specs.Producer.{Sized, secretTests, maskTests, permutationTests, noiseTests};
-ghost use Rattle.round.specs.Sheets.{parameters};
-ghost use Rattle.sheet_numbers.specs.Usable.{Usable};
-ghost use Rattle.round_material.specs.Tested.{EachReady, MaterialTested};
+ghost use Rattle.round.specs.Lent.{materialIn};
+ghost use Rattle.round.specs.Internal.{materialNow};
+ghost use Rattle.round.specs.Producer.{MaterialSized, secretTests, maskTests, permutationTests, noiseTests};
+ghost use Rattle.commitment.specs.Parameters.{parameters};
+ghost use Rattle.sheet_numbers.specs.Internal.{Usable};
+ghost use Rattle.round_material.specs.Internal.{EachReady, MaterialTested};
 
 // 5, then 14.
 fn test_secret(
@@ -120,7 +122,7 @@ pub fn test_material(
 ) -> Reply
     requires { let x = materialNow secrets s0 e0 masks0 masks1 vectors permutations salts ballots in
         ⌜ Loaded k (now public) × (length (now scratch) ≡ scratchLength) × (count ≤ 4096)
-        × Sized (parameters k (now public)) count x ⌝ }
+        × MaterialSized (parameters k (now public)) count x ⌝ }
     ensures { λ reply. let x = materialIn secrets s0 e0 masks0 masks1 vectors permutations salts ballots in
         ⌜ MaterialTested (parameters k (given public)) count x asked reply (given scratch) (left scratch) ⌝ }
 {

@@ -10,7 +10,7 @@ ghost use Rattle.sheet_numbers.specs.Plain.{maskOf};
 ghost use Rattle.bgv.specs.Scheme.{lentMask, within};
 ghost use Rattle.codec.specs.Slices.{given};
 ghost use Rattle.round.specs.Producer.{maskTests};
-ghost use Rattle.sheet_numbers.specs.Usable.{Usable};
+ghost use Rattle.sheet_numbers.specs.Internal.{Usable};
 
 // Whether every number of two lent masks is at most a bound in size.
 fn both_bounded(mask0: &[u8], mask1: &[u8], bound: u64, n: usize) -> bool

@@ -5,10 +5,11 @@ ghost use mathlib.Core.Path.{_≡_};
 ghost use Prim.Native.Nat.{_*_};
 ghost use lib.ListN.{length};
 ghost use Rattle.codec.specs.Reply.{first};
-ghost use Rattle.scratch.specs.Call.{scratchLength, Free};
+ghost use Rattle.scratch.specs.Call.{scratchLength};
+ghost use Rattle.scratch.specs.Internal.{Free};
 ghost use Rattle.codec.specs.Slices.{given, left};
 ghost use Rattle.round.specs.Producer.{permutationTests};
-ghost use Rattle.sheet_numbers.specs.Usable.{Usable};
+ghost use Rattle.sheet_numbers.specs.Internal.{Usable};
 
 // The permutation of every repetition, in order.
 pub fn test_permutations(work: &mut [u8], k: Numbers, permutations: &[u8]) -> Reply

@@ -11,24 +11,23 @@ use Rattle.codec.specs.declared.Reply.{Reply}
 use Rattle.codec.specs.declared.Reply.the-variants.{Taken}
 use Rattle.codec.proofs.Laws.{both}
 use Rattle.sheet_numbers.specs.declared.Numbers.{Numbers}
-use Rattle.scratch.specs.Call.{swept}
-use Rattle.scratch.proofs.Sweeping.{swept-taken}
-use Rattle.commitment.specs.Loaded.{Loaded}
-use Rattle.round.specs.Round.{Parameters}
-use Rattle.round.specs.Sheets.{parameters}
-use Rattle.round.specs.Producer.{Material, Sized, askedRanged, producerTests}
+use Rattle.scratch.specs.Call.{zeroized}
+use Rattle.scratch.proofs.Zeroizing.{zeroized-taken}
+use Rattle.commitment.specs.Internal.{Loaded}
+use Rattle.commitment.specs.Parameters.{Parameters, parameters}
+use Rattle.round.specs.Producer.{Material, MaterialSized, askedRanged, producerTests}
 use Rattle.round.specs.Writes.{FirstRoom, firstRoom, SecondRoom, secondRoom}
 use Rattle.round_material.proofs.Passed.{Passed, passed, none-refused}
-use Rattle.round_head.specs.Method.{Drawings}
-use Rattle.round_shares.specs.Method.{Masked}
-use Rattle.round_write.specs.Ready.{FirstReady, SecondReady}
+use Rattle.round_head.specs.Internal.{Drawings}
+use Rattle.round_shares.specs.Internal.{Masked}
+use Rattle.round_write.specs.Internal.{FirstReady, SecondReady}
 use Rattle.round_lengths.specs.Calls.{countOf, materialSized, firstSized, firstTests, secondSized, secondTests}
 use Rattle.round_lengths.proofs.Sizes.{all-right, material-sizes, first-sizes, second-sizes}
-use Rattle.round_produce.specs.Tested.{Tested}
+use Rattle.round_produce.specs.Internal.{Tested}
 
 -- scratch keeps its length where a call is taken
-kept : (r : Reply) (w w' : Bytes) → r ≡ Taken → w' ≡ swept r w → length w' ≡ length w
-kept r w w' e c = ap length (c ∙ swept-taken r w e) ∙ length-replicate (length w) 0
+kept : (r : Reply) (w w' : Bytes) → r ≡ Taken → w' ≡ zeroized r w → length w' ≡ length w
+kept r w w' e c = ap length (c ∙ zeroized-taken r w e) ∙ length-replicate (length w) 0
 
 module _ (k : Numbers) (s : Bytes) (x : Material) (public : Loaded k s) where
   abbrev P : Parameters
@@ -45,7 +44,7 @@ module _ (k : Numbers) (s : Bytes) (x : Material) (public : Loaded k s) where
 
   -- the material, by its lengths and by its tests
   module _ (e : materialSized n (k .repeats) count x ≡ true) (asked : Bool) (t : first (producerTests P count x asked) ≡ Taken) where
-    sizes : Sized P count x
+    sizes : MaterialSized P count x
     sizes = material-sizes P count x e
 
     fit : Passed P count x

@@ -6,17 +6,17 @@ use Rattle.codec.specs.Bytes.{Bytes}
 use Rattle.codec.specs.Reply.{packed, leaves}
 use Rattle.codec.specs.declared.Reply.{Reply}
 use Rattle.codec.specs.declared.Reply.the-variants as reply
-use Rattle.sheet.specs.Sheet.{reading, loaded}
+use Rattle.sheet.specs.Sheet.{reading}
+use Rattle.sheet.specs.Internal.{loaded}
 use Rattle.sheet_numbers.specs.declared.Numbers.{Numbers}
 use Rattle.sheet.specs.declared.Reading.{Reading}
 use Rattle.sheet.specs.declared.Reading.the-variants.{Taken, Refused}
-use Rattle.scratch.specs.Call.{swept}
-use Rattle.scratch.proofs.Lent.{lent}
-use Rattle.round.specs.Round.{Parameters}
-use Rattle.round.specs.Sheets.{parameters}
+use Rattle.scratch.specs.Call.{zeroized}
+use Rattle.scratch.proofs.Lent.{lent, order-taken, order-refused}
+use Rattle.commitment.specs.Parameters.{Parameters, parameters}
+use Rattle.commitment.proofs.Sheets.{parameters-are}
 use Rattle.round.specs.Producer.{Material}
 use Rattle.round.specs.Writes.{FirstRoom, firstRoom, SecondRoom, secondRoom}
-use Rattle.round_lengths.proofs.OverSheet.{parameters-are, order-taken, order-refused}
 use Rattle.round_produce.specs.First.{FirstWritten}
 use Rattle.round_produce.specs.Second.{SecondWritten}
 use Rattle.round_produce.specs.Replies.{firstReply, FirstCalled, secondReply, SecondCalled}
@@ -40,11 +40,11 @@ module _ (text : Bytes) {public : Bytes} {s : Reading} {k : Numbers} (load : (s 
 -- ---- it is refused
 
 module _ (text : Bytes) {s : Reading} {i : ℕ} (f : s ≡ reading text) (e : s ≡ Refused i) (x : Material) where
-  pub first-unread : (room : FirstRoom) {w : Bytes} → w ≡ swept (reply.Refused i 0) (room .scratch) → FirstCalled text x room (reply.Refused i 0) (firstRoom (room .head) (room .shares0) (room .shares1) (room .claims) w)
+  pub first-unread : (room : FirstRoom) {w : Bytes} → w ≡ zeroized (reply.Refused i 0) (room .scratch) → FirstCalled text x room (reply.Refused i 0) (firstRoom (room .head) (room .shares0) (room .shares1) (room .claims) w)
   unfolding firstReply leaves
   first-unread room z = record { replied = order-refused text _ f e; left = record { head = refl; shares0 = refl; shares1 = refl; claims = refl }; cleared = z }
 
-  pub second-unread : (side : ℕ) (challenges : Bytes) (room : SecondRoom) {w : Bytes} → w ≡ swept (reply.Refused i 0) (room .scratch) → SecondCalled text x side challenges room (reply.Refused i 0) (secondRoom (room .opening) (room .answers) w)
+  pub second-unread : (side : ℕ) (challenges : Bytes) (room : SecondRoom) {w : Bytes} → w ≡ zeroized (reply.Refused i 0) (room .scratch) → SecondCalled text x side challenges room (reply.Refused i 0) (secondRoom (room .opening) (room .answers) w)
   unfolding secondReply leaves
   second-unread side challenges room z = record { replied = order-refused text _ f e; left = record { opening = refl; answers = refl }; cleared = z }
 

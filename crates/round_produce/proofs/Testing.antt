@@ -7,15 +7,15 @@ use Rattle.codec.specs.Bytes.{Bytes}
 use Rattle.codec.specs.Reply.{Test, first}
 use Rattle.codec.specs.declared.Reply.{Reply}
 use Rattle.codec.specs.declared.Reply.the-variants.{Refused}
-use Rattle.scratch.specs.Call.{swept}
-use Rattle.scratch.proofs.Sweeping.{kept-length}
-use Rattle.round.specs.Round.{Parameters}
+use Rattle.scratch.specs.Call.{zeroized}
+use Rattle.scratch.proofs.Zeroizing.{kept-length}
+use Rattle.commitment.specs.Parameters.{Parameters}
 use Rattle.round.specs.Producer.{Material, producerTests}
-use Rattle.round_material.specs.Tested.{MaterialTested}
+use Rattle.round_material.specs.Internal.{MaterialTested}
 use Rattle.round_lengths.specs.Calls.{countOf, lengthsTest, materialSized}
 use Rattle.round_lengths.proofs.Sizes.{too-many, wrong-first, wrong-second, right}
-use Rattle.round_lengths.proofs.Swept.{later-material, swept-later}
-use Rattle.round_produce.specs.Tested.{Tested}
+use Rattle.round_lengths.proofs.Zeroized.{later-material, zeroized-later}
+use Rattle.round_produce.specs.Internal.{Tested}
 
 -- ---- any call that is lent the material: two groups of lengths, and then the material
 
@@ -30,7 +30,7 @@ module _ (P : Parameters) (x : Material) (asked : ℕ → Bool) (b : ℕ → Boo
   whole = let m = countOf (P .N) (x .ballots) in lengthsTest m (a m && b m) ∷ ts m
 
   -- a call that is refused for lengths leaves scratch as it is
-  untouched : (r : Reply) → r ≡ Refused 1 0 → w ≡ swept r w
+  untouched : (r : Reply) → r ≡ Refused 1 0 → w ≡ zeroized r w
   untouched r e = sym (kept-length r 1 0 w e refl)
 
   pub many : {r : Reply} → r ≡ Refused 1 0 → 4096 < count → Tested (whole) r w w
@@ -45,4 +45,4 @@ module _ (P : Parameters) (x : Material) (asked : ℕ → Bool) (b : ℕ → Boo
   pub tried : {r : Reply} {y z t : Bool} {w' : Bytes} → count ≤ 4096 → y ≡ a count → y ≡ true → z ≡ b count → z ≡ true → t ≡ asked count → MaterialTested P count x t r w w' → Tested (whole) r w w'
   tried {r} h f g i j k m =
       let e = m .replied ∙ ap (λ (u : Bool). first (producerTests P count x u)) k in
-      record { replied = right a b ts is h f g i j e; cleared = m .cleared ∙ sym (swept-later (ts count) (later-material P count x (asked count)) r e w) }
+      record { replied = right a b ts is h f g i j e; cleared = m .cleared ∙ sym (zeroized-later (ts count) (later-material P count x (asked count)) r e w) }

@@ -6,20 +6,20 @@ use Rattle.codec.specs.Bytes.{Bytes, zeros}
 use Rattle.codec.specs.declared.Reply.{Reply}
 use Rattle.codec.specs.declared.Reply.the-variants.{Taken, Refused}
 use Rattle.sheet_numbers.specs.declared.Numbers.{Numbers}
-use Rattle.scratch.specs.Call.{swept}
-use Rattle.scratch.proofs.Sweeping.{swept-taken, leaves-taken, leaves-refused}
-use Rattle.round.specs.Round.{Parameters}
-use Rattle.round.specs.Sheets.{parameters}
+use Rattle.scratch.specs.Call.{zeroized}
+use Rattle.scratch.proofs.Zeroizing.{zeroized-taken, leaves-taken, leaves-refused}
+use Rattle.commitment.specs.Parameters.{Parameters, parameters}
 use Rattle.round.specs.Producer.{Material, producedOpening, producedAnswers}
-use Rattle.round.specs.Writes.{FirstRoom, firstRoom, SecondRoom, secondRoom, FirstProduced, SecondProduced}
+use Rattle.round.specs.Writes.{FirstRoom, firstRoom, SecondRoom, secondRoom}
+use Rattle.round.specs.Internal.{FirstProduced, SecondProduced}
 use Rattle.round_lengths.specs.Calls.{countOf, firstTests, secondTests}
-use Rattle.round_produce.specs.Tested.{Tested}
+use Rattle.round_produce.specs.Internal.{Tested}
 use Rattle.round_produce.specs.First.{FirstWritten}
 use Rattle.round_produce.specs.Second.{SecondWritten}
 
--- scratch that is swept by the tests of a call and zeroed by its writing
-twice : (r : Reply) (w w1 w2 : Bytes) → r ≡ Taken → w1 ≡ swept r w → w2 ≡ zeros (length w1) → w2 ≡ swept r w
-twice r w w1 w2 e f g = g ∙ ap zeros (ap length (f ∙ swept-taken r w e) ∙ length-replicate (length w) 0) ∙ sym (swept-taken r w e)
+-- scratch that is zeroized by the tests of a call and zeroed by its writing
+twice : (r : Reply) (w w1 w2 : Bytes) → r ≡ Taken → w1 ≡ zeroized r w → w2 ≡ zeros (length w1) → w2 ≡ zeroized r w
+twice r w w1 w2 e f g = g ∙ ap zeros (ap length (f ∙ zeroized-taken r w e) ∙ length-replicate (length w) 0) ∙ sym (zeroized-taken r w e)
 
 -- ---- the first call
 

@@ -3,8 +3,8 @@ use mathlib.Core.Path.{_≡_}
 use Prim.Native.Nat.{ℕ}
 use Rattle.codec.specs.Reply.{first, leaves}
 use Rattle.codec.specs.declared.Reply.{Reply}
-use Rattle.scratch.specs.Call.{swept}
-use Rattle.round.specs.Round.{Parameters}
+use Rattle.scratch.specs.Call.{zeroized}
+use Rattle.commitment.specs.Parameters.{Parameters}
 use Rattle.round.specs.Producer.{Material, producedHead, producedShares, producedClaims}
 use Rattle.round.specs.Writes.{FirstRoom}
 use Rattle.round_lengths.specs.Calls.{countOf, firstTests}
@@ -23,4 +23,4 @@ module _ (P : Parameters) (x : Material) (before : FirstRoom) (reply : Reply) (a
   pub record FirstWritten : Type 0 where
     pub replied : reply ≡ first (firstTests P x before)
     pub left : FirstLeft
-    pub cleared : after .scratch ≡ swept reply (before .scratch)
+    pub cleared : after .scratch ≡ zeroized reply (before .scratch)

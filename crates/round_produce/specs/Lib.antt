@@ -1,4 +1,4 @@
-pub mod Tested
 pub mod First
 pub mod Second
 pub mod Replies
+pub mod Internal

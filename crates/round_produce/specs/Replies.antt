@@ -7,11 +7,11 @@ use Rattle.codec.specs.Bytes.{Bytes}
 use Rattle.codec.specs.Reply.{first}
 use Rattle.codec.specs.declared.Reply.{Reply}
 use Rattle.sheet.specs.Sheet.{order}
-use Rattle.scratch.specs.Call.{swept}
+use Rattle.scratch.specs.Call.{zeroized}
 use Rattle.round.specs.Producer.{Material}
 use Rattle.round.specs.Writes.{FirstRoom, SecondRoom}
 use Rattle.round_lengths.specs.Calls.{firstTests, secondTests}
-use Rattle.round_lengths.specs.Sheets.{parametersOf}
+use Rattle.commitment.specs.Parameters.{parametersOf}
 use Rattle.round_produce.specs.First.{FirstLeft}
 use Rattle.round_produce.specs.Second.{SecondLeft}
 
@@ -21,7 +21,7 @@ firstReply text x room = first (order text ++ firstTests (parametersOf text) x r
 pub record FirstCalled (text : Bytes) (x : Material) (before : FirstRoom) (reply : Reply) (after : FirstRoom) : Type 0 where
   pub replied : reply ≡ firstReply text x before
   pub left : FirstLeft (parametersOf text) x before reply after
-  pub cleared : after .scratch ≡ swept reply (before .scratch)
+  pub cleared : after .scratch ≡ zeroized reply (before .scratch)
 
 unfoldable pub secondReply : (text : Bytes) → Material → (side : ℕ) (challenges : Bytes) → SecondRoom → Reply
 secondReply text x side challenges room = first (order text ++ secondTests (parametersOf text) x side challenges room)
@@ -29,4 +29,4 @@ secondReply text x side challenges room = first (order text ++ secondTests (para
 pub record SecondCalled (text : Bytes) (x : Material) (side : ℕ) (challenges : Bytes) (before : SecondRoom) (reply : Reply) (after : SecondRoom) : Type 0 where
   pub replied : reply ≡ secondReply text x side challenges before
   pub left : SecondLeft (parametersOf text) x side challenges before reply after
-  pub cleared : after .scratch ≡ swept reply (before .scratch)
+  pub cleared : after .scratch ≡ zeroized reply (before .scratch)

@@ -4,8 +4,8 @@ use Prim.Native.Nat.{ℕ}
 use Rattle.codec.specs.Bytes.{Bytes}
 use Rattle.codec.specs.Reply.{first, leaves}
 use Rattle.codec.specs.declared.Reply.{Reply}
-use Rattle.scratch.specs.Call.{swept}
-use Rattle.round.specs.Round.{Parameters}
+use Rattle.scratch.specs.Call.{zeroized}
+use Rattle.commitment.specs.Parameters.{Parameters}
 use Rattle.round.specs.Producer.{Material, producedOpening, producedAnswers}
 use Rattle.round.specs.Writes.{SecondRoom}
 use Rattle.round_lengths.specs.Calls.{countOf, secondTests}
@@ -22,4 +22,4 @@ module _ (P : Parameters) (x : Material) (side : ℕ) (challenges : Bytes) (befo
   pub record SecondWritten : Type 0 where
     pub replied : reply ≡ first (secondTests P x side challenges before)
     pub left : SecondLeft
-    pub cleared : after .scratch ≡ swept reply (before .scratch)
+    pub cleared : after .scratch ≡ zeroized reply (before .scratch)

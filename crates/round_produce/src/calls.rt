@@ -50,7 +50,7 @@ pub fn produce_first(
         }
         sheet::Reading::Refused { number } => {
             let reply = codec::Reply::Refused { number, place: 0 };
-            scratch::sweep(reply, scratch);
+            scratch::zeroize(reply, scratch);
             reply
         }
     }
@@ -103,7 +103,7 @@ pub fn produce_second(
         }
         sheet::Reading::Refused { number } => {
             let reply = codec::Reply::Refused { number, place: 0 };
-            scratch::sweep(reply, scratch);
+            scratch::zeroize(reply, scratch);
             reply
         }
     }

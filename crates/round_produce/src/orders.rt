@@ -1,18 +1,18 @@
 // What the producer's two calls refuse, in their order, once the sheet is taken.
 use crate::asked::asked_ranged;
 use codec::Reply;
+use codec::refused;
 use round_lengths::count_of;
 use round_lengths::first_sized;
 use round_lengths::material_sized;
-use round_lengths::refused;
 use round_lengths::second_sized;
 use sheet_numbers::Numbers;
 ghost use Rattle.codec.specs.Slices.{given, left};
-ghost use Rattle.commitment.specs.Loaded.{Loaded};
-ghost use Rattle.round.specs.Sheets.{parameters};
+ghost use Rattle.commitment.specs.Internal.{Loaded};
+ghost use Rattle.commitment.specs.Parameters.{parameters};
 ghost use Rattle.round_lengths.specs.Calls.{firstTests, secondTests};
 ghost use Rattle.round.specs.Lent.{materialIn, firstIn, secondIn};
-ghost use Rattle.round_produce.specs.Tested.{Tested};
+ghost use Rattle.round_produce.specs.Internal.{Tested};
 
 // What the first call refuses: 1, and then what the material is refused for.
 pub fn first_tests(
@@ -40,7 +40,7 @@ pub fn first_tests(
 {
     let count = count_of(ballots, k.ring as usize);
     if count > 4096 {
-        return refused();
+        return refused(1);
     }
     if !material_sized(
         k,
@@ -55,10 +55,10 @@ pub fn first_tests(
         ballots,
         count,
     ) {
-        return refused();
+        return refused(1);
     }
     if !first_sized(k, head, shares0, shares1, claims, scratch, count) {
-        return refused();
+        return refused(1);
     }
     round_material::test_material(
         k,
@@ -106,7 +106,7 @@ pub fn second_tests(
     let repeats = k.repeats as usize;
     let count = count_of(ballots, n);
     if count > 4096 {
-        return refused();
+        return refused(1);
     }
     if !material_sized(
         k,
@@ -121,10 +121,10 @@ pub fn second_tests(
         ballots,
         count,
     ) {
-        return refused();
+        return refused(1);
     }
     if !second_sized(challenges, opening, answers, scratch, repeats, n) {
-        return refused();
+        return refused(1);
     }
     let asked = asked_ranged(side, challenges);
     round_material::test_material(

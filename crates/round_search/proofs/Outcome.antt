@@ -1,4 +1,4 @@
--- What is answered and written by what differs, what is zero and what is not; and the same by a sheet. Assumes nothing.
+-- What is answered and writtenVectors by what differs, what is zero and what is not; and the same by a sheet. Assumes nothing.
 use mathlib.Core.Path.{_≡_, refl, sym, ap, _∙_}
 use mathlib.Core.Logic.{_≢_}
 use mathlib.Core.Bool.{Bool, true, false, cond, not}
@@ -16,14 +16,12 @@ use Rattle.commitment.specs.Commitment.{Three, keysOf}
 use Rattle.commitment.specs.Loaded as commitment
 use Rattle.stern.specs.Argument.{Setting, Answer1, Answer2, Answer3, one-by2, one-by3, two-by1, two-by3, three-by1, three-by2}
 use Rattle.stern.specs.Shortness.{polynomial, setting, answer1Of, answer2Of, answer3Of}
-use Rattle.round.specs.Round.{Parameters}
-use Rattle.round.specs.Sheets.{parameters}
+use Rattle.commitment.specs.Parameters.{Parameters, parameters}
+use Rattle.commitment.proofs.Cut.{keys-cut}
 use Rattle.round.specs.Extractor.{Openings, openingsOf, threeBytes, isZero, ternaryBytes, pairs, open0, open1, unknowns, vector-s, vector-e, kind, extracted}
-use Rattle.round.proofs.Cut.{keys-cut}
 use Rattle.round.proofs.ExtractionWritten.{collision-written}
-use Rattle.round_search.specs.Lent.{Finds}
-use Rattle.round_collision.specs.Collision.{differing}
-use Rattle.round_search.specs.Method.{unknownsOf, lessUnknowns, excess, solved, written, vectorAt, keyOf, solvedBy, writtenBy}
+use Rattle.round_search.specs.Internal.{Finds, unknownsOf, lessUnknowns, excess, solved, writtenVectors, vectorAt, keyOf, solvedBy, writtenBy}
+use Rattle.round_collision.specs.Internal.{differing}
 use Rattle.round_search.proofs.Unknowns.{lent-excess}
 
 -- ---- the two vectors, in order, of the r of two openings, lent with lengths that are differences of places
@@ -35,7 +33,7 @@ module _ (q N : ℕ) (o0 o1 : Bytes) (z : List ℕ) where
     first = lent-excess q N o0 o1 z (16 * N) (19 * N - 16 * N) 2 (2 * N) (omega arith) (omega arith) r1 d1 y1 e1
 
     pub s-nonzero : not r1 ≡ true → (4 ≡ solvedBy q N o0 o1 z) × (d1 ≡ writtenBy q N o0 o1 z)
-    unfolding solved written
+    unfolding solved writtenVectors
     s-nonzero n1 = rw (← (first .0), not-true r1 n1) (refl, first .1)
 
     module _ (n1 : not r1 ≡ false) (r2 : Bool) (d2 : Bytes) (y2 : r2 ≡ same d2 (zeros (24 * N)))
@@ -44,11 +42,11 @@ module _ (q N : ℕ) (o0 o1 : Bytes) (z : List ℕ) where
       second = lent-excess q N o0 o1 z (19 * N) (22 * N - 19 * N) 8 (8 * N) (omega arith) (omega arith) r2 d2 y2 e2
 
       pub e-nonzero : not r2 ≡ true → (5 ≡ solvedBy q N o0 o1 z) × (d2 ≡ writtenBy q N o0 o1 z)
-      unfolding solved written
+      unfolding solved writtenVectors
       e-nonzero n2 = rw (← (first .0), not-false r1 n1, ← (second .0), not-true r2 n2) (refl, second .1)
 
       pub both-zero : not r2 ≡ false → (6 ≡ solvedBy q N o0 o1 z) × (keyOf q N o0 o1 z ≡ writtenBy q N o0 o1 z)
-      unfolding solved written
+      unfolding solved writtenVectors
       both-zero n2 = rw (← (first .0), not-false r1 n1, ← (second .0), not-false r2 n2) (refl, refl)
 
 -- ---- the kind and the output
@@ -112,8 +110,8 @@ module _ (P : Parameters) (m : ℕ) (x : Openings) where
   unfolding differing kind solved
   none-found e = by-vectors agree1 agree2 agree3 (solved q N (vector-s P m x) (vector-e P m x)) e
 
-  none-written : 0 ≡ lowest → written q N (vector-s P m x) (vector-e P m x) keyBytes ≡ extracted P m x
-  unfolding extracted solved written
+  none-written : 0 ≡ lowest → writtenVectors q N (vector-s P m x) (vector-e P m x) keyBytes ≡ extracted P m x
+  unfolding extracted solved writtenVectors
   none-written e = by-kind (zeros (24 * N)) (threeBytes q N (vector-s P m x)) (threeBytes q N (vector-e P m x)) keyBytes (isZero q N (vector-s P m x)) (isZero q N (vector-e P m x)) (kind P m x) (none-found e)
 
   -- the same where the pairs of the head, and extended + R and R, are lent with lengths that are differences of places
@@ -134,12 +132,12 @@ module _ (P : Parameters) (m : ℕ) (x : Openings) where
     for-e j = lessUnknowns q N (open0 P m x .re) (open1 P m x .re) (z j) 8
 
     lent-solved : d ≡ 0 → (j r : ℕ) (out : Bytes) → j ≡ 336 * N → r ≡ solved q N (for-s j) (for-e j)
-        → out ≡ written q N (for-s j) (for-e j) (ternaryBytes q N (polynomial N (z j) 0) ++ (ternaryBytes q N (polynomial N (z j) 1) ++ zeros (22 * N)))
+        → out ≡ writtenVectors q N (for-s j) (for-e j) (ternaryBytes q N (polynomial N (z j) 0) ++ (ternaryBytes q N (polynomial N (z j) 1) ++ zeros (22 * N)))
         → (r ≡ kind P m x) × (out ≡ extracted P m x)
     lent-solved h j r out e er eo =
         let none : 0 ≡ lowest = sym h ∙ lent-digest in (
           er ∙ ap (λ (l : ℕ). solved q N (for-s l) (for-e l)) e ∙ none-found none,
-          eo ∙ ap (λ (l : ℕ). written q N (for-s l) (for-e l) (ternaryBytes q N (polynomial N (z l) 0) ++ (ternaryBytes q N (polynomial N (z l) 1) ++ zeros (22 * N)))) e ∙ none-written none,
+          eo ∙ ap (λ (l : ℕ). writtenVectors q N (for-s l) (for-e l) (ternaryBytes q N (polynomial N (z l) 0) ++ (ternaryBytes q N (polynomial N (z l) 1) ++ zeros (22 * N)))) e ∙ none-written none,
         )
 
 -- ---- by a sheet's numbers and polynomials, whose keys are lent on

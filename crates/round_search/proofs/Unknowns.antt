@@ -24,8 +24,8 @@ use Rattle.vector.proofs.Vectors.{length-vector}
 use Rattle.vector.proofs.Gathers.{component-lt}
 use Rattle.stern.specs.Shortness.{polynomial}
 use Rattle.round.specs.Extractor.{threeBytes, isZero, ternaryBytes}
-use Rattle.round_collision.specs.Collision.{Masked}
-use Rattle.round_search.specs.Method.{unknownsOf, lessUnknowns, from, excess}
+use Rattle.round_collision.specs.Internal.{MaskedVectors}
+use Rattle.round_search.specs.Internal.{unknownsOf, lessUnknowns, from, excess}
 
 -- ---- one number of the unknowns
 
@@ -36,7 +36,7 @@ subtract-within q (a ∷ x) [] i h l = absurd (omega arith)
 subtract-within q (a ∷ x) (b ∷ y) zero h l = refl
 subtract-within q (a ∷ x) (b ∷ y) (suc i) h l = subtract-within q x y i (omega arith) (omega arith)
 
-module _ (q N : ℕ) (u r : Bytes) (given : Masked q N u r) (i : ℕ) (h : i < 14 * N) where
+module _ (q N : ℕ) (u r : Bytes) (given : MaskedVectors q N u r) (i : ℕ) (h : i < 14 * N) where
   sized-u : length u ≡ 336 * N
   sized-u = given .sized-u
 

@@ -1,5 +1,5 @@
 // What two openings and three answers to one first message give away (document 01, the extractor's paragraph): a collision of the
-// digest, a short vector on which the commitment row is zero, or the key. specs/Extractor.antt of `transcript` says what is found.
+// digest, a short vector on which the commitment row is zero, or the key. specs/Extractor.antt of `round` says what is found.
 mod vectors;
 
 use crate::vectors::solve;
@@ -13,12 +13,12 @@ ghost use Rattle.codec.specs.Bytes.{zeros};
 ghost use Rattle.codec.specs.Slices.{given, left};
 ghost use Rattle.codec.specs.Lists.{allBelow};
 ghost use Rattle.scratch.specs.Call.{scratchLength};
-ghost use Rattle.commitment.specs.Loaded.{Loaded};
+ghost use Rattle.commitment.specs.Internal.{Loaded};
 ghost use Rattle.vector.specs.Vector.{vector};
 ghost use Rattle.round.specs.Layout.{pairsOf};
-ghost use Rattle.round.specs.Sheets.{parameters};
-ghost use Rattle.round_collision.specs.Collision.{Answers};
-ghost use Rattle.round_search.specs.Lent.{Finds};
+ghost use Rattle.commitment.specs.Parameters.{parameters};
+ghost use Rattle.round_collision.specs.Internal.{ThreeAnswers};
+ghost use Rattle.round_search.specs.Internal.{Finds};
 
 // 1, 2, 3: the lowest digest whose two strings differ, with zeros in the output; else 4, 5: the nonzero vector for s, for e; else 6: the
 // key. It is called once every test is passed, so nothing is refused any more and the output is used on the way. Scratch is zeroed.
@@ -37,7 +37,7 @@ pub fn find(
     requires { ⌜ Loaded k (now public) × (length (now work) ≡ scratchLength) × (length (now out) ≡ 24 * k .ring)
         × (80 * k .ring ≤ length (now head)) × (length (now opening0) ≡ 22 * k .ring) × (length (now opening1) ≡ 22 * k .ring)
         × (allBelow (k .modulus) (vector (pairsOf (k .ring) (now head))) ≡ true)
-        × Answers (k .modulus) (k .ring) (now answer1) (now answer2) (now answer3) ⌝ }
+        × ThreeAnswers (k .modulus) (k .ring) (now answer1) (now answer2) (now answer3) ⌝ }
     ensures { λ r. ⌜ Finds (parameters k (given public)) (given head) (given opening0) (given opening1) (given answer1) (given answer2)
         (given answer3) r (left out) × (left work ≡ zeros (length (given work))) ⌝ }
 {

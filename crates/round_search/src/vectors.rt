@@ -9,15 +9,16 @@ ghost use Rattle.codec.specs.Bytes.{put, zeros, same};
 ghost use Rattle.codec.specs.Slices.{given, left};
 ghost use Rattle.ring.specs.Poly.{modulo};
 ghost use Rattle.ring.specs.Slots.{encode};
-ghost use Rattle.scratch.specs.Call.{scratchLength, Free};
+ghost use Rattle.scratch.specs.Call.{scratchLength};
+ghost use Rattle.scratch.specs.Internal.{Free};
 ghost use Rattle.stern.specs.Shortness.{polynomial};
 ghost use Rattle.round.specs.Extractor.{ternaryBytes};
-ghost use Rattle.round_collision.specs.Collision.{Masked};
-ghost use Rattle.round_search.specs.Method.{unknownsOf, from, excess, solvedBy, writtenBy};
+ghost use Rattle.round_collision.specs.Internal.{MaskedVectors};
+ghost use Rattle.round_search.specs.Internal.{unknownsOf, from, excess, solvedBy, writtenBy};
 
 // Number i of the unknowns: that of extended + R less that of R.
 fn unknown(u: &[u8], r: &[u8], i: usize, n: usize, q: u64) -> u64
-    requires { ⌜ (n ≤ 2048) × (q < 2 ^ 56) × (i < 14 * n) × Masked q n (now u) (now r) ⌝ }
+    requires { ⌜ (n ≤ 2048) × (q < 2 ^ 56) × (i < 14 * n) × MaskedVectors q n (now u) (now r) ⌝ }
     ensures { λ v. ⌜ (v ≡ getD (unknownsOf q n (given u) (given r)) i 0) × (v < q) ⌝ }
 {
     modular::subtract(vector::component(u, i), vector::component(r, i), q)
@@ -27,7 +28,7 @@ fn unknown(u: &[u8], r: &[u8], i: usize, n: usize, q: u64) -> u64
 
 // Number i of the openings' summed r less the summed r of the unknowns.
 fn excess(r0: &[u8], r1: &[u8], u: &[u8], r: &[u8], first: usize, i: usize, n: usize, q: u64) -> u64
-    requires { ⌜ (n ≤ 2048) × (3 ≤ q) × (q < 2 ^ 56) × (length (now r0) ≡ 3 * n) × (length (now r1) ≡ 3 * n) × Masked q n (now u) (now r)
+    requires { ⌜ (n ≤ 2048) × (3 ≤ q) × (q < 2 ^ 56) × (length (now r0) ≡ 3 * n) × (length (now r1) ≡ 3 * n) × MaskedVectors q n (now u) (now r)
         × (first + 6 * n ≤ 14 * n) × (i < 3 * n) ⌝ }
     ensures { λ v. ⌜ v ≡ excess q n (given r0) (given r1) (unknownsOf q n (given u) (given r)) first i % q ⌝ }
 {
@@ -51,7 +52,7 @@ fn write_excess(
     n: usize,
     q: u64,
 )
-    requires { ⌜ (n ≤ 2048) × (3 ≤ q) × (q < 2 ^ 56) × (length (now r0) ≡ 3 * n) × (length (now r1) ≡ 3 * n) × Masked q n (now u) (now r)
+    requires { ⌜ (n ≤ 2048) × (3 ≤ q) × (q < 2 ^ 56) × (length (now r0) ≡ 3 * n) × (length (now r1) ≡ 3 * n) × MaskedVectors q n (now u) (now r)
         × (first + 6 * n ≤ 14 * n) × (length (now out) ≡ 24 * n) ⌝ }
     ensures { λ _. ⌜ left out ≡ encode (3 * n) (modulo q (excess q n (given r0) (given r1) (unknownsOf q n (given u) (given r)) first)) ⌝ }
 {
@@ -75,7 +76,7 @@ fn vanishes(
     n: usize,
     q: u64,
 ) -> bool
-    requires { ⌜ (n ≤ 2048) × (3 ≤ q) × (q < 2 ^ 56) × (length (now r0) ≡ 3 * n) × (length (now r1) ≡ 3 * n) × Masked q n (now u) (now r)
+    requires { ⌜ (n ≤ 2048) × (3 ≤ q) × (q < 2 ^ 56) × (length (now r0) ≡ 3 * n) × (length (now r1) ≡ 3 * n) × MaskedVectors q n (now u) (now r)
         × (first + 6 * n ≤ 14 * n) × (length (now out) ≡ 24 * n) × (length (now work) ≡ scratchLength) ⌝ }
     ensures { λ yes. ⌜ (yes ≡ same (left out) (zeros (24 * n)))
         × ((left out ≡ encode (3 * n) (modulo q (excess q n (given r0) (given r1) (unknownsOf q n (given u) (given r)) first)))
@@ -103,7 +104,7 @@ fn to_ternary(v: u64) -> u8
 
 // The first two polynomials of the unknowns, s and e, as ternary bytes.
 fn write_secrets(out: &mut [u8], u: &[u8], r: &[u8], n: usize, q: u64)
-    requires { ⌜ (n ≤ 2048) × (q < 2 ^ 56) × Masked q n (now u) (now r) × (length (now out) ≡ 24 * n) ⌝ }
+    requires { ⌜ (n ≤ 2048) × (q < 2 ^ 56) × MaskedVectors q n (now u) (now r) × (length (now out) ≡ 24 * n) ⌝ }
     ensures { λ _. ⌜ left out ≡ put (given out) 0 (ternaryBytes q (2 * n) (from (unknownsOf q n (given u) (given r)) 0)) ⌝ }
 {
     let mut i = 0;
@@ -116,7 +117,7 @@ fn write_secrets(out: &mut [u8], u: &[u8], r: &[u8], n: usize, q: u64)
 
 // s and e, and then zeros.
 fn write_key(out: &mut [u8], u: &[u8], r: &[u8], n: usize, q: u64)
-    requires { ⌜ (n ≤ 2048) × (q < 2 ^ 56) × Masked q n (now u) (now r) × (length (now out) ≡ 24 * n) ⌝ }
+    requires { ⌜ (n ≤ 2048) × (q < 2 ^ 56) × MaskedVectors q n (now u) (now r) × (length (now out) ≡ 24 * n) ⌝ }
     ensures { λ _. ⌜ left out ≡ ternaryBytes q n (polynomial n (unknownsOf q n (given u) (given r)) 0)
         ++ (ternaryBytes q n (polynomial n (unknownsOf q n (given u) (given r)) 1) ++ zeros (22 * n)) ⌝ }
 {
@@ -136,7 +137,7 @@ pub fn solve(
     q: u64,
 ) -> u8
     requires { ⌜ (n ≤ 2048) × (3 ≤ q) × (q < 2 ^ 56) × (length (now work) ≡ scratchLength) × (length (now out) ≡ 24 * n)
-        × (length (now opening0) ≡ 22 * n) × (length (now opening1) ≡ 22 * n) × Masked q n (now u) (now r) ⌝ }
+        × (length (now opening0) ≡ 22 * n) × (length (now opening1) ≡ 22 * n) × MaskedVectors q n (now u) (now r) ⌝ }
     ensures { λ kind. let z = unknownsOf q n (given u) (given r) in ⌜ (kind ≡ solvedBy q n (given opening0) (given opening1) z)
         × ((left out ≡ writtenBy q n (given opening0) (given opening1) z) × Free (given work) (left work)) ⌝ }
 {

@@ -15,7 +15,7 @@ use Rattle.bgv.specs.Scheme.{decrypted, other, lentMask, share}
 use Rattle.round.specs.Layout.{joined, ballotLength, uAt, vAt}
 use Rattle.round.specs.Producer.{sharesBytes, claimsBytes}
 use Rattle.round.proofs.Many.{stretch, length-joined}
-use Rattle.round_shares.specs.Method.{Masked, BallotAt, Fits, roomOf}
+use Rattle.round_shares.specs.Internal.{Masked, BallotPlaces, Fits, roomOf}
 use Rattle.round_head.proofs.Joining.{Filled, filled-first, filled-more, filled-all}
 
 module _ (q n p count : ℕ) (secrets s0 masks0 masks1 ballots : Bytes) where
@@ -72,7 +72,7 @@ module _ (q n p count : ℕ) (secrets s0 masks0 masks1 ballots : Bytes) where
       claim-place : claim ≡ n * j
       claim-place = omega (arith, r .votes .place, claims-long j)
 
-      pub ballot-stands : BallotAt q n at sent ballots masks0 masks1
+      pub ballot-stands : BallotPlaces q n at sent ballots masks0 masks1
       ballot-stands =
           let s = stretch (8 * n) j count h in
           let p = sent-place in

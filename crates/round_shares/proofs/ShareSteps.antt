@@ -9,18 +9,19 @@ use Rattle.codec.specs.Bytes.{Bytes, Octets, part, put, zeros}
 use Rattle.codec.proofs.Laws.{length-put, part-part, part-put, part-put-before}
 use Rattle.modular.proofs.Congruence.{same-eq}
 use Rattle.ring.specs.Poly.{Poly, plus, minus, scale, mul, modulo, Alike, Below}
-use Rattle.ring.specs.Slots.{poly, slot, fromSigned, encode, store, Slots}
+use Rattle.ring.specs.Slots.{poly, slot, encode}
+use Rattle.ring.specs.Internal.{fromSigned, store, Slots}
 use Rattle.ring.specs.Ternary.{ternary}
 use Rattle.ring.proofs.Bridge.{length-encode, encode-alike}
 use Rattle.ring.proofs.Polynomials.{plus-comm, alike-eq, alike-refl, _so_, alike-plus, alike-minus, alike-scale}
 use Rattle.ring.proofs.Ranges.{below-ternary}
-use Rattle.scratch.specs.Call.{Polynomial, Stands}
+use Rattle.scratch.specs.Internal.{Polynomial, InSlot}
 use Rattle.scratch.proofs.Slots.{Holds, holds-below, holds-alike, holds-slot, stored, stored-length, stored-other, loaded, put-length, put-other, stands-alike, stands-stored}
 use Rattle.scratch.proofs.Loads.{Loaded, residues-load, loaded-asks}
-use Rattle.scratch.proofs.Shelf.{Shelf, shelf-none, shelf-load, shelf-copy, shelf-multiply, shelf-below}
+use Rattle.scratch.proofs.Slotted.{Slotted, slotted-none, slotted-load, slotted-copy, slotted-multiply, slotted-below}
 use Rattle.bgv.specs.Scheme.{residues, lentMask}
 use Rattle.round.proofs.Written.{slot-part}
-use Rattle.round_shares.specs.Method.{TwoStand}
+use Rattle.round_shares.specs.Internal.{TwoStand}
 
 -- ---- s u and s0 u
 
@@ -29,27 +30,27 @@ module _ (q n : ℕ) (w w1 w2 s s0 u : Bytes) (half : Polynomial n q s0) (octets
   positive : 0 < q
   positive = let h = half .modulus-low in omega arith
 
-  held : Shelf q n (ternary q s ∷ poly s0 ∷ []) w2
+  held : Slotted q n (ternary q s ∷ poly s0 ∷ []) w2
   held =
-      let none = shelf-none q n (half .ring-high) positive (half .modulus-high) long in
-      let one = shelf-load q n (half .ring-high) positive (half .modulus-high) none 0 (omega arith) (omega arith) (ternary q s) (below-ternary q n s positive) (e1 ∙ ap (λ (k : ℕ). put w 0 (encode k (ternary q s))) size) in
-      shelf-copy q n (half .ring-high) positive (half .modulus-high) one 1 (omega arith) (omega arith) s0 octets (half .sized) (half .below) e2
+      let none = slotted-none q n (half .ring-high) positive (half .modulus-high) long in
+      let one = slotted-load q n (half .ring-high) positive (half .modulus-high) none 0 (omega arith) (omega arith) (ternary q s) (below-ternary q n s positive) (e1 ∙ ap (λ (k : ℕ). put w 0 (encode k (ternary q s))) size) in
+      slotted-copy q n (half .ring-high) positive (half .modulus-high) one 1 (omega arith) (omega arith) s0 octets (half .sized) (half .below) e2
 
   pub first-asks : (65536 + 24 * n ≤ length w2) × Below q n (slot w2 0)
-  first-asks = (let h = half .ring-high in omega (arith, held .long), shelf-below q n (half .ring-high) positive (half .modulus-high) held 0 (omega arith))
+  first-asks = (let h = half .ring-high in omega (arith, held .long), slotted-below q n (half .ring-high) positive (half .modulus-high) held 0 (omega arith))
 
   module _ (w3 : Bytes) (e3 : w3 ≡ put (store q n w2 0 (mul q n (slot w2 0) (poly u))) 65536 (zeros (24 * n))) where
-    once : Shelf q n (mul q n (ternary q s) (poly u) ∷ poly s0 ∷ []) w3
-    once = let h = half .ring-high in shelf-multiply q n (half .ring-high) positive (half .modulus-high) held 0 (omega arith) (omega arith) (poly u) (poly u) 65536 alike-refl (omega arith) (omega arith) e3
+    once : Slotted q n (mul q n (ternary q s) (poly u) ∷ poly s0 ∷ []) w3
+    once = let h = half .ring-high in slotted-multiply q n (half .ring-high) positive (half .modulus-high) held 0 (omega arith) (omega arith) (poly u) (poly u) 65536 alike-refl (omega arith) (omega arith) e3
 
     pub second-asks : (65536 + 24 * n ≤ length w3) × Below q n (slot w3 16384)
-    second-asks = (let h = half .ring-high in omega (arith, once .long), shelf-below q n (half .ring-high) positive (half .modulus-high) once 1 (omega arith))
+    second-asks = (let h = half .ring-high in omega (arith, once .long), slotted-below q n (half .ring-high) positive (half .modulus-high) once 1 (omega arith))
 
     pub products-stand : (w4 : Bytes) → w4 ≡ put (store q n w3 16384 (mul q n (slot w3 16384) (poly u))) 65536 (zeros (24 * n))
         → TwoStand q n (mul q n (ternary q s) (poly u)) (mul q n (poly s0) (poly u)) w w4
     products-stand w4 e4 =
         let h = half .ring-high in
-        let both = shelf-multiply q n (half .ring-high) positive (half .modulus-high) once 1 (omega arith) (omega arith) (poly u) (poly u) 65536 alike-refl (omega arith) (omega arith) e4 in
+        let both = slotted-multiply q n (half .ring-high) positive (half .modulus-high) once 1 (omega arith) (omega arith) (poly u) (poly u) 65536 alike-refl (omega arith) (omega arith) e4 in
         record { sized = both .long ∙ sym long; one = both .stands 0 (omega arith); two = both .stands 1 (omega arith) }
 
 -- ---- what stands where a part of scratch is kept
@@ -182,7 +183,7 @@ module _ (q n : ℕ) (high : n ≤ 2048) (some : 3 ≤ q) (few : q < 2 ^ 56) (w 
     pub add-lent-asks : (8 * n ≤ length w1) × Below q n (slot w1 0)
     add-lent-asks = (omega (arith, negative-length), holds-below above negative)
 
-    pub opened-stands : (w2 : Bytes) → w2 ≡ store q n w1 0 (plus (slot w1 0) v) → Stands q n (minus q v (slot w 0)) w w2
+    pub opened-stands : (w2 : Bytes) → w2 ≡ store q n w1 0 (plus (slot w1 0) v) → InSlot q n (minus q v (slot w 0)) w w2
     opened-stands w2 e2 =
         stands-alike (stands-stored q n (plus (slot w1 0) v) w w1 w2 (omega (arith, negative-length)) negative-length e2)
         (alike-plus (holds-alike negative) alike-refl so alike-eq (plus-comm (scale (q - 1) (slot w 0)) v))

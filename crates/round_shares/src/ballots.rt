@@ -7,11 +7,12 @@ ghost use lib.ListN.{length};
 ghost use Rattle.codec.specs.Bytes.{part};
 ghost use Rattle.ring.specs.Slots.{poly, slot};
 ghost use Rattle.ring.specs.Ternary.{ternary};
-ghost use Rattle.scratch.specs.Call.{scratchLength, Polynomial};
+ghost use Rattle.scratch.specs.Call.{scratchLength};
+ghost use Rattle.scratch.specs.Internal.{Polynomial};
 ghost use Rattle.codec.specs.Slices.{given};
 ghost use Rattle.round.specs.Producer.{sIn};
-ghost use Rattle.sheet_numbers.specs.Usable.{Usable};
-ghost use Rattle.round_shares.specs.Method.{Masked, BallotAt, roomNow, roomIn, roomOut, Fits, BallotWritten, BallotsWritten};
+ghost use Rattle.sheet_numbers.specs.Internal.{Usable};
+ghost use Rattle.round_shares.specs.Internal.{Masked, BallotPlaces, roomNow, roomIn, roomOut, Fits, BallotWritten, BallotsWritten};
 
 // One ballot where it stands, with its masks at the place of its shares.
 fn ballot_at(
@@ -30,7 +31,7 @@ fn ballot_at(
     at: usize,
 )
     requires { let n = k .ring in ⌜ Usable k × Polynomial n (k .modulus) (now s0) × (length (now secrets) ≡ 14 * n)
-        × BallotAt (k .modulus) n at sent (now ballots) (now masks0) (now masks1)
+        × BallotPlaces (k .modulus) n at sent (now ballots) (now masks0) (now masks1)
         × Fits n sent claim (roomNow shares0 shares1 claims work) ⌝ }
     ensures { λ _. let n = k .ring in let s = ternary (k .modulus) (sIn n (given secrets)) in
         let u = slot (given ballots) (at + 4) in let v = slot (given ballots) (at + 4 + 8 * n) in

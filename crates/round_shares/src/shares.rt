@@ -9,11 +9,12 @@ ghost use Rattle.codec.specs.Lists.{list};
 ghost use Rattle.ring.specs.Poly.{minus, mul, Below};
 ghost use Rattle.ring.specs.Slots.{coefficientBytes, poly, slot};
 ghost use Rattle.ring.specs.Ternary.{ternary};
-ghost use Rattle.scratch.specs.Call.{scratchLength, Polynomial, Free};
+ghost use Rattle.scratch.specs.Call.{scratchLength};
+ghost use Rattle.scratch.specs.Internal.{Polynomial, Free};
 ghost use Rattle.bgv.specs.Scheme.{plain};
 ghost use Rattle.codec.specs.Slices.{given, left};
-ghost use Rattle.sheet_numbers.specs.Usable.{Usable};
-ghost use Rattle.round_shares.specs.Method.{roomNow, roomIn, roomOut, Fits, BallotWritten, masked, TwoStand};
+ghost use Rattle.sheet_numbers.specs.Internal.{Usable};
+ghost use Rattle.round_shares.specs.Internal.{roomNow, roomIn, roomOut, Fits, BallotWritten, maskedProduct, TwoStand};
 
 // Where s0 u stands, and then t0.
 const LENT: usize = 16384;
@@ -52,7 +53,7 @@ fn write_masked(
 )
     requires { ⌜ (n ≤ 2048) × (3 ≤ q) × (q < 2 ^ 56) × (length (now mask) ≡ 8 * n) × (length (now work) ≡ scratchLength)
         × (from + 8 * n ≤ 49152) × Below q n (slot (now work) from) × (at + 8 * n ≤ length (now out)) × (p < q) ⌝ }
-    ensures { λ _. let sum = masked q p (slot (given work) from) (given mask) in
+    ensures { λ _. let sum = maskedProduct q p (slot (given work) from) (given mask) in
         ⌜ (left out ≡ put (given out) at (coefficientBytes q n sum)) × Free (given work) (left work)
         × (part (left work) 0 from ≡ part (given work) 0 from) ⌝ }
 {
@@ -77,8 +78,8 @@ fn write_shares(
     requires { ⌜ (n ≤ 2048) × (3 ≤ q) × (q < 2 ^ 56) × (length (now mask0) ≡ 8 * n) × (length (now mask1) ≡ 8 * n)
         × (length (now work) ≡ scratchLength) × Below q n (slot (now work) 0) × Below q n (slot (now work) 16384)
         × (at + 8 * n ≤ length (now shares0)) × (at + 8 * n ≤ length (now shares1)) × (p < q) ⌝ }
-    ensures { λ _. let w = given work in let t0 = masked q p (slot w 16384) (given mask0) in
-        let t1 = masked q p (minus q (slot w 0) (slot w 16384)) (given mask1) in
+    ensures { λ _. let w = given work in let t0 = maskedProduct q p (slot w 16384) (given mask0) in
+        let t1 = maskedProduct q p (minus q (slot w 0) (slot w 16384)) (given mask1) in
         ⌜ (left shares0 ≡ put (given shares0) at (coefficientBytes q n t0))
         × (left shares1 ≡ put (given shares1) at (coefficientBytes q n t1))
         × Free w (left work) × (part (left work) 0 16384 ≡ part w 0 16384) ⌝ }

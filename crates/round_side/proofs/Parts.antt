@@ -18,19 +18,19 @@ use Rattle.ring.proofs.Bridge.{encode-alike}
 use Rattle.ring.proofs.Polynomials.{mul-poly-comm, alike-refl, alike-plus}
 use Rattle.sheet_numbers.specs.Plain.{plain}
 use Rattle.sheet_numbers.specs.declared.Numbers.{Numbers}
-use Rattle.scratch.specs.Call.{Polynomial}
-use Rattle.bgv.specs.Scheme.{key, worked, within, reconstructed}
+use Rattle.scratch.specs.Internal.{Polynomial}
+use Rattle.bgv.specs.Scheme.{key, recoveredMask, within, reconstructed}
 use Rattle.bgv.proofs.Form.{noisy-alike}
 use Rattle.commitment.specs.Commitment.{Keys, keysOf, threeOf, row, opens, pairBytes}
 use Rattle.commitment.specs.Loaded.{aOf, keyBytes}
 use Rattle.commitment.proofs.Additive.{second-alike}
 use Rattle.round.specs.Layout.{Opening, each, uAt, vAt, shareAt, claimAt, keyAt, pairAt, openingOf}
 use Rattle.round.specs.Round.{ofSide, splits, opensKey, opensPairs, votesTests}
-use Rattle.round.specs.Sheets.{parameters}
-use Rattle.round.proofs.Cut.{a-cut, b-cut, keys-cut}
+use Rattle.commitment.specs.Parameters.{parameters}
+use Rattle.commitment.proofs.Cut.{a-cut, b-cut, keys-cut}
 use Rattle.round.proofs.Many.{stretch}
 use Rattle.round.proofs.Compared.{lent-alike, within-alike}
-use Rattle.round_side.specs.Lent.{Opened, Head}
+use Rattle.round_side.specs.Internal.{Opened, Head}
 
 -- a polynomial at a place, lent on with a length that is a difference of places
 pub lent-on : {n q : ℕ} (s : Bytes) (at m : ℕ) → m ≡ 8 * n → Polynomial n q (part s at (8 * n)) → Polynomial n q (take m (drop at s))
@@ -151,11 +151,11 @@ each-cong zero h = refl
 each-cong (suc n) h = ap₂ (λ (x y : List Test). x ++ y) (each-cong n (λ j l. h j (omega arith))) (h n (omega arith))
 
 -- 12: the mask goes by what the opened half of the secret is modulo q
-worked-either : (q n p : ℕ) (s u t : Poly) → worked q n p s u t ≡ worked q n p u s t
-unfolding worked
+worked-either : (q n p : ℕ) (s u t : Poly) → recoveredMask q n p s u t ≡ recoveredMask q n p u s t
+unfolding recoveredMask
 worked-either q n p s u t = ap (λ (x : Poly). λ (k : ℕ). centre q (divide q p (minus q t x k))) (mul-poly-comm q n s u)
 
-mask-alike : (q n p bound : ℕ) {s s' : Poly} (u t : Poly) → Alike q n s s' → within bound n (worked q n p s u t) ≡ within bound n (worked q n p s' u t)
+mask-alike : (q n p bound : ℕ) {s s' : Poly} (u t : Poly) → Alike q n s s' → within bound n (recoveredMask q n p s u t) ≡ within bound n (recoveredMask q n p s' u t)
 mask-alike q n p bound {s} {s'} u t e =
     ap (within bound n) (worked-either q n p s u t) ∙ within-alike q n p bound u e alike-refl ∙ ap (within bound n) (worked-either q n p u s' t)
 

@@ -15,17 +15,18 @@ use Rattle.ring.specs.Poly.{Below}
 use Rattle.ring.specs.Slots.{poly}
 use Rattle.ring.proofs.Bridge.{poly-part}
 use Rattle.ring.proofs.Ranges.{below-sound}
-use Rattle.scratch.specs.Call.{Polynomial}
+use Rattle.scratch.specs.Internal.{Polynomial}
 use Rattle.vector.specs.Vector.{vector}
 use Rattle.stern.specs.Shortness.{inRange}
 use Rattle.stern.proofs.Written.{vector-below}
 use Rattle.round.specs.Layout.{ballotLength, headLength, uAt, pairsOf, answerAt}
-use Rattle.round.specs.Round.{Parameters, Round, Lengths, challengeAt, isChallenge, ballotsRanged, openingRanged, headRanged, answersRanged, ranged}
-use Rattle.round.specs.Method.{Batch, Shares}
+use Rattle.round.specs.Round.{Round, Lengths, challengeAt, isChallenge, ballotsRanged, openingRanged, headRanged, answersRanged, ranged}
+use Rattle.round.specs.Internal.{Batch, Shares}
 use Rattle.round.proofs.Many.{stretch}
 use Rattle.round.proofs.Written.{below-slot, coefficients-vector}
 use Rattle.round.proofs.Compared.{lent-public}
-use Rattle.round_side.specs.Lent.{Opened, Head, RoundInRange}
+use Rattle.round_side.specs.Internal.{Opened, Head, RoundInRange}
+use Rattle.commitment.specs.Parameters.{Parameters}
 
 -- for a ring size and a modulus that some polynomial of the sheet has
 module _ (P : Parameters) (m : ℕ) {a : Bytes} (p : Polynomial (P .N) (P .q) a) where

@@ -20,7 +20,7 @@ use Rattle.round.specs.Layout.{uAt, answersLength, answerAt}
 use Rattle.round.specs.Round.{isChallenge, headRanged}
 use Rattle.round.proofs.Answers.{answersLength-more}
 use Rattle.round.proofs.Answers.{prefix-le, all-le}
-use Rattle.round_side.specs.Lent.{messageRanged}
+use Rattle.round_side.specs.Internal.{messageRanged}
 
 -- ---- a part, lent with a length that is a difference of places
 

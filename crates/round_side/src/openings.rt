@@ -5,26 +5,19 @@ ghost use mathlib.Core.Path.{_≡_};
 ghost use Prim.Native.Nat.{ℕ, _+_, _*_, _≤_, _<_};
 ghost use lib.ListN.{length};
 ghost use Rattle.codec.specs.Bytes.{zeros};
-ghost use Rattle.codec.specs.declared.Reply.the-variants.{Refused};
 ghost use Rattle.ring.specs.Slots.{slot};
 ghost use Rattle.sheet_numbers.specs.Plain.{plain, maskOf};
-ghost use Rattle.sheet_numbers.specs.Usable.{Usable};
-ghost use Rattle.scratch.specs.Call.{scratchLength, Judged};
-ghost use Rattle.commitment.specs.Loaded.{Loaded};
+ghost use Rattle.sheet_numbers.specs.Internal.{Usable};
+ghost use Rattle.scratch.specs.Call.{scratchLength};
+ghost use Rattle.scratch.specs.Internal.{Judged};
+ghost use Rattle.commitment.specs.Internal.{Loaded};
 ghost use Rattle.round.specs.Layout.{openingOf};
 ghost use Rattle.round.specs.Round as round;
 ghost use Rattle.round.specs.Round.{opensKey, opensPairs, halfTests, votesTests};
 ghost use Rattle.codec.specs.Slices.{given, left};
-ghost use Rattle.round.specs.Sheets.{parameters};
-ghost use Rattle.round.specs.Method.{Batch, Shares};
-ghost use Rattle.round_side.specs.Lent.{Opened, Head};
-
-// A refusal that names no place.
-pub fn refused(number: u8) -> Reply
-    ensures { λ reply. ⌜ reply ≡ Refused number 0 ⌝ }
-{
-    Reply::Refused { number, place: 0 }
-}
+ghost use Rattle.commitment.specs.Parameters.{parameters};
+ghost use Rattle.round.specs.Internal.{Batch, Shares};
+ghost use Rattle.round_side.specs.Internal.{Opened, Head};
 
 // Whether b0 and b1 of a first message add to b.
 pub fn splits(work: &mut [u8], k: Numbers, public: &[u8], head: &[u8]) -> bool
@@ -115,10 +108,10 @@ pub fn test_opening(
 {
     let n = k.ring as usize;
     if !opens_key(work, k, public, head, 8 * n * side, opening) {
-        return refused(7);
+        return codec::refused(7);
     }
     if !opens_pairs(work, k, public, head, 16 * n + 16 * n * side, opening) {
-        return refused(8);
+        return codec::refused(8);
     }
     Reply::Taken
 }

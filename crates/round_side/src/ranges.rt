@@ -9,7 +9,7 @@ ghost use Rattle.stern.specs.Shortness.{answerLength, inRange};
 ghost use Rattle.round.specs.Layout.{ballotLength, answersLength};
 ghost use Rattle.round.specs.Round.{isChallenge, openingRanged, headRanged, answersRanged};
 ghost use Rattle.codec.specs.Slices.{given};
-ghost use Rattle.round_side.specs.Lent.{messageRanged};
+ghost use Rattle.round_side.specs.Internal.{messageRanged};
 
 // Whether b0, b1 and the committed pairs, with which the head of a first message begins, are below q.
 pub fn head_ranged(k: Numbers, head: &[u8]) -> bool

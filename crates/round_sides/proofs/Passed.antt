@@ -7,13 +7,14 @@ use lib.Dec.{ltb}
 use Rattle.codec.specs.Bytes.{Bytes}
 use Rattle.codec.proofs.Laws.{both}
 use Rattle.codec.specs.Lists.{allBelow}
-use Rattle.scratch.specs.Call.{Polynomial}
+use Rattle.scratch.specs.Internal.{Polynomial}
 use Rattle.vector.specs.Vector.{vector}
 use Rattle.stern.specs.Shortness.{inRange}
-use Rattle.round.specs.Round.{Parameters, ballotsRanged, openingRanged, headRanged}
+use Rattle.round.specs.Round.{ballotsRanged, openingRanged, headRanged}
 use Rattle.round.specs.Extractor.{Openings, Lent, lentRanged}
 use Rattle.round_side.proofs.Passed.{opening-passed, head-passed, batch-passed, shares-passed}
-use Rattle.round_sides.specs.Lent.{OpeningsInRange}
+use Rattle.round_sides.specs.Internal.{OpeningsInRange}
+use Rattle.commitment.specs.Parameters.{Parameters}
 
 -- for a ring size and a modulus that some polynomial of the sheet has
 module _ (P : Parameters) (m : ℕ) {a : Bytes} (p : Polynomial (P .N) (P .q) a) where

@@ -4,7 +4,7 @@ use crate::sides::test_side;
 use crate::three_answers::answers_ranged;
 use crate::three_answers::test_answers;
 use codec::Reply;
-use round_side::openings::refused;
+use codec::refused;
 use round_side::openings::splits;
 use round_side::ranges::message_ranged;
 use round_side::ranges::opening_ranged;
@@ -13,13 +13,14 @@ ghost use mathlib.Core.Path.{_≡_};
 ghost use Prim.Native.Nat.{_≤_};
 ghost use lib.ListN.{length};
 ghost use Rattle.codec.specs.Bytes.{Bytes};
-ghost use Rattle.scratch.specs.Call.{scratchLength, Judged};
-ghost use Rattle.commitment.specs.Loaded.{Loaded};
+ghost use Rattle.scratch.specs.Call.{scratchLength};
+ghost use Rattle.scratch.specs.Internal.{Judged};
+ghost use Rattle.commitment.specs.Internal.{Loaded};
 ghost use Rattle.round.specs.Extractor.{Lent, openingsOf, lentRanged, extractLater, extractTests};
 ghost use Rattle.codec.specs.Slices.{given, left};
 ghost use Rattle.round.specs.RoundSlices.{openingsIn};
-ghost use Rattle.round.specs.Sheets.{parameters};
-ghost use Rattle.round_sides.specs.Lent.{OpeningsInRange, OpeningsSized};
+ghost use Rattle.commitment.specs.Parameters.{parameters};
+ghost use Rattle.round_sides.specs.Internal.{OpeningsInRange, OpeningsSized};
 
 // 5: whether all that is lent is in range. The polynomials of the sheet, whatever they are, do not enter.
 fn openings_ranged(

@@ -7,16 +7,18 @@ ghost use mathlib.Core.Bool.{_&&_};
 ghost use Prim.Native.Nat.{_+_, _≤_, _<_};
 ghost use lib.ListN.{length};
 ghost use Rattle.codec.specs.Bytes.{part};
-ghost use Rattle.scratch.specs.Call.{scratchLength, Judged};
+ghost use Rattle.scratch.specs.Call.{scratchLength};
+ghost use Rattle.scratch.specs.Internal.{Judged};
 ghost use Rattle.commitment.specs.Commitment.{keysOf};
-ghost use Rattle.commitment.specs.Loaded.{keyBytes, Loaded};
+ghost use Rattle.commitment.specs.Loaded.{keyBytes};
+ghost use Rattle.commitment.specs.Internal.{Loaded};
 ghost use Rattle.stern.specs.Shortness.{answerLength, inRange, answerTests};
 ghost use Rattle.round.specs.Layout.{pairsOf};
 ghost use Rattle.round.specs.Extractor.{threeTests};
 ghost use Rattle.codec.specs.Slices.{given, left};
-ghost use Rattle.round.specs.Sheets.{parameters};
-ghost use Rattle.round_side.specs.Lent.{Head};
-ghost use Rattle.round_sides.specs.Lent.{Answered};
+ghost use Rattle.commitment.specs.Parameters.{parameters};
+ghost use Rattle.round_side.specs.Internal.{Head};
+ghost use Rattle.round_sides.specs.Internal.{AnswerLent};
 
 // Whether the numbers of the three answers are in range.
 pub fn answers_ranged(k: Numbers, answer1: &[u8], answer2: &[u8], answer3: &[u8]) -> bool
@@ -48,7 +50,7 @@ fn test_answer(
     place: u32,
 ) -> Reply
     requires { ⌜ Loaded k (now public) × (length (now work) ≡ scratchLength) × Head (k .modulus) (k .ring) (k .repeats) (now head)
-        × (digests + 96 ≤ length (now head)) × Answered (k .modulus) (k .ring) challenge (now answer) ⌝ }
+        × (digests + 96 ≤ length (now head)) × AnswerLent (k .modulus) (k .ring) challenge (now answer) ⌝ }
     ensures { λ reply. ⌜ Judged (answerTests (k .modulus) (k .ring) (keysOf (k .ring) (keyBytes k (given public)))
         (pairsOf (k .ring) (given head)) (part (given head) digests 96) place challenge (given answer)) reply (given work) (left work) ⌝ }
 {
@@ -78,8 +80,8 @@ pub fn test_answers(
     answer3: &[u8],
 ) -> Reply
     requires { ⌜ Loaded k (now public) × (length (now work) ≡ scratchLength) × (repetition < k .repeats)
-        × Head (k .modulus) (k .ring) (k .repeats) (now head) × Answered (k .modulus) (k .ring) 1 (now answer1)
-        × Answered (k .modulus) (k .ring) 2 (now answer2) × Answered (k .modulus) (k .ring) 3 (now answer3) ⌝ }
+        × Head (k .modulus) (k .ring) (k .repeats) (now head) × AnswerLent (k .modulus) (k .ring) 1 (now answer1)
+        × AnswerLent (k .modulus) (k .ring) 2 (now answer2) × AnswerLent (k .modulus) (k .ring) 3 (now answer3) ⌝ }
     ensures { λ reply. ⌜ Judged (threeTests (parameters k (given public)) (given head) repetition (given answer1) (given answer2)
         (given answer3)) reply (given work) (left work) ⌝ }
 {

@@ -13,8 +13,8 @@ use Rattle.codec.specs.declared.Reply.the-variants.{Taken, Refused}
 use Rattle.ring.specs.Poly.{Poly, Alike}
 use Rattle.ring.specs.Slots.{poly, slot}
 use Rattle.round.specs.Layout.{each, ballotLength}
-use Rattle.round.specs.Method.{Batch, Shares}
-use Rattle.round_tests.specs.Vote.{voteTests, BallotAt}
+use Rattle.round.specs.Internal.{Batch, Shares}
+use Rattle.round_tests.specs.Internal.{voteTests, BallotAt}
 use Rattle.round.proofs.Compared.{within-alike, vote-alike, lent-alike}
 use Rattle.round.proofs.Many.{each-more, each-refused, each-taken, stretch}
 

@@ -16,8 +16,8 @@ use Rattle.commitment.specs.Commitment.{Keys, keysOf}
 use Rattle.commitment.specs.Loaded.{keyBytes}
 use Rattle.stern.specs.Shortness.{answerLength, inRange, answerTests}
 use Rattle.round.specs.Layout.{each, pairsOf, digestsAt, answersLength, answerAt}
-use Rattle.round.specs.Method.{Answers}
-use Rattle.round.proofs.Cut.{keys-cut}
+use Rattle.round.specs.Internal.{Answers}
+use Rattle.commitment.proofs.Cut.{keys-cut}
 use Rattle.round.proofs.Many.{each-more, each-refused, each-taken}
 use Rattle.round.proofs.Answers.{answersLength-more, prefix-le, all-le}
 

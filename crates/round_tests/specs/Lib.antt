@@ -1,1 +1,1 @@
-pub mod Vote
+pub mod Internal

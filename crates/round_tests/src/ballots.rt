@@ -9,11 +9,12 @@ ghost use Rattle.codec.specs.Bytes.{part};
 ghost use Rattle.codec.specs.Slices.{given, left};
 ghost use Rattle.ring.specs.Slots.{poly, slot};
 ghost use Rattle.sheet_numbers.specs.Plain.{plain, maskOf};
-ghost use Rattle.sheet_numbers.specs.Usable.{Usable};
-ghost use Rattle.scratch.specs.Call.{scratchLength, Polynomial, Judged, Tried};
+ghost use Rattle.sheet_numbers.specs.Internal.{Usable};
+ghost use Rattle.scratch.specs.Call.{scratchLength};
+ghost use Rattle.scratch.specs.Internal.{Polynomial, Judged, Tried};
 ghost use Rattle.round.specs.Round.{votesTests};
-ghost use Rattle.round.specs.Method.{Batch, Shares};
-ghost use Rattle.round_tests.specs.Vote.{voteTests, BallotAt};
+ghost use Rattle.round.specs.Internal.{Batch, Shares};
+ghost use Rattle.round_tests.specs.Internal.{voteTests, BallotAt};
 
 // One ballot where it stands: the ballot, its claim and its shares at places of their slices. `opened` is the opened side's shares.
 fn test_at(

@@ -9,10 +9,12 @@ ghost use Rattle.codec.specs.Slices.{given, left};
 ghost use Rattle.ring.specs.Poly.{plus, modulo};
 ghost use Rattle.ring.specs.Slots.{poly, encode};
 ghost use Rattle.sheet_numbers.specs.Plain.{plain};
-ghost use Rattle.sheet_numbers.specs.Usable.{Usable};
-ghost use Rattle.scratch.specs.Call.{scratchLength, Polynomial};
+ghost use Rattle.sheet_numbers.specs.Internal.{Usable};
+ghost use Rattle.scratch.specs.Call.{scratchLength};
+ghost use Rattle.scratch.specs.Internal.{Polynomial};
 ghost use Rattle.bgv.specs.Scheme.{key};
-ghost use Rattle.commitment.specs.Commitment.{keysOf, threeOf, opens, PublicKeys};
+ghost use Rattle.commitment.specs.Commitment.{keysOf, threeOf, opens};
+ghost use Rattle.commitment.specs.Internal.{PublicKeys};
 
 // Whether two lent halves of the key add to b.
 pub fn adds(work: &mut [u8], b0: &[u8], b1: &[u8], b: &[u8], n: usize, q: u64) -> bool

@@ -7,16 +7,18 @@ ghost use Prim.Native.Nat.{_+_, _*_, _≤_};
 ghost use lib.ListN.{length};
 ghost use Rattle.codec.specs.Bytes.{part};
 ghost use Rattle.codec.specs.Lists.{allBelow};
-ghost use Rattle.scratch.specs.Call.{scratchLength, Judged};
+ghost use Rattle.scratch.specs.Call.{scratchLength};
+ghost use Rattle.scratch.specs.Internal.{Judged};
 ghost use Rattle.commitment.specs.Commitment.{keysOf};
-ghost use Rattle.commitment.specs.Loaded.{keyBytes, Loaded};
+ghost use Rattle.commitment.specs.Loaded.{keyBytes};
+ghost use Rattle.commitment.specs.Internal.{Loaded};
 ghost use Rattle.vector.specs.Vector.{vector};
 ghost use Rattle.stern.specs.Shortness.{answerLength, inRange, answerTests};
 ghost use Rattle.round.specs.Layout.{headLength, pairsOf};
 ghost use Rattle.round.specs.Round.{answersTests};
 ghost use Rattle.codec.specs.Slices.{given, left};
-ghost use Rattle.round.specs.Sheets.{parameters};
-ghost use Rattle.round.specs.Method.{Answers};
+ghost use Rattle.commitment.specs.Parameters.{parameters};
+ghost use Rattle.round.specs.Internal.{Answers};
 
 // One repetition where its digests and its answer stand, and scratch zeroed.
 pub fn test_at(

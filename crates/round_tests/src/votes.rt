@@ -10,11 +10,12 @@ ghost use Rattle.codec.specs.Lists.{list};
 ghost use Rattle.ring.specs.Poly.{Below};
 ghost use Rattle.ring.specs.Slots.{poly};
 ghost use Rattle.sheet_numbers.specs.Plain.{plain, maskOf};
-ghost use Rattle.sheet_numbers.specs.Usable.{Usable};
-ghost use Rattle.scratch.specs.Call.{scratchLength, Polynomial, Tried, Free};
+ghost use Rattle.sheet_numbers.specs.Internal.{Usable};
+ghost use Rattle.scratch.specs.Call.{scratchLength};
+ghost use Rattle.scratch.specs.Internal.{Polynomial, Tried, Free};
 ghost use Rattle.bgv.specs.Scheme as scheme;
 ghost use Rattle.bgv.specs.Scheme.{rebuilt};
-ghost use Rattle.round_tests.specs.Vote.{voteTests};
+ghost use Rattle.round_tests.specs.Internal.{voteTests};
 
 // Whether each byte of a claim is the vote that a polynomial in scratch stands for.
 fn is_vote(work: &[u8], k: Numbers, claim: &[u8]) -> bool

@@ -10,7 +10,7 @@ use Rattle.stern.specs.Shortness.{drawnOf, answerLength, honestAnswer}
 use Rattle.round.specs.Layout.{joined, answersLength}
 use Rattle.round.specs.Producer.{drawnIn, answersBytes}
 use Rattle.round.proofs.Answers.{answersLength-more, prefix-le, length-answers, length-honestAnswer}
-use Rattle.round_head.specs.Method.{Drawings}
+use Rattle.round_head.specs.Internal.{Drawings}
 use Rattle.round_head.proofs.Drawing.{Placed, placed-first, placed-more, material, drawn-is}
 use Rattle.round_head.proofs.Joining.{Filled, filled-first, filled-more, filled-all}
 

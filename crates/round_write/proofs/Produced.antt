@@ -4,14 +4,16 @@ use Prim.Native.Nat.{ℕ, _*_, _≤_}
 use lib.ListN.{length, length-replicate}
 use Rattle.codec.specs.Bytes.{Bytes, zeros}
 use Rattle.sheet_numbers.specs.declared.Numbers.{Numbers}
-use Rattle.sheet_numbers.specs.Usable.{Usable}
-use Rattle.scratch.specs.Call.{scratchLength, Polynomial}
+use Rattle.sheet_numbers.specs.Internal.{Usable}
+use Rattle.scratch.specs.Call.{scratchLength}
+use Rattle.scratch.specs.Internal.{Polynomial}
 use Rattle.round.specs.Producer.{Material, headBytes, producedHead, producedShares, producedClaims}
-use Rattle.round.specs.Sheets.{parameters}
-use Rattle.round.specs.Writes.{FirstRoom, FirstProduced}
+use Rattle.commitment.specs.Parameters.{parameters}
+use Rattle.round.specs.Writes.{FirstRoom}
+use Rattle.round.specs.Internal.{FirstProduced}
 use Rattle.round_lengths.specs.Calls.{countOf}
-use Rattle.round_shares.specs.Method.{Masked, roomOf, BallotsWritten}
-use Rattle.round_write.specs.Ready.{FirstReady}
+use Rattle.round_shares.specs.Internal.{Masked, roomOf, BallotsWritten}
+use Rattle.round_write.specs.Internal.{FirstReady}
 
 -- scratch is zeroed, and then used and zeroed again
 pub again : (l : ℕ) (w w' : Bytes) → w ≡ zeros l → w' ≡ zeros (length w) → w' ≡ zeros l

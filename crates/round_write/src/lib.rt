@@ -1,16 +1,16 @@
 // What the producer of a round writes once its material passed all tests (document 01, "One round", third paragraph):
-// crates/transcript/specs/Producer.antt.
+// crates/round/specs/Producer.antt.
 mod opening;
 mod repetitions;
 
 use sheet_numbers::Numbers;
 ghost use Rattle.codec.specs.Slices.{given};
-ghost use Rattle.commitment.specs.Loaded.{Loaded};
-ghost use Rattle.round.specs.Lent.{materialNow, materialIn, firstNow, firstIn, firstOut, secondNow, secondIn, secondOut};
-ghost use Rattle.round.specs.Sheets.{parameters};
-ghost use Rattle.round.specs.Writes.{FirstProduced, SecondProduced};
+ghost use Rattle.commitment.specs.Internal.{Loaded};
+ghost use Rattle.round.specs.Lent.{materialIn, firstIn, firstOut, secondIn, secondOut};
+ghost use Rattle.round.specs.Internal.{materialNow, firstNow, secondNow, FirstProduced, SecondProduced};
+ghost use Rattle.commitment.specs.Parameters.{parameters};
 ghost use Rattle.round_lengths.specs.Calls.{countOf};
-ghost use Rattle.round_write.specs.Ready.{FirstReady, SecondReady};
+ghost use Rattle.round_write.specs.Internal.{FirstReady, SecondReady};
 
 // The first message and the claims. Scratch is given back zeroed.
 pub fn write_first(

@@ -8,7 +8,8 @@ ghost use Rattle.codec.specs.Bytes.{part, put};
 ghost use Rattle.codec.specs.Slices.{given, left};
 ghost use Rattle.ring.specs.Slots.{coefficientBytes, poly};
 ghost use Rattle.ring.specs.Ternary.{ternary};
-ghost use Rattle.scratch.specs.Call.{scratchLength, Polynomial, Free};
+ghost use Rattle.scratch.specs.Call.{scratchLength};
+ghost use Rattle.scratch.specs.Internal.{Polynomial, Free};
 ghost use Rattle.bgv.specs.Scheme.{other};
 ghost use Rattle.round.specs.Producer.{sIn, eIn, openingBytes};
 

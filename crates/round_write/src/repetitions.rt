@@ -5,11 +5,12 @@ ghost use Prim.Native.Nat.{_+_, _*_, _≤_, _<_, _^_};
 ghost use lib.ListN.{length};
 ghost use Rattle.codec.specs.Bytes.{part, put};
 ghost use Rattle.codec.specs.Slices.{given, left};
-ghost use Rattle.sheet_numbers.specs.Usable.{Usable};
-ghost use Rattle.stern.specs.Shortness.{Material, drawnOf, answerLength, honestAnswer};
+ghost use Rattle.sheet_numbers.specs.Internal.{Usable};
+ghost use Rattle.stern.specs.Shortness.{drawnOf, answerLength, honestAnswer};
+ghost use Rattle.stern.specs.Internal.{RepetitionMaterial};
 ghost use Rattle.round.specs.Layout.{answersLength};
 ghost use Rattle.round.specs.Producer.{answersBytes};
-ghost use Rattle.round_head.specs.Method.{Drawings};
+ghost use Rattle.round_head.specs.Internal.{Drawings};
 
 // One repetition, at places of what was drawn: its stretch of the buffer is lent on.
 fn answer_at(
@@ -30,7 +31,7 @@ fn answer_at(
     requires { ⌜ (n ≤ 2048) × (3 ≤ q) × (q < 2 ^ 56) × (size ≡ answerLength n challenge) × (at + size ≤ length (now answers))
         × (vector + 336 * n ≤ length (now vectors)) × (permutation + 168 * n ≤ length (now permutations))
         × (salt + 96 ≤ length (now salts))
-        × Material q n (now secrets) (part (now vectors) vector (336 * n)) (part (now permutations) permutation (168 * n))
+        × RepetitionMaterial q n (now secrets) (part (now vectors) vector (336 * n)) (part (now permutations) permutation (168 * n))
         (part (now salts) salt 96) ⌝ }
     ensures { λ _. let drawn = drawnOf (part (given permutations) permutation (168 * n)) (part (given vectors) vector (336 * n))
         (part (given salts) salt 96) in

@@ -12,9 +12,10 @@ use Rattle.codec.proofs.Laws.{both}
 use Rattle.codec.specs.Lists.{list, allBelow}
 use Rattle.ring.specs.Slots.{poly}
 use Rattle.sheet_numbers.specs.Plain.{maskOf}
-use Rattle.sheet_numbers.specs.Usable.{Usable}
+use Rattle.sheet_numbers.specs.Internal.{Usable}
 use Rattle.sheet_numbers.specs.declared.Numbers.{Numbers}
-use Rattle.scratch.specs.Call.{bytesBelow, coefficientsBelow, Polynomial}
+use Rattle.scratch.specs.Call.{bytesBelow, coefficientsBelow}
+use Rattle.scratch.specs.Internal.{Polynomial}
 use Rattle.scratch.proofs.Order.{length-at, passed}
 use Rattle.scratch.proofs.Ranges.{ranged}
 use Rattle.bgv.specs.Scheme.{within, lentMask}

@@ -10,13 +10,15 @@ use Rattle.codec.proofs.Laws.{put-whole, put-append}
 use Rattle.ring.specs.Slots.{coefficientBytes}
 use Rattle.ring.specs.Poly.{Poly, modulo}
 use Rattle.ring.proofs.Bridge.{length-encode}
-use Rattle.scratch.specs.Call.{Stands}
-use Rattle.scratch.proofs.Sweeping.{length-zeros}
-use Rattle.commitment.specs.Commitment.{Pair, pairBytes, PairStands}
+use Rattle.scratch.specs.Internal.{InSlot}
+use Rattle.scratch.proofs.Zeroizing.{length-zeros}
+use Rattle.commitment.specs.Commitment.{Pair, pairBytes}
+use Rattle.commitment.specs.Internal.{PairInSlots}
+use Rattle.scheme.specs.Internal.{WrittenAt}
 
--- what stands at the head of scratch, written at a place
-pub written-at : {q n : ℕ} {f : Poly} {w w' : Bytes} (at : ℕ) (d d' : Bytes) → Stands q n f w w' → d' ≡ put d at (part w' 0 (8 * n)) → d' ≡ put d at (coefficientBytes q n f)
-written-at at d d' h e = e ∙ ap (put d at) (h .bytes)
+-- a polynomial that stands at the head of scratch, and what stands there written at a place
+pub handed : {q n at : ℕ} {f : Poly} {w w' w'' d d' : Bytes} → InSlot q n f w w' → WrittenAt at (part w' 0 (8 * n)) d d' w' w'' → WrittenAt at (coefficientBytes q n f) d d' w w''
+handed {at = at} {d = d} h e = record { written = e .written ∙ ap (put d at) (h .bytes); cleared = e .cleared ∙ ap zeros (h .sized) }
 
 -- bytes behind those that were written before
 next : (d d1 d2 s t : Bytes) (at : ℕ) → length s ≡ at → at + length t ≤ length d → d1 ≡ put d 0 s → d2 ≡ put d1 at t → d2 ≡ put d 0 (s ++ t)
@@ -52,7 +54,7 @@ module _ (q n : ℕ) where
         ∙ append-assoc two (bytes h) (bytes i) ∙ append-assoc (bytes f) (bytes g) (bytes h ++ bytes i)
 
   -- the halves of a commitment, from the head of scratch and from where m was put
-  pub pair-written : (c : Pair) (w w' d d1 d2 : Bytes) → PairStands q n c w w' → length d ≡ 16 * n → d1 ≡ put d 0 (part w' 0 (8 * n)) → d2 ≡ put d1 (8 * n) (part w' 49152 (8 * n)) → d2 ≡ pairBytes q n c
+  pub pair-written : (c : Pair) (w w' d d1 d2 : Bytes) → PairInSlots q n c w w' → length d ≡ 16 * n → d1 ≡ put d 0 (part w' 0 (8 * n)) → d2 ≡ put d1 (8 * n) (part w' 49152 (8 * n)) → d2 ≡ pairBytes q n c
   unfolding pairBytes
   pair-written c w w' d d1 d2 h l e1 e2 = two-written (c .one) (c .two) d d1 d2 l (e1 ∙ ap (put d 0) (h .one)) (e2 ∙ ap (put d1 (8 * n)) (h .two))
 

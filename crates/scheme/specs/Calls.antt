@@ -1,11 +1,10 @@
 -- The calls of encryption, shares and commitment once the sheet is taken: what each refuses after the sheet's own order (document 01, "Refused because of the input"), by the sheet's numbers k,
 -- and what it writes where it is taken, by the numbers or by all that the sheet gives. A ternary slice has N bytes and a polynomial 8N. Assumes nothing.
-use mathlib.Core.Path.{_≡_}
 use mathlib.Core.Bool.{not, _&&_}
 use mathlib.Core.List.{List, [], _∷_, _++_}
-use Prim.Native.Nat.{ℕ, _*_}
+use Prim.Native.Nat.{_*_}
 use lib.ListN.{length}
-use Rattle.codec.specs.Bytes.{Bytes, put, zeros}
+use Rattle.codec.specs.Bytes.{Bytes}
 use Rattle.codec.specs.Reply.{Test, test}
 use Rattle.codec.specs.Lists.{list}
 use Rattle.ring.specs.Slots.{coefficientBytes, poly, slot}
@@ -16,11 +15,6 @@ use Rattle.scratch.specs.Call.{scratchLength, lengthTest, bytesBelow, coefficie
 use Rattle.bgv.specs.Scheme.{within, key, cipher-u, cipher-v, decrypted, other, lentMask, share, reconstructed}
 use Rattle.commitment.specs.Commitment.{threeOf, committed, pairBytes}
 use Rattle.commitment.specs.Parameters.{Parameters}
-
--- bytes are written at a place of an output, and scratch is given back zeroed
-pub record WrittenAt (at : ℕ) (bytes out out' scratch scratch' : Bytes) : Type 0 where
-  pub written : out' ≡ put out at bytes
-  pub cleared : scratch' ≡ zeros (length scratch)
 
 -- ---- the tests, by the sheet's numbers
 

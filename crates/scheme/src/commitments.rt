@@ -8,8 +8,9 @@ ghost use lib.ListN.{length};
 ghost use Rattle.codec.specs.Bytes.{zeros};
 ghost use Rattle.codec.specs.Reply.{first};
 ghost use Rattle.codec.specs.Slices.{given, left};
-ghost use Rattle.scratch.specs.Call.{scratchLength, Polynomial, Worked};
-ghost use Rattle.commitment.specs.Loaded.{Loaded};
+ghost use Rattle.scratch.specs.Call.{scratchLength};
+ghost use Rattle.scratch.specs.Internal.{Polynomial, Computed};
+ghost use Rattle.commitment.specs.Internal.{Loaded};
 ghost use Rattle.commitment.specs.Parameters.{parameters};
 ghost use Rattle.scheme.specs.Calls.{commitmentTests, commitmentWrites};
 
@@ -23,18 +24,9 @@ fn commitment_tests(k: Numbers, m: &[u8], r: &[u8], pair: &[u8], scratch: &[u8])
         [m.len(), r.len(), pair.len(), scratch.len(), 0, 0],
         [8 * n, 3 * n, 16 * n, scratch::SCRATCH, 0, 0],
     ) {
-        return Reply::Refused {
-            number: 1,
-            place: 0,
-        };
+        return codec::refused(1);
     }
-    if !scratch::ternary_and_in_range(r, m, n, k.modulus) {
-        return Reply::Refused {
-            number: 5,
-            place: 0,
-        };
-    }
-    Reply::Taken
+    codec::tested(scratch::ternary_and_in_range(r, m, n, k.modulus), 5)
 }
 
 // The work of `commitment`, for slices that passed its tests: the row stands at the head of scratch, the second half where m was put.
@@ -61,19 +53,13 @@ pub fn commitment(
     scratch: &mut [u8],
 ) -> Reply
     requires { ⌜ Loaded k (now public) ⌝ }
-    ensures { λ reply. ⌜ Worked (commitmentTests k (given m) (given r) (given pair) (given scratch))
+    ensures { λ reply. ⌜ Computed (commitmentTests k (given m) (given r) (given pair) (given scratch))
         (commitmentWrites (parameters k (given public)) (given m) (given r)) reply
         (given pair) (left pair) (given scratch) (left scratch) ⌝ }
 {
     let reply = commitment_tests(k, m, r, pair, scratch);
-    match reply {
-        Reply::Taken => {
-            write_pair(k, public, m, r, pair, scratch);
-        }
-        Reply::Refused {
-            number: _,
-            place: _,
-        } => {}
+    if let Reply::Taken = reply {
+        write_pair(k, public, m, r, pair, scratch);
     }
     reply
 }

@@ -10,8 +10,9 @@ ghost use lib.ListN.{length};
 ghost use Rattle.codec.specs.Bytes.{zeros};
 ghost use Rattle.codec.specs.Reply.{first};
 ghost use Rattle.codec.specs.Slices.{given, left};
-ghost use Rattle.sheet_numbers.specs.Usable.{Usable};
-ghost use Rattle.scratch.specs.Call.{scratchLength, coefficientsBelow, Polynomial, Worked};
+ghost use Rattle.sheet_numbers.specs.Internal.{Usable};
+ghost use Rattle.scratch.specs.Call.{scratchLength, coefficientsBelow};
+ghost use Rattle.scratch.specs.Internal.{Polynomial, Computed};
 ghost use Rattle.scheme.specs.Calls.{shareTests, shareWrites, reconstructTests, reconstructWrites};
 
 // What `share` refuses, in order. A lent mask is bounded as it is lent.
@@ -24,25 +25,13 @@ fn share_tests(k: Numbers, half: &[u8], u: &[u8], mask: &[u8], t: &[u8], scratch
         [half.len(), u.len(), mask.len(), t.len(), scratch.len(), 0],
         [8 * n, 8 * n, 8 * n, 8 * n, scratch::SCRATCH, 0],
     ) {
-        return Reply::Refused {
-            number: 1,
-            place: 0,
-        };
+        return codec::refused(1);
     }
     if !scratch::both_in_range(half, u, n, k.modulus) {
-        return Reply::Refused {
-            number: 5,
-            place: 0,
-        };
+        return codec::refused(5);
     }
     let bound = sheet_numbers::mask_bound(k);
-    if !bgv::bounded(mask, bound, n) {
-        return Reply::Refused {
-            number: 12,
-            place: 0,
-        };
-    }
-    Reply::Taken
+    codec::tested(bgv::bounded(mask, bound, n), 12)
 }
 
 // The decryption share t.
@@ -55,19 +44,13 @@ pub fn share(
     scratch: &mut [u8],
 ) -> Reply
     requires { ⌜ Usable k ⌝ }
-    ensures { λ reply. ⌜ Worked (shareTests k (given half) (given u) (given mask) (given t) (given scratch))
+    ensures { λ reply. ⌜ Computed (shareTests k (given half) (given u) (given mask) (given t) (given scratch))
         (shareWrites k (given half) (given u) (given mask)) reply (given t) (left t) (given scratch) (left scratch) ⌝ }
 {
     let reply = share_tests(k, half, u, mask, t, scratch);
-    match reply {
-        Reply::Taken => {
-            let p = sheet_numbers::plain(k);
-            written::share(t, 0, scratch, half, u, mask, p, k.ring as usize, k.modulus);
-        }
-        Reply::Refused {
-            number: _,
-            place: _,
-        } => {}
+    if let Reply::Taken = reply {
+        let p = sheet_numbers::plain(k);
+        written::share(t, 0, scratch, half, u, mask, p, k.ring as usize, k.modulus);
     }
     reply
 }
@@ -101,18 +84,9 @@ fn reconstruct_tests(
         [v.len(), t0.len(), t1.len(), vote.len(), scratch.len(), 0],
         [8 * n, 8 * n, 8 * n, n, scratch::SCRATCH, 0],
     ) {
-        return Reply::Refused {
-            number: 1,
-            place: 0,
-        };
+        return codec::refused(1);
     }
-    if !reconstruct_ranged(v, t0, t1, n, k.modulus) {
-        return Reply::Refused {
-            number: 5,
-            place: 0,
-        };
-    }
-    Reply::Taken
+    codec::tested(reconstruct_ranged(v, t0, t1, n, k.modulus), 5)
 }
 
 // The work of `reconstruct`, for slices that passed its tests.
@@ -138,18 +112,12 @@ pub fn reconstruct(
     scratch: &mut [u8],
 ) -> Reply
     requires { ⌜ Usable k ⌝ }
-    ensures { λ reply. ⌜ Worked (reconstructTests k (given v) (given t0) (given t1) (given vote) (given scratch))
+    ensures { λ reply. ⌜ Computed (reconstructTests k (given v) (given t0) (given t1) (given vote) (given scratch))
         (reconstructWrites k (given v) (given t0) (given t1)) reply (given vote) (left vote) (given scratch) (left scratch) ⌝ }
 {
     let reply = reconstruct_tests(k, v, t0, t1, vote, scratch);
-    match reply {
-        Reply::Taken => {
-            write_rebuilt(k, v, t0, t1, vote, scratch);
-        }
-        Reply::Refused {
-            number: _,
-            place: _,
-        } => {}
+    if let Reply::Taken = reply {
+        write_rebuilt(k, v, t0, t1, vote, scratch);
     }
     reply
 }

@@ -2,14 +2,25 @@
 ghost use mathlib.Core.Path.{_≡_};
 ghost use Prim.Native.Nat.{_+_, _*_, _≤_, _<_};
 ghost use lib.ListN.{length};
+ghost use Rattle.codec.specs.Bytes.{part};
 ghost use Rattle.codec.specs.Slices.{given, left};
 ghost use Rattle.ring.specs.Poly.{Below};
 ghost use Rattle.ring.specs.Slots.{coefficientBytes, poly};
 ghost use Rattle.ring.specs.Ternary.{ternary};
-ghost use Rattle.scratch.specs.Call.{scratchLength, coefficients, Polynomial};
+ghost use Rattle.scratch.specs.Call.{scratchLength, coefficients};
+ghost use Rattle.scratch.specs.Internal.{Polynomial};
 ghost use Rattle.bgv.specs.Scheme as scheme;
 ghost use Rattle.bgv.specs.Scheme.{lentMask};
-ghost use Rattle.scheme.specs.Calls.{WrittenAt};
+ghost use Rattle.scheme.specs.Internal.{WrittenAt};
+
+// What stands at the head of scratch is written out at a place, and scratch zeroed.
+fn hand_out(out: &mut [u8], at: usize, scratch: &mut [u8], n: usize)
+    requires { ⌜ (at + 8 * n ≤ length (now out)) × (8 * n ≤ length (now scratch)) ⌝ }
+    ensures { λ _. ⌜ WrittenAt at (part (given scratch) 0 (8 * n)) (given out) (left out) (given scratch) (left scratch) ⌝ }
+{
+    scratch::write_out(out, at, scratch, 0, n);
+    codec::wipe(scratch);
+}
 
 // a x + p y, for ternary bytes x and y: a key b, or u of a ciphertext.
 pub fn noisy(
@@ -29,8 +40,7 @@ pub fn noisy(
         (given out) (left out) (given scratch) (left scratch) ⌝ }
 {
     bgv::noisy(scratch, a, x, y, p, n, q);
-    scratch::write_out(out, at, scratch, 0, n);
-    codec::wipe(scratch);
+    hand_out(out, at, scratch, n);
 }
 
 // v of a ciphertext: b r + p e'' + m.
@@ -53,8 +63,7 @@ pub fn cipher_v(
 {
     bgv::noisy(scratch, b, r, e2, p, n, q);
     bgv::add_message(scratch, m, n, q);
-    scratch::write_out(out, at, scratch, 0, n);
-    codec::wipe(scratch);
+    hand_out(out, at, scratch, n);
 }
 
 // x - x0, for ternary bytes x and a lent polynomial x0: the other half of s or of e.
@@ -73,8 +82,7 @@ pub fn difference(
         (given scratch) (left scratch) ⌝ }
 {
     bgv::difference(scratch, 0, x, x0, n, q);
-    scratch::write_out(out, at, scratch, 0, n);
-    codec::wipe(scratch);
+    hand_out(out, at, scratch, n);
 }
 
 // a x0 + p y0, for lent polynomials: the key of the half that was lent.
@@ -95,8 +103,7 @@ pub fn lent_key(
         (given out) (left out) (given scratch) (left scratch) ⌝ }
 {
     bgv::noisy_lent(scratch, a, x0, y0, p, n, q);
-    scratch::write_out(out, at, scratch, 0, n);
-    codec::wipe(scratch);
+    hand_out(out, at, scratch, n);
 }
 
 // a (x - x0) + p (y - y0): the key of the other half.
@@ -120,8 +127,7 @@ pub fn other_key(
         (left scratch) ⌝ }
 {
     bgv::noisy_difference(scratch, a, x, x0, y, y0, p, n, q);
-    scratch::write_out(out, at, scratch, 0, n);
-    codec::wipe(scratch);
+    hand_out(out, at, scratch, n);
 }
 
 // A decryption share: s_i u + p E, for a lent mask E.
@@ -142,6 +148,5 @@ pub fn share(
         (given out) (left out) (given scratch) (left scratch) ⌝ }
 {
     bgv::share(scratch, half, u, mask, p, n, q);
-    scratch::write_out(out, at, scratch, 0, n);
-    codec::wipe(scratch);
+    hand_out(out, at, scratch, n);
 }

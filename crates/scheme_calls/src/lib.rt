@@ -1,7 +1,7 @@
 // The calls of encryption, decryption, the key split, decryption shares (document 000, sections 5.3 and 6.1) and commitment (5.4) over
 // the sheet and lent bytes.
 ghost use Rattle.codec.specs.Slices.{given, left};
-ghost use Rattle.scratch.specs.Call.{Called};
+ghost use Rattle.scratch.specs.Internal.{Called};
 ghost use Rattle.scheme_calls.specs.Orders.{keygenOrder, encryptOrder, decryptOrder, splitOrder, shareOrder, reconstructOrder};
 ghost use Rattle.scheme_calls.specs.Orders.{commitmentOrder};
 ghost use Rattle.scheme_calls.specs.Orders.{keyOf, ciphertextOf, voteOf, splitOf, shareOf, voteOfShares, pairOf};
@@ -14,18 +14,11 @@ pub fn keygen(sheet: &[u8], s: &[u8], e: &[u8], b: &mut [u8], scratch: &mut [u8]
 {
     let mut public = [0u8; 81920];
     let reading = sheet::load(sheet, &mut public);
-    match reading {
-        sheet::Reading::Taken(k) => {
-            let reply = scheme_keys::keygen(k, &public, s, e, b, scratch);
-            scratch::sweep(reply, scratch);
-            reply
-        }
-        sheet::Reading::Refused { number } => {
-            let reply = codec::Reply::Refused { number, place: 0 };
-            scratch::sweep(reply, scratch);
-            reply
-        }
-    }
+    let sheet::Reading::Taken(k) = reading else {
+        return scratch::refuse(reading, scratch);
+    };
+    let reply = scheme_keys::keygen(k, &public, s, e, b, scratch);
+    scratch::finish(reply, scratch)
 }
 
 // Writes the ciphertext u = a r + p e', v = b r + p e'' + m.
@@ -44,18 +37,11 @@ pub fn encrypt(
 {
     let mut public = [0u8; 81920];
     let reading = sheet::load(sheet, &mut public);
-    match reading {
-        sheet::Reading::Taken(k) => {
-            let reply = scheme_encryption::encrypt(k, &public, r, e1, e2, m, ciphertext, scratch);
-            scratch::sweep(reply, scratch);
-            reply
-        }
-        sheet::Reading::Refused { number } => {
-            let reply = codec::Reply::Refused { number, place: 0 };
-            scratch::sweep(reply, scratch);
-            reply
-        }
-    }
+    let sheet::Reading::Taken(k) = reading else {
+        return scratch::refuse(reading, scratch);
+    };
+    let reply = scheme_encryption::encrypt(k, &public, r, e1, e2, m, ciphertext, scratch);
+    scratch::finish(reply, scratch)
 }
 
 // Writes the vote: v - s u centred, by p.
@@ -72,18 +58,11 @@ pub fn decrypt(
 {
     let mut public = [0u8; 81920];
     let reading = sheet::load(sheet, &mut public);
-    match reading {
-        sheet::Reading::Taken(k) => {
-            let reply = scheme_encryption::decrypt(k, s, ciphertext, vote, scratch);
-            scratch::sweep(reply, scratch);
-            reply
-        }
-        sheet::Reading::Refused { number } => {
-            let reply = codec::Reply::Refused { number, place: 0 };
-            scratch::sweep(reply, scratch);
-            reply
-        }
-    }
+    let sheet::Reading::Taken(k) = reading else {
+        return scratch::refuse(reading, scratch);
+    };
+    let reply = scheme_encryption::decrypt(k, s, ciphertext, vote, scratch);
+    scratch::finish(reply, scratch)
 }
 
 // Writes the key split s1, e1, b0, b1.
@@ -102,18 +81,11 @@ pub fn split(
 {
     let mut public = [0u8; 81920];
     let reading = sheet::load(sheet, &mut public);
-    match reading {
-        sheet::Reading::Taken(k) => {
-            let reply = scheme_keys::split(k, &public, s, e, s0, e0, out, scratch);
-            scratch::sweep(reply, scratch);
-            reply
-        }
-        sheet::Reading::Refused { number } => {
-            let reply = codec::Reply::Refused { number, place: 0 };
-            scratch::sweep(reply, scratch);
-            reply
-        }
-    }
+    let sheet::Reading::Taken(k) = reading else {
+        return scratch::refuse(reading, scratch);
+    };
+    let reply = scheme_keys::split(k, &public, s, e, s0, e0, out, scratch);
+    scratch::finish(reply, scratch)
 }
 
 // Writes the decryption share t = s_i u + p E, for a half s_i of the key.
@@ -131,18 +103,11 @@ pub fn share(
 {
     let mut public = [0u8; 81920];
     let reading = sheet::load(sheet, &mut public);
-    match reading {
-        sheet::Reading::Taken(k) => {
-            let reply = scheme::share(k, half, u, mask, t, scratch);
-            scratch::sweep(reply, scratch);
-            reply
-        }
-        sheet::Reading::Refused { number } => {
-            let reply = codec::Reply::Refused { number, place: 0 };
-            scratch::sweep(reply, scratch);
-            reply
-        }
-    }
+    let sheet::Reading::Taken(k) = reading else {
+        return scratch::refuse(reading, scratch);
+    };
+    let reply = scheme::share(k, half, u, mask, t, scratch);
+    scratch::finish(reply, scratch)
 }
 
 // Writes the vote: v - t0 - t1 centred, by p.
@@ -160,18 +125,11 @@ pub fn reconstruct(
 {
     let mut public = [0u8; 81920];
     let reading = sheet::load(sheet, &mut public);
-    match reading {
-        sheet::Reading::Taken(k) => {
-            let reply = scheme::reconstruct(k, v, t0, t1, vote, scratch);
-            scratch::sweep(reply, scratch);
-            reply
-        }
-        sheet::Reading::Refused { number } => {
-            let reply = codec::Reply::Refused { number, place: 0 };
-            scratch::sweep(reply, scratch);
-            reply
-        }
-    }
+    let sheet::Reading::Taken(k) = reading else {
+        return scratch::refuse(reading, scratch);
+    };
+    let reply = scheme::reconstruct(k, v, t0, t1, vote, scratch);
+    scratch::finish(reply, scratch)
 }
 
 // Writes the pair r1 + k1 r2 + k2 r3, r2 + k3 r3 + m.
@@ -188,16 +146,9 @@ pub fn commitment(
 {
     let mut public = [0u8; 81920];
     let reading = sheet::load(sheet, &mut public);
-    match reading {
-        sheet::Reading::Taken(k) => {
-            let reply = scheme::commitments::commitment(k, &public, m, r, pair, scratch);
-            scratch::sweep(reply, scratch);
-            reply
-        }
-        sheet::Reading::Refused { number } => {
-            let reply = codec::Reply::Refused { number, place: 0 };
-            scratch::sweep(reply, scratch);
-            reply
-        }
-    }
+    let sheet::Reading::Taken(k) = reading else {
+        return scratch::refuse(reading, scratch);
+    };
+    let reply = scheme::commitments::commitment(k, &public, m, r, pair, scratch);
+    scratch::finish(reply, scratch)
 }

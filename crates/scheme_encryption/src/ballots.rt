@@ -14,9 +14,10 @@ ghost use Rattle.codec.specs.Slices.{given, left};
 ghost use Rattle.codec.specs.Lists.{list, allBelow};
 ghost use Rattle.ring.specs.Poly.{Below};
 ghost use Rattle.ring.specs.Slots.{poly};
-ghost use Rattle.sheet_numbers.specs.Usable.{Usable};
-ghost use Rattle.scratch.specs.Call.{scratchLength, bytesBelow, coefficients, Worked};
-ghost use Rattle.commitment.specs.Loaded.{Loaded};
+ghost use Rattle.sheet_numbers.specs.Internal.{Usable};
+ghost use Rattle.scratch.specs.Call.{scratchLength, bytesBelow, coefficients};
+ghost use Rattle.scratch.specs.Internal.{Computed};
+ghost use Rattle.commitment.specs.Internal.{Loaded};
 ghost use Rattle.commitment.specs.Parameters.{parameters};
 ghost use Rattle.scheme.specs.Calls.{encryptTests, encryptWrites, decryptTests, decryptWrites};
 
@@ -58,19 +59,10 @@ fn encrypt_tests(
         ],
         [n, n, n, n, 16 * n, scratch::SCRATCH],
     ) {
-        return Reply::Refused {
-            number: 1,
-            place: 0,
-        };
+        return codec::refused(1);
     }
     let p = sheet_numbers::plain(k);
-    if !encrypt_ranged(r, e1, e2, m, p) {
-        return Reply::Refused {
-            number: 5,
-            place: 0,
-        };
-    }
-    Reply::Taken
+    codec::tested(encrypt_ranged(r, e1, e2, m, p), 5)
 }
 
 // The work of `encrypt`, for slices that passed its tests.
@@ -120,19 +112,13 @@ pub fn encrypt(
     scratch: &mut [u8],
 ) -> Reply
     requires { ⌜ Loaded k (now public) ⌝ }
-    ensures { λ reply. ⌜ Worked (encryptTests k (given r) (given e1) (given e2) (given m) (given ciphertext) (given scratch))
+    ensures { λ reply. ⌜ Computed (encryptTests k (given r) (given e1) (given e2) (given m) (given ciphertext) (given scratch))
         (encryptWrites (parameters k (given public)) (given r) (given e1) (given e2) (given m)) reply
         (given ciphertext) (left ciphertext) (given scratch) (left scratch) ⌝ }
 {
     let reply = encrypt_tests(k, r, e1, e2, m, ciphertext, scratch);
-    match reply {
-        Reply::Taken => {
-            write_ciphertext(k, public, r, e1, e2, m, ciphertext, scratch);
-        }
-        Reply::Refused {
-            number: _,
-            place: _,
-        } => {}
+    if let Reply::Taken = reply {
+        write_ciphertext(k, public, r, e1, e2, m, ciphertext, scratch);
     }
     reply
 }
@@ -147,18 +133,12 @@ fn decrypt_tests(k: Numbers, s: &[u8], ciphertext: &[u8], vote: &[u8], scratch: 
         [s.len(), ciphertext.len(), vote.len(), scratch.len(), 0, 0],
         [n, 16 * n, n, scratch::SCRATCH, 0, 0],
     ) {
-        return Reply::Refused {
-            number: 1,
-            place: 0,
-        };
+        return codec::refused(1);
     }
-    if !scratch::ternary_and_in_range(s, ciphertext, 2 * n, k.modulus) {
-        return Reply::Refused {
-            number: 5,
-            place: 0,
-        };
-    }
-    Reply::Taken
+    codec::tested(
+        scratch::ternary_and_in_range(s, ciphertext, 2 * n, k.modulus),
+        5,
+    )
 }
 
 // The work of `decrypt`, for slices that passed its tests.
@@ -191,18 +171,12 @@ pub fn decrypt(
     scratch: &mut [u8],
 ) -> Reply
     requires { ⌜ Usable k ⌝ }
-    ensures { λ reply. ⌜ Worked (decryptTests k (given s) (given ciphertext) (given vote) (given scratch))
+    ensures { λ reply. ⌜ Computed (decryptTests k (given s) (given ciphertext) (given vote) (given scratch))
         (decryptWrites k (given s) (given ciphertext)) reply (given vote) (left vote) (given scratch) (left scratch) ⌝ }
 {
     let reply = decrypt_tests(k, s, ciphertext, vote, scratch);
-    match reply {
-        Reply::Taken => {
-            write_vote(k, s, ciphertext, vote, scratch);
-        }
-        Reply::Refused {
-            number: _,
-            place: _,
-        } => {}
+    if let Reply::Taken = reply {
+        write_vote(k, s, ciphertext, vote, scratch);
     }
     reply
 }

@@ -9,9 +9,10 @@ use Rattle.codec.specs.Reply.{first}
 use Rattle.codec.specs.declared.Reply.{Reply}
 use Rattle.codec.specs.declared.Reply.the-variants.{Taken}
 use Rattle.codec.proofs.Laws.{both}
-use Rattle.sheet_numbers.specs.Usable.{Usable}
+use Rattle.sheet_numbers.specs.Internal.{Usable}
 use Rattle.sheet_numbers.specs.declared.Numbers.{Numbers}
-use Rattle.scratch.specs.Call.{bytesBelow, coefficientsBelow, Polynomial}
+use Rattle.scratch.specs.Call.{bytesBelow, coefficientsBelow}
+use Rattle.scratch.specs.Internal.{Polynomial}
 use Rattle.scratch.proofs.Order.{length-at, passed}
 use Rattle.scheme.specs.Calls.{keygenTests, splitTests}
 use Rattle.scheme.proofs.Passed.{both-ranged}

@@ -12,8 +12,9 @@ ghost use lib.ListN.{length};
 ghost use Rattle.codec.specs.Bytes.{zeros};
 ghost use Rattle.codec.specs.Reply.{first};
 ghost use Rattle.codec.specs.Slices.{given, left};
-ghost use Rattle.scratch.specs.Call.{scratchLength, bytesBelow, coefficientsBelow, Polynomial, Worked};
-ghost use Rattle.commitment.specs.Loaded.{Loaded};
+ghost use Rattle.scratch.specs.Call.{scratchLength, bytesBelow, coefficientsBelow};
+ghost use Rattle.scratch.specs.Internal.{Polynomial, Computed};
+ghost use Rattle.commitment.specs.Internal.{Loaded};
 ghost use Rattle.commitment.specs.Parameters.{parameters};
 ghost use Rattle.scheme.specs.Calls.{keygenTests, keygenWrites, splitTests, splitWrites};
 
@@ -27,18 +28,9 @@ fn keygen_tests(k: Numbers, s: &[u8], e: &[u8], b: &[u8], scratch: &[u8]) -> Rep
         [s.len(), e.len(), b.len(), scratch.len(), 0, 0],
         [n, n, 8 * n, scratch::SCRATCH, 0, 0],
     ) {
-        return Reply::Refused {
-            number: 1,
-            place: 0,
-        };
+        return codec::refused(1);
     }
-    if !scratch::both_ternary(s, e) {
-        return Reply::Refused {
-            number: 5,
-            place: 0,
-        };
-    }
-    Reply::Taken
+    codec::tested(scratch::both_ternary(s, e), 5)
 }
 
 // The key b.
@@ -51,20 +43,14 @@ pub fn keygen(
     scratch: &mut [u8],
 ) -> Reply
     requires { ⌜ Loaded k (now public) ⌝ }
-    ensures { λ reply. ⌜ Worked (keygenTests k (given s) (given e) (given b) (given scratch))
+    ensures { λ reply. ⌜ Computed (keygenTests k (given s) (given e) (given b) (given scratch))
         (keygenWrites (parameters k (given public)) (given s) (given e)) reply (given b) (left b) (given scratch) (left scratch) ⌝ }
 {
     let reply = keygen_tests(k, s, e, b, scratch);
-    match reply {
-        Reply::Taken => {
-            let n = k.ring as usize;
-            let p = sheet_numbers::plain(k);
-            written::noisy(b, 0, scratch, &public[0..8 * n], s, e, p, n, k.modulus);
-        }
-        Reply::Refused {
-            number: _,
-            place: _,
-        } => {}
+    if let Reply::Taken = reply {
+        let n = k.ring as usize;
+        let p = sheet_numbers::plain(k);
+        written::noisy(b, 0, scratch, &public[0..8 * n], s, e, p, n, k.modulus);
     }
     reply
 }
@@ -106,18 +92,9 @@ fn split_tests(
         ],
         [n, n, 8 * n, 8 * n, 32 * n, scratch::SCRATCH],
     ) {
-        return Reply::Refused {
-            number: 1,
-            place: 0,
-        };
+        return codec::refused(1);
     }
-    if !split_ranged(s, e, s0, e0, n, k.modulus) {
-        return Reply::Refused {
-            number: 5,
-            place: 0,
-        };
-    }
-    Reply::Taken
+    codec::tested(split_ranged(s, e, s0, e0, n, k.modulus), 5)
 }
 
 // The work of `split`, for slices that passed its tests.
@@ -170,19 +147,13 @@ pub fn split(
     scratch: &mut [u8],
 ) -> Reply
     requires { ⌜ Loaded k (now public) ⌝ }
-    ensures { λ reply. ⌜ Worked (splitTests k (given s) (given e) (given s0) (given e0) (given out) (given scratch))
+    ensures { λ reply. ⌜ Computed (splitTests k (given s) (given e) (given s0) (given e0) (given out) (given scratch))
         (splitWrites (parameters k (given public)) (given s) (given e) (given s0) (given e0)) reply
         (given out) (left out) (given scratch) (left scratch) ⌝ }
 {
     let reply = split_tests(k, s, e, s0, e0, out, scratch);
-    match reply {
-        Reply::Taken => {
-            write_split(k, public, s, e, s0, e0, out, scratch);
-        }
-        Reply::Refused {
-            number: _,
-            place: _,
-        } => {}
+    if let Reply::Taken = reply {
+        write_split(k, public, s, e, s0, e0, out, scratch);
     }
     reply
 }

@@ -1,24 +1,27 @@
 -- A call by what is said of its sheet: refused with it, or on with the rest of its order and the sheet's polynomials. Assumes nothing.
-use mathlib.Core.Path.{_≡_, refl, sym, ap, ap₂, _∙_}
+use mathlib.Core.Path.{_≡_, sym, ap, ap₂, _∙_}
 use mathlib.Core.List.{List, [], _++_}
 use Prim.Native.Nat.{ℕ, _*_, _<_}
 use native.Mathlib.Omega.{arith}
 use lib.ListN.{length, take, drop, replicate, getD, length-replicate}
 use Rattle.codec.specs.Bytes.{Bytes, part, put}
-use Rattle.codec.specs.Reply.{Test, first, leaves}
+use Rattle.codec.specs.Reply.{Test, first}
 use Rattle.codec.specs.declared.Reply.{Reply}
 use Rattle.codec.specs.declared.Reply.the-variants as reply
 use Rattle.ring.specs.Poly.{Alike}
 use Rattle.ring.specs.Slots.{poly}
 use Rattle.sheet.specs.Reader.{sheetOf}
-use Rattle.sheet.specs.Sheet.{order, reading, lists, filled, loaded, polynomials}
+use Rattle.sheet.specs.Sheet.{order, reading, lists, polynomials}
+use Rattle.sheet.specs.Internal.{filled, loaded}
 use Rattle.sheet_numbers.specs.declared.Numbers.{Numbers}
 use Rattle.sheet.specs.declared.Reading.{Reading}
 use Rattle.sheet.specs.declared.Reading.the-variants.{Taken, Refused}
-use Rattle.sheet_numbers.specs.Usable.{Usable}
+use Rattle.sheet_numbers.specs.Internal.{Usable}
 use Rattle.sheet_numbers.proofs.Ranges.{usable}
 use Rattle.sheet.proofs.Taken.{onwards, order-first, taken}
-use Rattle.scratch.specs.Call.{coefficients, swept, Polynomial, Called}
+use Rattle.scratch.specs.Call.{coefficients, zeroized, refusal}
+use Rattle.scratch.specs.Internal.{Polynomial, Called}
+use Rattle.scratch.proofs.Zeroizing.{leaves-refused}
 use Rattle.scratch.proofs.Sheets.{put-room, lent-public, lent-alike}
 
 -- what holds where the sheet was taken with the numbers k, and its polynomials were put into lent bytes: polynomial i is the part of them from 8N i on
@@ -70,7 +73,8 @@ order-taken text ts said e = e ∙ sym (order-first text ts ∙ ap (λ (s : Read
 pub order-refused : (text : Bytes) {s : Reading} {n : ℕ} (ts : List Test) → s ≡ reading text → s ≡ Refused n → reply.Refused n 0 ≡ first (order text ++ ts)
 order-refused text ts f e = sym (order-first text ts ∙ ap (λ (z : Reading). onwards z (first ts)) (sym f ∙ e))
 
-pub call-refused : (text : Bytes) {ts : List Test} {x w : Bytes} {out w' : Bytes} {s : Reading} {n : ℕ} → s ≡ reading text → s ≡ Refused n → w' ≡ swept (reply.Refused n 0) w
-    → Called (order text ++ ts) x (reply.Refused n 0) out out w w'
-unfolding leaves
-call-refused text {ts} f e zeroed = record { replied = order-refused text ts f e; written = refl; cleared = zeroed }
+pub call-refused : (text : Bytes) {ts : List Test} {x w out w' : Bytes} {s : Reading} {n : ℕ} {r : Reply} → s ≡ reading text → s ≡ Refused n → (r ≡ refusal s) × (w' ≡ zeroized (refusal s) w)
+    → Called (order text ++ ts) x r out out w w'
+call-refused text {ts} {x} {w} {n = n} {r = r} f e ended =
+    let is : r ≡ reply.Refused n 0 = ended .0 ∙ ap refusal e in
+    record { replied = is ∙ order-refused text ts f e; written = leaves-refused r n 0 x is; cleared = ended .1 ∙ ap (λ (a : Reply). zeroized a w) (sym (ended .0)) }

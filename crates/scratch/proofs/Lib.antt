@@ -1,5 +1,5 @@
-pub mod Sweeping
-pub mod Shelf
+pub mod Zeroizing
+pub mod Slotted
 pub mod Slots
 pub mod Order
 pub mod Sheets

@@ -11,12 +11,13 @@ use Rattle.codec.proofs.Laws.{put-put}
 use Rattle.modular.specs.Modulo.{remainder}
 use Rattle.modular.proofs.Centring.{remainder-lt}
 use Rattle.ring.specs.Poly.{Poly, plus, minus, scale, mul, modulo, Below}
-use Rattle.ring.specs.Slots.{poly, slot, encode, store, Slots}
+use Rattle.ring.specs.Slots.{poly, slot, encode}
+use Rattle.ring.specs.Internal.{store, Slots}
 use Rattle.ring.specs.Ternary.{ternary}
 use Rattle.ring.proofs.Bridge.{length-encode, encode-alike}
 use Rattle.ring.proofs.Ranges.{below-ternary}
 use Rattle.ring.proofs.Polynomials.{plus-comm, alike-eq, alike-refl, _so_, alike-plus, alike-minus, alike-scale, alike-mul, below-modulo}
-use Rattle.scratch.specs.Call.{Stands}
+use Rattle.scratch.specs.Internal.{InSlot}
 use Rattle.scratch.proofs.Slots.{Holds, holds-below, holds-alike, holds-slot, stored, stored-length, stored-other, loaded, copied, put-length, put-other, stands-alike, stands-stored}
 
 -- the polynomial f is put into a slot, whatever stood there
@@ -51,7 +52,7 @@ module _ (q n : ℕ) (high : n ≤ 2048) (some : 3 ≤ q) (few : q < 2 ^ 56) whe
       let x = loaded q n positive few w w1 at (omega arith) (modulo q f) (below-modulo f positive) e in
       record { bytes = encode n (modulo q f); sized = length-encode n (modulo q f); is = e; holds = record { is = λ k m. x .is k m ∙ (unfold modulo in mod-mod (f k) q) } }
 
-  pub stands-put : (f : Poly) (w w1 : Bytes) → length w ≡ 1048576 → w1 ≡ put w 0 (encode n (modulo q f)) → Stands q n f w w1
+  pub stands-put : (f : Poly) (w w1 : Bytes) → length w ≡ 1048576 → w1 ≡ put w 0 (encode n (modulo q f)) → InSlot q n f w w1
   unfolding store
   stands-put f w w1 l e = stands-stored q n f w w w1 (omega arith) refl e
 
@@ -90,7 +91,7 @@ module _ (q n : ℕ) (high : n ≤ 2048) (some : 3 ≤ q) (few : q < 2 ^ 56) whe
       less-asks = (omega (arith, less-length), holds-below positive less)
 
       -- and then another
-      pub stands-less-twice : (g' : Poly) (w3 : Bytes) → w3 ≡ store q n w2 0 (minus q (slot w2 0) g') → Stands q n (minus q (minus q f g) g') w w3
+      pub stands-less-twice : (g' : Poly) (w3 : Bytes) → w3 ≡ store q n w2 0 (minus q (slot w2 0) g') → InSlot q n (minus q (minus q f g) g') w w3
       stands-less-twice g' w3 e3 =
           stands-alike (stands-stored q n (minus q (slot w2 0) g') w w2 w3 (omega (arith, less-length)) less-length e3)
           (alike-minus (holds-alike less so alike-minus (holds-alike (x .holds)) alike-refl) alike-refl)
@@ -152,7 +153,7 @@ module _ (q n : ℕ) (high : n ≤ 2048) (some : 3 ≤ q) (few : q < 2 ^ 56) whe
       pub add-lent-asks : (8 * n ≤ length w2) × Below q n (slot w2 0)
       add-lent-asks = (omega (arith, negative-length), holds-below positive negative)
 
-      pub stands-less-product : (s v : Poly) (w0 w3 : Bytes) → length w ≡ length w0 → Holds q n 0 s w → w3 ≡ store q n w2 0 (plus (slot w2 0) v) → Stands q n (minus q v (mul q n s a)) w0 w3
+      pub stands-less-product : (s v : Poly) (w0 w3 : Bytes) → length w ≡ length w0 → Holds q n 0 s w → w3 ≡ store q n w2 0 (plus (slot w2 0) v) → InSlot q n (minus q v (mul q n s a)) w0 w3
       stands-less-product s v w0 w3 l0 h e3 =
           stands-alike (stands-stored q n (plus (slot w2 0) v) w0 w2 w3 (omega (arith, negative-length)) (negative-length ∙ l0) e3)
           (alike-plus (holds-alike negative so alike-scale (q - 1) (holds-alike x1 so alike-mul (holds-alike h) alike-refl)) alike-refl

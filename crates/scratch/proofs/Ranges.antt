@@ -13,7 +13,7 @@ use Rattle.ring.specs.Poly.{Alike}
 use Rattle.ring.specs.Slots.{poly, slot}
 use Rattle.ring.proofs.Bridge.{poly-part, slot-later, slot-poly}
 use Rattle.ring.proofs.Ranges.{below-sound}
-use Rattle.scratch.specs.Call.{Polynomial}
+use Rattle.scratch.specs.Internal.{Polynomial}
 
 -- 8n bytes are n coefficients
 eighth : (n l : ℕ) → l ≡ 8 * n → n ≡ l / 8

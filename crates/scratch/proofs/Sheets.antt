@@ -19,7 +19,8 @@ use Rattle.sheet.specs.Sheet.{reading, lists, polynomials}
 use Rattle.sheet_numbers.specs.declared.Numbers.{Numbers}
 use Rattle.sheet.specs.declared.Reading.the-variants.{Taken}
 use Rattle.sheet.proofs.Taken.{Coefficients, AllCoefficients, taken, lists-taken}
-use Rattle.scratch.specs.Call.{coefficients, Polynomial}
+use Rattle.scratch.specs.Call.{coefficients}
+use Rattle.scratch.specs.Internal.{Polynomial}
 
 -- a list of coefficients in bytes
 words-are : (n : ℕ) (xs : List ℕ) → length xs ≡ n → words xs ≡ encode n (coefficients xs)

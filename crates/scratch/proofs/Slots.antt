@@ -8,9 +8,10 @@ use lib.ListN.{length}
 use Rattle.codec.specs.Bytes.{Bytes, part, put}
 use Rattle.codec.proofs.Laws.{length-put, part-put}
 use Rattle.ring.specs.Poly.{Poly, modulo, Alike, Below}
-use Rattle.ring.specs.Slots.{poly, slot, encode, store}
+use Rattle.ring.specs.Slots.{poly, slot, encode}
+use Rattle.ring.specs.Internal.{store}
 use Rattle.ring.proofs.Bridge.{length-encode, poly-encode, encode-alike, poly-part, slot-put, slot-put-before, slot-put-after, slot-store, length-store, slot-poly}
-use Rattle.scratch.specs.Call.{Stands}
+use Rattle.scratch.specs.Internal.{InSlot}
 
 -- the polynomial f modulo q stands in the slot at a place
 pub record Holds (q n at : ℕ) (f : Poly) (w : Bytes) : Type 0 where
@@ -75,13 +76,13 @@ module _ (q n : ℕ) (w w' : Bytes) (at : ℕ) (s : Bytes) (fits : at + length s
 -- ---- the head of scratch
 
 module _ {q n : ℕ} {f : Poly} {w w' : Bytes} where
-  pub stands-alike : {g : Poly} → Stands q n f w w' → Alike q n f g → Stands q n g w w'
+  pub stands-alike : {g : Poly} → InSlot q n f w w' → Alike q n f g → InSlot q n g w w'
   stands-alike h e = record { sized = h .sized; bytes = h .bytes ∙ encode-alike e }
 
-  pub stands-after : {v : Bytes} → length w ≡ length v → Stands q n f w w' → Stands q n f v w'
+  pub stands-after : {v : Bytes} → length w ≡ length v → InSlot q n f w w' → InSlot q n f v w'
   stands-after e h = record { sized = h .sized ∙ e; bytes = h .bytes }
 
-  pub stands-holds : 0 < q → q < 2 ^ 56 → Stands q n f w w' → Holds q n 0 f w'
+  pub stands-holds : 0 < q → q < 2 ^ 56 → InSlot q n f w w' → Holds q n 0 f w'
   stands-holds p b h = record {
     is = λ k l.
         sym (poly-part w' 0 n k l) ∙ ap (λ (x : Bytes). poly x k) (h .bytes)
@@ -89,7 +90,7 @@ module _ {q n : ℕ} {f : Poly} {w w' : Bytes} where
   }
 
 -- a polynomial that was stored at the head stands there
-pub stands-stored : (q n : ℕ) (f : Poly) (v w w' : Bytes) → 8 * n ≤ length w → length w ≡ length v → w' ≡ store q n w 0 f → Stands q n f v w'
+pub stands-stored : (q n : ℕ) (f : Poly) (v w w' : Bytes) → 8 * n ≤ length w → length w ≡ length v → w' ≡ store q n w 0 f → InSlot q n f v w'
 unfolding store
 stands-stored q n f v w w' h l e =
     let m = length-encode n (modulo q f) in
@@ -99,7 +100,7 @@ stands-stored q n f v w w' h l e =
     }
 
 -- its coefficients
-module _ (q n : ℕ) (f : Poly) (w w' : Bytes) (h : Stands q n f w w') where
+module _ (q n : ℕ) (f : Poly) (w w' : Bytes) (h : InSlot q n f w w') where
   pub stands-below : 0 < q → q < 2 ^ 56 → Below q n (poly w')
   stands-below p b = record { at = λ k l. rw (← slot-poly w' k) (holds-below p (stands-holds p b h) .at k l) }
 

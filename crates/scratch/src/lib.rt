@@ -1,4 +1,4 @@
-// What the calls that are lent the sheet have in common: scratch and its sweep, the tests of lengths and ranges, and a polynomial of
+// What the calls that are lent the sheet have in common: scratch and its zeroize, the tests of lengths and ranges, and a polynomial of
 // scratch written out.
 ghost use mathlib.Core.Path.{_≡_};
 ghost use mathlib.Core.Bool.{_&&_};
@@ -6,7 +6,7 @@ ghost use mathlib.Core.List.{[], _∷_};
 ghost use Prim.Native.Nat.{_+_, _*_, _≤_};
 ghost use lib.ListN.{length};
 ghost use Rattle.codec.specs.Bytes.{part, put, same};
-ghost use Rattle.scratch.specs.Call.{bytesBelow, coefficientsBelow, swept};
+ghost use Rattle.scratch.specs.Call.{bytesBelow, coefficientsBelow, zeroized, refusal};
 
 // The length of scratch, for every call that is lent one: 64 slots of 16,384 bytes, each with room for a polynomial of 2048 coefficients.
 pub const SCRATCH: usize = 1048576;
@@ -61,8 +61,8 @@ pub fn ternary_and_in_range(s: &[u8], x: &[u8], n: usize, q: u64) -> bool
 }
 
 // Zeroes scratch as a call ends, unless the call was refused 1 or 31.
-pub fn sweep(reply: codec::Reply, scratch: &mut [u8])
-    ensures { λ _. ⌜ now (scratch .exit) ≡ swept reply (now (scratch .entry)) ⌝ }
+pub fn zeroize(reply: codec::Reply, scratch: &mut [u8])
+    ensures { λ _. ⌜ now (scratch .exit) ≡ zeroized reply (now (scratch .entry)) ⌝ }
 {
     match reply {
         codec::Reply::Taken => {
@@ -75,6 +75,24 @@ pub fn sweep(reply: codec::Reply, scratch: &mut [u8])
                 }
             }
         }
+    }
+}
+
+// Ends a call: scratch is zeroed by its reply, and the reply handed on.
+pub fn finish(reply: codec::Reply, scratch: &mut [u8]) -> codec::Reply
+    ensures { λ r. ⌜ (r ≡ reply) × (now (scratch .exit) ≡ zeroized reply (now (scratch .entry))) ⌝ }
+{
+    zeroize(reply, scratch);
+    reply
+}
+
+// Ends a call whose sheet is refused: with the sheet's number, and scratch zeroed by it.
+pub fn refuse(reading: sheet::Reading, scratch: &mut [u8]) -> codec::Reply
+    ensures { λ r. ⌜ (r ≡ refusal reading) × (now (scratch .exit) ≡ zeroized (refusal reading) (now (scratch .entry))) ⌝ }
+{
+    match reading {
+        sheet::Reading::Taken(_) => finish(codec::Reply::Taken, scratch),
+        sheet::Reading::Refused { number } => finish(codec::refused(number), scratch),
     }
 }
 

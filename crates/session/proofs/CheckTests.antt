@@ -13,37 +13,40 @@ use Rattle.codec.proofs.Laws.{both}
 use Rattle.codec.specs.Reply.{Test, first, leaves}
 use Rattle.codec.specs.declared.Reply.{Reply}
 use Rattle.codec.specs.declared.Reply.the-variants.{Taken, Refused}
-use Rattle.scratch.specs.Call.{swept}
+use Rattle.scratch.specs.Call.{zeroized}
 use Rattle.session_check.specs.declared.stored.Stored.{Stored}
-use Rattle.session_check.specs.Check.{Inputs, earlyTests, verdict, replyOf, outcome}
+use Rattle.session_check.specs.Check.{earlyTests}
+use Rattle.session_check.specs.Internal.{verdict, replyOfVerdict, outcome}
 use Rattle.session_check.specs.declared.Verdict.{Verdict}
 use Rattle.session_progress.specs.Progress.{drawn, checkDue, challengesDue}
 use Rattle.session.specs.Session.{valid, trailAt}
-use Rattle.session.specs.Steps.{storedFor, checkEarly, checkLate, checkTests, judgedBy, acceptedBy, refusedBy, challengesTests}
-use Rattle.session.specs.Machine.{check, State, state, reply, after, Checked}
+use Rattle.session.specs.Steps.{storedFor, checkEarly, checkLate, checkTests, acceptedBy, refusedBy, challengesTests}
+use Rattle.session.specs.Internal.{judgedBy, CheckDone}
+use Rattle.session.specs.Machine.{check, State, state, reply, after}
 use Rattle.session.specs.declared.Session.{Session}
 use Rattle.session.specs.declared.Stepped.{Stepped}
 use Rattle.session.proofs.Stepping.{stays}
+use Rattle.session_check.specs.Stored.{Inputs}
 
 -- ---- a verdict
 
 -- its reply is that of the two orders, one after the other
-pub verdict-first : (early late : List Test) → replyOf (verdict (first early) (first late)) ≡ first (early ++ late)
+pub verdict-first : (early late : List Test) → replyOfVerdict (verdict (first early) (first late)) ≡ first (early ++ late)
 unfolding first
 verdict-first [] late = alone (first late)
   where
-    alone : (r : Reply) → replyOf (verdict Taken r) ≡ r
+    alone : (r : Reply) → replyOfVerdict (verdict Taken r) ≡ r
     alone Taken = refl
     alone (Refused n p) = refl
 verdict-first (t ∷ early) late = go (t .holds) refl (verdict-first early late)
   where
-    go : (b : Bool) → t .holds ≡ b → replyOf (verdict (first early) (first late)) ≡ first (early ++ late) → replyOf (verdict (first (t ∷ early)) (first late)) ≡ first ((t ∷ early) ++ late)
+    go : (b : Bool) → t .holds ≡ b → replyOfVerdict (verdict (first early) (first late)) ≡ first (early ++ late) → replyOfVerdict (verdict (first (t ∷ early)) (first late)) ≡ first ((t ∷ early) ++ late)
     go true e rest = rw e
     go false e rest = rw e rest
 
 -- and what it leaves of the session is what the two replies leave
 pub verdict-leaves : (early late : Reply) (s : Session) (reg : Bytes)
-    → state (judgedBy (verdict early late) s) reg ≡ leaves (replyOf (verdict early late)) (state (acceptedBy s) reg) (leaves early (state (refusedBy s) reg) (state s reg))
+    → state (judgedBy (verdict early late) s) reg ≡ leaves (replyOfVerdict (verdict early late)) (state (acceptedBy s) reg) (leaves early (state (refusedBy s) reg) (state s reg))
 unfolding leaves
 verdict-leaves (Refused n p) late s reg = refl
 verdict-leaves Taken (Refused n p) s reg = refl
@@ -66,8 +69,8 @@ holding s round message = record {
 
 module _ (s : Session) (round : ℕ) (x : Inputs) where
   -- 31: nothing is touched
-  pub check-undue : {r : Stepped} → (valid s && checkDue (s .numbers) (s .progress) round) ≡ false → (r .session ≡ s) × (r .reply ≡ Refused 31 0) → Checked round x s r (x .scratch)
-  unfolding checkTests checkEarly first leaves swept
+  pub check-undue : {r : Stepped} → (valid s && checkDue (s .numbers) (s .progress) round) ≡ false → (r .session ≡ s) × (r .reply ≡ Refused 31 0) → CheckDone round x s r (x .scratch)
+  unfolding checkTests checkEarly first leaves zeroized
   check-undue e h = record {
     done = λ register. stays (check round x) (state s register) (rw e) (rw e) h;
     cleared = rw (h .1);
@@ -80,7 +83,7 @@ module _ (s : Session) (round : ℕ) (x : Inputs) where
     on = rw e
 
     pub check-judged : {r : Stepped} {v : Verdict} {message scratch : Bytes} → message ≡ trailAt s round → v ≡ outcome (holding s round message) x
-        → (r .reply ≡ replyOf v) × (r .session ≡ judgedBy v s) → scratch ≡ swept (replyOf v) (x .scratch) → Checked round x s r scratch
+        → (r .reply ≡ replyOfVerdict v) × (r .session ≡ judgedBy v s) → scratch ≡ zeroized (replyOfVerdict v) (x .scratch) → CheckDone round x s r scratch
     unfolding checkTests checkLate reply after
     check-judged {r} {v} m f g w =
         let early = first (checkEarly s round x) in
@@ -92,11 +95,11 @@ module _ (s : Session) (round : ℕ) (x : Inputs) where
         ∙ ap (λ (y : Reply). leaves y (state (acceptedBy s) register) (leaves early (state (refusedBy s) register) (state s register))) said in
         record {
           done = λ register. record {
-            replied = g .0 ∙ ap replyOf d ∙ said;
+            replied = g .0 ∙ ap replyOfVerdict d ∙ said;
             session = g .1 ∙ ap (λ (y : Verdict). judgedBy y s) d ∙ ap (λ (z : State). z .session) (left register);
             register-left = ap (λ (z : State). z .register) (left register);
           };
-          cleared = w ∙ ap (λ (y : Reply). swept y (x .scratch)) (sym (g .0));
+          cleared = w ∙ ap (λ (y : Reply). zeroized y (x .scratch)) (sym (g .0));
         }
 
 -- ---- challenges

@@ -6,8 +6,9 @@ use Rattle.codec.specs.Bytes.{Bytes}
 use Rattle.codec.specs.Reply.{Test, first, leaves}
 use Rattle.codec.specs.declared.Reply.{Reply}
 use Rattle.codec.specs.declared.Reply.the-variants.{Taken, Refused}
-use Rattle.register.specs.Orders.{Wrote}
-use Rattle.session.specs.Machine.{Step, State, tests, next, still, reply, after, Done}
+use Rattle.register.specs.Internal.{Wrote}
+use Rattle.session.specs.Machine.{Step, State, tests, next, still, reply, after}
+use Rattle.session.specs.Internal.{Done}
 use Rattle.session.specs.declared.Stepped.{Stepped}
 
 module _ (x : Step) (st : State) {r : Stepped} where

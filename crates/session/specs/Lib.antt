@@ -1,3 +1,4 @@
 pub mod Session
 pub mod Steps
 pub mod Machine
+pub mod Internal

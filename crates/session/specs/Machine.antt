@@ -1,16 +1,13 @@
 -- One step of a session (document 01, "Register and session"): what each is lent, what it answers and what it leaves. The methods of `Session`, the calls over an image and
 -- lists of steps all cite these. Assumes nothing.
-use mathlib.Core.Path.{_≡_}
 use mathlib.Core.List.{List}
 use Prim.Native.Nat.{ℕ}
 use Rattle.codec.specs.Bytes.{Bytes, zeros}
 use Rattle.codec.specs.Reply.{Test, first, leaves}
 use Rattle.codec.specs.declared.Reply.{Reply}
 use Rattle.register.specs.Register.{registerLength, find, admitted, withdrawn}
-use Rattle.scratch.specs.Call.{swept}
-use Rattle.session_check.specs.Check.{Inputs}
+use Rattle.session_check.specs.Stored.{Inputs}
 use Rattle.session.specs.declared.Session.{Session}
-use Rattle.session.specs.declared.Stepped.{Stepped}
 use Rattle.session.specs.Steps.{Beginning, clearTests, cleared, admitTests, admittedBy, withdrawTests, closeTests, closedBy, claimTests, claimedBy, commitTests, committedBy, drawTests, drawnBy, checkEarly, checkTests, acceptedBy, refusedBy}
 
 -- a step, with what it is lent beside session and register
@@ -72,17 +69,3 @@ unfoldable pub after : Step → State → State
 after x st = leaves (reply x st) (next x st) (still x st)
 
 -- ---- what a method of `Session` promises: its reply, the session that it hands back, and the register that it leaves
-
-pub record Done (x : Step) (st : State) (r : Stepped) (register : Bytes) : Type 0 where
-  pub replied : r .reply ≡ reply x st
-  pub session : r .session ≡ after x st .session
-  pub register-left : register ≡ after x st .register
-
--- the same of a step that is lent no register: with any, which it leaves
-abbrev pub DoneAlone : Step → Session → Stepped → Type 0
-DoneAlone x s r = (register : Bytes) → Done x (state s register) r register
-
--- and of a check, with what it leaves in scratch
-pub record Checked (round : ℕ) (x : Inputs) (s : Session) (r : Stepped) (scratch : Bytes) : Type 0 where
-  pub done : DoneAlone (check round x) s r
-  pub cleared : scratch ≡ swept (r .reply) (x .scratch)

@@ -22,13 +22,12 @@ use Rattle.session_progress.specs.Progress.{gathering, closed, commitDue, drawD
 use Rattle.session_digests.specs.Digests.{closingDigest, claimDigest, roundDigest}
 use Rattle.session_digests.specs.Draw.{drawnSide, drawnChallenges}
 use Rattle.session_check.specs.declared.stored.Stored.{Stored}
-use Rattle.session_check.specs.Check.{Inputs, earlyTests, lateTests}
-use Rattle.session_check.specs.declared.Verdict.{Verdict}
-use Rattle.session_check.specs.declared.Verdict.the-variants.{Stopped, Failed, Passed}
+use Rattle.session_check.specs.Check.{earlyTests, lateTests}
 use Rattle.session.specs.declared.Session.{Session}
 use Rattle.session.specs.declared.Turnout.{Turnout}
 use Rattle.session.specs.declared.Turnout.the-variants.{Counted, Refused}
 use Rattle.session.specs.Session.{valid, trailAt, changed}
+use Rattle.session_check.specs.Stored.{Inputs}
 
 -- 31: not valid, or not due
 abbrev pub dueTest : Session → (due : Bool) → Test
@@ -158,12 +157,6 @@ acceptedBy s = changed s (withAcceptance (s .numbers .rounds) (s .progress)) (s 
 
 unfoldable pub refusedBy : Session → Session
 refusedBy s = changed s (withRefusal (s .progress)) (s .closing) (s .claim) (s .seed) (s .trail)
-
--- what a check leaves, by the verdict that it comes to
-abbrev pub judgedBy : Verdict → Session → Session
-judgedBy (Stopped number place) s = s
-judgedBy (Failed number place) s = refusedBy s
-judgedBy Passed s = acceptedBy s
 
 -- ---- challenges: 31, 1. From draw on, for any round of the session
 

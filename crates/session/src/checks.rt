@@ -8,18 +8,19 @@ use session_check::stored::Stored;
 ghost use mathlib.Core.Path.{_≡_};
 ghost use Prim.Native.Nat.{_<_};
 ghost use Rattle.codec.specs.Slices.{given, left};
-ghost use Rattle.register.specs.Orders.{Wrote};
-ghost use Rattle.session_check.specs.Check.{inputsIn, replyOf};
+ghost use Rattle.register.specs.Internal.{Wrote};
+ghost use Rattle.session_check.specs.Check.{inputsIn};
+ghost use Rattle.session_check.specs.Internal.{replyOfVerdict};
 ghost use Rattle.session_progress.specs.Progress.{drawn};
-ghost use Rattle.session.specs.Steps.{judgedBy, challengesTests, challengesOut};
-ghost use Rattle.session.specs.Machine.{Checked};
+ghost use Rattle.session.specs.Steps.{challengesTests, challengesOut};
+ghost use Rattle.session.specs.Internal.{judgedBy, CheckDone};
 
 impl Session {
     // What a verdict on the round that is due leaves: a round that fails ends the session refused, the last one that passes ends it
     // accepted.
     fn judged(self, verdict: Verdict) -> Stepped
         requires { ⌜ (self .progress .phase ≡ drawn) × (self .progress .checked < self .numbers .rounds) ⌝ }
-        ensures { λ r. ⌜ (r .reply ≡ replyOf verdict) × (r .session ≡ judgedBy verdict self) ⌝ }
+        ensures { λ r. ⌜ (r .reply ≡ replyOfVerdict verdict) × (r .session ≡ judgedBy verdict self) ⌝ }
     {
         let reply = session_check::reply_of(verdict);
         let progress = self.progress;
@@ -59,7 +60,7 @@ impl Session {
         answers: &[u8],
         scratch: &mut [u8],
     ) -> Stepped
-        ensures { λ r. ⌜ Checked round (inputsIn sheet ballots claims head shares0 shares1 opening answers scratch) self r
+        ensures { λ r. ⌜ CheckDone round (inputsIn sheet ballots claims head shares0 shares1 opening answers scratch) self r
             (left scratch) ⌝ }
     {
         let progress = self.progress;

@@ -12,7 +12,8 @@ ghost use Rattle.codec.specs.Bytes.{same};
 ghost use Rattle.codec.specs.Slices.{given};
 ghost use Rattle.round.specs.Layout.{headLength};
 ghost use Rattle.session.specs.Session.{valid};
-ghost use Rattle.session.specs.Machine.{claim, commit, draw, DoneAlone};
+ghost use Rattle.session.specs.Machine.{claim, commit, draw};
+ghost use Rattle.session.specs.Internal.{DoneAlone};
 
 // The bytes of all ballots, from those of one.
 fn times(bytes: u64, ballots: u64) -> usize

@@ -9,7 +9,8 @@ ghost use Rattle.codec.specs.Slices.{given, left};
 ghost use Rattle.codec.specs.Reply.{first};
 ghost use Rattle.register.specs.Register.{turnout};
 ghost use Rattle.session.specs.Steps.{on, turnoutTests, turnoutBy};
-ghost use Rattle.session.specs.Machine.{clear, admit, withdraw, close, state, Done};
+ghost use Rattle.session.specs.Machine.{clear, admit, withdraw, close, state};
+ghost use Rattle.session.specs.Internal.{Done};
 
 impl Session {
     // Starts anew, on a sheet and with an empty register, from any session.

@@ -13,9 +13,10 @@ use Rattle.codec.proofs.Replies.{taken-exactly}
 use Rattle.sheet.specs.Reader.{sheetOf}
 use Rattle.sheet_numbers.specs.declared.Numbers.{Numbers}
 use Rattle.scratch.specs.Call.{scratchLength}
-use Rattle.round.specs.Round.{Lengths, roundOf}
+use Rattle.round.specs.Round.{Lengths}
+use Rattle.round.specs.Internal.{roundOf}
 use Rattle.round_lengths.specs.Calls.{messageSized, secondSized}
-use Rattle.round.specs.Sheets as sheets
+use Rattle.commitment.specs.Parameters as sheets
 use Rattle.round_lengths.proofs.Sizes.{check-lengths}
 use Rattle.session_check.specs.declared.stored.Stored.{Stored}
 use Rattle.session_check.specs.Stored.{Inputs, challengesOf, inputsSized, storedTests, lentTests}

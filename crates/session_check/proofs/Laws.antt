@@ -15,17 +15,19 @@ use Rattle.codec.proofs.Laws.{both, same-refl, same-equal}
 use Rattle.codec.proofs.Replies.{not-taken}
 use Rattle.sheet.specs.Sheet.{order}
 use Rattle.scratch.specs.Call.{scratchLength}
-use Rattle.round.specs.Round.{Parameters, Lengths}
+use Rattle.round.specs.Round.{Lengths}
 use Rattle.round.proofs.Many.{none-append, append-none}
 use Rattle.round_lengths.specs.Calls.{messageSized, secondSized}
 use Rattle.round_lengths.proofs.Sizes.{message-sizes, second-sizes}
 use Rattle.session_digests.proofs.Range.{length-challenges}
 use Rattle.session_check.specs.declared.stored.Stored.{Stored}
 use Rattle.session_check.specs.Stored.{Inputs, challengesOf, drawnRound, inputsSized, storedTests}
-use Rattle.session_check.specs.Check.{earlyTests, verdict}
-use Rattle.session_check.specs.Equations.{Sized, Held}
+use Rattle.session_check.specs.Check.{earlyTests}
+use Rattle.session_check.specs.Internal.{verdict}
+use Rattle.session_check.specs.Equations.{InputsSized, Held}
 use Rattle.session_check.specs.declared.Verdict.the-variants.{Stopped, Failed, Passed}
 use Rattle.session_check.proofs.Numbers.{same-numbers}
+use Rattle.commitment.specs.Parameters.{Parameters}
 
 -- a test that asks for b, as an equation
 asks : (b : Bool) → (not b ≡ false) ↔ (b ≡ true)
@@ -43,34 +45,34 @@ module _ (s : Stored) (x : Inputs) where
 
   -- ---- 1
 
-  message-right : Sized s x → message-sized ≡ true
+  message-right : InputsSized s x → message-sized ≡ true
   unfolding messageSized
   message-right l = rw (l .head, l .shares0, l .shares1, l .ballots, l .claims) (same-refl _)
 
-  second-right : Sized s x → second-sized ≡ true
+  second-right : InputsSized s x → second-sized ≡ true
   unfolding secondSized
   second-right l = rw (length-challenges (s .seed) (s .round) (s .numbers .repeats), l .opening, l .answers, l .scratch) (same-refl _)
 
-  pub sized-exactly : (inputsSized s x ≡ true) ↔ Sized s x
+  pub sized-exactly : (inputsSized s x ≡ true) ↔ InputsSized s x
   unfolding inputsSized
   sized-exactly = (to, from)
     where
-      to : (message-sized && second-sized) ≡ true → Sized s x
+      to : (message-sized && second-sized) ≡ true → InputsSized s x
       to e =
           let h = both message-sized second-sized e in
           let m = message-sizes (s .numbers .ring) (s .numbers .repeats) (s .closed) (x .head) (x .shares0) (x .shares1) (x .ballots) (x .claims) (h .0) in
           let t = second-sizes (s .numbers .ring) (s .numbers .repeats) (challengesOf s) (x .opening) (x .answers) (x .scratch) (h .1) in
           record { ballots = m .3; claims = m .4; head = m .0; shares0 = m .1; shares1 = m .2; opening = t .1; answers = t .2; scratch = t .3 }
 
-      from : Sized s x → (message-sized && second-sized) ≡ true
+      from : InputsSized s x → (message-sized && second-sized) ≡ true
       from l = rw (message-right l, second-right l)
 
-  pub length-test : (None (test 1 0 (not (inputsSized s x)) ∷ [])) ↔ Sized s x
+  pub length-test : (None (test 1 0 (not (inputsSized s x)) ∷ [])) ↔ InputsSized s x
   length-test = (λ n. sized-exactly .0 (asks (inputsSized s x) .0 (n .0)), λ l. (asks (inputsSized s x) .1 (sized-exactly .1 l), tt))
 
   -- the same for a round with what was drawn, and parameters of the session's ring size and repetitions
   module _ (P : Parameters) (ring : P .N ≡ s .numbers .ring) (repeats : P .repeats ≡ s .numbers .repeats) where
-    pub round-sized : Sized s x → Lengths P (s .closed) (drawnRound s x)
+    pub round-sized : InputsSized s x → Lengths P (s .closed) (drawnRound s x)
     round-sized l = record {
       challenges = length-challenges (s .seed) (s .round) (s .numbers .repeats) ∙ sym repeats;
       ballots = rw ring (l .ballots);
@@ -82,7 +84,7 @@ module _ (s : Stored) (x : Inputs) where
       answers = rw ring (l .answers);
     }
 
-    pub sized-round : Lengths P (s .closed) (drawnRound s x) → length (x .scratch) ≡ scratchLength → Sized s x
+    pub sized-round : Lengths P (s .closed) (drawnRound s x) → length (x .scratch) ≡ scratchLength → InputsSized s x
     sized-round l w = record {
       ballots = rw (sym ring) (l .ballots);
       claims = rw (sym ring) (l .claims);
@@ -111,7 +113,7 @@ module _ (s : Stored) (x : Inputs) where
 
   -- ---- all before the round
 
-  pub early-exactly : None (earlyTests s x) ↔ (None (order (x .sheet)) × Sized s x × Held s x)
+  pub early-exactly : None (earlyTests s x) ↔ (None (order (x .sheet)) × InputsSized s x × Held s x)
   unfolding earlyTests
   early-exactly = (
     λ n.

@@ -10,17 +10,18 @@ use Rattle.sheet.specs.Sheet.{reading}
 use Rattle.sheet_numbers.specs.declared.Numbers.{Numbers}
 use Rattle.sheet.specs.declared.Reading.{Reading}
 use Rattle.sheet.specs.declared.Reading.the-variants.{Taken, Refused}
-use Rattle.scratch.specs.Call.{swept}
-use Rattle.round.specs.Round.{Parameters, Round, roundOf, roundTests}
-use Rattle.round_lengths.specs.Sheets.{parametersOf}
-use Rattle.round_lengths.proofs.Swept.{later-round, swept-later}
-use Rattle.round_lengths.proofs.OverSheet.{order-taken, order-refused}
+use Rattle.scratch.specs.Call.{zeroized}
+use Rattle.round.specs.Round.{Round, roundTests}
+use Rattle.round.specs.Internal.{roundOf}
+use Rattle.commitment.specs.Parameters.{Parameters, parametersOf}
+use Rattle.round_lengths.proofs.Zeroized.{later-round, zeroized-later}
+use Rattle.scratch.proofs.Lent.{order-taken, order-refused}
 use Rattle.session_check.specs.declared.stored.Stored.{Stored}
 use Rattle.session_check.specs.Stored.{Inputs, sideOf, challengesOf, drawnRound, lentTests}
-use Rattle.session_check.specs.Check.{earlyTests, lateTests, verdict, replyOf, Checked}
+use Rattle.session_check.specs.Check.{earlyTests, lateTests}
+use Rattle.session_check.specs.Internal.{verdict, replyOfVerdict, CheckMade, TakenChecked}
 use Rattle.session_check.specs.declared.Verdict.{Verdict}
 use Rattle.session_check.specs.declared.Verdict.the-variants.{Stopped}
-use Rattle.session_check.specs.Parts.{TakenChecked}
 
 -- ---- from the two replies
 
@@ -28,7 +29,7 @@ pub stopped : (late : Reply) {early r : Reply} {number place : ℕ} → r ≡ ea
 stopped late e f = sym (ap (λ (r : Reply). verdict r late) (sym e ∙ f))
 
 -- the reply of a round that was looked at is that of the verdict
-reply-late : (r : Reply) → replyOf (verdict reply.Taken r) ≡ r
+reply-late : (r : Reply) → replyOfVerdict (verdict reply.Taken r) ≡ r
 reply-late reply.Taken = refl
 reply-late (reply.Refused number place) = refl
 
@@ -37,8 +38,8 @@ module _ (P : Parameters) (m : ℕ) (r : Round) {v : Verdict} {late : Reply} (is
   judged e f = is ∙ ap₂ verdict (sym f ∙ e) said
 
   -- scratch is zeroed
-  pub judged-swept : (w : Bytes) → swept (replyOf v) w ≡ zeros (length w)
-  judged-swept w = swept-later (roundTests P m r) (later-round P m r) (replyOf v) (ap replyOf is ∙ reply-late late ∙ said) w
+  pub judged-zeroized : (w : Bytes) → zeroized (replyOfVerdict v) w ≡ zeros (length w)
+  judged-zeroized w = zeroized-later (roundTests P m r) (later-round P m r) (replyOfVerdict v) (ap replyOfVerdict is ∙ reply-late late ∙ said) w
 
 -- ---- with what was drawn
 
@@ -49,10 +50,10 @@ drawn-round s x e f = ap₂ (λ (i : ℕ) (d : Bytes). roundOf i d (x .ballots) 
 -- ---- over the sheet
 
 module _ (s : Stored) (x : Inputs) where
-  pub checked-over : {k : Numbers} {P : Parameters} {v : Verdict} {w : Bytes} → reading (x .sheet) ≡ Taken k → P ≡ parametersOf (x .sheet) → TakenChecked P s x v w → Checked s x v w
+  pub checked-over : {k : Numbers} {P : Parameters} {v : Verdict} {w : Bytes} → reading (x .sheet) ≡ Taken k → P ≡ parametersOf (x .sheet) → TakenChecked P s x v w → CheckMade s x v w
   unfolding earlyTests lateTests
   checked-over said e f = (f .0 ∙ ap₂ verdict (order-taken (x .sheet) (lentTests s x) said refl) (ap (λ (P : Parameters). first (roundTests P (s .closed) (drawnRound s x))) e), f .1)
 
-  pub checked-refused : {read : Reading} {i : ℕ} {w'' : Bytes} → read ≡ reading (x .sheet) → read ≡ Refused i → w'' ≡ swept (reply.Refused i 0) (x .scratch) → Checked s x (Stopped i 0) w''
+  pub checked-refused : {read : Reading} {i : ℕ} {w'' : Bytes} → read ≡ reading (x .sheet) → read ≡ Refused i → w'' ≡ zeroized (reply.Refused i 0) (x .scratch) → CheckMade s x (Stopped i 0) w''
   unfolding earlyTests lateTests
   checked-refused f e z = (stopped (first (lateTests s x)) (order-refused (x .sheet) (lentTests s x) f e) refl, z)

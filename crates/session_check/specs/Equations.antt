@@ -12,7 +12,7 @@ use Rattle.session_check.specs.Stored.{Inputs, challengesOf}
 
 module _ (s : Stored) (x : Inputs) where
   -- the lengths, by the session's numbers and closed count
-  pub record Sized : Type 0 where
+  pub record InputsSized : Type 0 where
     pub ballots : length (x .ballots) ≡ ballotLength (s .numbers .ring) * s .closed
     pub claims : length (x .claims) ≡ s .numbers .ring * s .closed
     pub head : length (x .head) ≡ headLength (s .numbers .ring) (s .numbers .repeats)

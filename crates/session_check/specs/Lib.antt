@@ -1,4 +1,4 @@
 pub mod Stored
 pub mod Check
-pub mod Parts
 pub mod Equations
+pub mod Internal

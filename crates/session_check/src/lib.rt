@@ -7,7 +7,8 @@ use codec::Reply;
 ghost use mathlib.Core.Path.{_≡_};
 ghost use Rattle.codec.specs.Slices.{left};
 ghost use Rattle.session_check.specs.Stored.{Within};
-ghost use Rattle.session_check.specs.Check.{replyOf, Checked, inputsIn};
+ghost use Rattle.session_check.specs.Check.{inputsIn};
+ghost use Rattle.session_check.specs.Internal.{replyOfVerdict, CheckMade};
 
 // What a check comes to: stopped before the round was looked at, failed by the round itself, or passed.
 pub enum Verdict {
@@ -18,7 +19,7 @@ pub enum Verdict {
 
 // The reply that a verdict stands for.
 pub fn reply_of(verdict: Verdict) -> Reply
-    ensures { λ reply. ⌜ reply ≡ replyOf verdict ⌝ }
+    ensures { λ reply. ⌜ reply ≡ replyOfVerdict verdict ⌝ }
 {
     match verdict {
         Verdict::Stopped { number, place } => Reply::Refused { number, place },
@@ -41,7 +42,7 @@ pub fn check(
     scratch: &mut [u8],
 ) -> Verdict
     requires { ⌜ Within held ⌝ }
-    ensures { λ v. ⌜ Checked held (inputsIn sheet ballots claims head shares0 shares1 opening answers scratch) v (left scratch) ⌝ }
+    ensures { λ v. ⌜ CheckMade held (inputsIn sheet ballots claims head shares0 shares1 opening answers scratch) v (left scratch) ⌝ }
 {
     let mut public = [0u8; 81920];
     let reading = sheet::load(sheet, &mut public);
@@ -62,7 +63,7 @@ pub fn check(
         ),
         sheet::Reading::Refused { number } => {
             let reply = Reply::Refused { number, place: 0 };
-            scratch::sweep(reply, scratch);
+            scratch::zeroize(reply, scratch);
             Verdict::Stopped { number, place: 0 }
         }
     }

@@ -10,12 +10,12 @@ ghost use lib.ListN.{take};
 ghost use Rattle.codec.specs.Slices.{given, left};
 ghost use Rattle.codec.specs.declared.Reply.the-variants.{Taken};
 ghost use Rattle.sheet.specs.Reader.{sheetOf};
-ghost use Rattle.commitment.specs.Loaded.{Loaded};
-ghost use Rattle.round.specs.Sheets.{parameters};
+ghost use Rattle.commitment.specs.Internal.{Loaded};
+ghost use Rattle.commitment.specs.Parameters.{parameters};
 ghost use Rattle.session_digests.specs.Draw.{drawnChallenges};
 ghost use Rattle.session_check.specs.Stored.{Within, sideOf, challengesOf};
-ghost use Rattle.session_check.specs.Check.{verdict, inputsIn};
-ghost use Rattle.session_check.specs.Parts.{TakenChecked};
+ghost use Rattle.session_check.specs.Check.{inputsIn};
+ghost use Rattle.session_check.specs.Internal.{verdict, TakenChecked};
 
 // The challenges that are drawn for a round, at the head of room for as many as there can be.
 fn challenges_of(seed: &[u8; 32], round: u16, repeats: usize) -> [u8; 256]
@@ -76,7 +76,7 @@ fn check_drawn(
     match early {
         Reply::Refused { number, place } => {
             let reply = Reply::Refused { number, place };
-            scratch::sweep(reply, scratch);
+            scratch::zeroize(reply, scratch);
             Verdict::Stopped { number, place }
         }
         Reply::Taken => verdict_of(round_check::check_round(

@@ -9,7 +9,7 @@ use lib.Dec.{eqb}
 use Rattle.codec.specs.Bytes.{Bytes, part}
 use Rattle.sha3.specs.Sponge.{sha3}
 use Rattle.hasher.specs.declared.Hasher.{Hasher}
-use Rattle.hasher.specs.Hasher.{holding, updated, finished}
+use Rattle.hasher.specs.Internal.{holding, updated, finished}
 use Rattle.hasher.proofs.Laws.{taken, finished-holding}
 use Rattle.register.specs.Register.{stateAt, digestAt, standing, standingDigests}
 use Rattle.session_digests.specs.Digests.{concatenated, ballotDigests, closingDigest}

@@ -15,7 +15,7 @@ use Rattle.stern.proofs.Sound.{parts}
 use Rattle.round.proofs.Tests.{differ}
 use Rattle.session_digests.specs.Digests.{concatenated, ballotDigests, closingDigest, claimDigest, roundDigest}
 use Rattle.session_digests.proofs.Laws.{Long, length-ballotDigests}
-use Rattle.session_check.specs.Check.{Inputs}
+use Rattle.session_check.specs.Stored.{Inputs}
 use Rattle.session.specs.declared.Session.{Session}
 use Rattle.session.specs.Session.{trailAt}
 use Rattle.session.specs.Machine.{reply}

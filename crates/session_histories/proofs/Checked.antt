@@ -10,15 +10,16 @@ use Rattle.codec.proofs.Replies.{taken-exactly}
 use Rattle.round.specs.Accepted.{Accepted}
 use Rattle.round.proofs.Many.{none-append, append-none}
 use Rattle.round.proofs.Accepted.{none-exactly}
-use Rattle.round_lengths.specs.Sheets.{parametersOf}
-use Rattle.session_check.specs.Check.{Inputs, lateTests, drawnRound}
+use Rattle.commitment.specs.Parameters.{parametersOf}
+use Rattle.session_check.specs.Check.{lateTests}
 use Rattle.session_check.proofs.Laws.{early-exactly}
 use Rattle.session.specs.declared.Session.{Session}
 use Rattle.session.specs.Steps.{storedFor, checkEarly, checkLate, checkTests}
 use Rattle.session.specs.Machine.{Step, clear, admit, withdraw, close, claim, commit, draw, check, State, reply}
-use Rattle.session_histories.specs.Conditions.{Reaches, Checks, Lent, Takes}
+use Rattle.session_histories.specs.Conditions.{Reaches, Checks, HeadIsBytes, Takes}
 use Rattle.session_histories.proofs.Exact.{cleared-exactly, admitted-exactly, withdrawn-exactly, closed-exactly, claimed-exactly, committed-exactly, drawn-exactly}
 use Rattle.session_histories.proofs.Valid.{ready, is-ready, on-turn, is-turn, sheet-exactly}
+use Rattle.session_check.specs.Stored.{Inputs, drawnRound}
 
 module _ (s : Session) (round : ℕ) (x : Inputs) where
   -- ---- before the round is looked at
@@ -59,7 +60,7 @@ accepted-exactly s round x octets =
     let c = checks-exactly s round x octets in
     (λ e. c .0 (t .0 e), λ h. t .1 (c .1 h))
 
-pub step-exactly : (x : Step) (st : State) → Lent x → (reply x st ≡ Taken) ↔ Takes x st
+pub step-exactly : (x : Step) (st : State) → HeadIsBytes x → (reply x st ≡ Taken) ↔ Takes x st
 unfolding reply
 step-exactly (clear b) st lent = cleared-exactly (st .register) b
 step-exactly (admit ballot) st lent = admitted-exactly (st .session) (st .register) ballot

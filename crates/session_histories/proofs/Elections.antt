@@ -12,7 +12,7 @@ use Rattle.codec.specs.declared.Reply.the-variants.{Taken}
 use Rattle.sheet.specs.Reader.{sheetOf}
 use Rattle.sheet_numbers.specs.declared.Numbers.{Numbers}
 use Rattle.scratch.specs.Call.{scratchLength}
-use Rattle.round.specs.Round.{Parameters}
+use Rattle.commitment.specs.Parameters.{Parameters, parametersOf}
 use Rattle.round.specs.Producer.{Material, producedHead, producedShares}
 use Rattle.round.specs.Accepted.{EachBelow}
 use Rattle.round.proofs.Produced.{length-producedHead, length-producedShares, length-producedClaims}
@@ -23,8 +23,7 @@ use Rattle.sheet.specs.Sheet.{order}
 use Rattle.bgv.proofs.Sheets.{sheet-sound}
 use Rattle.session_digests.specs.Draw.{drawnSide, drawnChallenges}
 use Rattle.session_digests.proofs.Range.{side-range, length-challenges, challenge-range}
-use Rattle.round_lengths.specs.Sheets.{parametersOf}
-use Rattle.session_check.specs.Check.{Inputs}
+use Rattle.session_check.specs.Stored.{Inputs}
 use Rattle.session.specs.Steps.{on, claimedBy, committedBy, drawnBy, acceptedBy}
 use Rattle.session.specs.Machine.{Step, admit, close, claim, draw, reply}
 use Rattle.session_histories.specs.Runs.{historyAfter, Message, message}

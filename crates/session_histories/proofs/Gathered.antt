@@ -11,9 +11,8 @@ use Rattle.codec.proofs.Lists.{length-list}
 use Rattle.sha3.specs.Sponge.{sha3}
 use Rattle.sheet.specs.Reader.{sheetOf}
 use Rattle.sheet_numbers.specs.declared.Numbers.{Numbers}
-use Rattle.round.specs.Round.{Parameters}
+use Rattle.commitment.specs.Parameters.{Parameters, parametersOf}
 use Rattle.round.specs.Producer.{Material}
-use Rattle.round_lengths.specs.Sheets.{parametersOf}
 use Rattle.register.specs.Register.{registerLength, markAt, stateAt, markOf, admitted}
 use Rattle.register.proofs.Entries.{admitted-length, admitted-marks, admitted-states, admitted-mark, admitted-state}
 use Rattle.session_digests.specs.Digests.{concatenated, ballotDigests}

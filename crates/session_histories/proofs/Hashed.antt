@@ -12,13 +12,12 @@ use Rattle.sha3.proofs.Squeezing.{octets-sha3}
 use Rattle.register.specs.Register.{digestAt, standing, standingDigests}
 use Rattle.session_digests.specs.Digests.{concatenated, ballotDigests}
 use Rattle.session_digests.proofs.Laws.{concatenated-more}
-use Rattle.session_check.specs.Check.{Inputs}
+use Rattle.session_check.specs.Stored.{Inputs}
 use Rattle.session.specs.Steps.{Beginning}
 use Rattle.session.specs.Machine.{Step, clear, admit, withdraw, close, claim, commit, draw, check, State, reply}
 use Rattle.session_histories.specs.Runs.{Message, message, History, Call, emptyHistory, historyAfter}
-use Rattle.session_histories.specs.Internal.{lent, Trace, extend, trace, initial}
+use Rattle.session_histories.specs.Internal.{lent, Trace, extend, trace, initial, ChecksHashed}
 use Rattle.session_histories.specs.Bound.{lentMessage, lentBatch, batchString, claimsString, Hashed, Lodges, LodgesAll, LentBytes}
-use Rattle.session_histories.specs.Internal.{ChecksHashed}
 use Rattle.session_histories.proofs.Replies.{left}
 
 octets-none : Octets []

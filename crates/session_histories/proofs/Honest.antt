@@ -16,18 +16,18 @@ use Rattle.sheet_numbers.specs.declared.Numbers.{Numbers}
 use Rattle.sheet.specs.declared.Reading.the-variants as reading
 use Rattle.bgv.proofs.Sheets.{sheet-sound}
 use Rattle.round.specs.Layout.{ballotLength}
-use Rattle.round.specs.Round.{Parameters}
+use Rattle.commitment.specs.Parameters.{Parameters, parametersOf}
 use Rattle.round.specs.Producer.{Material, producedRound}
 use Rattle.round.proofs.Many.{none-append}
 use Rattle.round.proofs.Produced.{length-producedHead, length-producedShares, length-producedClaims, length-producedOpening, length-producedAnswers}
 use Rattle.round.proofs.Passed.{producer-exactly}
 use Rattle.round.proofs.Honest.{honest-round}
-use Rattle.round_lengths.specs.Sheets.{parametersOf}
+use Rattle.session_check.specs.Stored.{Inputs, drawnRound}
 use Rattle.session_digests.specs.Digests.{ballotDigests, closingDigest, claimDigest}
 use Rattle.session_digests.specs.Draw.{drawnSide, drawnChallenges}
 use Rattle.session_digests.proofs.Range.{side-range, length-challenges, challenge-range}
-use Rattle.session_check.specs.Check.{Inputs, lateTests, drawnRound}
-use Rattle.session_check.specs.Equations.{Sized, Held}
+use Rattle.session_check.specs.Check.{lateTests}
+use Rattle.session_check.specs.Equations.{InputsSized, Held}
 use Rattle.session.specs.declared.Session.{Session}
 use Rattle.session.specs.Session.{trailAt}
 use Rattle.session.specs.Steps.{Beginning, storedFor, checkEarly, checkLate, checkTests}
@@ -108,7 +108,7 @@ module _ (l : Trace) (k : Kept (l .session) (l .history)) (material : Material) 
 
   -- ---- the lengths
 
-  lengths : Sized (storedFor s round) x
+  lengths : InputsSized (storedFor s round) x
   lengths = rw (closed, ← numbers) (record {
     head = ap length (made .head) ∙ length-producedHead Q count material;
     shares0 = ap length (made .shares0) ∙ length-producedShares Q count material 0;

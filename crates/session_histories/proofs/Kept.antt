@@ -27,7 +27,7 @@ use Rattle.session.specs.Steps.{Beginning, cleared, admittedBy, closedBy, claim
 use Rattle.session.specs.Machine.{Step, clear, admit, withdraw, close, claim, commit, draw, check, State, state, next, reply, after}
 use Rattle.session_histories.specs.Runs.{Message, message, Call, History, emptyHistory, historyAfter}
 use Rattle.session_histories.specs.Internal.{Begins, Trace, extend, trace, initial, OwnTrace, ownInitial, ownExtend, ownTrace}
-use Rattle.session_histories.specs.Conditions.{SheetTaken, Valid, Admits, Closes, Claims, Commits, Draws}
+use Rattle.session_histories.specs.Conditions.{SheetTaken, ValidSession, Admits, Closes, Claims, Commits, Draws}
 use Rattle.session_histories.proofs.Valid.{sheet-exactly}
 use Rattle.session_histories.proofs.Stepped.{taken-turn, stepped-with}
 use Rattle.session_histories.proofs.Exact.{cleared-exactly, admitted-exactly, closed-exactly, claimed-exactly, committed-exactly, drawn-exactly}
@@ -37,7 +37,7 @@ abbrev pub messageDigest : Bytes → (k : ℕ) → Message → Bytes
 messageDigest d k m = roundDigest d k (m .head) (m .shares0) (m .shares1)
 
 pub record Kept (s : Session) (h : History) : Type 0 where
-  pub sound : Valid s
+  pub sound : ValidSession s
   pub taken : SheetTaken (h .sheet)
   pub numbers : s .numbers ≡ sheetOf (h .sheet) .numbers
   pub sheet : s .sheet ≡ sha3 (h .sheet)
@@ -70,7 +70,7 @@ kept-clear b t = record {
 }
 
 module _ (s : Session) (h : History) (k : Kept s h) where
-  abbrev v : Valid s
+  abbrev v : ValidSession s
   v = k .sound
 
   kept-admit : (reg ballot : Bytes) → Admits s reg ballot → Kept (admittedBy s) h

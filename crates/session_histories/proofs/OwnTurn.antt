@@ -15,9 +15,9 @@ use Rattle.sheet.specs.Reader.{sheetOf}
 use Rattle.sheet_numbers.specs.declared.Numbers.{Numbers}
 use Rattle.scratch.specs.Call.{scratchLength}
 use Rattle.round.specs.Producer.{Material}
-use Rattle.round_lengths.specs.Sheets.{parametersOf}
+use Rattle.commitment.specs.Parameters.{parametersOf}
 use Rattle.session_digests.specs.Digests.{concatenated}
-use Rattle.session_check.specs.Check.{Inputs}
+use Rattle.session_check.specs.Stored.{Inputs}
 use Rattle.session_progress.specs.Progress.{drawn}
 use Rattle.session.specs.Steps.{Beginning, claimedBy, committedBy}
 use Rattle.session.specs.Machine.{Step, clear, admit, withdraw, close, claim, commit, draw, check, next, reply, after}

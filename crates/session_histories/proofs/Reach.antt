@@ -11,26 +11,27 @@ use Rattle.codec.specs.declared.Reply.the-variants.{Taken, Refused}
 use Rattle.codec.proofs.Replies.{taken-exactly}
 use Rattle.sheet.specs.Reader.{sheetOf}
 use Rattle.sheet.specs.Sheet.{order}
-use Rattle.round_lengths.specs.Sheets.{parametersOf}
-use Rattle.round_lengths.proofs.Swept.{later-round}
-use Rattle.session_check.specs.Check.{Inputs, inputsSized, storedTests, earlyTests, lateTests, drawnRound}
+use Rattle.commitment.specs.Parameters.{parametersOf}
+use Rattle.round_lengths.proofs.Zeroized.{later-round}
+use Rattle.session_check.specs.Check.{inputsSized, storedTests, earlyTests, lateTests}
 use Rattle.session.specs.declared.Session.{Session}
 use Rattle.session.specs.Session.{valid}
 use Rattle.session.specs.Steps.{Beginning, dueTest, storedFor, clearTests, admitTests, withdrawTests, closeTests, claimTests, commitTests, drawTests, checkEarly, checkLate, checkTests}
 use Rattle.session.specs.Machine.{Step, clear, admit, withdraw, close, claim, commit, draw, check, State, state, reply, after}
 use Rattle.session_histories.specs.Runs.{Call}
 use Rattle.session_histories.specs.Internal.{Begins, ownInitial, initial, trace}
-use Rattle.session_histories.specs.Conditions.{Valid}
+use Rattle.session_histories.specs.Conditions.{ValidSession}
 use Rattle.session_histories.specs.Claims.{Undue}
 use Rattle.session_histories.proofs.Replies.{Others, others, others-append, later-others, head-holds}
 use Rattle.session_histories.proofs.Valid.{off-both, off-turn, valid-holds, sheet-exactly}
 use Rattle.session_histories.proofs.Stepped.{after-taken}
 use Rattle.session_histories.proofs.Exact.{cleared-exactly}
 use Rattle.session_histories.proofs.Kept.{kept}
+use Rattle.session_check.specs.Stored.{Inputs, drawnRound}
 
 pub reachable-valid : (b : Beginning) (cs : List Call) → Begins b
     → let l = trace cs (initial b) in
-    Valid (l .session) × (l .session .numbers ≡ sheetOf (l .history .sheet) .numbers)
+    ValidSession (l .session) × (l .session .numbers ≡ sheetOf (l .history .sheet) .numbers)
 reachable-valid b cs e = let k = kept b cs e in (k .sound, k .numbers)
 
 -- a clear that is taken leaves what a list of steps starts from

@@ -8,7 +8,7 @@ use Rattle.codec.specs.Reply.{Test, first, leaves}
 use Rattle.codec.specs.declared.Reply.{Reply}
 use Rattle.codec.specs.declared.Reply.the-variants.{Taken, Refused}
 use Rattle.codec.proofs.Replies.{not-taken}
-use Rattle.round_lengths.proofs.Swept.{Later}
+use Rattle.round_lengths.proofs.Zeroized.{Later}
 
 -- what is left has P, if what is left by a step taken has it, and what was there
 pub left : {A : Type 0} (P : A → Type 0) (r : Reply) {new old : A} → (r ≡ Taken → P new) → P old → P (leaves r new old)

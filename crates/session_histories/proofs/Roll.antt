@@ -22,9 +22,8 @@ use Rattle.session.specs.declared.Session.{Session}
 use Rattle.session.specs.Steps.{cleared, admittedBy, closedBy, claimedBy, committedBy, drawnBy, acceptedBy, refusedBy}
 use Rattle.session.specs.Machine.{Step, clear, admit, withdraw, close, claim, commit, draw, check, State, state, next, reply, after}
 use Rattle.session_histories.specs.Runs.{History, historyAfter, without, rollAfter}
-use Rattle.session_histories.specs.Internal.{OwnTrace, Trace, initial, ownInitial, ownExtend, ownTrace, extend, trace, calls}
+use Rattle.session_histories.specs.Internal.{OwnTrace, Trace, initial, ownInitial, ownExtend, ownTrace, extend, trace, calls, RollIsBatch, OwnRegister}
 use Rattle.session_histories.specs.Conditions.{Admits, Withdraws, Claims, Draws}
-use Rattle.session_histories.specs.Internal.{RollIsBatch, OwnRegister}
 use Rattle.session_histories.proofs.Stepped.{taken-turn, stepped-all}
 use Rattle.session_histories.proofs.Exact.{here, admitted-exactly, withdrawn-exactly, claimed-exactly, drawn-exactly}
 use Rattle.session_histories.proofs.Withdrawn.{Single, single-none, single-step}

@@ -12,14 +12,13 @@ use borrow.Author.Tests.{eqb-true}
 use Rattle.codec.specs.Bytes.{Bytes}
 use Rattle.codec.specs.declared.Reply.the-variants.{Taken}
 use Rattle.round.proofs.Many.{last}
-use Rattle.session_check.specs.Check.{Inputs}
+use Rattle.session_check.specs.Stored.{Inputs}
 use Rattle.session.specs.declared.Session.{Session}
 use Rattle.session.specs.Session.{trailAt}
 use Rattle.session.specs.Steps.{Beginning, storedFor, cleared, admittedBy, closedBy, claimedBy, committedBy, drawnBy, acceptedBy, refusedBy}
 use Rattle.session.specs.Machine.{Step, clear, admit, withdraw, close, claim, commit, draw, check, State, state, next, reply, after}
 use Rattle.session_histories.specs.Runs.{Call, call, clears}
-use Rattle.session_histories.specs.Internal.{Begins, Trace, lent, NoClear, extend, trace, initial}
-use Rattle.session_histories.specs.Internal.{StepChecked}
+use Rattle.session_histories.specs.Internal.{Begins, Trace, lent, NoClear, extend, trace, initial, StepChecked}
 use Rattle.session_histories.proofs.Stepped.{clears-refused, stepped, taken-turn}
 use Rattle.session_histories.proofs.Exact.{closed-exactly, claimed-exactly, committed-exactly, drawn-exactly}
 use Rattle.session_histories.proofs.Checked.{accepted-exactly}

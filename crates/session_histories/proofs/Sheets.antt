@@ -21,7 +21,7 @@ use Rattle.sheet_numbers.specs.declared.Numbers.{Numbers}
 use Rattle.sheet_numbers.proofs.Ranges as numbers
 use Rattle.sheet_numbers.proofs.Least.{least-largest}
 use Rattle.round.specs.Accepted.{EachBelow}
-use Rattle.session_histories.specs.Sheets.{InRange, Sound, Coefficients, ListsFit}
+use Rattle.session_histories.specs.Sheets.{NumbersInRange, NumbersSound, ListFits, ListsFit}
 
 -- none of the tests holds
 abbrev Nones : List Bool → Type 0
@@ -81,10 +81,10 @@ repeats-least rounds repeats low high = (λ h m e. go h m e (decLt (least rounds
     go h m e (yes l) = absurd (let z = least-largest rounds low high .missed-above m l in omega arith)
     go h m e (no l) = omega arith
 
-pub range-exactly : (k : Numbers) → (outside k ≡ false) ↔ InRange k
+pub range-exactly : (k : Numbers) → (outside k ≡ false) ↔ NumbersInRange k
 range-exactly k = (says, holds)
   where
-    says : outside k ≡ false → InRange k
+    says : outside k ≡ false → NumbersInRange k
     says e =
         let r = numbers.in-range k e in
         let n = nones (ranges k) (unfold outside in e) in
@@ -101,7 +101,7 @@ range-exactly k = (says, holds)
           repeats-high = r .repeats-high;
         }
 
-    holds : InRange k → outside k ≡ false
+    holds : NumbersInRange k → outside k ≡ false
     holds r = unfold outside in
         none-of (ranges k) (
           le-ltb (k .ring) 4 (r .ring-low),
@@ -134,7 +134,7 @@ range-exactly k = (says, holds)
 
 -- ---- 4
 
-pub sound-exactly : (k : Numbers) → (unsound k ≡ false) ↔ Sound k
+pub sound-exactly : (k : Numbers) → (unsound k ≡ false) ↔ NumbersSound k
 sound-exactly k = (
   λ e. let r = numbers.is-sound k e in record { divided = r .divided; noise-fits = r .noise-fits },
   λ r. unfold unsound in
@@ -158,7 +158,7 @@ every-below q xs = (says xs, holds xs)
     holds [] h = refl
     holds (x ∷ xs) h = ap₂ _&&_ (lt-ltb x q (h 0 (omega arith))) (holds xs (λ i l. h (suc i) (omega arith)))
 
-list-exactly : (n q : ℕ) (xs : List ℕ) → (fits n q xs ≡ true) ↔ Coefficients n q xs
+list-exactly : (n q : ℕ) (xs : List ℕ) → (fits n q xs ≡ true) ↔ ListFits n q xs
 unfolding allBelow
 list-exactly n q xs = (
   λ e. let h = both (eqb (length xs) n) (every (λ x. ltb x q) xs) e in record { count = eqb-true (length xs) n (h .0); below = every-below q xs .0 (h .1) },
@@ -169,7 +169,7 @@ pub lists-exactly : (s : Sheet) → (unfit s ≡ false) ↔ ListsFit s
 unfolding unfit
 lists-exactly s = (says, holds)
   where
-    one : (xs : List ℕ) → (fits (s .numbers .ring) (s .numbers .modulus) xs ≡ true) ↔ Coefficients (s .numbers .ring) (s .numbers .modulus) xs
+    one : (xs : List ℕ) → (fits (s .numbers .ring) (s .numbers .modulus) xs ≡ true) ↔ ListFits (s .numbers .ring) (s .numbers .modulus) xs
     one = list-exactly (s .numbers .ring) (s .numbers .modulus)
 
     says : not (every (fits (s .numbers .ring) (s .numbers .modulus)) (lists s)) ≡ false → ListsFit s

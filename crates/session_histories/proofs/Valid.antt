@@ -17,7 +17,7 @@ use Rattle.round.proofs.Tests.{equal-same}
 use Rattle.session.specs.declared.Session.{Session}
 use Rattle.session_progress.specs.Progress.{inLimits}
 use Rattle.session.specs.Session.{valid}
-use Rattle.session_histories.specs.Conditions.{SheetTaken, Valid}
+use Rattle.session_histories.specs.Conditions.{SheetTaken, ValidSession}
 use Rattle.session_histories.proofs.Sheets.{range-exactly, sound-exactly, lists-exactly}
 
 -- ---- tests that something is not as it must be
@@ -38,7 +38,7 @@ neither false b e = (refl, e)
 
 -- ---- a session
 
-pub valid-says : (s : Session) → valid s ≡ true → Valid s
+pub valid-says : (s : Session) → valid s ≡ true → ValidSession s
 unfolding inLimits
 valid-says s e =
     let a = both _ _ e in
@@ -57,7 +57,7 @@ valid-says s e =
       checked = leb-true _ _ (g .1);
     }
 
-pub valid-holds : (s : Session) → Valid s → valid s ≡ true
+pub valid-holds : (s : Session) → ValidSession s → valid s ≡ true
 unfolding inLimits
 valid-holds s v =
     rw (
@@ -72,10 +72,10 @@ valid-holds s v =
 
 -- ---- 31
 
-pub ready : (s : Session) (due : Bool) → not (valid s && due) ≡ false → Valid s × (due ≡ true)
+pub ready : (s : Session) (due : Bool) → not (valid s && due) ≡ false → ValidSession s × (due ≡ true)
 ready s due e = let h = both (valid s) due (not-false _ e) in (valid-says s (h .0), h .1)
 
-pub is-ready : (s : Session) {due : Bool} → Valid s → due ≡ true → not (valid s && due) ≡ false
+pub is-ready : (s : Session) {due : Bool} → ValidSession s → due ≡ true → not (valid s && due) ≡ false
 is-ready s v e = ap not (ap₂ _&&_ (valid-holds s v) e)
 
 -- in a phase, a round is due

@@ -12,7 +12,7 @@ use Rattle.sheet.specs.Reader.{sheetOf}
 use Rattle.round.specs.Extractor.{Collision}
 use Rattle.round.specs.Layout.{ballotLength}
 use Rattle.session_digests.specs.Digests.{concatenated, ballotDigests}
-use Rattle.session_check.specs.Check.{Inputs}
+use Rattle.session_check.specs.Stored.{Inputs}
 use Rattle.session.specs.Machine.{Step, clear, admit, withdraw, close, claim, commit, draw, check}
 use Rattle.session_histories.specs.Runs.{Message, message, History, Call}
 

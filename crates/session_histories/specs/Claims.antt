@@ -9,14 +9,13 @@ use Rattle.codec.specs.Bytes.{Bytes}
 use Rattle.sheet.specs.Reader.{sheetOf}
 use Rattle.scratch.specs.Call.{scratchLength}
 use Rattle.round.specs.Layout.{ballotLength}
-use Rattle.round.specs.Round.{Parameters}
-use Rattle.round.specs.Producer.{Material, Sized, producedHead, producedShares, producedClaims, producedOpening, producedAnswers}
+use Rattle.commitment.specs.Parameters.{Parameters, parametersOf}
+use Rattle.round.specs.Producer.{Material, MaterialSized, producedHead, producedShares, producedClaims, producedOpening, producedAnswers}
 use Rattle.round.specs.Suitable.{Suitable}
-use Rattle.round_lengths.specs.Sheets.{parametersOf}
+use Rattle.session_check.specs.Stored.{Inputs}
 use Rattle.register.specs.Register.{markAt, digestAt, standing}
 use Rattle.session_digests.specs.Digests.{ballotDigests, closingDigest}
 use Rattle.session_digests.specs.Draw.{drawnSide, drawnChallenges}
-use Rattle.session_check.specs.Check.{Inputs}
 use Rattle.session.specs.declared.Session.{Session}
 use Rattle.session_progress.specs.Progress.{gathering, closed, claimed, drawn}
 use Rattle.session.specs.Machine.{Step, clear, admit, withdraw, close, claim, commit, draw, check}
@@ -42,7 +41,7 @@ pub record ClosedWithout (mark : ℕ) (reg : Bytes) (s : Session) : Type 0 where
 -- what the producer makes of material, as a check of round k is lent it: made for the parameters of a sheet, m ballots, and what a seed draws
 module _ (P : Parameters) (m : ℕ) (material : Material) (seed : Bytes) (k : ℕ) where
   pub record Produced (x : Inputs) : Type 0 where
-    pub sized : Sized P m material  -- 1
+    pub sized : MaterialSized P m material  -- 1
     pub suitable : Suitable P m material  -- 5, 14, 12, 9, 15
     pub ballots : x .ballots ≡ material .ballots
     pub claims : x .claims ≡ producedClaims P m material

@@ -12,15 +12,15 @@ use Rattle.sheet_numbers.specs.Plain.{plain}
 use Rattle.vector.specs.Vector.{vector}
 use Rattle.round.specs.Layout.{headLength}
 use Rattle.round.specs.Accepted.{EachBelow, Accepted}
-use Rattle.round_lengths.specs.Sheets.{parametersOf}
+use Rattle.commitment.specs.Parameters.{parametersOf}
 use Rattle.register.specs.Register.{markAt, stateAt, markOf}
-use Rattle.session_check.specs.Check.{Inputs, drawnRound}
-use Rattle.session_check.specs.Equations.{Sized, Held}
+use Rattle.session_check.specs.Stored.{Inputs, drawnRound}
+use Rattle.session_check.specs.Equations.{InputsSized, Held}
 use Rattle.session.specs.declared.Session.{Session}
 use Rattle.session_progress.specs.Progress.{gathering, closed, claimed, drawn}
 use Rattle.session.specs.Steps.{Beginning, storedFor}
 use Rattle.session.specs.Machine.{Step, clear, admit, withdraw, close, claim, commit, draw, check, State}
-use Rattle.session_histories.specs.Sheets.{InRange, Sound, ListsFit}
+use Rattle.session_histories.specs.Sheets.{NumbersInRange, NumbersSound, ListsFit}
 
 -- a sheet that is taken
 pub record SheetTaken (text : Bytes) : Type 0 where
@@ -28,15 +28,15 @@ pub record SheetTaken (text : Bytes) : Type 0 where
   pub few : length text ≤ 262144  -- 1
   pub form : text ≡ written (sheetOf text)  -- 2, the ten lines
   pub decimals : AllPlain (rowsOf (sheetOf text))  -- 2, at least one number in each, of at most 17 digits
-  pub inside : InRange (sheetOf text .numbers)  -- 3
-  pub sound : Sound (sheetOf text .numbers)  -- 4
+  pub inside : NumbersInRange (sheetOf text .numbers)  -- 3
+  pub sound : NumbersSound (sheetOf text .numbers)  -- 4
   pub fit : ListsFit (sheetOf text)  -- 5
 
 -- a session with a known phase, counts within their limits, and numbers that 3 and 4 take
-pub record Valid (s : Session) : Type 0 where
+pub record ValidSession (s : Session) : Type 0 where
   pub phase : s .progress .phase ≤ 5
-  pub inside : InRange (s .numbers)
-  pub sound : Sound (s .numbers)
+  pub inside : NumbersInRange (s .numbers)
+  pub sound : NumbersSound (s .numbers)
   pub used : s .progress .used ≤ 4096
   pub closed : s .progress .closed ≤ 4096
   pub committed : s .progress .committed ≤ s .numbers .rounds
@@ -47,7 +47,7 @@ pub record Clears (reg : Bytes) (b : Beginning) : Type 0 where
   pub sheet : SheetTaken (b .sheet)  -- 1 to 5
 
 pub record Admits (s : Session) (reg ballot : Bytes) : Type 0 where
-  pub sound : Valid s  -- 31
+  pub sound : ValidSession s  -- 31
   pub phase : s .progress .phase ≡ gathering  -- 31
   pub register-size : length reg ≡ 163840  -- 1
   pub ballot-size : length ballot ≡ 4 + 16 * s .numbers .ring  -- 1
@@ -57,7 +57,7 @@ pub record Admits (s : Session) (reg ballot : Bytes) : Type 0 where
 
 -- `at` is the first entry with the mark
 pub record Withdraws (s : Session) (reg : Bytes) (mark : ℕ) : Type 0 where
-  pub sound : Valid s  -- 31
+  pub sound : ValidSession s  -- 31
   pub phase : s .progress .phase ≡ gathering  -- 31
   pub register-size : length reg ≡ 163840  -- 1
   pub at : ℕ
@@ -68,7 +68,7 @@ pub record Withdraws (s : Session) (reg : Bytes) (mark : ℕ) : Type 0 where
 
 -- `at` is an entry that stands
 pub record Closes (s : Session) (reg : Bytes) : Type 0 where
-  pub sound : Valid s  -- 31
+  pub sound : ValidSession s  -- 31
   pub phase : s .progress .phase ≡ gathering  -- 31
   pub register-size : length reg ≡ 163840  -- 1
   pub at : ℕ
@@ -76,13 +76,13 @@ pub record Closes (s : Session) (reg : Bytes) : Type 0 where
   pub stands : stateAt reg at ≡ 1  -- 36
 
 pub record Claims (s : Session) (claims : Bytes) : Type 0 where
-  pub sound : Valid s  -- 31
+  pub sound : ValidSession s  -- 31
   pub phase : s .progress .phase ≡ closed  -- 31
   pub size : length claims ≡ s .numbers .ring * s .progress .closed  -- 1
   pub votes : EachBelow (plain (s .numbers)) claims  -- 5
 
 pub record Commits (s : Session) (round : ℕ) (head shares0 shares1 : Bytes) : Type 0 where
-  pub sound : Valid s  -- 31
+  pub sound : ValidSession s  -- 31
   pub phase : s .progress .phase ≡ claimed  -- 31
   pub due : round ≡ s .progress .committed  -- 31
   pub within : round < s .numbers .rounds  -- 31
@@ -91,22 +91,22 @@ pub record Commits (s : Session) (round : ℕ) (head shares0 shares1 : Bytes) : 
   pub shares1-size : length shares1 ≡ 8 * s .numbers .ring * s .progress .closed  -- 1
 
 pub record Draws (s : Session) (seed : Bytes) : Type 0 where
-  pub sound : Valid s  -- 31
+  pub sound : ValidSession s  -- 31
   pub phase : s .progress .phase ≡ claimed  -- 31
   pub all : s .progress .committed ≡ s .numbers .rounds  -- 31
   pub size : length seed ≡ 32  -- 1
 
--- a check that looks at the round itself: nothing that comes before it in the order of check holds. Lengths and digests, in equations: checking, specs/Equations.antt
+-- a check that looks at the round itself: nothing that comes before it in the order of check holds. Lengths and digests, in equations: session_check, specs/Equations.antt
 pub record Reaches (s : Session) (round : ℕ) (x : Inputs) : Type 0 where
-  pub sound : Valid s  -- 31
+  pub sound : ValidSession s  -- 31
   pub phase : s .progress .phase ≡ drawn  -- 31
   pub due : round ≡ s .progress .checked  -- 31
   pub within : round < s .numbers .rounds  -- 31
   pub sheet : SheetTaken (x .sheet)  -- 1 to 5
-  pub lengths : Sized (storedFor s round) x  -- 1, by the session's numbers and closed count
+  pub lengths : InputsSized (storedFor s round) x  -- 1, by the session's numbers and closed count
   pub matches : Held (storedFor s round) x  -- 16, what is lent is what the session holds the digests of
 
--- all that an accepted check has found, in any round; what a round is accepted for, in propositions: transcript, specs/Accepted.antt
+-- all that an accepted check has found, in any round; what a round is accepted for, in propositions: round, specs/Accepted.antt
 pub record Checks (s : Session) (round : ℕ) (x : Inputs) : Type 0 where
   pub reaches : Reaches s round x  -- 31, the sheet's 1 to 5, 1, 16
   pub accepted : Accepted (parametersOf (x .sheet)) (s .progress .closed) (drawnRound (storedFor s round) x)  -- 5 to 13
@@ -124,5 +124,5 @@ Takes (draw seed) st = Draws (st .session) seed
 Takes (check k x) st = Checks (st .session) k x
 
 -- what a check is lent is bytes
-abbrev pub Lent : Step → Type 0
-Lent x = (k : ℕ) (y : Inputs) → x ≡ check k y → Octets (y .head)
+abbrev pub HeadIsBytes : Step → Type 0
+HeadIsBytes x = (k : ℕ) (y : Inputs) → x ≡ check k y → Octets (y .head)

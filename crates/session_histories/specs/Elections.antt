@@ -10,15 +10,14 @@ use Rattle.sheet.specs.Reader.{sheetOf}
 use Rattle.scratch.specs.Call.{scratchLength}
 use Rattle.vector.specs.Vector.{vector}
 use Rattle.round.specs.Layout.{ballotLength}
-use Rattle.round.specs.Round.{Parameters}
+use Rattle.commitment.specs.Parameters.{Parameters, parametersOf}
 use Rattle.round.specs.Accepted.{EachBelow}
-use Rattle.round.specs.Producer.{Material, Sized, producedHead, producedShares, producedClaims, producedOpening, producedAnswers}
+use Rattle.round.specs.Producer.{Material, MaterialSized, producedHead, producedShares, producedClaims, producedOpening, producedAnswers}
 use Rattle.round.specs.Suitable.{Suitable}
-use Rattle.round_lengths.specs.Sheets.{parametersOf}
+use Rattle.session_check.specs.Stored.{Inputs, inputsOf}
 use Rattle.register.specs.Register.{markOf}
 use Rattle.session_digests.specs.Digests.{concatenated}
 use Rattle.session_digests.specs.Draw.{drawnSide, drawnChallenges}
-use Rattle.session_check.specs.Check.{Inputs, inputsOf}
 use Rattle.session.specs.Machine.{Step, admit, close, claim, commit, draw, check}
 
 -- m ballots, material for each round, claims and a seed
@@ -41,7 +40,7 @@ module _ (sheet : Bytes) (m : ℕ) (ballot : ℕ → Bytes) (material : ℕ → 
     pub ballot-range : (i : ℕ) → i < m → EachBelow (P .q) (vector (drop 4 (ballot i)))
     pub marks : (i j : ℕ) → i < j → j < m → markOf (ballot i) ≢ markOf (ballot j)
     pub over-batch : (k : ℕ) → k < rounds → material k .ballots ≡ batch
-    pub sized : (k : ℕ) → k < rounds → Sized P m (material k)
+    pub sized : (k : ℕ) → k < rounds → MaterialSized P m (material k)
     pub suitable : (k : ℕ) → k < rounds → Suitable P m (material k)
     pub votes : (k : ℕ) → k < rounds → producedClaims P m (material k) ≡ claims
     pub seed-size : length seed ≡ 32

@@ -12,7 +12,7 @@ use Rattle.sheet.specs.Sheet.{order}
 use Rattle.round.specs.Layout.{ballotLength}
 use Rattle.register.specs.Register.{registerLength}
 use Rattle.session_digests.specs.Digests.{concatenated, ballotDigests}
-use Rattle.session_check.specs.Check.{Inputs}
+use Rattle.session_check.specs.Stored.{Inputs}
 use Rattle.session.specs.declared.Session.{Session}
 use Rattle.session.specs.Steps.{Beginning, cleared, storedFor}
 use Rattle.session.specs.Machine.{Step, check, State, state, reply, after}

@@ -10,7 +10,7 @@ use Rattle.sheet_numbers.specs.declared.Numbers.{Numbers}
 use Rattle.round.specs.Accepted.{EachBelow}
 
 -- 3: each number is in its range
-pub record InRange (k : Numbers) : Type 0 where
+pub record NumbersInRange (k : Numbers) : Type 0 where
   pub ring-low : 4 ≤ k .ring
   pub ring-high : k .ring ≤ 2048
   pub ring-power : (j : ℕ) × (k .ring ≡ 2 ^ j)
@@ -24,18 +24,18 @@ pub record InRange (k : Numbers) : Type 0 where
   pub repeats-high : k .repeats ≤ 256
 
 -- 4: 2N divides q - 1, and (1 + 2^d) D is below (q - 1)/2
-pub record Sound (k : Numbers) : Type 0 where
+pub record NumbersSound (k : Numbers) : Type 0 where
   pub divided : (k .modulus - 1) % (2 * k .ring) ≡ 0
   pub noise-fits : (1 + 2 ^ k .drown) * noiseOf k < (k .modulus - 1) / 2
 
 -- 5: N coefficients below q
-pub record Coefficients (n q : ℕ) (xs : List ℕ) : Type 0 where
+pub record ListFits (n q : ℕ) (xs : List ℕ) : Type 0 where
   pub count : length xs ≡ n
   pub below : EachBelow q xs
 
 pub record ListsFit (s : Sheet) : Type 0 where
-  pub a : Coefficients (s .numbers .ring) (s .numbers .modulus) (s .a)
-  pub b : Coefficients (s .numbers .ring) (s .numbers .modulus) (s .b)
-  pub k1 : Coefficients (s .numbers .ring) (s .numbers .modulus) (s .k1)
-  pub k2 : Coefficients (s .numbers .ring) (s .numbers .modulus) (s .k2)
-  pub k3 : Coefficients (s .numbers .ring) (s .numbers .modulus) (s .k3)
+  pub a : ListFits (s .numbers .ring) (s .numbers .modulus) (s .a)
+  pub b : ListFits (s .numbers .ring) (s .numbers .modulus) (s .b)
+  pub k1 : ListFits (s .numbers .ring) (s .numbers .modulus) (s .k1)
+  pub k2 : ListFits (s .numbers .ring) (s .numbers .modulus) (s .k2)
+  pub k3 : ListFits (s .numbers .ring) (s .numbers .modulus) (s .k3)

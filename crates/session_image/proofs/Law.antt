@@ -12,7 +12,8 @@ use Rattle.codec.proofs.Numbers.{length-bytes, number-bytes, bytes-number}
 use Rattle.session_digests.specs.Digests.{concatenated}
 use Rattle.session_digests.proofs.Laws.{concatenated-append}
 use Rattle.session.specs.declared.Session.{Session}
-use Rattle.session_image.specs.Image.{imageLength, size, values, start, head, batch, rounds, fields, at, encode, decode, Typed}
+use Rattle.session_image.specs.Image.{imageLength, size, values, start, head, batch, rounds, fields, at, encode, decode}
+use Rattle.session_image.specs.Internal.{Typed}
 use Rattle.session_image.proofs.Pieces.{Fits, fits-append, length-values, named, taken-out, cut, concatenated-cut}
 
 -- ---- of a session

@@ -10,11 +10,12 @@ use Rattle.codec.specs.declared.Reply.{Reply}
 use Rattle.codec.specs.declared.Reply.the-variants.{Refused}
 use Rattle.session.specs.declared.Session.{Session}
 use Rattle.session.specs.declared.Stepped.{Stepped}
-use Rattle.scratch.specs.Call.{swept}
-use Rattle.session_check.specs.Check.{Inputs}
-use Rattle.session.specs.Machine.{Step, check, State, state, reply, after, Done, Checked}
+use Rattle.scratch.specs.Call.{zeroized}
+use Rattle.session_check.specs.Stored.{Inputs}
+use Rattle.session.specs.Machine.{Step, check, State, state, reply, after}
+use Rattle.session.specs.Internal.{Done, CheckDone}
 use Rattle.session_image.specs.Image.{imageLength, encode, decode}
-use Rattle.session_image.specs.Images.{Host, host, lentReply, hostReply, hostAfter, Called, CheckCalled}
+use Rattle.session_image.specs.Images.{Host, host, lentReply, hostReply, hostAfter, StepCalled, CheckCalled}
 
 module _ (image : Bytes) (asked : Session → Reply) where
   -- an image of another length is refused 1
@@ -27,13 +28,13 @@ module _ (image : Bytes) (asked : Session → Reply) where
 
 module _ (x : Step) (h : Host) where
   -- everything is left
-  pub wrong : length (h .image) ≢ imageLength → Called x h 1 h
+  pub wrong : length (h .image) ≢ imageLength → StepCalled x h 1 h
   unfolding hostReply hostAfter
   wrong short = let e = ne-eqb (length (h .image)) imageLength short in record { replied = rw e; image-left = rw e; register-left = rw e }
 
   -- the session that the step leaves is stored
   pub over : length (h .image) ≡ imageLength → {s : Session} → s ≡ decode (h .image) → {r : Stepped} {register image : Bytes} {answer : ℕ} → Done x (state s (h .register)) r register
-      → (answer ≡ packed (r .reply)) × (image ≡ encode (r .session)) → Called x h answer (host image register)
+      → (answer ≡ packed (r .reply)) × (image ≡ encode (r .session)) → StepCalled x h answer (host image register)
   unfolding hostReply hostAfter
   over long held d k =
       let e = eq-eqb (length (h .image)) imageLength long in
@@ -48,18 +49,18 @@ module _ (x : Step) (h : Host) where
 
 module _ (round : ℕ) (x : Inputs) (image : Bytes) where
   pub wrong-check : length image ≢ imageLength → CheckCalled round x image 1 image (x .scratch)
-  unfolding hostReply swept
+  unfolding hostReply zeroized
   wrong-check short = record {
     called = λ register. wrong (check round x) (host image register) short;
     cleared = λ register. rw (ne-eqb (length image) imageLength short);
   }
 
-  pub over-check : length image ≡ imageLength → {s : Session} → s ≡ decode image → {r : Stepped} {scratch image' : Bytes} {answer : ℕ} → Checked round x s r scratch
+  pub over-check : length image ≡ imageLength → {s : Session} → s ≡ decode image → {r : Stepped} {scratch image' : Bytes} {answer : ℕ} → CheckDone round x s r scratch
       → (answer ≡ packed (r .reply)) × (image' ≡ encode (r .session)) → CheckCalled round x image answer image' scratch
   unfolding hostReply
   over-check long held d k = record {
     called = λ register. over (check round x) (host image register) long held (d .done register) k;
     cleared = λ register. d .cleared
-        ∙ ap (λ (q : Reply). swept q (x .scratch))
+        ∙ ap (λ (q : Reply). zeroized q (x .scratch))
         (d .done register .replied ∙ ap (λ (z : Session). reply (check round x) (state z register)) held ∙ sym (held-reply image (λ (z : Session). reply (check round x) (state z register)) long));
   }

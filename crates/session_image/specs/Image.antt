@@ -1,11 +1,10 @@
 -- The byte image of a session (document 01, "Register and session"): its fields one after the other, little-endian. Assumes nothing.
-use mathlib.Core.Path.{_≡_}
 use mathlib.Core.Bool.{cond}
 use mathlib.Core.List.{List, [], _∷_, _++_}
-use Prim.Native.Nat.{ℕ, _+_, _<_, _^_}
+use Prim.Native.Nat.{ℕ, _+_}
 use Prim.Native.String.{String}
 use lib.Text.{eqt}
-use lib.ListN.{length, getD}
+use lib.ListN.{getD}
 use Rattle.codec.specs.Bytes.{Bytes, bytes, number, part}
 use Rattle.session_digests.specs.Digests.{concatenated}
 use Rattle.session.specs.declared.Session.{Session}
@@ -115,21 +114,3 @@ decode b = record {
   seed = at b "seed";
   trail = at b "trail";
 }
-
--- what the types of the fields say
-pub record Typed (s : Session) : Type 0 where
-  pub phase-fits : s .progress .phase < 256
-  pub ring-fits : s .numbers .ring < 2 ^ 64
-  pub modulus-fits : s .numbers .modulus < 2 ^ 64
-  pub drown-fits : s .numbers .drown < 2 ^ 64
-  pub rounds-fits : s .numbers .rounds < 2 ^ 64
-  pub repeats-fits : s .numbers .repeats < 2 ^ 64
-  pub sheet-long : length (s .sheet) ≡ 32
-  pub used-fits : s .progress .used < 2 ^ 64
-  pub closed-fits : s .progress .closed < 2 ^ 64
-  pub closing-long : length (s .closing) ≡ 32
-  pub claim-long : length (s .claim) ≡ 32
-  pub committed-fits : s .progress .committed < 2 ^ 64
-  pub seed-long : length (s .seed) ≡ 32
-  pub checked-fits : s .progress .checked < 2 ^ 64
-  pub trail-long : length (s .trail) ≡ 4096

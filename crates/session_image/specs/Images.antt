@@ -9,9 +9,9 @@ use Rattle.codec.specs.Bytes.{Bytes}
 use Rattle.codec.specs.Reply.{first, leaves, packed}
 use Rattle.codec.specs.declared.Reply.{Reply}
 use Rattle.codec.specs.declared.Reply.the-variants.{Refused}
-use Rattle.scratch.specs.Call.{swept}
+use Rattle.scratch.specs.Call.{zeroized}
 use Rattle.register.specs.Register as entries
-use Rattle.session_check.specs.Check.{Inputs}
+use Rattle.session_check.specs.Stored.{Inputs}
 use Rattle.session.specs.declared.Session.{Session}
 use Rattle.session.specs.declared.Turnout.{Turnout}
 use Rattle.session.specs.declared.Turnout.the-variants as turnout
@@ -45,19 +45,19 @@ hostAfter x h =
 
 -- ---- what a call promises: the number that it answers, and the image and the register that it leaves
 
-pub record Called (x : Step) (h : Host) (answer : ℕ) (h' : Host) : Type 0 where
+pub record StepCalled (x : Step) (h : Host) (answer : ℕ) (h' : Host) : Type 0 where
   pub replied : answer ≡ packed (hostReply x h)
   pub image-left : h' .image ≡ hostAfter x h .image
   pub register-left : h' .register ≡ hostAfter x h .register
 
 -- the same of a step that is lent no register: with any, which it leaves
-abbrev pub CalledAlone : Step → (image : Bytes) (answer : ℕ) (image' : Bytes) → Type 0
-CalledAlone x image answer image' = (register : Bytes) → Called x (host image register) answer (host image' register)
+abbrev pub StepCalledAlone : Step → (image : Bytes) (answer : ℕ) (image' : Bytes) → Type 0
+StepCalledAlone x image answer image' = (register : Bytes) → StepCalled x (host image register) answer (host image' register)
 
 -- and of a check, with what it leaves in scratch
 pub record CheckCalled (round : ℕ) (x : Inputs) (image : Bytes) (answer : ℕ) (image' scratch' : Bytes) : Type 0 where
-  pub called : CalledAlone (check round x) image answer image'
-  pub cleared : (register : Bytes) → scratch' ≡ swept (hostReply (check round x) (host image register)) (x .scratch)
+  pub called : StepCalledAlone (check round x) image answer image'
+  pub cleared : (register : Bytes) → scratch' ≡ zeroized (hostReply (check round x) (host image register)) (x .scratch)
 
 -- ---- the two that leave the session as it is
 

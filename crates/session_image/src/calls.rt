@@ -4,11 +4,11 @@ ghost use mathlib.Core.Path.{_≡_};
 ghost use Rattle.codec.specs.Slices.{given, left};
 ghost use Rattle.session.specs.Steps.{on};
 ghost use Rattle.session.specs.Machine.{clear, admit, withdraw, close, claim, commit, draw};
-ghost use Rattle.session_image.specs.Images.{host, Called, CalledAlone};
+ghost use Rattle.session_image.specs.Images.{host, StepCalled, StepCalledAlone};
 
 // Starts anew, on a sheet and with an empty register, whatever the image holds.
 pub fn clear(image: &mut [u8], reg: &mut [u8], sheet: &[u8]) -> u64
-    ensures { λ answer. ⌜ Called (clear (on (given sheet))) (host (given image) (given reg)) answer (host (left image) (left reg)) ⌝ }
+    ensures { λ answer. ⌜ StepCalled (clear (on (given sheet))) (host (given image) (given reg)) answer (host (left image) (left reg)) ⌝ }
 {
     if image.len() != crate::IMAGE {
         return 1;
@@ -20,7 +20,7 @@ pub fn clear(image: &mut [u8], reg: &mut [u8], sheet: &[u8]) -> u64
 
 // Admits a ballot.
 pub fn admit(image: &mut [u8], reg: &mut [u8], ballot: &[u8]) -> u64
-    ensures { λ answer. ⌜ Called (admit (given ballot)) (host (given image) (given reg)) answer (host (left image) (left reg)) ⌝ }
+    ensures { λ answer. ⌜ StepCalled (admit (given ballot)) (host (given image) (given reg)) answer (host (left image) (left reg)) ⌝ }
 {
     if image.len() != crate::IMAGE {
         return 1;
@@ -32,7 +32,7 @@ pub fn admit(image: &mut [u8], reg: &mut [u8], ballot: &[u8]) -> u64
 
 // Withdraws the ballot with a mark.
 pub fn withdraw(image: &mut [u8], reg: &mut [u8], mark: u32) -> u64
-    ensures { λ answer. ⌜ Called (withdraw mark) (host (given image) (given reg)) answer (host (left image) (left reg)) ⌝ }
+    ensures { λ answer. ⌜ StepCalled (withdraw mark) (host (given image) (given reg)) answer (host (left image) (left reg)) ⌝ }
 {
     if image.len() != crate::IMAGE {
         return 1;
@@ -44,7 +44,7 @@ pub fn withdraw(image: &mut [u8], reg: &mut [u8], mark: u32) -> u64
 
 // Closes the batch of the standing entries.
 pub fn close(image: &mut [u8], reg: &[u8]) -> u64
-    ensures { λ answer. ⌜ Called close (host (given image) (given reg)) answer (host (left image) (given reg)) ⌝ }
+    ensures { λ answer. ⌜ StepCalled close (host (given image) (given reg)) answer (host (left image) (given reg)) ⌝ }
 {
     if image.len() != crate::IMAGE {
         return 1;
@@ -56,7 +56,7 @@ pub fn close(image: &mut [u8], reg: &[u8]) -> u64
 
 // Takes the claims.
 pub fn claim(image: &mut [u8], claims: &[u8]) -> u64
-    ensures { λ answer. ⌜ CalledAlone (claim (given claims)) (given image) answer (left image) ⌝ }
+    ensures { λ answer. ⌜ StepCalledAlone (claim (given claims)) (given image) answer (left image) ⌝ }
 {
     if image.len() != crate::IMAGE {
         return 1;
@@ -68,7 +68,7 @@ pub fn claim(image: &mut [u8], claims: &[u8]) -> u64
 
 // Commits the first message of a round.
 pub fn commit(image: &mut [u8], round: u64, head: &[u8], shares0: &[u8], shares1: &[u8]) -> u64
-    ensures { λ answer. ⌜ CalledAlone (commit round (given head) (given shares0) (given shares1)) (given image) answer (left image) ⌝ }
+    ensures { λ answer. ⌜ StepCalledAlone (commit round (given head) (given shares0) (given shares1)) (given image) answer (left image) ⌝ }
 {
     if image.len() != crate::IMAGE {
         return 1;
@@ -80,7 +80,7 @@ pub fn commit(image: &mut [u8], round: u64, head: &[u8], shares0: &[u8], shares1
 
 // Takes the seed.
 pub fn draw(image: &mut [u8], seed: &[u8]) -> u64
-    ensures { λ answer. ⌜ CalledAlone (draw (given seed)) (given image) answer (left image) ⌝ }
+    ensures { λ answer. ⌜ StepCalledAlone (draw (given seed)) (given image) answer (left image) ⌝ }
 {
     if image.len() != crate::IMAGE {
         return 1;

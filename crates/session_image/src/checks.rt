@@ -54,7 +54,7 @@ pub fn challenges(image: &[u8], round: u64, out: &mut [u8]) -> u64
 }
 
 // The answer of a turnout as the one number that the C host is given.
-fn pack(answer: Turnout) -> u64
+fn pack_turnout(answer: Turnout) -> u64
     ensures { λ r. ⌜ r ≡ countedAnswer answer ⌝ }
 {
     match answer {
@@ -71,5 +71,5 @@ pub fn turnout(image: &[u8], reg: &[u8], enrolled: u64) -> u64
         return 1;
     }
     let session = crate::load(image);
-    pack(session.turnout(reg, enrolled))
+    pack_turnout(session.turnout(reg, enrolled))
 }

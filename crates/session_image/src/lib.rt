@@ -13,7 +13,7 @@ ghost use Rattle.codec.specs.Reply.{packed};
 ghost use Rattle.codec.specs.Slices.{given, left};
 ghost use Rattle.codec.specs.Bytes.{part, put};
 ghost use Rattle.session_digests.specs.Digests.{concatenated};
-ghost use Rattle.session_image.specs.Image.{imageLength, size, values, encode, decode, head, batch, rounds, Typed};
+ghost use Rattle.session_image.specs.Image.{imageLength, size, values, encode, decode, head, batch, rounds};
 
 // Where each field begins: behind the one before it. The length of an image is where the last one ends.
 const PHASE: usize = 0;
@@ -47,11 +47,6 @@ const CHECKED: usize = SEED + 32;
 const TRAIL: usize = CHECKED + 8;
 
 pub const IMAGE: usize = TRAIL + 4096;
-
-// What the types say of a session, as a fact that a caller's proof can cite; it does nothing.
-pub fn typed(session: Session)
-    ensures { λ _. ⌜ Typed session ⌝ }
-{}
 
 // The 32 bytes at a place.
 fn read_digest(image: &[u8], at: usize) -> [u8; 32]

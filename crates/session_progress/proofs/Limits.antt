@@ -8,7 +8,7 @@ use borrow.Author.Tests.{eq-eqb, ne-eqb, eqb-true, leb-true, ltb-true, not-true}
 use Rattle.codec.proofs.Laws.{both}
 use Rattle.sheet_numbers.specs.Rules.{outside, unsound}
 use Rattle.sheet_numbers.specs.declared.Numbers.{Numbers}
-use Rattle.sheet_numbers.proofs.Ranges.{InRange, in-range}
+use Rattle.sheet_numbers.proofs.Ranges.{RangesMet, in-range}
 use Rattle.session_progress.specs.Progress.{inLimits}
 use Rattle.session_progress.specs.declared.Progress.{Progress}
 
@@ -53,7 +53,7 @@ module _ (k : Numbers) (g : Progress) where
   within-due more e = within (both (inLimits k g) more e .0)
 
 -- the numbers
-pub bounds : {k : Numbers} {g : Progress} → Within k g → InRange k
+pub bounds : {k : Numbers} {g : Progress} → Within k g → RangesMet k
 bounds {k} w = in-range k (w .ranged)
 
 -- ---- the test of 31: within the limits, in the phase, and one thing more

@@ -14,7 +14,7 @@ use Rattle.codec.proofs.Laws.{length-part, part-part, part-none, octets-drop, o
 use Rattle.keccak.specs.Keccak.{Row, State, lane, five, lanes, keccak}
 use Rattle.keccak.proofs.Rows.{row5}
 use Rattle.keccak.proofs.Shape.{Shape, shaped, keccak-shape}
-use Rattle.sha3.specs.Blocks.{xorBlock, xorRow, absorbBlocks}
+use Rattle.sha3.specs.Internal.{xorBlock, xorRow, absorbBlocks}
 use Rattle.sha3.specs.Absorb.{xorByte, feed, absorb}
 use Rattle.sha3.proofs.Absorbing.{feed-early, absorb-append, split-at}
 use Rattle.sha3.proofs.Lanes.{laneAt, setLane, xors, Has, eight}

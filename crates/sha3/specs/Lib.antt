@@ -1,5 +1,5 @@
 pub mod Absorb
-pub mod Blocks
 pub mod Digest
 pub mod Fips
 pub mod Sponge
+pub mod Internal

@@ -1,5 +1,5 @@
 -- SHA3-256 of FIPS 202 on messages of whole bytes: the sponge over Keccak-f[1600] with the rate of 136 bytes, the suffix 01 and pad10*1
--- (5.1, 6.1, B.2), and 32 bytes of output. A message is absorbed byte by byte (`absorb`, crates/sponge/specs/Absorb.antt), so that it may come
+-- (5.1, 6.1, B.2), and 32 bytes of output. A message is absorbed byte by byte (`absorb`, specs/Absorb.antt), so that it may come
 -- in parts; `Fips.antt` has the sponge of section 4, block by block. Assumes nothing.
 use mathlib.Core.Bool.{cond}
 use mathlib.Core.List.{[], _∷_, _++_}

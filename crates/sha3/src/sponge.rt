@@ -4,7 +4,7 @@ ghost use Prim.Native.Nat.{_+_, _%_, _≤_, _<_};
 ghost use lib.ListN.{length};
 ghost use Rattle.codec.specs.Bytes.{part};
 ghost use Rattle.sha3.specs.Absorb.{xorLane, xorByte, absorb, zeroState};
-ghost use Rattle.sha3.specs.Blocks.{xorBlock, xorRow};
+ghost use Rattle.sha3.specs.Internal.{xorBlock, xorRow};
 
 // The state before any message.
 pub fn start() -> [[u64; 5]; 5]

@@ -16,8 +16,8 @@ use Rattle.sheet_lines.specs.Form.{numberKeys, listKeys}
 use Rattle.sheet.specs.Form.{rowsOf}
 use Rattle.sheet_lines.specs.Reader.{Found, missing, found, fresh, values, line, Block, broken, block, after, onward, rows}
 use Rattle.sheet.specs.Reader.{formed, sheetOf}
-use Rattle.sheet_lines.specs.Seen.{none, outline, outlined, seen}
-use Rattle.sheet.specs.Seen.{Ready, Writes, Fitting}
+use Rattle.sheet_lines.specs.Internal.{none, outline, outlined, seen}
+use Rattle.sheet.specs.Internal.{Ready, Writes, Fitting}
 use Rattle.codec.proofs.Numbers.{length-words}
 use Rattle.codec.specs.Lists.{allBelow}
 use Rattle.sheet.specs.Sheet.{polynomials, fits, lists, unfit}

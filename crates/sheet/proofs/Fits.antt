@@ -8,7 +8,7 @@ use borrow.Author.Tests.{lt-ltb, ltb-true, ltb-false}
 use lib.Dec.{ltb, eqb}
 use lib.ListN.{length}
 use Rattle.codec.specs.Lists.{every, allBelow}
-use Rattle.sheet_lines.specs.Seen.{bigger, largest}
+use Rattle.sheet_lines.specs.Internal.{bigger, largest}
 use Rattle.sheet.specs.Sheet.{fits}
 
 and-assoc : (a b c : Bool) → (a && b && c) ≡ (a && (b && c))

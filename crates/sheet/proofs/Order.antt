@@ -16,8 +16,8 @@ use Rattle.sheet_lines.specs.Form.{numberKeys, listKeys}
 use Rattle.sheet.specs.Form.{Sheet}
 use Rattle.sheet_lines.specs.Reader.{block, after, rows}
 use Rattle.sheet.specs.Reader.{whole, formed, sheetFrom, sheetOf}
-use Rattle.sheet_lines.specs.Seen.{largest, outlined, seen}
-use Rattle.sheet.specs.Seen.{judged}
+use Rattle.sheet_lines.specs.Internal.{largest, outlined, seen}
+use Rattle.sheet.specs.Internal.{judged}
 use Rattle.sheet_numbers.specs.Rules.{outside, unsound}
 use Rattle.sheet.specs.Sheet.{fits, lists, unfit, readingBy, reading}
 use Rattle.sheet_lines.specs.declared.Lines.{Lines}

@@ -23,7 +23,7 @@ use Rattle.codec.proofs.Laws.{both}
 use Rattle.codec.proofs.Lists.{allBelow-at}
 use Rattle.codec.specs.Lists.{every, allBelow}
 use Rattle.sheet.proofs.Form.{written-is}
-use Rattle.sheet_numbers.proofs.Ranges.{InRange, in-range, Sound, is-sound}
+use Rattle.sheet_numbers.proofs.Ranges.{RangesMet, in-range, ConditionsMet, is-sound}
 use Rattle.sheet.proofs.Filling.{all-size}
 
 -- ---- the order of a call that is lent the sheet
@@ -70,8 +70,8 @@ pub record Taking (text : Bytes) (k : Numbers) : Type 0 where
   pub form : formed text ≡ true
   pub numbers : sheetOf text .numbers ≡ k
   pub inside : outside k ≡ false
-  pub ranged : InRange k
-  pub sound : Sound k
+  pub ranged : RangesMet k
+  pub sound : ConditionsMet k
   pub fit : unfit (sheetOf text) ≡ false
 
 not-refused : {A : Type 0} {n : ℕ} {k : Numbers} → Refused n ≡ Taken k → A

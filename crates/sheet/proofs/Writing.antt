@@ -12,7 +12,7 @@ use Rattle.codec.specs.Bytes.{Bytes, bytes, words, put}
 use Rattle.codec.proofs.Laws.{length-put, put-none, put-append, le-or}
 use Rattle.codec.proofs.Numbers.{length-bytes, length-words, words-append, words-one}
 use Rattle.sheet_lines.specs.Reader.{digit, Place, fresh, within, Found, missing, found, Step, stop, on, done, step, follow, values}
-use Rattle.sheet.specs.Seen.{numbersIn, Ready, Writes}
+use Rattle.sheet.specs.Internal.{numbersIn, Ready, Writes}
 use Rattle.sheet_lines.proofs.Steps.{unroll, same-or, begins, no-number, grows, leading-zero, too-long, comma, ends, neither}
 
 -- ---- a line has no fewer numbers than were read

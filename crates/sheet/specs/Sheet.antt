@@ -4,7 +4,7 @@ use mathlib.Core.List.{List, [], _∷_, flatMap}
 use Prim.Native.Nat.{ℕ}
 use lib.Dec.{ltb, eqb}
 use lib.ListN.{length}
-use Rattle.codec.specs.Bytes.{Bytes, words, put}
+use Rattle.codec.specs.Bytes.{Bytes, words}
 use Rattle.codec.specs.Reply.{Test, test, first}
 use Rattle.codec.specs.declared.Reply.{Reply}
 use Rattle.codec.specs.declared.Reply.the-variants as reply
@@ -52,11 +52,3 @@ reading text = readingBy (first (order text)) (sheetOf text .numbers)
 -- a, b, k1, k2, k3 in 40N bytes, 8 to a coefficient
 unfoldable pub polynomials : Bytes → Bytes
 polynomials text = flatMap words (lists (sheetOf text))
-
--- what a lent buffer holds after a reading: the polynomials at its head, or what it held if the sheet is refused
-abbrev pub filled : Reading → Bytes → Bytes → Bytes
-filled (Taken k) text d = put d 0 (polynomials text)
-filled (Refused n) text d = d
-
-unfoldable pub loaded : Bytes → Bytes → Bytes
-loaded text d = filled (reading text) text d

@@ -6,8 +6,8 @@ use sheet_numbers::Numbers;
 use sheet_numbers::outside;
 use sheet_numbers::unsound;
 ghost use mathlib.Core.Path.{_≡_};
-ghost use Rattle.sheet.specs.Seen.{judged};
-ghost use Rattle.sheet.specs.Sheet.{reading, loaded};
+ghost use Rattle.sheet.specs.Internal.{judged, loaded};
+ghost use Rattle.sheet.specs.Sheet.{reading};
 
 // What is said of a text: its numbers, or document 01's number of the refusal.
 pub enum Reading {

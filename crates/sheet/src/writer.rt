@@ -8,7 +8,7 @@ ghost use lib.ListN.{length, drop, getD};
 ghost use Rattle.codec.specs.Bytes.{put};
 ghost use Rattle.sheet_lines.specs.Form.{listKeys};
 ghost use Rattle.sheet_lines.specs.Reader.{fresh, values};
-ghost use Rattle.sheet.specs.Seen.{Writes, Ready, Fitting};
+ghost use Rattle.sheet.specs.Internal.{Writes, Ready, Fitting};
 ghost use Rattle.sheet.specs.Sheet.{polynomials};
 
 // Puts the numbers from a place of the text up to LF into out, from an index on. Answers where the text goes on.

@@ -10,7 +10,7 @@ use lib.Seq.{length-take-le, getD-take, getD-drop, set-append-seam}
 use Rattle.codec.specs.Bytes.{Bytes, zeros}
 use Rattle.sheet_lines.specs.Form.{numberKeys, listKeys}
 use Rattle.sheet_lines.specs.Reader.{Found, missing, found, line, Block, broken, block, after, onward, rows}
-use Rattle.sheet_lines.specs.Seen.{largest, bad, sum, summed, none, outline, outlined, seen, Reached, behind, further, reached, filled, Scanned}
+use Rattle.sheet_lines.specs.Internal.{largest, bad, sum, summed, none, outline, outlined, seen, Reached, behind, further, reached, filled, Scanned}
 use Rattle.sheet_lines.specs.declared.Lines.{Lines}
 use Rattle.sheet_lines.proofs.Steps.{unroll}
 use Rattle.sheet_lines.proofs.LineForm.{never-block}

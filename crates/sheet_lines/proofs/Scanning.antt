@@ -8,7 +8,7 @@ use borrow.Author.Tests.{eq-eqb, ne-eqb}
 use lib.ListN.{length, drop, getD, length-append, drop-of-length-le}
 use Rattle.codec.specs.Bytes.{Bytes}
 use Rattle.sheet_lines.specs.Reader.{digit, Place, fresh, within, missing, values, line}
-use Rattle.sheet_lines.specs.Seen.{bigger, largest, bad, sum, summed}
+use Rattle.sheet_lines.specs.Internal.{bigger, largest, bad, sum, summed}
 use Rattle.sheet_lines.proofs.Steps.{unroll, begins, no-number, grows, leading-zero, too-long, comma, ends, neither}
 
 largest-snoc : (m : ℕ) (xs : List ℕ) (v : ℕ) → largest m (xs ++ v ∷ []) ≡ bigger (largest m xs) v

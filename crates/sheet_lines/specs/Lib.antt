@@ -1,3 +1,3 @@
 pub mod Form
 pub mod Reader
-pub mod Seen
+pub mod Internal

@@ -7,7 +7,7 @@ ghost use lib.ListN.{drop, take, getD};
 ghost use Rattle.sheet_lines.specs.Form.{numberKeys, listKeys};
 ghost use Rattle.codec.specs.Lists.{every, allBelow};
 ghost use Rattle.sheet_lines.specs.Reader.{digit, fresh, values, line};
-ghost use Rattle.sheet_lines.specs.Seen.{bigger, summed, scanned, Scanned};
+ghost use Rattle.sheet_lines.specs.Internal.{bigger, summed, scanned, Scanned};
 
 // What stands at a place of the text: a line with how many numbers, the largest, and where the text goes on; or no such line.
 enum Scan {

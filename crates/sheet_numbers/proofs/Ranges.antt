@@ -10,11 +10,11 @@ use lib.Dec.{ltb, eqb}
 use lib.ListN.{getD}
 use Rattle.codec.specs.Lists.{all}
 use Rattle.codec.proofs.Lists.{all-sound}
-use Rattle.modular.specs.Division.{Coprime}
+use Rattle.modular.specs.Internal.{Coprime}
 use Rattle.modular.proofs.Division.{odd-coprime}
 use Rattle.sheet_numbers.specs.Bounds.{power}
 use Rattle.sheet_numbers.specs.Plain.{plain, noiseOf}
-use Rattle.sheet_numbers.specs.Usable.{Usable}
+use Rattle.sheet_numbers.specs.Internal.{Usable}
 use Rattle.sheet_numbers.specs.Rules.{any, ranges, outside, conditions, unsound}
 use Rattle.sheet_numbers.specs.declared.Numbers.{Numbers}
 
@@ -43,7 +43,7 @@ divides n low high = go (eqb (2048 % n) 0) (power 12 n) (rw (le-ltb n 4 low) at 
 
 -- ---- numbers in their ranges
 
-pub record InRange (k : Numbers) : Type 0 where
+pub record RangesMet (k : Numbers) : Type 0 where
   pub ring-low : 4 ≤ k .ring
   pub ring-high : k .ring ≤ 2048
   pub modulus-low : 3 ≤ k .modulus
@@ -62,7 +62,7 @@ none-at (true ∷ ts) i e = let z : _≡_ {A = ℕ} 0 1 = cc in absurd (omega ar
 none-at (false ∷ ts) zero e = refl
 none-at (false ∷ ts) (suc i) e = none-at ts i e
 
-pub in-range : (k : Numbers) → outside k ≡ false → InRange k
+pub in-range : (k : Numbers) → outside k ≡ false → RangesMet k
 unfolding outside plain
 in-range k e = record {
   ring-low = ltb-false _ _ (none-at (ranges k) 0 e);
@@ -79,11 +79,11 @@ in-range k e = record {
 
 -- ---- the conditions
 
-pub record Sound (k : Numbers) : Type 0 where
+pub record ConditionsMet (k : Numbers) : Type 0 where
   pub divided : (k .modulus - 1) % (2 * k .ring) ≡ 0
   pub noise-fits : (1 + 2 ^ k .drown) * noiseOf k < (k .modulus - 1) / 2
 
-pub is-sound : (k : Numbers) → unsound k ≡ false → Sound k
+pub is-sound : (k : Numbers) → unsound k ≡ false → ConditionsMet k
 unfolding unsound
 is-sound k e = record {
   divided = eqb-true _ _ (not-false _ (none-at (conditions k) 0 e));
@@ -92,7 +92,7 @@ is-sound k e = record {
 
 -- ---- what the functions that are lent a sheet's numbers rely on
 
-module _ (k : Numbers) (i : InRange k) (s : Sound k) where
+module _ (k : Numbers) (i : RangesMet k) (s : ConditionsMet k) where
   abbrev q : ℕ
   q = k .modulus
 

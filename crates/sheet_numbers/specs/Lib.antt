@@ -1,4 +1,4 @@
 pub mod Bounds
 pub mod Plain
 pub mod Rules
-pub mod Usable
+pub mod Internal

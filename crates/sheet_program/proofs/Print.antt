@@ -13,7 +13,7 @@ use Rattle.io.specs.Counts.{Counts}
 use Rattle.io.specs.Digits.{digits, Fewest}
 use Rattle.sheet_lines.specs.Form.{decimal}
 use Rattle.sheet_lines.proofs.LineForm.{decimal-small, decimal-large}
-use Rattle.sheet_program.specs.Print.{line, Puts}
+use Rattle.sheet_program.specs.Print.{printedLine, Puts}
 
 -- the fewest digits are those of `decimal`
 pub fewest : (j k n : ℕ) → k ≤ j → Fewest 10 1 n k → digits 10 k n ≡ decimal j n
@@ -45,10 +45,10 @@ few k n h f =
     absurd (omega (arith, f .2 (omega arith))))
     (le-or k 20)
 
--- the three parts of a line
+-- the three parts of a printedLine
 pub line-put : (d key ds : Bytes) (at k n : ℕ) → length ds ≡ k → ds ≡ decimal 20 n → at + (length key + 21) ≤ length d → k ≤ 20
-    → Puts d at (line key n) (at + length key + k + 1) (put (put (put d at key) (at + length key) ds) (at + length key + k) (10 ∷ []))
-unfolding line
+    → Puts d at (printedLine key n) (at + length key + k + 1) (put (put (put d at key) (at + length key) ds) (at + length key + k) (10 ∷ []))
+unfolding printedLine
 line-put d key ds at k n l e h b =
     let m : length (key ++ ds) ≡ length key + k = length-append key ds ∙ omega arith in
     let j : at + length key + k ≡ at + length (key ++ ds) = omega arith in

@@ -11,12 +11,12 @@ ghost use lib.ListN.{length, take};
 ghost use Rattle.io.specs.Counts.{Counts};
 ghost use Rattle.sheet_numbers.specs.Rules.{outside};
 ghost use Rattle.sheet.specs.declared.Reading.the-variants.{Taken};
-ghost use Rattle.sheet_program.specs.Print.{line, printedBy, printed, Puts};
+ghost use Rattle.sheet_program.specs.Print.{printedLine, printedBy, printed, Puts};
 
-// Puts a line into out at a place: a key with its =, and a number. Answers the place after it.
+// Puts a printedLine into out at a place: a key with its =, and a number. Answers the place after it.
 fn put_line(out: &mut [u8], at: usize, key: &[u8], n: u64) -> usize
     requires { ⌜ at + (length (now key) + 21) ≤ length (now out) ⌝ }
-    ensures { λ r. ⌜ Puts (now (out .entry)) at (line (now (key .entry)) n) r (now (out .exit))
+    ensures { λ r. ⌜ Puts (now (out .entry)) at (printedLine (now (key .entry)) n) r (now (out .exit))
         × (r ≤ at + (length (now (key .entry)) + 21)) ⌝ }
 {
     let mut digits = [0u8; 20];

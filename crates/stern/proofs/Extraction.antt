@@ -24,7 +24,7 @@ use Rattle.vector.specs.Permutation.{entries, permutes, balanced}
 use Rattle.vector.proofs.Vectors.{at-each}
 use Rattle.commitment.specs.Commitment.{Keys}
 use Rattle.stern.specs.Argument.{Short, Solves, Passes1, Passes2, Passes3, Extracted, two-by1, three-by1, one-by2, three-by2, one-by3, two-by3}
-use Rattle.stern.specs.Shortness.{polynomial, numbers, equations, sides, setting, firstOf, answerLength, answer1Of, answer2Of, answer3Of, tests1, tests2, tests3}
+use Rattle.stern.specs.Shortness.{polynomial, numbers, equations, rightHandSides, setting, firstOf, answerLength, answer1Of, answer2Of, answer3Of, tests1, tests2, tests3}
 use Rattle.stern.specs.Claims.{Meets}
 use Rattle.stern.proofs.FourEquations.{alike-numbers, setting-valid}
 use Rattle.stern.proofs.Layouts.{vector-of, permutes-of}
@@ -127,7 +127,7 @@ module _ (q N : ℕ) (k : Keys) (c : Bytes) (three : 2 < q) where
 
   -- of the case `found` of an extraction
   pub solves-meets : (x : List ℕ) → Solves (setting q N k c) x → Meets q N k c x
-  unfolding equations sides
+  unfolding equations rightHandSides
   solves-meets x s =
       let four = apart _ _ _ _ _ _ _ _ (s .equation) in
       record { short = short; small = λ j h i l. short-small (polynomial N x j i) (short j h i l); one-s = four .0; two-s = four .1; one-e = four .2; two-e = four .3 }

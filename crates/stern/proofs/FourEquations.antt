@@ -22,7 +22,7 @@ use Rattle.vector.proofs.Linear.{join}
 use Rattle.commitment.specs.Commitment.{Keys, Three, Alike3, plus3, row, second}
 use Rattle.commitment.proofs.Additive.{row-adds, second-adds, row-alike, second-alike}
 use Rattle.stern.specs.Argument.{Valid}
-use Rattle.stern.specs.Shortness.{polynomial, threeFrom, numbers, equations, sides, setting}
+use Rattle.stern.specs.Shortness.{polynomial, threeFrom, numbers, equations, rightHandSides, setting}
 
 -- ---- the numbers of a polynomial
 
@@ -112,10 +112,10 @@ module _ (q N : ℕ) (k : Keys) where
     unfolding equations hiding
     equations-linear = subst (λ (m : ℕ). Linear q (14 * N) m (equations q N k)) (four N) (join (row-linear 2 5) (join (second-linear 2 5 0) (join (row-linear 8 11) (second-linear 8 11 1))))
 
-pub sides-vector : (q N : ℕ) (c : Bytes) → 0 < q → Vector q (4 * N) (sides q N c)
-unfolding sides
+pub sides-vector : (q N : ℕ) (c : Bytes) → 0 < q → Vector q (4 * N) (rightHandSides q N c)
+unfolding rightHandSides
 sides-vector q N c h =
-    subst (λ (m : ℕ). Vector q m (sides q N c)) (four N)
+    subst (λ (m : ℕ). Vector q m (rightHandSides q N c)) (four N)
     (append-each (numbers-vector N _ h) (append-each (numbers-vector N _ h) (append-each (numbers-vector N _ h) (numbers-vector N _ h))))
 
 -- the setting is one to which Stern's theorems apply

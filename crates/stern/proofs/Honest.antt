@@ -27,7 +27,7 @@ use Rattle.commitment.specs.Commitment.{Keys, Three, Pair, Alike3, threeOf, plu
 use Rattle.commitment.proofs.Additive.{row-alike, second-alike, opens-add}
 use Rattle.commitment.proofs.Opening.{poly-modulo}
 use Rattle.stern.specs.Argument.{Setting, Valid, Drawn, Answer1, Answer2, Answer3, Fit, Passes1, Passes2, Passes3, masked, first, answer1, answer2, answer3}
-use Rattle.stern.specs.Shortness.{polynomial, threeFrom, equations, sides, setting, drawnOf, firstOf, firstBytes, answerLength, honestAnswer, inRange, answer1Of, answer2Of, answer3Of, answer1Bytes, answer2Bytes, answer3Bytes, tests1, tests2, tests3, answerTests}
+use Rattle.stern.specs.Shortness.{polynomial, threeFrom, equations, rightHandSides, setting, drawnOf, firstOf, firstBytes, answerLength, honestAnswer, inRange, answer1Of, answer2Of, answer3Of, answer1Bytes, answer2Bytes, answer3Bytes, tests1, tests2, tests3, answerTests}
 use Rattle.stern.specs.Claims.{Split}
 use Rattle.stern.proofs.Complete as Complete
 use Rattle.stern.proofs.FourEquations.{numbers-alike, setting-valid, polynomial-ternaries}
@@ -136,8 +136,8 @@ module _ (q N : ℕ) (k : Keys) (x c : Bytes) (s0 s1 e0 e1 : Poly) (split : Spli
       let b = three-alike q N x j later f (omega arith) in
       record { r1 = alike-plus (a .r1) (b .r1); r2 = alike-plus (a .r2) (b .r2); r3 = alike-plus (a .r3) (b .r3) }
 
-  pub honest-equations : equations q N k (ternaries q x) ≡ sides q N c
-  unfolding equations sides
+  pub honest-equations : equations q N k (ternaries q x) ≡ rightHandSides q N c
+  unfolding equations rightHandSides
   honest-equations =
       let size = split .sized in
       let rs = hiding-alike 2 5 (2 * N) (5 * N) refl refl (omega arith) (omega arith) in

@@ -10,14 +10,16 @@ use Rattle.codec.specs.Bytes.{Bytes, Octets, part, put}
 use Rattle.codec.proofs.Laws.{length-part, length-put, put-put, part-put, part-put-before, part-put-after, octets-part}
 use Rattle.modular.proofs.Congruence.{same-eq}
 use Rattle.ring.specs.Poly.{Poly, plus, minus, modulo, Alike, Below}
-use Rattle.ring.specs.Slots.{poly, slot, encode, store}
+use Rattle.ring.specs.Slots.{poly, slot, encode}
+use Rattle.ring.specs.Internal.{store}
 use Rattle.ring.proofs.Bridge.{length-encode, poly-part, slot-later, slot-poly, slot-put, encode-alike, store-alike, store-store, length-store, alike-store, below-store}
 use Rattle.ring.proofs.Polynomials.{alike-refl, _so_, alike-plus, alike-minus}
-use Rattle.scratch.proofs.Shelf.{Shelf, encoded-below, encoded-alike, shelf-store, shelf-copy, shelf-none}
-use Rattle.commitment.specs.Commitment.{Keys, Three, Pair, plus3, threeAt, committed, PairStands}
+use Rattle.scratch.proofs.Slotted.{Slotted, encoded-below, encoded-alike, slotted-store, slotted-copy, slotted-none}
+use Rattle.commitment.specs.Commitment.{Keys, Three, Pair, plus3, committed}
+use Rattle.commitment.specs.Internal.{threeAt, PairInSlots}
 use Rattle.commitment.proofs.Additive.{second-alike}
 use Rattle.commitment.proofs.Loading.{commit-asks, commit-made}
-use Rattle.stern.specs.Method.{words-at, threeWords, summedPair, lessPairs, equationPair}
+use Rattle.stern.specs.Internal.{words-at, threeWords, summedPair, lessPairs, equationPair}
 
 -- ---- n words of a lent vector from a word on, as they are lent on
 
@@ -94,17 +96,17 @@ module _ (q n : ℕ) (high : n ≤ 2048) (positive : 0 < q) (few : q < 2 ^ 56) w
     later : (m k : ℕ) → m ≡ k → Alike q n (words-at x m) (words-at x k)
     later m k e = rw e alike-refl
 
-    loaded : Shelf q n (summed .r1 ∷ summed .r2 ∷ summed .r3 ∷ poly (lent q n x message fits below) ∷ []) w4
+    loaded : Slotted q n (summed .r1 ∷ summed .r2 ∷ summed .r3 ∷ poly (lent q n x message fits below) ∷ []) w4
     loaded =
-        let a = shelf-store q n high positive few (shelf-none q n high positive few long) 0 (omega arith) (omega arith) _ (summed .r1) alike-refl e1 in
-        let b = shelf-store q n high positive few a 1 (omega arith) (omega arith) _ (summed .r2) (alike-plus alike-refl (later (first + 4 * n) (first + 3 * n + n) (omega arith))) e2 in
-        let c = shelf-store q n high positive few b 2 (omega arith) (omega arith) _ (summed .r3) (alike-plus alike-refl (later (first + 5 * n) (first + 3 * n + 2 * n) (omega arith))) e3 in
-        shelf-copy q n high positive few c 3 (omega arith) (omega arith) (lent q n x message fits below) (lent-octets q n x message fits below octets) (lent-length q n x message fits below) (lent-below q n x message fits below) e4
+        let a = slotted-store q n high positive few (slotted-none q n high positive few long) 0 (omega arith) (omega arith) _ (summed .r1) alike-refl e1 in
+        let b = slotted-store q n high positive few a 1 (omega arith) (omega arith) _ (summed .r2) (alike-plus alike-refl (later (first + 4 * n) (first + 3 * n + n) (omega arith))) e2 in
+        let c = slotted-store q n high positive few b 2 (omega arith) (omega arith) _ (summed .r3) (alike-plus alike-refl (later (first + 5 * n) (first + 3 * n + 2 * n) (omega arith))) e3 in
+        slotted-copy q n high positive few c 3 (omega arith) (omega arith) (lent q n x message fits below) (lent-octets q n x message fits below octets) (lent-length q n x message fits below) (lent-below q n x message fits below) e4
 
     pub sums-ask : (length w4 ≡ 1048576) × (Below q n (slot w4 0) × Below q n (slot w4 16384) × Below q n (slot w4 32768) × Below q n (slot w4 49152))
     sums-ask = commit-asks q n high positive few summed (poly (lent q n x message fits below)) w w4 long loaded
 
-    pub sums-made : (k : Keys) (w5 : Bytes) → PairStands q n (committed q n k (threeAt w4) (slot w4 49152)) w4 w5 → PairStands q n (summedPair q n k x first message) w w5
+    pub sums-made : (k : Keys) (w5 : Bytes) → PairInSlots q n (committed q n k (threeAt w4) (slot w4 49152)) w4 w5 → PairInSlots q n (summedPair q n k x first message) w w5
     sums-made k w5 h =
         let m = commit-made q n high positive few summed (poly (lent q n x message fits below)) w w4 long loaded k w5 h in
         record {
@@ -115,7 +117,7 @@ module _ (q n : ℕ) (high : n ≤ 2048) (positive : 0 < q) (few : q < 2 ^ 56) w
 
   -- ---- the right-hand sides subtracted
 
-  module _ (w w1 c : Bytes) (p : Pair) (from : ℕ) (long : length w ≡ 1048576) (h : PairStands q n p w w1) where
+  module _ (w w1 c : Bytes) (p : Pair) (from : ℕ) (long : length w ≡ 1048576) (h : PairInSlots q n p w w1) where
     pub row-below : Below q n (slot w1 0)
     row-below = encoded-below q n high positive few w1 0 (p .one) (h .one)
 
@@ -148,7 +150,7 @@ module _ (q n : ℕ) (high : n ≤ 2048) (positive : 0 < q) (few : q < 2 ^ 56) w
         room2 : 49152 + length (encode n (modulo q less2)) ≤ length w2
         room2 = omega (arith, length-encode n (modulo q less2), second-length)
 
-        pub pairs-less : PairStands q n (lessPairs q n p c from) w w3
+        pub pairs-less : PairInSlots q n (lessPairs q n p c from) w w3
         unfolding store
         pairs-less = record {
           sized = ap length e3 ∙ length-put w2 49152 (encode n (modulo q less2)) room2 ∙ second-length ∙ sym long;
@@ -163,8 +165,8 @@ module _ (q n : ℕ) (high : n ≤ 2048) (positive : 0 < q) (few : q < 2 ^ 56) w
 
 -- by the flag
 module _ (q n : ℕ) (k : Keys) (c : Bytes) (less : Bool) (x : Bytes) (first message from : ℕ) (w w' : Bytes) where
-  pub when-less : less ≡ true → PairStands q n (lessPairs q n (summedPair q n k x first message) c from) w w' → PairStands q n (equationPair q n k c less x first message from) w w'
+  pub when-less : less ≡ true → PairInSlots q n (lessPairs q n (summedPair q n k x first message) c from) w w' → PairInSlots q n (equationPair q n k c less x first message from) w w'
   when-less e h = rw e h
 
-  pub when-not-less : less ≡ false → PairStands q n (summedPair q n k x first message) w w' → PairStands q n (equationPair q n k c less x first message from) w w'
+  pub when-not-less : less ≡ false → PairInSlots q n (summedPair q n k x first message) w w' → PairInSlots q n (equationPair q n k c less x first message from) w w'
   when-not-less e h = rw e h

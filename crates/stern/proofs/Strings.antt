@@ -12,18 +12,19 @@ use Rattle.codec.proofs.Numbers.{words-append}
 use Rattle.codec.proofs.Lists.{length-list}
 use Rattle.sha3.specs.Sponge.{sha3}
 use Rattle.hasher.specs.declared.Hasher.{Hasher}
-use Rattle.hasher.specs.Hasher.{holding, updated, finished}
+use Rattle.hasher.specs.Internal.{holding, updated, finished}
 use Rattle.hasher.proofs.Laws.{taken, finished-holding}
 use Rattle.modular.proofs.Congruence.{same-eq}
 use Rattle.ring.specs.Poly.{Poly, plus, minus, modulo, Alike}
 use Rattle.ring.specs.Slots.{slot, encode}
 use Rattle.ring.proofs.Polynomials.{plus-assoc, plus-comm, scale-plus, alike-eq, alike-refl, _so_, alike-plus, minus-self}
-use Rattle.commitment.specs.Commitment.{Keys, Pair, Alike3, plus3, row, second, pairBytes, PairStands}
+use Rattle.commitment.specs.Commitment.{Keys, Pair, Alike3, plus3, row, second, pairBytes}
+use Rattle.commitment.specs.Internal.{PairInSlots}
 use Rattle.commitment.proofs.Additive.{row-alike, second-alike}
 use Rattle.vector.specs.Vector.{vector, subtract}
 use Rattle.vector.proofs.Vectors.{add-subtract}
-use Rattle.stern.specs.Shortness.{polynomial, threeFrom, numbers, equations, sides}
-use Rattle.stern.specs.Method.{words-at, threeWords, summedPair, lessPairs, equationPair}
+use Rattle.stern.specs.Shortness.{polynomial, threeFrom, numbers, equations, rightHandSides}
+use Rattle.stern.specs.Internal.{words-at, threeWords, summedPair, lessPairs, equationPair}
 use Rattle.stern.proofs.FourEquations.{numbers-vector, numbers-alike, numbers-add, polynomial-vector}
 
 -- ---- the numbers of a difference
@@ -100,7 +101,7 @@ module _ (q N : ℕ) (positive : 0 < q) where
         let b = half-alike 8 1 (8 * N) N (omega arith) (omega arith) (omega arith) (omega arith) in
         ap₂ _++_ (numbers-alike (a .0)) (ap₂ _++_ (numbers-alike (a .1)) (ap₂ _++_ (numbers-alike (b .0)) (numbers-alike (b .1))))
 
-    -- ---- the right-hand sides subtracted
+    -- ---- the right-hand rightHandSides subtracted
 
     less-part : (f : Poly) (i j a b : ℕ) → i ≡ 8 * a → j ≡ 8 * b → subtract q (numbers q N f) (numbers q N (plus (slot c i) (slot c j))) ≡ numbers q N (minus q (minus q f (words-at c a)) (words-at c b))
     less-part f i j a b ei ej =
@@ -109,10 +110,10 @@ module _ (q N : ℕ) (positive : 0 < q) where
     same-length : (f g : Poly) → length (numbers q N f) ≡ length (numbers q N g)
     same-length f g = length-list N (modulo q f) ∙ sym (length-list N (modulo q g))
 
-    less-are : subtract q (equations q N k xs) (sides q N c) ≡ joined (lessPairs q N one-pair c 0) (lessPairs q N two-pair c (4 * N))
-    unfolding sides
+    less-are : subtract q (equations q N k xs) (rightHandSides q N c) ≡ joined (lessPairs q N one-pair c 0) (lessPairs q N two-pair c (4 * N))
+    unfolding rightHandSides
     less-are =
-        ap (λ (l : List ℕ). subtract q l (sides q N c)) equations-are
+        ap (λ (l : List ℕ). subtract q l (rightHandSides q N c)) equations-are
         ∙ subtract-append q (numbers q N (one-pair .one)) _ (numbers q N (plus (slot c 0) (slot c (16 * N)))) _ (same-length _ _)
         ∙ ap₂ _++_ (less-part (one-pair .one) 0 (16 * N) 0 (0 + 2 * N) (omega arith) (omega arith))
         (subtract-append q (numbers q N (one-pair .two)) _ (numbers q N (plus (slot c (8 * N)) (slot c (24 * N)))) _ (same-length _ _)
@@ -131,14 +132,14 @@ module _ (q N : ℕ) (positive : 0 < q) where
         (words-append (numbers q N (a .two)) _ ∙ ap (λ (t : Bytes). words (numbers q N (a .two)) ++ t) (words-append (numbers q N (b .one)) (numbers q N (b .two))))
         ∙ sym (append-assoc (words (numbers q N (a .one))) (words (numbers q N (a .two))) _)
 
-    pub covered : (less : Bool) → words (cond less (subtract q (equations q N k xs) (sides q N c)) (equations q N k xs)) ≡ pairBytes q N (equationPair q N k c less x (2 * N) 0 0) ++ pairBytes q N (equationPair q N k c less x (8 * N) N (4 * N))
+    pub covered : (less : Bool) → words (cond less (subtract q (equations q N k xs) (rightHandSides q N c)) (equations q N k xs)) ≡ pairBytes q N (equationPair q N k c less x (2 * N) 0 0) ++ pairBytes q N (equationPair q N k c less x (8 * N) N (4 * N))
     covered true = ap words less-are ∙ joined-bytes (lessPairs q N one-pair c 0) (lessPairs q N two-pair c (4 * N))
     covered false = ap words equations-are ∙ joined-bytes one-pair two-pair
 
 -- ---- digest 1, taken in by parts
 
 -- the halves of a pair, as they stand in scratch
-pub stands-bytes : (q n : ℕ) (p : Pair) (w w' : Bytes) → PairStands q n p w w' → part w' 0 (8 * n) ++ part w' 49152 (8 * n) ≡ pairBytes q n p
+pub stands-bytes : (q n : ℕ) (p : Pair) (w w' : Bytes) → PairInSlots q n p w w' → part w' 0 (8 * n) ++ part w' 49152 (8 * n) ≡ pairBytes q n p
 unfolding pairBytes
 stands-bytes q n p w w' h = ap₂ _++_ (h .one) (h .two)
 

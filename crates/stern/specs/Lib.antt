@@ -1,4 +1,4 @@
 pub mod Argument
 pub mod Shortness
 pub mod Claims
-pub mod Method
+pub mod Internal

@@ -1,11 +1,10 @@
 -- The shortness argument of a round (document 01, "One round", second paragraph, and "Layouts"): 14N unknowns, the four equations that they meet, and the
 -- strings, digests and answers in bytes, with N and q as parameters. Assumes nothing.
-use mathlib.Core.Path.{_≡_}
-use mathlib.Core.Bool.{Bool, true, cond, not, _&&_}
+use mathlib.Core.Bool.{Bool, cond, not, _&&_}
 use mathlib.Core.List.{List, [], _∷_, _++_}
 use Prim.Native.Nat.{ℕ, _+_, _*_}
 use lib.Dec.{eqb}
-use lib.ListN.{length, getD}
+use lib.ListN.{getD}
 use Rattle.codec.specs.Bytes.{Bytes, part, same}
 use Rattle.codec.specs.Reply.{Test, test}
 use Rattle.codec.specs.Lists.{list, allBelow}
@@ -31,7 +30,7 @@ threeFrom N x j = record { r1 = polynomial N x j; r2 = polynomial N x (j + 1); r
 abbrev pub numbers : (q N : ℕ) → Poly → List ℕ
 numbers q N f = list N (modulo q f)
 
--- the unknowns are s, e, then the three r of s0, of s1, of e0, of e1. The left-hand sides: the pair made from s and the summed r of s0 and s1, first half first, then
+-- the unknowns are s, e, then the three r of s0, of s1, of e0, of e1. The left-hand rightHandSides: the pair made from s and the summed r of s0 and s1, first half first, then
 -- likewise for e
 unfoldable pub equations : (q N : ℕ) → Keys → List ℕ → List ℕ
 equations q N k x =
@@ -42,9 +41,9 @@ equations q N k x =
     ++ (numbers q N (row q N k re)
     ++ numbers q N (second q N k re (polynomial N x 1))))
 
--- the right-hand sides: the committed pairs for s0 and s1 added, then those for e0 and e1. The pairs of s0, s1, e0, e1 are 64N bytes
-unfoldable pub sides : (q N : ℕ) → Bytes → List ℕ
-sides q N c =
+-- the right-hand rightHandSides: the committed pairs for s0 and s1 added, then those for e0 and e1. The pairs of s0, s1, e0, e1 are 64N bytes
+unfoldable pub rightHandSides : (q N : ℕ) → Bytes → List ℕ
+rightHandSides q N c =
     numbers q N (plus (slot c 0) (slot c (16 * N)))
     ++ (numbers q N (plus (slot c (8 * N)) (slot c (24 * N)))
     ++ (numbers q N (plus (slot c (32 * N)) (slot c (48 * N)))
@@ -52,7 +51,7 @@ sides q N c =
 
 -- Stern's argument for them, with salts of 32 bytes and SHA3-256
 abbrev pub setting : (q N : ℕ) → Keys → Bytes → Setting
-setting q N k c = record { q = q; L = 14 * N; M = 4 * N; S = 32; A = equations q N k; y = sides q N c; H = sha3 }
+setting q N k c = record { q = q; L = 14 * N; M = 4 * N; S = 32; A = equations q N k; y = rightHandSides q N c; H = sha3 }
 
 -- ---- layouts
 
@@ -90,15 +89,6 @@ abbrev pub answer3Bytes : Answer3 → Bytes
 answer3Bytes c = c .p ++ (c .r ++ (c .salt1 ++ c .salt2))
 
 -- ---- what the producer of a round writes for 14N ternary bytes x
-
--- what it is lent for a repetition, in range
-pub record Material (q N : ℕ) (x r p salts : Bytes) : Type 0 where
-  pub size-x : length x ≡ 14 * N
-  pub size-r : length r ≡ 336 * N
-  pub size-p : length p ≡ 168 * N
-  pub size-salts : length salts ≡ 96
-  pub below : allBelow q (vector r) ≡ true
-  pub permutes : permutes (42 * N) (entries p) ≡ true
 
 -- the digests of a repetition; the committed pairs do not enter
 abbrev pub honestDigests : (q N : ℕ) → Keys → Bytes → Drawn → Bytes

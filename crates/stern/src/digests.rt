@@ -10,15 +10,17 @@ ghost use Rattle.codec.specs.Slices.{given, left};
 ghost use Rattle.codec.specs.Bytes.{part, words};
 ghost use Rattle.codec.specs.Lists.{allBelow};
 ghost use Rattle.sha3.specs.Sponge.{sha3};
-ghost use Rattle.hasher.specs.Hasher.{holding, updated};
+ghost use Rattle.hasher.specs.Internal.{holding, updated};
 ghost use Rattle.ring.specs.Poly.{Below};
 ghost use Rattle.ring.specs.Slots.{poly};
-ghost use Rattle.scratch.specs.Call.{scratchLength, Free};
-ghost use Rattle.commitment.specs.Commitment.{keysOf, PublicKeys};
+ghost use Rattle.scratch.specs.Call.{scratchLength};
+ghost use Rattle.scratch.specs.Internal.{Free};
+ghost use Rattle.commitment.specs.Commitment.{keysOf};
+ghost use Rattle.commitment.specs.Internal.{PublicKeys};
 ghost use Rattle.vector.specs.Vector.{vector, ternaries, add, subtract};
 ghost use Rattle.vector.specs.Permutation.{entries, apply, extend};
 ghost use Rattle.stern.specs.Argument.{string1, string3};
-ghost use Rattle.stern.specs.Shortness.{equations, sides};
+ghost use Rattle.stern.specs.Shortness.{equations, rightHandSides};
 
 // A hasher that has taken in a leading byte and a salt.
 fn begin(lead: u8, salt: &[u8]) -> Hasher
@@ -45,7 +47,7 @@ fn absorb_pair(h: Hasher, work: &[u8], n: usize) -> Hasher
     one.absorbed(&work[commitment::MESSAGE..commitment::MESSAGE + 8 * n])
 }
 
-// Digest 1: of P and the equations applied to a vector, with their right-hand sides subtracted or not.
+// Digest 1: of P and the equations applied to a vector, with their right-hand rightHandSides subtracted or not.
 pub fn equations_digest(
     work: &mut [u8],
     k: &[u8],
@@ -61,7 +63,7 @@ pub fn equations_digest(
         × Below q (length (now x) / 8) (poly (now x)) ⌝ }
     requires { ⌜ (less ≡ true → (length (now c) ≡ 64 * n) × Below q (length (now c) / 8) (poly (now c))) × (length (now salt) ≡ 32) ⌝ }
     ensures { λ r. ⌜ (r ≡ sha3 (string1 (given salt) (given p)
-        (cond less (subtract q (equations q n (keysOf n (given k)) (take (14 * n) (vector (given x)))) (sides q n (given c)))
+        (cond less (subtract q (equations q n (keysOf n (given k)) (take (14 * n) (vector (given x)))) (rightHandSides q n (given c)))
         (equations q n (keysOf n (given k)) (take (14 * n) (vector (given x))))))) × Free (given work) (left work) ⌝ }
 {
     let a = begin(1, salt).absorbed(p);

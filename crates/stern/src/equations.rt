@@ -5,10 +5,12 @@ ghost use mathlib.Core.Bool.{true};
 ghost use Prim.Native.Nat.{_+_, _*_, _/_, _≤_, _<_, _^_};
 ghost use lib.ListN.{length};
 ghost use Rattle.ring.specs.Poly.{plus, minus, Below};
-ghost use Rattle.ring.specs.Slots.{poly, slot, store};
+ghost use Rattle.ring.specs.Slots.{poly, slot};
+ghost use Rattle.ring.specs.Internal.{store};
 ghost use Rattle.scratch.specs.Call.{scratchLength};
-ghost use Rattle.commitment.specs.Commitment.{keysOf, PublicKeys, PairStands};
-ghost use Rattle.stern.specs.Method.{words-at, summedPair, equationPair};
+ghost use Rattle.commitment.specs.Commitment.{keysOf};
+ghost use Rattle.commitment.specs.Internal.{PublicKeys, PairInSlots};
+ghost use Rattle.stern.specs.Internal.{words-at, summedPair, equationPair};
 
 const TWO: usize = 16384;
 
@@ -29,7 +31,7 @@ fn load_sum(work: &mut [u8], at: usize, x: &[u8], from: usize, other: usize, n: 
 fn sums(work: &mut [u8], k: &[u8], x: &[u8], first: usize, message: usize, n: usize, q: u64)
     requires { ⌜ PublicKeys n q (now k) × (length (now work) ≡ scratchLength) × (8 * first + 48 * n ≤ length (now x))
         × (8 * message + 8 * n ≤ length (now x)) × Below q (length (now x) / 8) (poly (now x)) ⌝ }
-    ensures { λ _. ⌜ PairStands q n (summedPair q n (keysOf n (now (k .entry))) (now (x .entry)) first message) (now (work .entry))
+    ensures { λ _. ⌜ PairInSlots q n (summedPair q n (keysOf n (now (k .entry))) (now (x .entry)) first message) (now (work .entry))
         (now (work .exit)) ⌝ }
 {
     load_sum(work, 0, x, first, first + 3 * n, n, q);
@@ -70,7 +72,7 @@ pub fn equation_pair(
     requires { ⌜ PublicKeys n q (now k) × (length (now work) ≡ scratchLength) × (8 * first + 48 * n ≤ length (now x))
         × (8 * message + 8 * n ≤ length (now x)) × Below q (length (now x) / 8) (poly (now x)) ⌝ }
     requires { ⌜ (less ≡ true → (8 * from + 32 * n ≤ length (now c)) × Below q (length (now c) / 8) (poly (now c))) ⌝ }
-    ensures { λ _. ⌜ PairStands q n (equationPair q n (keysOf n (now (k .entry))) (now (c .entry)) less
+    ensures { λ _. ⌜ PairInSlots q n (equationPair q n (keysOf n (now (k .entry))) (now (c .entry)) less
         (now (x .entry)) first message from) (now (work .entry)) (now (work .exit)) ⌝ }
 {
     sums(work, k, x, first, message, n, q);

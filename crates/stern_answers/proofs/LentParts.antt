@@ -8,7 +8,7 @@ use lib.ListN.{take, drop}
 use Rattle.codec.specs.Bytes.{Bytes, same}
 use Rattle.codec.specs.Reply.{Test, first}
 use Rattle.codec.specs.declared.Reply.{Reply}
-use Rattle.scratch.specs.Call.{Judged}
+use Rattle.scratch.specs.Internal.{Judged}
 use Rattle.commitment.specs.Commitment.{Keys}
 use Rattle.stern.specs.Shortness.{answer1Of, answer2Of, answer3Of, tests1, tests2, tests3, answerTests}
 use Rattle.stern.proofs.Answered.{chosen1, chosen2, chosen3}

@@ -1,1 +1,1 @@
-pub mod Permuted
+pub mod Internal

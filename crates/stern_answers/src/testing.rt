@@ -11,11 +11,13 @@ ghost use lib.ListN.{length};
 ghost use Rattle.codec.specs.Bytes.{same};
 ghost use Rattle.codec.specs.Slices.{given, left};
 ghost use Rattle.codec.specs.Lists.{allBelow};
-ghost use Rattle.scratch.specs.Call.{scratchLength, Judged, Tried};
-ghost use Rattle.commitment.specs.Commitment.{keysOf, PublicKeys};
+ghost use Rattle.scratch.specs.Call.{scratchLength};
+ghost use Rattle.scratch.specs.Internal.{Judged, Tried};
+ghost use Rattle.commitment.specs.Commitment.{keysOf};
+ghost use Rattle.commitment.specs.Internal.{PublicKeys};
 ghost use Rattle.vector.specs.Vector.{vector};
 ghost use Rattle.stern.specs.Shortness.{answer1Of, answer2Of, tests1, answerLength, answerTests, inRange};
-ghost use Rattle.stern_answers.specs.Permuted.{balancedTests, permutedTests};
+ghost use Rattle.stern_answers.specs.Internal.{balancedTests, permutedTests};
 
 // Answer 1: there are L of each, and digests 2 and 3 are those of P(R) and of P(extended) + P(R).
 fn test_balanced(

@@ -9,10 +9,12 @@ ghost use lib.ListN.{length};
 ghost use Rattle.codec.specs.Bytes.{put, zeros};
 ghost use Rattle.codec.specs.Slices.{given, left};
 ghost use Rattle.scratch.specs.Call.{scratchLength};
-ghost use Rattle.commitment.specs.Commitment.{keysOf, PublicKeys};
+ghost use Rattle.commitment.specs.Commitment.{keysOf};
+ghost use Rattle.commitment.specs.Internal.{PublicKeys};
 ghost use Rattle.vector.specs.Vector.{vector};
 ghost use Rattle.stern.specs.Argument.{answer1, answer2, answer3};
-ghost use Rattle.stern.specs.Shortness.{Material, drawnOf, answerLength, honestDigests, honestAnswer};
+ghost use Rattle.stern.specs.Shortness.{drawnOf, answerLength, honestDigests, honestAnswer};
+ghost use Rattle.stern.specs.Internal.{RepetitionMaterial};
 ghost use Rattle.stern.specs.Shortness.{answer1Bytes, answer2Bytes, answer3Bytes};
 
 // The three digests, 96 bytes at a place of an output. Scratch is given back zeroed.
@@ -29,7 +31,7 @@ pub fn write_digests(
     q: u64,
 )
     requires { ⌜ PublicKeys n q (now k) × (length (now work) ≡ scratchLength) × (at + 96 ≤ length (now out))
-        × Material q n (now x) (now r) (now p) (now salts) ⌝ }
+        × RepetitionMaterial q n (now x) (now r) (now p) (now salts) ⌝ }
     ensures { λ _. let drawn = drawnOf (given p) (given r) (given salts) in
         ⌜ (left out ≡ put (given out) at (honestDigests q n (keysOf n (given k)) (given x) drawn))
         × (left work ≡ zeros (length (given work))) ⌝ }
@@ -47,7 +49,7 @@ pub fn write_digests(
 
 // Answer 1: P(extended), P(R), salts 2 and 3.
 pub fn write_answer1(out: &mut [u8], x: &[u8], r: &[u8], p: &[u8], salts: &[u8], n: usize, q: u64)
-    requires { ⌜ (n ≤ 2048) × (length (now out) ≡ 378 * n + 64) × Material q n (now x) (now r) (now p) (now salts) ⌝ }
+    requires { ⌜ (n ≤ 2048) × (length (now out) ≡ 378 * n + 64) × RepetitionMaterial q n (now x) (now r) (now p) (now salts) ⌝ }
     ensures { λ _. let drawn = drawnOf (given p) (given r) (given salts) in ⌜ left out ≡ answer1Bytes (answer1 (14 * n) (given x) drawn) ⌝ }
 {
     let minus = 14 * n - ring::count_of(x, 2);
@@ -60,7 +62,7 @@ pub fn write_answer1(out: &mut [u8], x: &[u8], r: &[u8], p: &[u8], salts: &[u8],
 // Answer 2: P, extended + R, salts 1 and 3.
 pub fn write_answer2(out: &mut [u8], x: &[u8], r: &[u8], p: &[u8], salts: &[u8], n: usize, q: u64)
     requires { ⌜ (n ≤ 2048) × (3 ≤ q) × (q < 2 ^ 56) × (length (now out) ≡ 504 * n + 64)
-        × Material q n (now x) (now r) (now p) (now salts) ⌝ }
+        × RepetitionMaterial q n (now x) (now r) (now p) (now salts) ⌝ }
     ensures { λ _. let drawn = drawnOf (given p) (given r) (given salts) in
         ⌜ left out ≡ answer2Bytes (answer2 q (14 * n) (given x) drawn) ⌝ }
 {
@@ -95,7 +97,7 @@ pub fn write_answer(
     q: u64,
 )
     requires { ⌜ (n ≤ 2048) × (3 ≤ q) × (q < 2 ^ 56) × (length (now out) ≡ answerLength n challenge)
-        × Material q n (now x) (now r) (now p) (now salts) ⌝ }
+        × RepetitionMaterial q n (now x) (now r) (now p) (now salts) ⌝ }
     ensures { λ _. ⌜ left out ≡ honestAnswer q n (given x) (drawnOf (given p) (given r) (given salts)) challenge ⌝ }
 {
     if challenge == 1 {

@@ -7,22 +7,22 @@ use Rattle.codec.specs.Bytes.{Bytes}
 use Rattle.codec.specs.Reply.{Test, first}
 use Rattle.codec.specs.declared.Reply.{Reply}
 use Rattle.sheet.specs.Sheet.{order}
-use Rattle.scratch.specs.Call.{swept}
-use Rattle.round.specs.Round.{Parameters, Round, roundTests}
+use Rattle.scratch.specs.Call.{zeroized}
+use Rattle.round.specs.Round.{Round, roundTests}
 use Rattle.round_lengths.specs.Calls.{countOf, lengthsTest, messageSized, secondSized}
-use Rattle.round_lengths.specs.Sheets.{parametersOf}
+use Rattle.commitment.specs.Parameters.{Parameters, parametersOf}
 
 -- 1, then the round's own order
-unfoldable pub checkTests : Parameters → Round → (scratch : Bytes) → List Test
-checkTests P r scratch =
+unfoldable pub roundCheckTests : Parameters → Round → (scratch : Bytes) → List Test
+roundCheckTests P r scratch =
     let m = countOf (P .N) (r .ballots) in
     lengthsTest m
     (messageSized (P .N) (P .repeats) m (r .head) (r .shares0) (r .shares1) (r .ballots) (r .claims) && secondSized (P .N) (P .repeats) (r .challenges) (r .opening) (r .answers) scratch)
     ∷ roundTests P m r
 
 unfoldable pub checkReply : (text : Bytes) → Round → (scratch : Bytes) → Reply
-checkReply text r scratch = first (order text ++ checkTests (parametersOf text) r scratch)
+checkReply text r scratch = first (order text ++ roundCheckTests (parametersOf text) r scratch)
 
-pub record CheckCalled (text : Bytes) (r : Round) (scratch : Bytes) (reply : Reply) (scratch' : Bytes) : Type 0 where
+pub record RoundCheckCalled (text : Bytes) (r : Round) (scratch : Bytes) (reply : Reply) (scratch' : Bytes) : Type 0 where
   pub replied : reply ≡ checkReply text r scratch
-  pub cleared : scratch' ≡ swept reply scratch
+  pub cleared : scratch' ≡ zeroized reply scratch

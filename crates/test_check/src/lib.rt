@@ -7,8 +7,8 @@ use codec::Reply;
 ghost use mathlib.Core.Path.{_≡_};
 ghost use Rattle.codec.specs.Slices.{given, left};
 ghost use Rattle.codec.specs.Reply.{packed};
-ghost use Rattle.round.specs.RoundSlices.{roundIn};
-ghost use Rattle.test_check.specs.Replies.{checkReply, CheckCalled};
+ghost use Rattle.round.specs.Internal.{roundIn};
+ghost use Rattle.test_check.specs.Replies.{checkReply, RoundCheckCalled};
 
 // Checks one round with the side and the challenges that are lent.
 fn check(
@@ -25,7 +25,7 @@ fn check(
     scratch: &mut [u8],
 ) -> Reply
     ensures { λ reply. let x = roundIn side challenges ballots claims head shares0 shares1 opening answers in
-        ⌜ CheckCalled (given sheet) x (given scratch) reply (left scratch) ⌝ }
+        ⌜ RoundCheckCalled (given sheet) x (given scratch) reply (left scratch) ⌝ }
 {
     let mut public = [0u8; 81920];
     let reading = sheet::load(sheet, &mut public);
@@ -46,7 +46,7 @@ fn check(
         ),
         sheet::Reading::Refused { number } => {
             let reply = Reply::Refused { number, place: 0 };
-            scratch::sweep(reply, scratch);
+            scratch::zeroize(reply, scratch);
             reply
         }
     }
@@ -69,7 +69,7 @@ pub extern "C" fn test_check_round(
 ) -> u64
     ensures { λ answer. let x = roundIn side challenges ballots claims head shares0 shares1 opening answers in
         let reply = checkReply (given sheet) x (given scratch) in
-        ⌜ (answer ≡ packed reply) × CheckCalled (given sheet) x (given scratch) reply (left scratch) ⌝ }
+        ⌜ (answer ≡ packed reply) × RoundCheckCalled (given sheet) x (given scratch) reply (left scratch) ⌝ }
 {
     codec::pack(check(
         sheet,

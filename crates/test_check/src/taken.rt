@@ -1,18 +1,18 @@
 // The check of one round once the sheet is taken: the tests of lengths, then the order of refusals.
 use codec::Reply;
+use codec::refused;
 use round_lengths::count_of;
 use round_lengths::message_sized;
-use round_lengths::refused;
 use round_lengths::second_sized;
 use sheet_numbers::Numbers;
 ghost use mathlib.Core.Path.{_≡_};
 ghost use Rattle.codec.specs.Slices.{given, left};
 ghost use Rattle.codec.specs.Reply.{first};
-ghost use Rattle.scratch.specs.Call.{swept};
-ghost use Rattle.commitment.specs.Loaded.{Loaded};
-ghost use Rattle.round.specs.RoundSlices.{roundIn};
-ghost use Rattle.round.specs.Sheets.{parameters};
-ghost use Rattle.test_check.specs.Replies.{checkTests};
+ghost use Rattle.scratch.specs.Call.{zeroized};
+ghost use Rattle.commitment.specs.Internal.{Loaded};
+ghost use Rattle.round.specs.Internal.{roundIn};
+ghost use Rattle.commitment.specs.Parameters.{parameters};
+ghost use Rattle.test_check.specs.Replies.{roundCheckTests};
 
 // The check of one round.
 pub fn check(
@@ -31,19 +31,19 @@ pub fn check(
 ) -> Reply
     requires { ⌜ Loaded k (now public) ⌝ }
     ensures { λ reply. let x = roundIn side challenges ballots claims head shares0 shares1 opening answers in
-        ⌜ (reply ≡ first (checkTests (parameters k (given public)) x (given scratch))) × (left scratch ≡ swept reply (given scratch)) ⌝ }
+        ⌜ (reply ≡ first (roundCheckTests (parameters k (given public)) x (given scratch))) × (left scratch ≡ zeroized reply (given scratch)) ⌝ }
 {
     let n = k.ring as usize;
     let repeats = k.repeats as usize;
     let count = count_of(ballots, n);
     if count > 4096 {
-        return refused();
+        return refused(1);
     }
     if !message_sized(head, shares0, shares1, ballots, claims, count, repeats, n) {
-        return refused();
+        return refused(1);
     }
     if !second_sized(challenges, opening, answers, scratch, repeats, n) {
-        return refused();
+        return refused(1);
     }
     round_check::check_round(
         scratch,

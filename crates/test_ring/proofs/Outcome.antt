@@ -16,7 +16,8 @@ use Rattle.codec.proofs.Replies.{taken-exactly}
 use Rattle.codec.specs.Lists.{list, allBelow}
 use Rattle.modular.proofs.Congruence.{same-eq}
 use Rattle.ring.specs.Poly.{Poly, modulo, Alike, Below}
-use Rattle.ring.specs.Slots.{poly, slot, encode, store}
+use Rattle.ring.specs.Slots.{poly, slot, encode}
+use Rattle.ring.specs.Internal.{store}
 use Rattle.ring.proofs.Bridge.{length-encode, slot-put, encode-alike}
 use Rattle.ring.proofs.Ranges.{below-sound}
 use Rattle.test_ring.specs.Calls.{polynomialsReply}

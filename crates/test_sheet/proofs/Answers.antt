@@ -12,12 +12,13 @@ use Rattle.codec.specs.Reply.{Test, test, first}
 use Rattle.codec.specs.declared.Reply.the-variants as reply
 use Rattle.codec.proofs.Laws.{length-put, part-put}
 use Rattle.sheet.specs.Reader.{sheetOf}
-use Rattle.sheet.specs.Sheet.{reading, polynomials, loaded}
+use Rattle.sheet.specs.Sheet.{reading, polynomials}
+use Rattle.sheet.specs.Internal.{loaded}
 use Rattle.sheet_numbers.specs.declared.Numbers.{Numbers}
 use Rattle.sheet.specs.declared.Reading.{Reading}
 use Rattle.sheet.specs.declared.Reading.the-variants.{Taken, Refused}
 use Rattle.sheet.proofs.Taken.{onwards, order-first, taken, length-polynomials}
-use Rattle.test_sheet.specs.Polynomials.{polynomialsReply}
+use Rattle.test_sheet.specs.Polynomials.{sheetPolynomialsReply}
 
 -- the call that writes the polynomials
 module _ (text out : Bytes) where
@@ -25,18 +26,18 @@ module _ (text out : Bytes) where
   abbrev own : List Test
   own = test 1 0 (not (eqb (length out) (40 * sheetOf text .numbers .ring))) ∷ []
 
-  by-reading : {r : Reading} → reading text ≡ r → polynomialsReply text out ≡ onwards r (first own)
-  unfolding polynomialsReply
+  by-reading : {r : Reading} → reading text ≡ r → sheetPolynomialsReply text out ≡ onwards r (first own)
+  unfolding sheetPolynomialsReply
   by-reading e = order-first text own ∙ ap (λ (r : Reading). onwards r (first own)) e
 
-  pub refused : {v : ℕ} → reading text ≡ Refused v → polynomialsReply text out ≡ reply.Refused v 0
+  pub refused : {v : ℕ} → reading text ≡ Refused v → sheetPolynomialsReply text out ≡ reply.Refused v 0
   refused e = by-reading e
 
-  pub wrong-length : {k : Numbers} → reading text ≡ Taken k → (length out ≡ 40 * k .ring → ⊥) → polynomialsReply text out ≡ reply.Refused 1 0
+  pub wrong-length : {k : Numbers} → reading text ≡ Taken k → (length out ≡ 40 * k .ring → ⊥) → sheetPolynomialsReply text out ≡ reply.Refused 1 0
   unfolding first
   wrong-length {k} e h = by-reading e ∙ rw (taken text e .numbers, ne-eqb (length out) (40 * k .ring) h)
 
-  pub is-taken : {k : Numbers} → reading text ≡ Taken k → length out ≡ 40 * k .ring → polynomialsReply text out ≡ reply.Taken
+  pub is-taken : {k : Numbers} → reading text ≡ Taken k → length out ≡ 40 * k .ring → sheetPolynomialsReply text out ≡ reply.Taken
   unfolding first
   is-taken {k} e h = by-reading e ∙ rw (taken text e .numbers, eq-eqb (length out) (40 * k .ring) h)
 

@@ -11,8 +11,8 @@ use Rattle.sheet.specs.Reader.{sheetOf}
 use Rattle.sheet.specs.Sheet.{order, polynomials}
 
 -- the five polynomials, 40N bytes: N is known once the sheet is taken, so an output of another length is 1 after its order
-unfoldable pub polynomialsReply : Bytes → Bytes → Reply
-polynomialsReply text out = first (order text ++ test 1 0 (not (eqb (length out) (40 * sheetOf text .numbers .ring))) ∷ [])
+unfoldable pub sheetPolynomialsReply : Bytes → Bytes → Reply
+sheetPolynomialsReply text out = first (order text ++ test 1 0 (not (eqb (length out) (40 * sheetOf text .numbers .ring))) ∷ [])
 
-unfoldable pub polynomialsOut : Bytes → Bytes → Bytes
-polynomialsOut text out = leaves (polynomialsReply text out) (polynomials text) out
+unfoldable pub sheetPolynomialsOut : Bytes → Bytes → Bytes
+sheetPolynomialsOut text out = leaves (sheetPolynomialsReply text out) (polynomials text) out

@@ -4,11 +4,11 @@ use sheet::Reading;
 ghost use mathlib.Core.Path.{_≡_};
 ghost use Rattle.codec.specs.Slices.{given, left};
 ghost use Rattle.codec.specs.Reply.{packed};
-ghost use Rattle.test_sheet.specs.Polynomials.{polynomialsReply, polynomialsOut};
+ghost use Rattle.test_sheet.specs.Polynomials.{sheetPolynomialsReply, sheetPolynomialsOut};
 
 // Reads a sheet, and writes its polynomials into 40N lent bytes.
 pub fn polynomials(text: &[u8], out: &mut [u8]) -> Reply
-    ensures { λ r. ⌜ (r ≡ polynomialsReply (given text) (given out)) × (left out ≡ polynomialsOut (given text) (given out)) ⌝ }
+    ensures { λ r. ⌜ (r ≡ sheetPolynomialsReply (given text) (given out)) × (left out ≡ sheetPolynomialsOut (given text) (given out)) ⌝ }
 {
     let mut buffer = [0u8; 81920];
     let r = sheet::load(text, &mut buffer);
@@ -31,7 +31,7 @@ pub fn polynomials(text: &[u8], out: &mut [u8]) -> Reply
 // `polynomials` over the C boundary, for tests.
 #[no_mangle]
 pub extern "C" fn sheet_polynomials(text: &[u8], out: &mut [u8]) -> u64
-    ensures { λ r. ⌜ (r ≡ packed (polynomialsReply (given text) (given out))) × (left out ≡ polynomialsOut (given text) (given out)) ⌝ }
+    ensures { λ r. ⌜ (r ≡ packed (sheetPolynomialsReply (given text) (given out))) × (left out ≡ sheetPolynomialsOut (given text) (given out)) ⌝ }
 {
     codec::pack(polynomials(text, out))
 }

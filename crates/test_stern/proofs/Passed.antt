@@ -18,12 +18,14 @@ use Rattle.ring.specs.Poly.{Below}
 use Rattle.ring.specs.Slots.{poly, slot}
 use Rattle.ring.proofs.Bridge.{poly-part, slot-later, slot-poly}
 use Rattle.ring.proofs.Ranges.{below-sound}
-use Rattle.scratch.specs.Call.{Polynomial}
+use Rattle.scratch.specs.Internal.{Polynomial}
 use Rattle.scratch.proofs.Order.{length-at}
-use Rattle.commitment.specs.Commitment.{Keys, PublicKeys}
+use Rattle.commitment.specs.Commitment.{Keys}
+use Rattle.commitment.specs.Internal.{PublicKeys}
 use Rattle.vector.specs.Vector.{vector}
 use Rattle.stern.specs.Argument.{Drawn}
-use Rattle.stern.specs.Shortness.{Material, answerLength, honestDigests}
+use Rattle.stern.specs.Shortness.{answerLength, honestDigests}
+use Rattle.stern.specs.Internal.{RepetitionMaterial}
 use Rattle.test_stern.specs.Calls.{ringFits, lengths, wanted, digestsReply, answerReply}
 
 -- ---- plain numbers
@@ -68,7 +70,7 @@ module _ (n q : ℕ) (fits : Ring n q) (k : Bytes) (sized : length k ≡ 24 * n)
 module _ (n q : ℕ) (x r p salts out w : Bytes) where
   pub record Lent (room : ℕ) : Type 0 where
     pub fits : Ring n q
-    pub material : Material q n x r p salts
+    pub material : RepetitionMaterial q n x r p salts
     pub output : length out ≡ room
     pub scratch : length w ≡ 1048576
 

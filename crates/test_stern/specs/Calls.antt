@@ -10,7 +10,8 @@ use Rattle.codec.specs.Bytes.{Bytes}
 use Rattle.codec.specs.Reply.{Test, test, first, leaves, packed}
 use Rattle.codec.specs.declared.Reply.{Reply}
 use Rattle.codec.specs.Lists.{allBelow}
-use Rattle.scratch.specs.Call.{scratchLength, Free, swept, lengthTest}
+use Rattle.scratch.specs.Call.{scratchLength, zeroized, lengthTest}
+use Rattle.scratch.specs.Internal.{Free}
 use Rattle.commitment.specs.Commitment.{keysOf}
 use Rattle.vector.specs.Vector.{vector}
 use Rattle.vector.specs.Permutation.{entries, permutes}
@@ -59,25 +60,25 @@ testReply n q challenge place k c d answer w =
 
 -- ---- what the functions come to, for the reply `is` that their tests give
 
--- the tests: scratch is free where it is swept behind them
+-- the tests: scratch is free where it is zeroized behind them
 pub record Sifted (is reply : Reply) (scratch scratch' : Bytes) : Type 0 where
   pub replied : reply ≡ is
-  pub used : swept reply scratch' ≡ swept reply scratch
+  pub used : zeroized reply scratch' ≡ zeroized reply scratch
   pub kept : Free scratch scratch'
 
 -- the tests and the writing
 pub record Made (is reply : Reply) (writes out out' scratch scratch' : Bytes) : Type 0 where
   pub replied : reply ≡ is
   pub written : out' ≡ leaves reply writes out
-  pub used : swept reply scratch' ≡ swept reply scratch
+  pub used : zeroized reply scratch' ≡ zeroized reply scratch
 
 -- a call: the one number that it answers, and what it leaves in each slice
-pub record Answered (is : Reply) (writes : Bytes) (answer : ℕ) (out out' scratch scratch' : Bytes) : Type 0 where
+pub record CallAnswered (is : Reply) (writes : Bytes) (answer : ℕ) (out out' scratch scratch' : Bytes) : Type 0 where
   pub replied : answer ≡ packed is
   pub written : out' ≡ leaves is writes out
-  pub cleared : scratch' ≡ swept is scratch
+  pub cleared : scratch' ≡ zeroized is scratch
 
 -- a call that writes nothing
-pub record Told (is : Reply) (answer : ℕ) (scratch scratch' : Bytes) : Type 0 where
+pub record CallTold (is : Reply) (answer : ℕ) (scratch scratch' : Bytes) : Type 0 where
   pub replied : answer ≡ packed is
-  pub cleared : scratch' ≡ swept is scratch
+  pub cleared : scratch' ≡ zeroized is scratch

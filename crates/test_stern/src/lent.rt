@@ -15,13 +15,6 @@ ghost use Rattle.vector.specs.Vector.{vector};
 ghost use Rattle.stern.specs.Shortness.{answerLength, inRange};
 ghost use Rattle.test_stern.specs.Calls.{ringFits, rangeTests, lengths, wanted, Sifted};
 
-// A refusal, which names no place.
-pub fn refused(number: u8) -> Reply
-    ensures { λ reply. ⌜ reply ≡ Refused number 0 ⌝ }
-{
-    Reply::Refused { number, place: 0 }
-}
-
 // Whether the ring size and the modulus are such as the code takes.
 pub fn ring_fits(n: usize, q: u64) -> bool
     ensures { λ r. ⌜ r ≡ ringFits n q ⌝ }
@@ -72,13 +65,13 @@ pub fn material_ranged(x: &[u8], r: &[u8], p: &[u8], scratch: &mut [u8], n: usiz
     ensures { λ reply. ⌜ Sifted (first (rangeTests q n (given x) (given r) (given p))) reply (given scratch) (left scratch) ⌝ }
 {
     if !ring::is_ternary(x) {
-        return refused(5);
+        return codec::refused(5);
     }
     if !ring::in_range(r, q) {
-        return refused(5);
+        return codec::refused(5);
     }
     if !vector::tests::is_permutation(p, scratch, 0, 42 * n) {
-        return refused(9);
+        return codec::refused(9);
     }
     Reply::Taken
 }

@@ -11,7 +11,7 @@ use codec::Reply;
 ghost use Rattle.codec.specs.Slices.{given, left};
 ghost use Rattle.commitment.specs.Commitment.{keysOf};
 ghost use Rattle.stern.specs.Shortness.{drawnOf, honestDigests, honestAnswer};
-ghost use Rattle.test_stern.specs.Calls.{digestsReply, answerReply, testReply, Made, Answered, Told};
+ghost use Rattle.test_stern.specs.Calls.{digestsReply, answerReply, testReply, Made, CallAnswered, CallTold};
 
 // The digests, where every test is passed.
 fn digests(
@@ -60,10 +60,10 @@ pub extern "C" fn stern_digests(
 ) -> u64
     ensures { λ v. let is = digestsReply n q (given keys) (given x) (given r) (given p) (given salts) (given out) (given scratch) in
         let writes = honestDigests q n (keysOf n (given keys)) (given x) (drawnOf (given p) (given r) (given salts)) in
-        ⌜ Answered is writes v (given out) (left out) (given scratch) (left scratch) ⌝ }
+        ⌜ CallAnswered is writes v (given out) (left out) (given scratch) (left scratch) ⌝ }
 {
     let reply = digests(keys, x, r, p, salts, out, scratch, n, q);
-    scratch::sweep(reply, scratch);
+    scratch::zeroize(reply, scratch);
     codec::pack(reply)
 }
 
@@ -114,10 +114,10 @@ pub extern "C" fn stern_answer(
 ) -> u64
     ensures { λ v. let is = answerReply n q challenge (given x) (given r) (given p) (given salts) (given out) (given scratch) in
         let writes = honestAnswer q n (given x) (drawnOf (given p) (given r) (given salts)) challenge in
-        ⌜ Answered is writes v (given out) (left out) (given scratch) (left scratch) ⌝ }
+        ⌜ CallAnswered is writes v (given out) (left out) (given scratch) (left scratch) ⌝ }
 {
     let reply = answer(challenge, x, r, p, salts, out, scratch, n, q);
-    scratch::sweep(reply, scratch);
+    scratch::zeroize(reply, scratch);
     codec::pack(reply)
 }
 
@@ -138,7 +138,7 @@ pub extern "C" fn stern_test(
     q: u64,
 ) -> u64
     ensures { λ v. let is = testReply n q challenge place (given keys) (given pairs) (given digests) (given answer) (given scratch) in
-        ⌜ Told is v (given scratch) (left scratch) ⌝ }
+        ⌜ CallTold is v (given scratch) (left scratch) ⌝ }
 {
     let reply = orders::tested(
         keys,
@@ -151,6 +151,6 @@ pub extern "C" fn stern_test(
         n,
         q,
     );
-    scratch::sweep(reply, scratch);
+    scratch::zeroize(reply, scratch);
     codec::pack(reply)
 }

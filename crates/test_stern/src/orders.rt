@@ -1,11 +1,11 @@
 // The tests of a call in their order: specs/Calls.antt.
 use crate::lent::material_ranged;
 use crate::lent::material_sized;
-use crate::lent::refused;
 use crate::lent::ring_fits;
 use crate::lent::test_ranged;
 use crate::lent::test_sized;
 use codec::Reply;
+use codec::refused;
 use stern_answers::layout::answer_length;
 ghost use Rattle.codec.specs.Slices.{given, left};
 ghost use Rattle.test_stern.specs.Calls.{digestsReply, answerReply, testReply, Sifted};

@@ -17,7 +17,7 @@ use Rattle.codec.proofs.Laws.{le-or}
 use Rattle.modular.specs.Modulo.{remainder}
 use Rattle.ring.specs.Slots.{encode}
 use Rattle.ring.specs.Ternary.{meaning, ternary, count}
-use Rattle.ring.proofs.Filling.{filled, filled-all}
+use Rattle.ring.proofs.Filling.{Filling, filling-all}
 use Rattle.vector.specs.Vector.{vector, ternaries, add}
 use Rattle.vector.specs.Permutation.{entries, apply, extend}
 use Rattle.vector.proofs.Vectors.{add-within, length-add, apply-at, length-vector, length-entries, length-ternaries, getD-ternaries}
@@ -25,14 +25,14 @@ use Rattle.vector.proofs.Balance.{extend-given, extend-minus, extend-ze
 
 -- ---- a list that is written number by number
 
--- scratch with the first i numbers of a list from a place on, 8 bytes each
-abbrev pub laid : Bytes → ℕ → List ℕ → ℕ → Bytes
-laid w at l i = filled w at (λ k. getD l k 0) i
+-- what a loop holds that writes the first i of n numbers of a list from a place of scratch on, 8 bytes each
+abbrev pub Laying : Bytes → ℕ → List ℕ → ℕ → Bytes → ℕ → Type 0
+Laying w at l n d i = Filling w at (λ k. getD l k 0) n d i
 
-pub laid-all : (w : Bytes) (at : ℕ) (l : List ℕ) (n : ℕ) → length l ≡ n → laid w at l n ≡ put w at (words l)
+pub laid : (w : Bytes) (at : ℕ) (l : List ℕ) {n : ℕ} {d : Bytes} {i : ℕ} → Laying w at l n d i → n ≤ i → length l ≡ n → d ≡ put w at (words l)
 unfolding encode
-laid-all w at l n e =
-    filled-all w at (λ k. getD l k 0) n ∙ ap (λ (s : List ℕ). put w at (words s)) (ap (λ (m : ℕ). list m (λ k. getD l k 0)) (sym e) ∙ list-getD l)
+laid w at l s h e =
+    filling-all s h ∙ ap (λ (s : List ℕ). put w at (words s)) (ap (λ (m : ℕ). list m (λ k. getD l k 0)) (sym e) ∙ list-getD l)
 
 -- the same of bytes
 pub paste-more : (w d : Bytes) (at : ℕ) (l : Bytes) (i b : ℕ) → d ≡ paste w at l i → at + i < length w → i < length l → b ≡ getD l i 0 → set d (at + i) b ≡ paste w at l (i + 1)

@@ -1,6 +1,6 @@
 -- `bgv::load_mask` meets its contract. Assumes nothing.
 use borrow.Author.Needs.{needs}
-use Rattle.ring.specs.Slots.{fromSigned}
+use Rattle.ring.specs.Internal.{fromSigned}
 use Rattle.bgv.proofs.load_mask.Statement.{statement}
 use Rattle.bgv.proofs.load_mask.Tie as tie
 

@@ -6,7 +6,7 @@ use Rattle.ring.specs.Slots.{poly}
 use Rattle.ring.proofs.Polynomials.{alike-refl, alike-minus, alike-mul}
 use Rattle.scratch.proofs.Slots.{holds-alike, stands-alike, stands-below}
 use Rattle.scratch.proofs.Loads.{lent-load, loaded-length, head-asks, head-length}
-use Rattle.bgv.specs.Scheme.{worked}
+use Rattle.bgv.specs.Scheme.{recoveredMask}
 use Rattle.bgv.proofs.Votes.{quotients-stand}
 use Rattle.bgv.proofs.mask_within.Statement.{statement}
 use Rattle.bgv.proofs.mask_within.Tie as tie
@@ -31,7 +31,7 @@ quotients-within-requires c κs =
     (omega (arith, p .0 .ring-high, l, e .sized), stands-below (a .q) (a .n) _ w1 _ e (omega (arith, p .0 .modulus-low)) (p .0 .modulus-high), p .4, p .5, p .6, p .0 .modulus-high)
 
 returns : tie.Need-returns
-unfolding worked
+unfolding recoveredMask
 returns c =
     let a = c .before .before .before .before .before .before .before .before .before .before .before .before .before .before .args in
     let p = c .before .before .before .before .before .before .before .before .before .before .before .before .before .before .pre in

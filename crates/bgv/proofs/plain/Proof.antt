@@ -18,9 +18,6 @@ Inv-loop work vote₀ p n q i₀ vote i = (i ≤ n) × (length vote ≡ length v
 abbrev μ-loop : tie.MeasureT-loop
 μ-loop work vote₀ p n q i₀ vote i = n - i
 
-loop-holds : tie.Need-loop-holds Inv-loop μ-loop
-loop-holds c = (omega arith, refl, voted-none _ _)
-
 residue-requires : tie.Need-residue-requires Inv-loop μ-loop
 unfolding poly
 residue-requires c κs =
@@ -45,9 +42,6 @@ loop-again c =
           (c .before .before .before .before .residue .ensures ∙ ap (λ x. remainder (a .p) (centre (a .q) x)) (c .before .before .before .before .before .read64 .ensures)) (c .before .before .write8 .ensures),
     )
 
-same-length : tie.Need-same-length Inv-loop μ-loop
-same-length c = c .before .loop .inv .1
-
 returns : tie.Need-returns Inv-loop μ-loop
 returns c =
     let a = c .before .before .before .before .args in
@@ -56,4 +50,4 @@ returns c =
     l .inv .2 ∙ ap (voted (a .vote .now) _) e ∙ voted-all (a .vote .now) _ (a .n) (c .before .before .before .before .pre .1)
 
 pub plain-spec : {M : Type 1} → statement M
-plain-spec = tie.close (tie.spec Inv-loop μ-loop loop-holds (λ c. search needs) (λ c κs. search needs) residue-requires cast-write8 (λ c κs. search needs) (λ c. search needs) (λ c. search needs) loop-again same-length returns)
+plain-spec = tie.close (tie.spec Inv-loop μ-loop (λ c. (omega arith, refl, voted-none _ _)) (λ c. search needs) (λ c κs. search needs) residue-requires cast-write8 (λ c κs. search needs) (λ c. search needs) (λ c. search needs) loop-again (λ c. c .before .loop .inv .1) returns)

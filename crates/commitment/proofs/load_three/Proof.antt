@@ -7,7 +7,7 @@ use lib.ListN.{take, drop}
 use Rattle.codec.specs.Bytes.{Bytes, part, put}
 use Rattle.ring.specs.Slots.{encode}
 use Rattle.ring.specs.Ternary.{ternary}
-use Rattle.commitment.specs.Commitment.{withThree}
+use Rattle.commitment.specs.Internal.{withThree}
 use Rattle.commitment.proofs.Loading.{loaded-part}
 use Rattle.commitment.proofs.load_three.Statement.{statement}
 use Rattle.commitment.proofs.load_three.Tie as tie

@@ -39,7 +39,7 @@ use denote.Triple.Walked.{says, Stays, stay-none-slice, walkOf, goes-none-slice,
 use denote.Exit.{yes}
 use denote.Signature.{plain}
 use Rattle.hasher.specs.declared.Hasher.{Hasher}
-use Rattle.hasher.specs.Hasher.{holding, updated, finished}
+use Rattle.hasher.specs.Internal.{holding, updated, finished}
 use Rattle.hasher.proofs.Laws.{four-parts}
 use Rattle.hasher.proofs.Lent.{R, mach, Slice, Update, takes}
 use Rattle.hasher.proofs.Hasher as T

@@ -29,7 +29,7 @@ use denote.Triple.Spec.{Meets, tripleOf}
 use denote.Triple.Table.{entered}
 use denote.Triple.Walked.{says, Stays, stay-none, walkOf, goes-none, Walks, ends-at, walked, walk-meets}
 use denote.Exit.{yes}
-use Rattle.hasher.specs.Hasher.{made}
+use Rattle.hasher.specs.Internal.{made}
 use Rattle.hasher.proofs.States.{State, state-vals, state-tells, state-lawful, field-in}
 use Rattle.hasher.proofs.Hasher as T
 use Rattle.hasher.proofs.Hasher.Laws as T′

@@ -1,6 +1,6 @@
 -- `keccak::complemented` meets its contract. Assumes nothing.
 use borrow.Author.Needs.{needs}
-use Rattle.keccak.specs.Complemented.{flipped}
+use Rattle.keccak.specs.Internal.{flipped}
 use Rattle.keccak.specs.Keccak.{complement}
 use Rattle.keccak.proofs.complemented.Statement.{statement}
 use Rattle.keccak.proofs.complemented.Tie as tie

@@ -5,7 +5,7 @@ use native.Mathlib.Numerals.{add-one}
 use native.Mathlib.Omega.{arith}
 use borrow.Author.Needs.{needs}
 use Rattle.keccak.specs.Keccak.{State, rounds, keccak}
-use Rattle.keccak.specs.Complemented.{flipped, six}
+use Rattle.keccak.specs.Internal.{flipped, six}
 use Rattle.keccak.proofs.Flips.{back, undone, next-flipped}
 use Rattle.keccak.proofs.Lanes.{Words, rounds-words}
 use Rattle.keccak.proofs.Shape.{array-shape, array-words, keccak-shape}

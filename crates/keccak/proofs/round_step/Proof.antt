@@ -2,8 +2,7 @@
 use mathlib.Core.Path.{_∙_, ap}
 use borrow.Author.Needs.{needs}
 use Rattle.keccak.specs.Keccak.{State, rho, pi, iota}
-use Rattle.keccak.specs.Chi.{chiFlipped}
-use Rattle.keccak.specs.Complemented.{roundFlipped}
+use Rattle.keccak.specs.Internal.{chiFlipped, roundFlipped}
 use Rattle.keccak.proofs.round_step.Statement.{statement}
 use Rattle.keccak.proofs.round_step.Tie as tie
 

@@ -1,17 +1,16 @@
 -- `ring::scale_slot` meets its contract. Assumes nothing.
-use mathlib.Core.Path.{_≡_, refl, ap, _∙_}
-use Prim.Native.Nat.{ℕ, _-_, _*_, _%_, _≤_}
+use mathlib.Core.Path.{_≡_, ap, _∙_}
+use Prim.Native.Nat.{ℕ, _-_, _*_, _%_}
 use native.Mathlib.Omega.{arith}
 use borrow.Author.Needs.{needs}
-use lib.ListN.{length}
-use Rattle.ring.proofs.Filling.{filled, filled-none, filled-all, filled-more, read-later}
+use Rattle.ring.proofs.Filling.{Filling, filling-none, filling-more, filling-stored, read-later}
 use Rattle.ring.specs.Poly.{scale, modulo}
-use Rattle.ring.specs.Slots.{slot, store}
+use Rattle.ring.specs.Slots.{slot}
 use Rattle.ring.proofs.scale_slot.Statement.{statement}
 use Rattle.ring.proofs.scale_slot.Tie as tie
 
 abbrev Inv-loop : tie.InvT-loop
-Inv-loop work₀ at p n q i₀ work i = (i ≤ n) × (length work ≡ length work₀) × (work ≡ filled work₀ at (modulo q (scale p (slot work₀ at))) i)
+Inv-loop work₀ at p n q i₀ work i = Filling work₀ at (modulo q (scale p (slot work₀ at))) n work i
 
 abbrev μ-loop : tie.MeasureT-loop
 μ-loop work₀ at p n q i₀ work i = n - i
@@ -20,10 +19,7 @@ x-is : (c : tie.After-read64 Inv-loop μ-loop) → c .read64 .result ≡ slot (c
 x-is c =
     let a = c .before .before .before .before .before .args in
     let l = c .before .before .before .loop in
-    c .read64 .ensures ∙ read-later (a .work .now) (a .at) _ (l .i) (l .work) (l .inv .2) (omega arith) (a .at) (l .i) (omega arith)
-
-loop-holds : tie.Need-loop-holds Inv-loop μ-loop
-loop-holds c = (omega arith, refl, filled-none _ _ _)
+    c .read64 .ensures ∙ read-later (a .work .now) (a .at) _ (l .i) (l .work) (l .inv .is) (omega arith) (a .at) (l .i) (omega arith)
 
 multiply-requires : tie.Need-multiply-requires Inv-loop μ-loop
 multiply-requires c κs =
@@ -34,22 +30,7 @@ loop-again : tie.Need-loop-again Inv-loop μ-loop
 unfolding modulo scale
 loop-again c =
     let a = c .before .before .before .before .before .before .before .before .before .before .args in
-    let l = c .before .before .before .before .before .before .before .before .loop in (
-      omega arith,
-      c .before .before .write64 .kept .0 ∙ l .inv .1,
-      filled-more (a .work .now) (a .at) _ (l .i) (l .work) _ _ (l .inv .2) (omega arith) (c .before .before .before .before .multiply .ensures ∙ ap (λ (x : ℕ). a .p * x % a .q) (x-is (c .before .before .before .before .before))) (c .before .before .write64 .ensures),
-    )
-
-same-length : tie.Need-same-length Inv-loop μ-loop
-same-length c = c .before .loop .inv .1
-
-returns : tie.Need-returns Inv-loop μ-loop
-unfolding store
-returns c =
-    let a = c .before .before .before .args in
-    let l = c .before .loop in
-    let e : l .i ≡ a .n = omega arith in
-    l .inv .2 ∙ ap (filled (a .work .now) (a .at) _) e ∙ filled-all (a .work .now) (a .at) _ (a .n)
+    filling-more (c .before .before .before .before .before .before .before .before .loop .inv) (omega arith) (omega arith) (c .before .before .before .before .multiply .ensures ∙ ap (λ (x : ℕ). a .p * x % a .q) (x-is (c .before .before .before .before .before))) (c .before .before .write64 .kept .0) (c .before .before .write64 .ensures)
 
 pub scale-slot-spec : {M : Type 1} → statement M
-scale-slot-spec = tie.close (tie.spec Inv-loop μ-loop loop-holds (λ c. search needs) (λ c. search needs) (λ c κs. search needs) multiply-requires (λ c. search needs) (λ c. search needs) (λ c κs. search needs) (λ c. search needs) (λ c. search needs) loop-again same-length returns)
+scale-slot-spec = tie.close (tie.spec Inv-loop μ-loop (λ c. filling-none) (λ c. search needs) (λ c. search needs) (λ c κs. search needs) multiply-requires (λ c. search needs) (λ c. search needs) (λ c κs. search needs) (λ c. search needs) (λ c. search needs) loop-again (λ c. c .before .loop .inv .sized) (λ c. filling-stored _ _ (c .before .loop .inv) (omega arith)))

@@ -5,7 +5,7 @@ use native.Mathlib.Omega.{arith}
 use borrow.Author.Needs.{needs}
 use Rattle.modular.proofs.Digits.{digits-le}
 use Rattle.ring_product.proofs.Columns.{columns-none, columns-room, columns-more}
-use Rattle.ring_product.specs.Method.{Columns}
+use Rattle.ring_product.specs.Internal.{Columns}
 use Rattle.ring.specs.Slots.{slot}
 use Rattle.ring_product.proofs.block.Statement.{statement}
 use Rattle.ring_product.proofs.block.Tie as tie

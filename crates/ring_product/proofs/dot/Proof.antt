@@ -6,7 +6,7 @@ use borrow.Author.Needs.{needs}
 use Rattle.ring.proofs.Bridge.{slot-later}
 use Rattle.ring_product.proofs.Columns.{digits-none, digits-value, first-room, second-room, third-room, last-room, last-fits, carried}
 use Rattle.ring.proofs.Polynomials.{ext}
-use Rattle.ring_product.specs.Method.{Columns, Digits}
+use Rattle.ring_product.specs.Internal.{Columns, Digits}
 use Rattle.ring.specs.Poly.{Poly, sum, Below}
 use Rattle.ring.specs.Slots.{slot}
 use Rattle.ring_product.proofs.dot.Statement.{statement}

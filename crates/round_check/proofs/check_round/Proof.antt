@@ -5,8 +5,9 @@ use native.Mathlib.Omega.{arith}
 use borrow.Author.Needs.{needs}
 use borrow.Author.Tests.{not-true, not-false}
 use Rattle.scratch.proofs.Order.{refuses, passes}
-use Rattle.round.specs.Round.{Round, roundOf, roundTests}
-use Rattle.round.specs.Sheets.{parameters}
+use Rattle.round.specs.Round.{Round, roundTests}
+use Rattle.round.specs.Internal.{roundOf}
+use Rattle.commitment.specs.Parameters.{parameters}
 use Rattle.round_side.proofs.Passed.{round-passed}
 use Rattle.round_check.proofs.check_round.Statement.{statement}
 use Rattle.round_check.proofs.check_round.Tie as tie

@@ -6,7 +6,7 @@ use native.Mathlib.Omega.{arith}
 use borrow.Author.Needs.{needs}
 use Rattle.codec.specs.Bytes.{same}
 use Rattle.commitment.specs.Commitment.{keysOf, pairBytes}
-use Rattle.stern.specs.Method.{equationPair}
+use Rattle.stern.specs.Internal.{equationPair}
 use Rattle.stern.proofs.Honest.{length-pairBytes}
 use Rattle.stern.proofs.Strings.{covered}
 use Rattle.round_collision.proofs.Agreement.{by-first, by-rest, still-ground}

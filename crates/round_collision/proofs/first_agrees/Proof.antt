@@ -8,7 +8,7 @@ use lib.ListN.{take}
 use Rattle.codec.specs.Bytes.{words}
 use Rattle.commitment.specs.Commitment.{keysOf}
 use Rattle.vector.specs.Vector.{vector, subtract}
-use Rattle.stern.specs.Shortness.{equations, sides, answer2Of, answer3Of}
+use Rattle.stern.specs.Shortness.{equations, rightHandSides, answer2Of, answer3Of}
 use Rattle.stern.proofs.Answered.{lent-range, lent-length}
 use Rattle.round_collision.proofs.Agreement.{by-first, by-rest, string1-parts, start-length, lent-equations}
 use Rattle.round_collision.proofs.first_agrees.Statement.{statement}
@@ -22,7 +22,7 @@ returns c =
     let k = keysOf n (a .k .now) in
     let s = answer2Of n (a .answer2 .now) in
     let t = answer3Of n (a .answer3 .now) in
-    let v = words (subtract (a .q) (equations (a .q) n k (take (14 * n) (vector (s .u)))) (sides (a .q) n (a .c .now))) in
+    let v = words (subtract (a .q) (equations (a .q) n k (take (14 * n) (vector (s .u)))) (rightHandSides (a .q) n (a .c .now))) in
     let w = words (equations (a .q) n k (take (14 * n) (vector (t .r)))) in
     record {
       told =
@@ -55,7 +55,7 @@ returns-2 c =
     let k = keysOf n (a .k .now) in
     let s = answer2Of n (a .answer2 .now) in
     let t = answer3Of n (a .answer3 .now) in
-    let v = words (subtract (a .q) (equations (a .q) n k (take (14 * n) (vector (s .u)))) (sides (a .q) n (a .c .now))) in
+    let v = words (subtract (a .q) (equations (a .q) n k (take (14 * n) (vector (s .u)))) (rightHandSides (a .q) n (a .c .now))) in
     let w = words (equations (a .q) n k (take (14 * n) (vector (t .r)))) in
     let e = c .before .before .before .before .equations-agree .ensures in
     record {

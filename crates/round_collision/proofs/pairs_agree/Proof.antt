@@ -3,7 +3,7 @@ use mathlib.Core.Path.{_∙_}
 use mathlib.Core.Bool.{true, false}
 use native.Mathlib.Omega.{arith}
 use Rattle.commitment.specs.Commitment.{keysOf}
-use Rattle.stern.specs.Method.{equationPair}
+use Rattle.stern.specs.Internal.{equationPair}
 use Rattle.stern.proofs.Written.{vector-below}
 use Rattle.round_collision.proofs.Agreement.{pairs-compared}
 use Rattle.round_collision.proofs.pairs_agree.Statement.{statement}

@@ -3,10 +3,9 @@ use mathlib.Core.Path.{sym, _∙_}
 use native.Mathlib.Omega.{arith}
 use borrow.Author.Needs.{needs}
 use Rattle.codec.specs.Bytes.{Octets}
-use Rattle.scratch.proofs.Sweeping.{swept-taken}
-use Rattle.round.specs.Round.{Parameters}
+use Rattle.scratch.proofs.Zeroizing.{zeroized-taken}
+use Rattle.commitment.specs.Parameters.{Parameters, parameters}
 use Rattle.round.specs.Extractor.{Openings, openingsOf, ExtractRoom, extractRoom}
-use Rattle.round.specs.Sheets.{parameters}
 use Rattle.round.proofs.Wiped.{still}
 use Rattle.round_lengths.specs.Calls.{countOf}
 use Rattle.round_extract.proofs.Ready.{search-ready}
@@ -32,7 +31,7 @@ find-requires c κs =
     let e = c .before .before .before .before .before .before .openings-tests .ensures in
     let t = c .before .before .enum-told .given .1 in
     let r = search-ready (P s) (x s) (room s) (p .a) o (sym (e .0) ∙ t) in
-    (p, still (e .1 ∙ swept-taken _ (a .scratch .now) t) ∙ r .0 .0, r .0 .1, r .0 .2, r .0 .3, r .0 .4, r .1 .0, r .1 .1)
+    (p, still (e .1 ∙ zeroized-taken _ (a .scratch .now) t) ∙ r .0 .0, r .0 .1, r .0 .2, r .0 .3, r .0 .4, r .1 .0, r .1 .1)
 
 returns : tie.Need-returns
 returns c =

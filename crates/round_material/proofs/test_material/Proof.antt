@@ -1,10 +1,9 @@
 -- `test_material` meets its contract. Assumes nothing.
 use mathlib.Core.Path.{_∙_}
 use borrow.Author.Needs.{needs}
-use Rattle.scratch.proofs.Sweeping.{length-zeros}
+use Rattle.scratch.proofs.Zeroizing.{length-zeros}
 use Rattle.round.specs.Producer.{Material, materialOf}
-use Rattle.round.specs.Round.{Parameters}
-use Rattle.round.specs.Sheets.{parameters}
+use Rattle.commitment.specs.Parameters.{Parameters, parameters}
 use Rattle.round_material.proofs.Sequence.{stopped, ended, ballots-passed}
 use Rattle.round_material.proofs.test_material.Statement.{statement}
 use Rattle.round_material.proofs.test_material.Tie as tie

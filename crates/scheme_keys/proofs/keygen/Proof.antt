@@ -6,8 +6,8 @@ use borrow.Author.Needs.{needs}
 use Rattle.codec.specs.Bytes.{Bytes}
 use Rattle.ring.specs.Slots.{coefficientBytes, poly}
 use Rattle.ring.specs.Ternary.{ternary}
-use Rattle.scratch.specs.Call.{Polynomial}
-use Rattle.scratch.proofs.Sweeping.{worked-taken, worked-refused}
+use Rattle.scratch.specs.Internal.{Polynomial}
+use Rattle.scratch.proofs.Zeroizing.{worked-taken, worked-refused}
 use Rattle.bgv.specs.Scheme.{key}
 use Rattle.commitment.proofs.Cut.{a-cut, with-a}
 use Rattle.scheme.specs.Calls.{keygenWrites}
@@ -15,9 +15,6 @@ use Rattle.scheme.proofs.Places.{one-written}
 use Rattle.scheme_keys.proofs.Passed.{keygen-passed}
 use Rattle.scheme_keys.proofs.keygen.Statement.{statement}
 use Rattle.scheme_keys.proofs.keygen.Tie as tie
-
-keygen-tests-requires : tie.Need-keygen-tests-requires
-keygen-tests-requires c κs = c .before .before .before .before .before .before .before .pre .a .ring-high
 
 part-noisy-end : tie.Need-part-noisy-end
 part-noisy-end c = let h = c .before .before .before .before .before .before .before .before .before .before .before .before .before .pre .sized in search needs
@@ -42,8 +39,5 @@ returns c =
     let made = with-a k (a .public .now) (λ (p : ℕ) (x : Bytes). coefficientBytes (k .modulus) (k .ring) (key (k .modulus) (k .ring) p (poly x) (ternary (k .modulus) (a .s .now)) (ternary (k .modulus) (a .e .now)))) (c .before .before .before .before .before .before .before .before .plain .ensures) in
     worked-taken (t .ensures) taken (one-written (k .modulus) (k .ring) _ (a .b .now) _ (h .3) (w .written) ∙ made) (w .cleared)
 
-returns-2 : tie.Need-returns-2
-returns-2 c = worked-refused (c .before .before .keygen-tests .ensures) (c .enum-told2 .given .1)
-
 pub keygen-spec : {M : Type 1} → statement M
-keygen-spec = tie.close (tie.spec keygen-tests-requires (λ c. search needs) (λ c κs. search needs) (λ c. search needs) (λ c. search needs) (λ c. search needs) part-noisy-end noisy-requires (λ c. search needs) (λ c. search needs) (λ c. search needs) returns (λ c. search needs) (λ c. search needs) returns-2)
+keygen-spec = tie.close (tie.spec (λ c κs. c .before .before .before .before .before .before .before .pre .a .ring-high) (λ c. search needs) (λ c κs. search needs) (λ c. search needs) (λ c. search needs) (λ c. search needs) part-noisy-end noisy-requires (λ c. search needs) (λ c. search needs) (λ c. search needs) returns (λ c. search needs) (λ c. search needs) (λ c. worked-refused (c .before .before .keygen-tests .ensures) (c .enum-told2 .given .1)))

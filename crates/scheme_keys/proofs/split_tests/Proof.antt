@@ -1,50 +1,13 @@
 -- `split_tests` meets its contract. Assumes nothing.
-use mathlib.Core.Path.{_≡_, sym, _∙_}
-use mathlib.Core.Bool.{true, not, _&&_}
-use mathlib.Core.List.{List, [], _∷_}
-use Prim.Native.Nat.{ℕ, _*_}
 use borrow.Author.Needs.{needs}
-use borrow.Author.Tests.{not-true, not-false}
-use lib.ListN.{length}
 use Rattle.codec.specs.Bytes.{same}
-use Rattle.codec.specs.Reply.{test, first}
-use Rattle.scratch.specs.Call.{bytesBelow, coefficientsBelow}
-use Rattle.scratch.proofs.Order.{length-at, wrong-length, out-of-range, in-order}
+use Rattle.scratch.proofs.Order.{length-asked, stops, follows, ends}
 use Rattle.scheme_keys.proofs.split_tests.Statement.{statement}
 use Rattle.scheme_keys.proofs.split_tests.Tie as tie
 
-returns : tie.Need-returns
-unfolding same
-returns c =
-    let a = c .before .before .before .before .before .before .before .before .args in
-    let xs : List ℕ = length (a .s .now) ∷ length (a .e .now) ∷ length (a .s0 .now) ∷ length (a .e0 .now) ∷ length (a .out .now) ∷ length (a .scratch .now) ∷ [] in
-    let ys : List ℕ = a .k .ring ∷ a .k .ring ∷ 8 * a .k .ring ∷ 8 * a .k .ring ∷ 32 * a .k .ring ∷ 1048576 ∷ [] in
-    wrong-length xs ys (test 5 0 (not (bytesBelow 3 (a .s .now ∷ a .e .now ∷ []) && coefficientsBelow (a .k .modulus) (a .k .ring) (a .s0 .now ∷ a .e0 .now ∷ []))) ∷ []) (sym (c .before .sized .ensures) ∙ not-true (c .before .sized .result) (c .if1 .taken))
-
 split-ranged-requires : tie.Need-split-ranged-requires
-unfolding same
-split-ranged-requires c κs =
-    let a = c .before .before .before .before .before .before .before .before .args in
-    let xs : List ℕ = length (a .s .now) ∷ length (a .e .now) ∷ length (a .s0 .now) ∷ length (a .e0 .now) ∷ length (a .out .now) ∷ length (a .scratch .now) ∷ [] in
-    let ys : List ℕ = a .k .ring ∷ a .k .ring ∷ 8 * a .k .ring ∷ 8 * a .k .ring ∷ 32 * a .k .ring ∷ 1048576 ∷ [] in
-    let l : same xs ys ≡ true = sym (c .before .sized .ensures) ∙ not-false (c .before .sized .result) (c .if1 .left) in
-    (length-at xs ys 2 l, length-at xs ys 3 l)
-
-returns-2 : tie.Need-returns-2
-unfolding same
-returns-2 c =
-    let a = c .before .before .before .before .before .before .before .before .before .before .args in
-    let xs : List ℕ = length (a .s .now) ∷ length (a .e .now) ∷ length (a .s0 .now) ∷ length (a .e0 .now) ∷ length (a .out .now) ∷ length (a .scratch .now) ∷ [] in
-    let ys : List ℕ = a .k .ring ∷ a .k .ring ∷ 8 * a .k .ring ∷ 8 * a .k .ring ∷ 32 * a .k .ring ∷ 1048576 ∷ [] in
-    out-of-range xs ys (bytesBelow 3 (a .s .now ∷ a .e .now ∷ []) && coefficientsBelow (a .k .modulus) (a .k .ring) (a .s0 .now ∷ a .e0 .now ∷ [])) [] (sym (c .before .before .before .sized .ensures) ∙ not-false (c .before .before .before .sized .result) (c .before .before .if1 .left)) (sym (c .before .split-ranged .ensures) ∙ not-true (c .before .split-ranged .result) (c .if2 .taken))
-
-returns-3 : tie.Need-returns-3
-unfolding first same
-returns-3 c =
-    let a = c .before .before .before .before .before .before .before .before .before .before .args in
-    let xs : List ℕ = length (a .s .now) ∷ length (a .e .now) ∷ length (a .s0 .now) ∷ length (a .e0 .now) ∷ length (a .out .now) ∷ length (a .scratch .now) ∷ [] in
-    let ys : List ℕ = a .k .ring ∷ a .k .ring ∷ 8 * a .k .ring ∷ 8 * a .k .ring ∷ 32 * a .k .ring ∷ 1048576 ∷ [] in
-    in-order xs ys (bytesBelow 3 (a .s .now ∷ a .e .now ∷ []) && coefficientsBelow (a .k .modulus) (a .k .ring) (a .s0 .now ∷ a .e0 .now ∷ [])) [] (sym (c .before .before .before .sized .ensures) ∙ not-false (c .before .before .before .sized .result) (c .before .before .if1 .left)) (sym (c .before .split-ranged .ensures) ∙ not-false (c .before .split-ranged .result) (c .if2 .left))
+split-ranged-requires c κs = (length-asked _ _ 2 (c .before .sized .ensures) (c .if1 .left), length-asked _ _ 3 (c .before .sized .ensures) (c .if1 .left))
 
 pub split-tests-spec : {M : Type 1} → statement M
-split-tests-spec = tie.close (tie.spec (λ c. search needs) (λ c. search needs) (λ c. search needs) (λ c κs. search needs) returns split-ranged-requires returns-2 returns-3)
+unfolding same
+split-tests-spec = tie.close (tie.spec (λ c. search needs) (λ c. search needs) (λ c. search needs) (λ c κs. search needs) (λ c κs. search needs) (λ c. stops 1 (c .before .before .sized .ensures) _ (c .before .if1 .taken) (c .refused .ensures)) split-ranged-requires (λ c κs. search needs) (λ c. follows 1 (c .before .before .before .sized .ensures) _ (c .before .before .if1 .left) (ends 5 (c .before .split-ranged .ensures) (c .tested .ensures))))

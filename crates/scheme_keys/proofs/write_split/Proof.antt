@@ -8,8 +8,8 @@ use Rattle.codec.specs.Bytes.{Bytes, put}
 use Rattle.ring.specs.Slots.{coefficientBytes, poly}
 use Rattle.ring.specs.Ternary.{ternary}
 use Rattle.sheet_numbers.specs.Plain.{plain}
-use Rattle.scratch.specs.Call.{Polynomial}
-use Rattle.scratch.proofs.Sweeping.{length-zeros}
+use Rattle.scratch.specs.Internal.{Polynomial}
+use Rattle.scratch.proofs.Zeroizing.{length-zeros}
 use Rattle.bgv.specs.Scheme.{key, other}
 use Rattle.commitment.specs.Loaded.{aOf}
 use Rattle.commitment.proofs.Cut.{a-cut, with-a}

@@ -2,8 +2,7 @@
 use mathlib.Core.Path.{sym}
 use borrow.Author.Needs.{needs}
 use Rattle.scratch.proofs.Lent.{lent}
-use Rattle.commitment.proofs.Sheets.{sheet-loaded}
-use Rattle.round_lengths.proofs.OverSheet.{parameters-are}
+use Rattle.commitment.proofs.Sheets.{sheet-loaded, parameters-are}
 use Rattle.session_check.specs.Stored.{Inputs, inputsOf}
 use Rattle.session_check.proofs.Outcome.{checked-over, checked-refused}
 use Rattle.session_check.proofs.check.Statement.{statement}
@@ -26,7 +25,7 @@ returns c =
     checked-over (s .args .held) (x s) (lent (s .args .sheet .now) l t .said) (parameters-are (s .args .sheet .now) l t) (c .before .before .check-taken .ensures)
 
 returns-2 : tie.Need-returns-2
-returns-2 c = let s = c .before .before .before .before .before .before .before .before .before .before .before .before .before .before .before .before .before .before in checked-refused (s .args .held) (x s) (c .before .before .before .before .before .before .before .load .ensures .0) (c .before .before .before .before .before .reading2 .given .1) (c .before .before .sweep .ensures)
+returns-2 c = let s = c .before .before .before .before .before .before .before .before .before .before .before .before .before .before .before .before .before .before in checked-refused (s .args .held) (x s) (c .before .before .before .before .before .before .before .load .ensures .0) (c .before .before .before .before .before .reading2 .given .1) (c .before .before .zeroize .ensures)
 
 pub check-spec : {M : Type 1} → statement M
 check-spec = tie.close (tie.spec (λ c κs. search needs) (λ c. search needs) slice-aggregate-check-taken check-taken-requires (λ c. search needs) (λ c κs. search needs) (λ c. search needs) returns (λ c. search needs) returns-2)

@@ -7,7 +7,7 @@ use native.Mathlib.Omega.{arith}
 use borrow.Author.Needs.{needs}
 use Rattle.codec.specs.Bytes.{Bytes, part}
 use Rattle.sha3.specs.Sponge.{sha3}
-use Rattle.hasher.specs.Hasher.{holding, updated}
+use Rattle.hasher.specs.Internal.{holding, updated}
 use Rattle.session_digests.specs.Digests.{concatenated, ballotDigests, closingDigest}
 use Rattle.session_digests.proofs.Parts.{none, next, closing-done, ballots-more}
 use Rattle.session_digests.proofs.closing_of_ballots.Statement.{statement}

@@ -7,7 +7,7 @@ use Prim.Native.Nat.{ℕ, _+_, _*_, _-_, _≤_}
 use native.Mathlib.Omega.{arith}
 use borrow.Author.Needs.{needs}
 use Rattle.codec.specs.Bytes.{part}
-use Rattle.hasher.specs.Hasher.{holding, updated}
+use Rattle.hasher.specs.Internal.{holding, updated}
 use Rattle.register.specs.Register.{standing, standingDigests, digestAt}
 use Rattle.session_digests.specs.Digests.{concatenated, closingDigest}
 use Rattle.session_digests.proofs.Parts.{none, next, closing-done, standing-more}

@@ -1,6 +1,6 @@
 -- `store` meets its contract. Assumes nothing.
 use borrow.Author.Needs.{needs}
-use Rattle.session_image.specs.Image.{Typed}
+use Rattle.session_image.specs.Internal.{Typed}
 use Rattle.session_image.proofs.Law.{written}
 use Rattle.session_image.proofs.store.Statement.{statement}
 use Rattle.session_image.proofs.store.Tie as tie

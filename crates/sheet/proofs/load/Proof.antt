@@ -2,7 +2,7 @@
 use mathlib.Core.Path.{sym, ap, _∙_}
 use native.Mathlib.Omega.{arith}
 use borrow.Author.Needs.{needs}
-use Rattle.sheet.specs.Sheet.{loaded}
+use Rattle.sheet.specs.Internal.{loaded}
 use Rattle.sheet_numbers.specs.declared.Numbers.{Numbers}
 use Rattle.sheet.proofs.Taken.{taken}
 use Rattle.sheet.proofs.load.Statement.{statement}

@@ -6,7 +6,7 @@ use native.Mathlib.Omega.{arith}
 use borrow.Author.Needs.{needs}
 use borrow.Author.Tests.{not-true, not-false}
 use lib.ListN.{length}
-use Rattle.sheet.specs.Seen.{judged}
+use Rattle.sheet.specs.Internal.{judged}
 use Rattle.sheet_numbers.specs.declared.Numbers.{Numbers}
 use Rattle.sheet.proofs.Order.{no-text, too-much, no-form, judged-is, head-broken, tail-broken, more-text, not-single, has-form, numbers-are, counts-are, largest-are}
 use Rattle.sheet.proofs.read.Statement.{statement}

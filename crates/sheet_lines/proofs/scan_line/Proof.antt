@@ -5,7 +5,7 @@ use native.Mathlib.Omega.{arith}
 use borrow.Author.Needs.{needs}
 use lib.ListN.{length, drop}
 use Rattle.sheet_lines.specs.Reader.{line}
-use Rattle.sheet_lines.specs.Seen.{summed}
+use Rattle.sheet_lines.specs.Internal.{summed}
 use Rattle.sheet_lines.proofs.Scanning.{key-byte, key-ends, key-other, key-over}
 use Rattle.sheet_lines.proofs.scan_line.Statement.{statement}
 use Rattle.sheet_lines.proofs.scan_line.Tie as tie

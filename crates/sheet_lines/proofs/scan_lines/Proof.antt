@@ -7,7 +7,7 @@ use borrow.Author.Needs.{needs}
 use lib.ListN.{length, take, drop, length-set}
 use Rattle.codec.specs.Bytes.{Bytes}
 use Rattle.sheet_lines.specs.Form.{numberKeys, listKeys}
-use Rattle.sheet_lines.specs.Seen.{scanned}
+use Rattle.sheet_lines.specs.Internal.{scanned}
 use Rattle.sheet_lines.proofs.Blocks.{Passed, starts, stops, goes-on, all, five-keys, key-at}
 use Rattle.sheet_lines.proofs.scan_lines.Statement.{statement}
 use Rattle.sheet_lines.proofs.scan_lines.Tie as tie

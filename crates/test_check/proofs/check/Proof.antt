@@ -3,7 +3,8 @@ use mathlib.Core.Path.{sym}
 use borrow.Author.Needs.{needs}
 use Rattle.scratch.proofs.Lent.{lent}
 use Rattle.commitment.proofs.Sheets.{sheet-loaded}
-use Rattle.round.specs.Round.{Round, roundOf}
+use Rattle.round.specs.Round.{Round}
+use Rattle.round.specs.Internal.{roundOf}
 use Rattle.test_check.proofs.Given.{check-over, check-unread}
 use Rattle.test_check.proofs.check.Statement.{statement}
 use Rattle.test_check.proofs.check.Tie as tie
@@ -21,7 +22,7 @@ returns : tie.Need-returns
 returns c = let s = c .before .before .before .before .before .before .before .before .before .before .before .before .before .before .before .before .before .before .before .before in check-over (s .args .sheet .now) (c .before .before .before .before .before .before .before .before .load .ensures) (c .before .before .before .before .before .before .reading .given .1) (x s) (s .args .scratch .now) (c .before .before .check .ensures)
 
 returns-2 : tie.Need-returns-2
-returns-2 c = let s = c .before .before .before .before .before .before .before .before .before .before .before .before .before .before .before .before .before .before .before in check-unread (s .args .sheet .now) (c .before .before .before .before .before .before .before .load .ensures .0) (c .before .before .before .before .before .reading2 .given .1) (x s) (s .args .scratch .now) (c .before .before .sweep .ensures)
+returns-2 c = let s = c .before .before .before .before .before .before .before .before .before .before .before .before .before .before .before .before .before .before .before in check-unread (s .args .sheet .now) (c .before .before .before .before .before .before .before .load .ensures .0) (c .before .before .before .before .before .reading2 .given .1) (x s) (s .args .scratch .now) (c .before .before .zeroize .ensures)
 
 pub check-spec : {M : Type 1} → statement M
 check-spec = tie.close (tie.spec (λ c κs. search needs) (λ c. search needs) slice-aggregate-check check-requires (λ c. search needs) (λ c κs. search needs) (λ c. search needs) returns (λ c. search needs) returns-2)

@@ -4,28 +4,13 @@ use Prim.Native.Nat.{ℕ, _+_, _*_, _%_}
 use native.Mathlib.Nat.{mul-le-mul}
 use native.Mathlib.Omega.{arith}
 use borrow.Author.Needs.{needs}
-use borrow.Author.Tests.{le-ltb, lt-ltb, le-leb, lt-leb, eq-eqb, ne-eqb}
+use borrow.Author.Tests.{le-ltb, lt-leb, eq-eqb}
+use Rattle.codec.proofs.Replies.{order}
 use Rattle.codec.specs.Reply.{first, leaves}
 use Rattle.modular.proofs.Division.{reaches-coprime}
 use Rattle.test_ring.specs.Calls.{answer, divideReply}
 use Rattle.test_ring.proofs.modular_divide.Statement.{statement}
 use Rattle.test_ring.proofs.modular_divide.Tie as tie
-
-returns : tie.Need-returns
-unfolding divideReply answer first leaves
-returns c = search (needs, le-ltb, lt-ltb, le-leb, lt-leb, eq-eqb, ne-eqb)
-
-returns-2 : tie.Need-returns-2
-unfolding divideReply answer first leaves
-returns-2 c = search (needs, le-ltb, lt-ltb, le-leb, lt-leb, eq-eqb, ne-eqb)
-
-returns-3 : tie.Need-returns-3
-unfolding divideReply answer first leaves
-returns-3 c = search (needs, le-ltb, lt-ltb, le-leb, lt-leb, eq-eqb, ne-eqb)
-
-returns-4 : tie.Need-returns-4
-unfolding divideReply answer first leaves
-returns-4 c = search (needs, le-ltb, lt-ltb, le-leb, lt-leb, eq-eqb, ne-eqb)
 
 mul-if5 : tie.Need-mul-if5
 mul-if5 c = omega (arith, mul-le-mul {n₁ = c .before .before .before .before .before .args .q} {m₁ = c .multiplier .result} {n₂ = 72057594037927936} {m₂ = 250} (omega arith) (omega arith))
@@ -35,7 +20,7 @@ add-if5 c = omega (arith, mul-le-mul {n₁ = c .before .before .before .before .
 
 returns-5 : tie.Need-returns-5
 unfolding divideReply answer first leaves
-returns-5 c = rw (← c .before .multiplier .ensures .0) (search (needs, le-ltb, lt-ltb, le-leb, lt-leb, eq-eqb, ne-eqb))
+returns-5 c = rw (← c .before .multiplier .ensures .0) (search order)
 
 divide-requires : tie.Need-divide-requires
 divide-requires c κs =
@@ -51,4 +36,5 @@ returns-6 c =
     rw (← m .ensures .0, le-ltb (a .p) 2 (c .before .before .before .before .before .before .if1 .left), le-ltb 251 (a .p) (c .before .before .before .before .before .if2 .left), lt-leb 72057594037927936 (a .q) (c .before .before .before .before .if3 .left), lt-leb (a .q) (a .x) (c .before .before .before .if4 .left), eq-eqb ((1 + a .q * m .result) % a .p) 0 (c .before .if5 .left)) (ap (λ (v : ℕ). 256 * v) (c .divide .ensures .0))
 
 pub modular-divide-spec : {M : Type 1} → statement M
-modular-divide-spec = tie.close (tie.spec returns returns-2 returns-3 returns-4 (λ c κs. search needs) mul-if5 add-if5 (λ c. search needs) returns-5 divide-requires (λ c. search needs) returns-6)
+unfolding divideReply answer first leaves
+modular-divide-spec = tie.close (tie.spec (λ c. search order) (λ c. search order) (λ c. search order) (λ c. search order) (λ c κs. search needs) mul-if5 add-if5 (λ c. search needs) returns-5 divide-requires (λ c. search needs) returns-6)

@@ -5,7 +5,7 @@ use borrow.Author.Needs.{needs}
 use Rattle.codec.specs.Reply.{leaves}
 use Rattle.codec.proofs.Laws.{put-whole}
 use Rattle.sheet.proofs.Taken.{taken}
-use Rattle.test_sheet.specs.Polynomials.{polynomialsReply, polynomialsOut}
+use Rattle.test_sheet.specs.Polynomials.{sheetPolynomialsReply, sheetPolynomialsOut}
 use Rattle.test_sheet.proofs.Answers.{refused, wrong-length, is-taken, load-taken}
 use Rattle.test_sheet.proofs.polynomials.Statement.{statement}
 use Rattle.test_sheet.proofs.polynomials.Tie as tie
@@ -14,7 +14,7 @@ mul-m : tie.Need-mul-m
 mul-m c = omega (arith, taken _ (sym (c .before .before .before .load .ensures .0) ∙ c .before .r2 .given .1) .ranged .ring-high)
 
 returns : tie.Need-returns
-unfolding polynomialsReply polynomialsOut leaves
+unfolding sheetPolynomialsReply sheetPolynomialsOut leaves
 returns c =
     let a = c .before .before .before .before .before .before .before .before .args in
     let r = sym (c .before .before .before .before .load .ensures .0) ∙ c .before .before .r2 .given .1 in
@@ -38,14 +38,14 @@ copy-requires c κs =
     omega (arith, s, c .before .before .if1 .left)
 
 returns-2 : tie.Need-returns-2
-unfolding polynomialsReply polynomialsOut leaves
+unfolding sheetPolynomialsReply sheetPolynomialsOut leaves
 returns-2 c =
     let a = c .before .before .before .before .before .before .before .args in
     let e = refused (a .text .now) (a .out .now) (sym (c .before .before .before .load .ensures .0) ∙ c .before .r .given .1) in
     (sym e, rw e)
 
 returns-3 : tie.Need-returns-3
-unfolding polynomialsReply polynomialsOut leaves
+unfolding sheetPolynomialsReply sheetPolynomialsOut leaves
 returns-3 c =
     let a = c .before .before .before .before .before .before .before .before .before .before .before .before .before .args in
     let l = c .before .before .before .before .before .before .before .before .before .load in

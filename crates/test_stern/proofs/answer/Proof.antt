@@ -1,7 +1,7 @@
 -- `answer` meets its contract. Assumes nothing.
 use mathlib.Core.Path.{sym, _∙_}
 use borrow.Author.Needs.{needs}
-use Rattle.scratch.proofs.Sweeping.{leaves-taken, leaves-refused}
+use Rattle.scratch.proofs.Zeroizing.{leaves-taken, leaves-refused}
 use Rattle.test_stern.proofs.Passed.{answer-passed}
 use Rattle.test_stern.proofs.answer.Statement.{statement}
 use Rattle.test_stern.proofs.answer.Tie as tie

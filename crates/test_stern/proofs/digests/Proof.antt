@@ -4,7 +4,7 @@ use native.Mathlib.Omega.{arith}
 use borrow.Author.Needs.{needs}
 use lib.ListN.{length, length-replicate}
 use Rattle.codec.proofs.Laws.{put-whole}
-use Rattle.scratch.proofs.Sweeping.{leaves-taken, leaves-refused}
+use Rattle.scratch.proofs.Zeroizing.{leaves-taken, leaves-refused}
 use Rattle.commitment.specs.Commitment.{keysOf}
 use Rattle.stern.specs.Shortness.{drawnOf, honestDigests}
 use Rattle.test_stern.proofs.Passed.{digests-passed, digests-length}

@@ -40,9 +40,6 @@ loop-again c =
       paste-more (a .out .now) (l .out) (a .at) (apply (entries (a .p .now)) y) (l .i) _ (l .inv .2) (omega arith) (omega arith) (gathered (entries (a .p .now)) y (l .i) _ _ (omega (arith, length-entries (a .p .now))) (c .before .entry .ensures) (c .extended .ensures)),
     )
 
-same-length : tie.Need-same-length Inv-loop μ-loop
-same-length c = c .before .loop .inv .1
-
 returns : tie.Need-returns Inv-loop μ-loop
 returns c =
     let a = c .before .before .before .before .before .args in
@@ -53,4 +50,4 @@ returns c =
     l .inv .2 ∙ ap (paste (a .out .now) (a .at) y) e ∙ paste-all (a .out .now) (a .at) y
 
 pub gather-extended-spec : {M : Type 1} → statement M
-gather-extended-spec = tie.close (tie.spec Inv-loop μ-loop loop-holds (λ c κs. search needs) extended-requires (λ c. search needs) (λ c. search needs) (λ c. search needs) (λ c. search needs) loop-again same-length returns)
+gather-extended-spec = tie.close (tie.spec Inv-loop μ-loop loop-holds (λ c κs. search needs) extended-requires (λ c. search needs) (λ c. search needs) (λ c. search needs) (λ c. search needs) loop-again (λ c. c .before .loop .inv .1) returns)

@@ -5,7 +5,7 @@ use borrow.Author.Needs.{needs}
 use Rattle.keccak.specs.Keccak.{State}
 use Rattle.sha3.specs.Absorb.{absorb}
 use Rattle.sha3.specs.Sponge.{padding, squeeze}
-use Rattle.hasher.specs.Hasher.{finished}
+use Rattle.hasher.specs.Internal.{finished}
 use Rattle.hasher.proofs.Hasher.finish.Statement.{statement}
 use Rattle.hasher.proofs.Hasher.finish.Tie as tie
 

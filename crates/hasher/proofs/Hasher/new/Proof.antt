@@ -3,7 +3,7 @@ use mathlib.Core.Path.{_∙_, ap}
 use borrow.Author.Needs.{needs}
 use Rattle.keccak.specs.Keccak.{State}
 use Rattle.sha3.specs.Absorb.{absorb}
-use Rattle.hasher.specs.Hasher.{made, holding}
+use Rattle.hasher.specs.Internal.{made, holding}
 use Rattle.hasher.proofs.Hasher.new.Statement.{statement}
 use Rattle.hasher.proofs.Hasher.new.Tie as tie
 

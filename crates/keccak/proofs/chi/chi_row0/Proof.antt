@@ -1,6 +1,6 @@
 -- `chi::chi_row0` meets its contract. Assumes nothing.
 use borrow.Author.Needs.{needs}
-use Rattle.keccak.specs.Chi.{chiRow0}
+use Rattle.keccak.specs.Internal.{chiRow0}
 use Rattle.keccak.specs.Steps.{complement}
 use Rattle.keccak.proofs.chi.chi_row0.Statement.{statement}
 use Rattle.keccak.proofs.chi.chi_row0.Tie as tie

@@ -1,6 +1,6 @@
 -- `chi::chi_row1` meets its contract. Assumes nothing.
 use borrow.Author.Needs.{needs}
-use Rattle.keccak.specs.Chi.{chiRow1}
+use Rattle.keccak.specs.Internal.{chiRow1}
 use Rattle.keccak.specs.Steps.{complement}
 use Rattle.keccak.proofs.chi.chi_row1.Statement.{statement}
 use Rattle.keccak.proofs.chi.chi_row1.Tie as tie

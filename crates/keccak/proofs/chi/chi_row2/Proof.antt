@@ -1,6 +1,6 @@
 -- `chi::chi_row2` meets its contract. Assumes nothing.
 use borrow.Author.Needs.{needs}
-use Rattle.keccak.specs.Chi.{chiRow2}
+use Rattle.keccak.specs.Internal.{chiRow2}
 use Rattle.keccak.specs.Steps.{complement}
 use Rattle.keccak.proofs.chi.chi_row2.Statement.{statement}
 use Rattle.keccak.proofs.chi.chi_row2.Tie as tie

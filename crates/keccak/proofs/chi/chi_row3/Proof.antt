@@ -1,6 +1,6 @@
 -- `chi::chi_row3` meets its contract. Assumes nothing.
 use borrow.Author.Needs.{needs}
-use Rattle.keccak.specs.Chi.{chiRow3}
+use Rattle.keccak.specs.Internal.{chiRow3}
 use Rattle.keccak.specs.Steps.{complement}
 use Rattle.keccak.proofs.chi.chi_row3.Statement.{statement}
 use Rattle.keccak.proofs.chi.chi_row3.Tie as tie

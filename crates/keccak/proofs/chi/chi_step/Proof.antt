@@ -1,6 +1,6 @@
 -- `chi::chi_step` meets its contract. Assumes nothing.
 use borrow.Author.Needs.{needs}
-use Rattle.keccak.specs.Chi.{chiFlipped}
+use Rattle.keccak.specs.Internal.{chiFlipped}
 use Rattle.keccak.proofs.chi.chi_step.Statement.{statement}
 use Rattle.keccak.proofs.chi.chi_step.Tie as tie
 

@@ -5,7 +5,7 @@ use native.Mathlib.Omega.{arith}
 use borrow.Author.Needs.{needs}
 use lib.ListN.{length}
 use Rattle.codec.specs.Bytes.{part}
-use Rattle.round_check.specs.Opened.{sliceOf}
+use Rattle.round_check.specs.Internal.{sliceOf}
 use Rattle.round_check.proofs.OpenedPlaces.{place-opened, share-empty, share-at}
 use Rattle.round_check.proofs.opened.opened_share.Statement.{statement}
 use Rattle.round_check.proofs.opened.opened_share.Tie as tie

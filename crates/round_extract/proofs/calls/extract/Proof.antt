@@ -24,7 +24,7 @@ returns : tie.Need-returns
 returns c = let s = c .before .before .before .before .before .before .before .before .before .before .before .before .before .before .before .before .before .before .before .before .before .before .before .before .before .before in extract-over (s .args .sheet .now) (c .before .before .before .before .before .before .before .before .before .before .before .load .ensures) (c .before .before .before .before .before .before .before .before .before .reading .given .1) (x s) (room s) (c .before .before .before .before .extract .ensures)
 
 returns-2 : tie.Need-returns-2
-returns-2 c = let s = c .before .before .before .before .before .before .before .before .before .before .before .before .before .before .before .before .before .before .before .before .before .before in extract-unread (s .args .sheet .now) (c .before .before .before .before .before .before .before .load .ensures .0) (c .before .before .before .before .before .reading2 .given .1) (x s) (room s) (c .before .before .sweep .ensures)
+returns-2 c = let s = c .before .before .before .before .before .before .before .before .before .before .before .before .before .before .before .before .before .before .before .before .before .before in extract-unread (s .args .sheet .now) (c .before .before .before .before .before .before .before .load .ensures .0) (c .before .before .before .before .before .reading2 .given .1) (x s) (room s) (c .before .before .zeroize .ensures)
 
 pub extract-spec : {M : Type 1} → statement M
 extract-spec = tie.close (tie.spec (λ c κs. search needs) (λ c. search needs) slice-aggregate-extract extract-requires (λ c. search needs) (λ c κs. search needs) (λ c. search needs) (λ c. search needs) returns (λ c. search needs) returns-2)

@@ -4,10 +4,9 @@ use native.Mathlib.Omega.{arith}
 use borrow.Author.Needs.{needs}
 use borrow.Author.Tests.{not-true, not-false}
 use Rattle.codec.specs.Bytes.{Octets}
-use Rattle.round.specs.Round.{Parameters}
+use Rattle.commitment.specs.Parameters.{Parameters, parameters}
 use Rattle.round.specs.Extractor.{Openings, openingsOf, ExtractRoom, extractRoom}
-use Rattle.round.specs.Sheets.{parameters}
-use Rattle.round_lengths.proofs.Swept.{later-openings, swept-later, unswept}
+use Rattle.round_lengths.proofs.Zeroized.{later-openings, zeroized-later, unzeroized}
 use Rattle.round_extract.proofs.Tested.{extract-many, extract-message, extract-openings, extract-rest, extract-lengths}
 use Rattle.round_extract.proofs.openings.openings_tests.Statement.{statement}
 use Rattle.round_extract.proofs.openings.openings_tests.Tie as tie
@@ -24,20 +23,20 @@ room s = extractRoom (s .args .out .now) (s .args .scratch .now)
 returns : tie.Need-returns
 returns c =
     let s = c .before .before .before .before .before .before .before .before .before .before .before .before .before .before .before .before in
-    (extract-many (P s) (x s) (room s) (c .before .before .count-of .ensures) (c .refused .ensures) (omega (arith, c .before .if1 .taken)), unswept (c .refused .ensures))
+    (extract-many (P s) (x s) (room s) (c .before .before .count-of .ensures) (c .refused .ensures) (omega (arith, c .before .if1 .taken)), unzeroized (c .refused .ensures))
 
 returns-2 : tie.Need-returns-2
 returns-2 c =
     let s = c .before .before .before .before .before .before .before .before .before .before .before .before .before .before .before .before .before .before in
     let z = c .before .before .message-sized in
-    (extract-message (P s) (x s) (room s) (c .before .before .before .before .count-of .ensures) (c .refused2 .ensures) (omega (arith, c .before .before .before .if1 .left)) (z .ensures) (not-true (z .result) (c .before .if2 .taken)), unswept (c .refused2 .ensures))
+    (extract-message (P s) (x s) (room s) (c .before .before .before .before .count-of .ensures) (c .refused2 .ensures) (omega (arith, c .before .before .before .if1 .left)) (z .ensures) (not-true (z .result) (c .before .if2 .taken)), unzeroized (c .refused2 .ensures))
 
 returns-3 : tie.Need-returns-3
 returns-3 c =
     let s = c .before .before .before .before .before .before .before .before .before .before .before .before .before .before .before .before .before .before .before .before .before in
     let z = c .before .before .before .before .before .message-sized in
     let t = c .before .before .openings-sized in
-    (extract-openings (P s) (x s) (room s) (c .before .before .before .before .before .before .before .count-of .ensures) (c .refused3 .ensures) (omega (arith, c .before .before .before .before .before .before .if1 .left)) (z .ensures) (not-false (z .result) (c .before .before .before .before .if2 .left)) (t .ensures) (not-true (t .result) (c .before .if3 .taken)), unswept (c .refused3 .ensures))
+    (extract-openings (P s) (x s) (room s) (c .before .before .before .before .before .before .before .count-of .ensures) (c .refused3 .ensures) (omega (arith, c .before .before .before .before .before .before .if1 .left)) (z .ensures) (not-false (z .result) (c .before .before .before .before .if2 .left)) (t .ensures) (not-true (t .result) (c .before .if3 .taken)), unzeroized (c .refused3 .ensures))
 
 check-openings-requires : tie.Need-check-openings-requires
 check-openings-requires c κs =
@@ -55,7 +54,7 @@ returns-4 c =
     let t = c .before .before .before .before .before .openings-sized in
     let e = c .before .before .check-openings .ensures in (
       extract-rest (P s) (x s) (room s) (c .before .before .before .before .before .before .before .before .before .before .count-of .ensures) (omega (arith, c .before .before .before .before .before .before .before .before .before .if1 .left)) (z .ensures) (not-false (z .result) (c .before .before .before .before .before .before .before .if2 .left)) (t .ensures) (not-false (t .result) (c .before .before .before .before .if3 .left)) (e .replied),
-      e .cleared ∙ sym (swept-later _ (later-openings _ _ _) _ (e .replied) _),
+      e .cleared ∙ sym (zeroized-later _ (later-openings _ _ _) _ (e .replied) _),
     )
 
 pub openings-tests-spec : {M : Type 1} → statement M

@@ -4,7 +4,7 @@ use Prim.Native.Nat.{_+_, _-_, _*_}
 use native.Mathlib.Omega.{arith}
 use borrow.Author.Needs.{needs}
 use Rattle.codec.specs.Bytes.{put}
-use Rattle.scratch.proofs.Sweeping.{length-zeros}
+use Rattle.scratch.proofs.Zeroizing.{length-zeros}
 use Rattle.commitment.specs.Commitment.{keysOf}
 use Rattle.stern.specs.Argument.{Drawn}
 use Rattle.stern.specs.Shortness.{honestDigests}

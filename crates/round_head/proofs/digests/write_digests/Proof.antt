@@ -6,9 +6,10 @@ use borrow.Author.Needs.{needs}
 use lib.ListN.{take, drop}
 use Rattle.codec.specs.Bytes.{Bytes, put}
 use Rattle.sheet_numbers.specs.declared.Numbers.{Numbers}
-use Rattle.commitment.specs.Commitment.{Keys, keysOf, PublicKeys}
+use Rattle.commitment.specs.Commitment.{Keys, keysOf}
+use Rattle.commitment.specs.Internal.{PublicKeys}
 use Rattle.round.specs.Layout.{joined}
-use Rattle.round.proofs.Cut.{keys-cut}
+use Rattle.commitment.proofs.Cut.{keys-cut}
 use Rattle.round_head.proofs.Drawing.{drawn-ends, placed-fit, material, digestsOf, Digested, digested-first, digested-more, digests-end}
 use Rattle.round_head.proofs.digests.write_digests.Statement.{statement}
 use Rattle.round_head.proofs.digests.write_digests.Tie as tie

@@ -3,7 +3,7 @@ use mathlib.Core.Path.{ap, _∙_}
 use native.Mathlib.Omega.{arith}
 use borrow.Author.Needs.{needs}
 use Rattle.codec.specs.Bytes.{zeros}
-use Rattle.round.specs.Sheets.{parameters}
+use Rattle.commitment.specs.Parameters.{parameters}
 use Rattle.round_head.proofs.HeadParts.{head-whole}
 use Rattle.round_head.proofs.head.write_head.Statement.{statement}
 use Rattle.round_head.proofs.head.write_head.Tie as tie

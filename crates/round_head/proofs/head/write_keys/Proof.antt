@@ -3,10 +3,10 @@ use mathlib.Core.Path.{sym, subst, _∙_}
 use Prim.Native.Nat.{_-_, _*_}
 use native.Mathlib.Omega.{arith}
 use borrow.Author.Needs.{needs}
-use Rattle.scratch.specs.Call.{Polynomial}
-use Rattle.scratch.proofs.Sweeping.{length-zeros}
+use Rattle.scratch.specs.Internal.{Polynomial}
+use Rattle.scratch.proofs.Zeroizing.{length-zeros}
 use Rattle.stern.proofs.Answered.{lent-length}
-use Rattle.round.proofs.Cut.{a-cut}
+use Rattle.commitment.proofs.Cut.{a-cut}
 use Rattle.round_head.proofs.HeadParts.{keys-written}
 use Rattle.round_head.proofs.head.write_keys.Statement.{statement}
 use Rattle.round_head.proofs.head.write_keys.Tie as tie

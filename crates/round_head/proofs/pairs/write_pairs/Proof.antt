@@ -4,9 +4,10 @@ use Prim.Native.Nat.{_-_, _*_}
 use native.Mathlib.Omega.{arith}
 use borrow.Author.Needs.{needs}
 use lib.ListN.{take, drop}
-use Rattle.commitment.specs.Commitment.{keysOf, PublicKeys}
+use Rattle.commitment.specs.Commitment.{keysOf}
+use Rattle.commitment.specs.Internal.{PublicKeys}
 use Rattle.stern.proofs.Answered.{lent-length}
-use Rattle.round.proofs.Cut.{keys-cut}
+use Rattle.commitment.proofs.Cut.{keys-cut}
 use Rattle.round_head.proofs.CommittedPairs.{both-lent, four-pairs, pairs-loaded}
 use Rattle.round_head.proofs.pairs.write_pairs.Statement.{statement}
 use Rattle.round_head.proofs.pairs.write_pairs.Tie as tie

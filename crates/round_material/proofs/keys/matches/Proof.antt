@@ -3,9 +3,9 @@ use mathlib.Core.Path.{sym, subst}
 use Prim.Native.Nat.{_-_, _*_}
 use native.Mathlib.Omega.{arith}
 use borrow.Author.Needs.{needs}
-use Rattle.scratch.specs.Call.{Polynomial}
+use Rattle.scratch.specs.Internal.{Polynomial}
 use Rattle.stern.proofs.Answered.{lent-length}
-use Rattle.round.proofs.Cut.{a-cut, b-cut}
+use Rattle.commitment.proofs.Cut.{a-cut, b-cut}
 use Rattle.round_material.proofs.Cuts.{key-cut}
 use Rattle.round_material.proofs.keys.matches.Statement.{statement}
 use Rattle.round_material.proofs.keys.matches.Tie as tie

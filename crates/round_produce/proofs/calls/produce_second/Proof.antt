@@ -2,7 +2,7 @@
 use mathlib.Core.Path.{sym}
 use borrow.Author.Needs.{needs}
 use Rattle.scratch.proofs.Lent.{lent}
-use Rattle.scheme_calls.proofs.Keys.{sheet-loaded}
+use Rattle.commitment.proofs.Sheets.{sheet-loaded}
 use Rattle.round.specs.Producer.{Material, materialOf}
 use Rattle.round.specs.Writes.{SecondRoom, secondRoom}
 use Rattle.round_produce.proofs.Promises.{second-over, second-unread}
@@ -25,7 +25,7 @@ returns : tie.Need-returns
 returns c = let s = c .before .before .before .before .before .before .before .before .before .before .before .before .before .before .before .before .before .before .before .before .before .before .before .before .before .before .before .before .before .before in second-over (s .args .sheet .now) (c .before .before .before .before .before .before .before .before .before .before .before .before .before .before .load .ensures) (c .before .before .before .before .before .before .before .before .before .before .before .before .reading .given .1) (x s) (s .args .side) (s .args .challenges .now) (room s) (c .before .before .before .before .before .before .produce-second .ensures)
 
 returns-2 : tie.Need-returns-2
-returns-2 c = let s = c .before .before .before .before .before .before .before .before .before .before .before .before .before .before .before .before .before .before .before .before .before .before .before in second-unread (s .args .sheet .now) (c .before .before .before .before .before .before .before .load .ensures .0) (c .before .before .before .before .before .reading2 .given .1) (x s) (s .args .side) (s .args .challenges .now) (room s) (c .before .before .sweep .ensures)
+returns-2 c = let s = c .before .before .before .before .before .before .before .before .before .before .before .before .before .before .before .before .before .before .before .before .before .before .before in second-unread (s .args .sheet .now) (c .before .before .before .before .before .before .before .load .ensures .0) (c .before .before .before .before .before .reading2 .given .1) (x s) (s .args .side) (s .args .challenges .now) (room s) (c .before .before .zeroize .ensures)
 
 pub produce-second-spec : {M : Type 1} → statement M
 produce-second-spec = tie.close (tie.spec (λ c κs. search needs) (λ c. search needs) slice-aggregate-produce-second produce-second-requires (λ c. search needs) (λ c κs. search needs) (λ c. search needs) (λ c. search needs) (λ c. search needs) returns (λ c. search needs) returns-2)

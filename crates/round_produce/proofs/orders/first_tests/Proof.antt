@@ -5,8 +5,7 @@ use Prim.Native.Nat.{ℕ}
 use native.Mathlib.Omega.{arith}
 use borrow.Author.Needs.{needs}
 use borrow.Author.Tests.{not-true, not-false}
-use Rattle.round.specs.Round.{Parameters}
-use Rattle.round.specs.Sheets.{parameters}
+use Rattle.commitment.specs.Parameters.{Parameters, parameters}
 use Rattle.round.specs.Producer.{Material, materialOf}
 use Rattle.round.specs.Writes.{FirstRoom, firstRoom}
 use Rattle.round_lengths.specs.Calls.{firstSized, firstTests}

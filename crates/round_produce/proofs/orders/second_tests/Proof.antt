@@ -8,8 +8,8 @@ use borrow.Author.Tests.{not-true, not-false}
 use lib.Dec.{ltb}
 use lib.ListN.{getD}
 use Rattle.codec.specs.Lists.{all}
-use Rattle.round.specs.Round.{Parameters, isChallenge}
-use Rattle.round.specs.Sheets.{parameters}
+use Rattle.round.specs.Round.{isChallenge}
+use Rattle.commitment.specs.Parameters.{Parameters, parameters}
 use Rattle.round.specs.Producer.{Material, materialOf, askedRanged}
 use Rattle.round_lengths.specs.Calls.{secondSized, secondTests}
 use Rattle.round_lengths.proofs.Sizes.{material-sizes, second-sizes}

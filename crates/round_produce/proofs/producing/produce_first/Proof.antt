@@ -1,7 +1,6 @@
 -- `producing::produce_first` meets its contract. Assumes nothing.
 use borrow.Author.Needs.{needs}
-use Rattle.round.specs.Round.{Parameters}
-use Rattle.round.specs.Sheets.{parameters}
+use Rattle.commitment.specs.Parameters.{Parameters, parameters}
 use Rattle.round.specs.Producer.{Material, materialOf}
 use Rattle.round.specs.Writes.{FirstRoom, firstRoom}
 use Rattle.round_produce.proofs.Passing.{first-ready}

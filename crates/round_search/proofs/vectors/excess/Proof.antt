@@ -6,7 +6,7 @@ use borrow.Author.Needs.{needs}
 use lib.ListN.{getD}
 use Rattle.modular.proofs.Centring.{remainder-lt}
 use Rattle.ring.specs.Ternary.{meaning}
-use Rattle.round_search.specs.Method.{unknownsOf}
+use Rattle.round_search.specs.Internal.{unknownsOf}
 use Rattle.round_search.proofs.Unknowns.{excess-at}
 use Rattle.round_search.proofs.vectors.excess.Statement.{statement}
 use Rattle.round_search.proofs.vectors.excess.Tie as tie

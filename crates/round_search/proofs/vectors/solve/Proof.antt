@@ -3,7 +3,7 @@ use mathlib.Core.Path.{_∙_}
 use Prim.Native.Nat.{_-_, _*_}
 use native.Mathlib.Omega.{arith}
 use Rattle.stern.proofs.Answered.{lent-length}
-use Rattle.round_search.specs.Method.{unknownsOf}
+use Rattle.round_search.specs.Internal.{unknownsOf}
 use Rattle.round_search.proofs.Outcome.{s-nonzero, e-nonzero, both-zero}
 use Rattle.round_search.proofs.vectors.solve.Statement.{statement}
 use Rattle.round_search.proofs.vectors.solve.Tie as tie

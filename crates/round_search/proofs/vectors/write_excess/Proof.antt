@@ -11,7 +11,7 @@ use Rattle.ring.specs.Poly.{modulo}
 use Rattle.ring.specs.Slots.{encode}
 use Rattle.ring.proofs.Bridge.{length-encode}
 use Rattle.ring.proofs.Filling.{filled, filled-none, filled-more, filled-all}
-use Rattle.round_search.specs.Method.{unknownsOf, excess}
+use Rattle.round_search.specs.Internal.{unknownsOf, excess}
 use Rattle.round_search.proofs.vectors.write_excess.Statement.{statement}
 use Rattle.round_search.proofs.vectors.write_excess.Tie as tie
 

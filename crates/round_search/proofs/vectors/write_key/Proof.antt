@@ -1,6 +1,6 @@
 -- `vectors::write_key` meets its contract. Assumes nothing.
 use borrow.Author.Needs.{needs}
-use Rattle.round_search.specs.Method.{unknownsOf}
+use Rattle.round_search.specs.Internal.{unknownsOf}
 use Rattle.round_search.proofs.Unknowns.{key-bytes}
 use Rattle.round_search.proofs.vectors.write_key.Statement.{statement}
 use Rattle.round_search.proofs.vectors.write_key.Tie as tie

@@ -10,7 +10,7 @@ use Rattle.codec.proofs.Laws.{paste-all}
 use Rattle.codec.proofs.Lists.{length-list}
 use Rattle.vector.proofs.Gathers.{paste-more}
 use Rattle.round.specs.Extractor.{ternaryBytes}
-use Rattle.round_search.specs.Method.{unknownsOf, from}
+use Rattle.round_search.specs.Internal.{unknownsOf, from}
 use Rattle.round_search.proofs.Unknowns.{secret-at}
 use Rattle.round_search.proofs.vectors.write_secrets.Statement.{statement}
 use Rattle.round_search.proofs.vectors.write_secrets.Tie as tie

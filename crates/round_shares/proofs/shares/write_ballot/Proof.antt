@@ -8,7 +8,7 @@ use Rattle.codec.specs.Lists.{list}
 use Rattle.ring.specs.Poly.{mul}
 use Rattle.ring.specs.Slots.{coefficientBytes, poly}
 use Rattle.ring.specs.Ternary.{ternary}
-use Rattle.scratch.proofs.Shelf.{encoded-below, encoded-alike}
+use Rattle.scratch.proofs.Slotted.{encoded-below, encoded-alike}
 use Rattle.bgv.specs.Scheme.{decrypted, other, lentMask, share}
 use Rattle.round_shares.proofs.ShareAlgebra.{lent-share, other-share, claim-plain}
 use Rattle.round_shares.proofs.ShareSteps.{kept-head}

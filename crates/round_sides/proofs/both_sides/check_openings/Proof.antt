@@ -6,7 +6,7 @@ use borrow.Author.Needs.{needs}
 use borrow.Author.Tests.{not-true, not-false}
 use Rattle.scratch.proofs.Order.{refuses, passes}
 use Rattle.round.specs.Extractor.{Openings, openingsOf, extractTests}
-use Rattle.round.specs.Sheets.{parameters}
+use Rattle.commitment.specs.Parameters.{parameters}
 use Rattle.round_sides.proofs.Passed.{openings-passed}
 use Rattle.round_sides.proofs.both_sides.check_openings.Statement.{statement}
 use Rattle.round_sides.proofs.both_sides.check_openings.Tie as tie

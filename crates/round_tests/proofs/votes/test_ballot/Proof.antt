@@ -6,14 +6,14 @@ use native.Mathlib.Omega.{arith}
 use borrow.Author.Needs.{needs}
 use borrow.Author.Tests.{not-true, not-false}
 use Rattle.ring.specs.Slots.{poly}
-use Rattle.bgv.specs.Scheme.{worked, within}
+use Rattle.bgv.specs.Scheme.{recoveredMask, within}
 use Rattle.stern.proofs.Answered.{first-fails, second-fails, both-hold}
 use Rattle.round_tests.proofs.votes.test_ballot.Statement.{statement}
 use Rattle.round_tests.proofs.votes.test_ballot.Tie as tie
 
 -- the mask test, for a bound and a plaintext modulus
 abbrev masked : tie.Start → ℕ → ℕ → Bool
-masked s B p = let a = s .args in within B (a .k .ring) (worked (a .k .modulus) (a .k .ring) p (poly (a .s .now)) (poly (a .u .now)) (poly (a .t .now)))
+masked s B p = let a = s .args in within B (a .k .ring) (recoveredMask (a .k .modulus) (a .k .ring) p (poly (a .s .now)) (poly (a .u .now)) (poly (a .t .now)))
 
 mask-within-requires : tie.Need-mask-within-requires
 mask-within-requires c κs =

@@ -7,7 +7,7 @@ use Rattle.codec.specs.Bytes.{Bytes, part, put}
 use Rattle.ring.specs.Slots.{coefficientBytes, poly}
 use Rattle.ring.specs.Ternary.{ternary}
 use Rattle.bgv.specs.Scheme.{other}
-use Rattle.scratch.proofs.Sweeping.{length-zeros}
+use Rattle.scratch.proofs.Zeroizing.{length-zeros}
 use Rattle.stern.proofs.Answered.{lent-length}
 use Rattle.round_head.proofs.Joining.{cut}
 use Rattle.round_head.proofs.HeadParts.{two-behind}

@@ -4,7 +4,8 @@ use native.Mathlib.Omega.{arith}
 use borrow.Author.Needs.{needs}
 use Rattle.codec.specs.Bytes.{Bytes, zeros}
 use Rattle.ring.specs.Slots.{poly}
-use Rattle.commitment.specs.Commitment.{PublicKeys, keysOf, threeOf, committed, pairBytes}
+use Rattle.commitment.specs.Commitment.{keysOf, threeOf, committed, pairBytes}
+use Rattle.commitment.specs.Internal.{PublicKeys}
 use Rattle.commitment.proofs.Cut.{keys-cut}
 use Rattle.scheme.specs.Calls.{commitmentWrites}
 use Rattle.scheme.proofs.Places.{pair-written}

@@ -4,7 +4,7 @@ use Prim.Native.Nat.{ℕ}
 use native.Mathlib.Omega.{arith}
 use borrow.Author.Needs.{needs}
 use Rattle.ring.specs.Slots.{coefficientBytes, poly}
-use Rattle.scratch.proofs.Sweeping.{worked-taken, worked-refused}
+use Rattle.scratch.proofs.Zeroizing.{worked-taken, worked-refused}
 use Rattle.bgv.specs.Scheme as scheme
 use Rattle.bgv.specs.Scheme.{lentMask}
 use Rattle.scheme.specs.Calls.{shareWrites}
@@ -33,8 +33,5 @@ returns c =
     let plain = ap (λ (p : ℕ). coefficientBytes (a .k .modulus) (a .k .ring) (scheme.share (a .k .modulus) (a .k .ring) p (poly (a .half .now)) (poly (a .u .now)) (lentMask (a .mask .now)))) (c .before .before .before .before .before .before .before .plain .ensures) in
     worked-taken (t .ensures) taken (one-written (a .k .modulus) (a .k .ring) _ (a .t .now) _ (h .3) (w .written) ∙ plain) (w .cleared)
 
-returns-2 : tie.Need-returns-2
-returns-2 c = worked-refused (c .before .before .share-tests .ensures) (c .enum-told2 .given .1)
-
 pub share-spec : {M : Type 1} → statement M
-share-spec = tie.close (tie.spec (λ c κs. search needs) (λ c. search needs) (λ c κs. search needs) share-requires (λ c. search needs) (λ c. search needs) (λ c. search needs) returns (λ c. search needs) (λ c. search needs) returns-2)
+share-spec = tie.close (tie.spec (λ c κs. search needs) (λ c. search needs) (λ c κs. search needs) share-requires (λ c. search needs) (λ c. search needs) (λ c. search needs) returns (λ c. search needs) (λ c. search needs) (λ c. worked-refused (c .before .before .share-tests .ensures) (c .enum-told2 .given .1)))

@@ -8,8 +8,9 @@ use Rattle.codec.specs.Bytes.{Bytes, put}
 use Rattle.ring.specs.Slots.{coefficientBytes, poly}
 use Rattle.ring.specs.Ternary.{ternary}
 use Rattle.sheet_numbers.specs.Plain.{plain}
-use Rattle.scratch.specs.Call.{coefficients, Polynomial}
-use Rattle.scratch.proofs.Sweeping.{length-zeros}
+use Rattle.scratch.specs.Call.{coefficients}
+use Rattle.scratch.specs.Internal.{Polynomial}
+use Rattle.scratch.proofs.Zeroizing.{length-zeros}
 use Rattle.bgv.specs.Scheme.{cipher-u, cipher-v}
 use Rattle.commitment.specs.Loaded.{aOf, bOf}
 use Rattle.commitment.proofs.Cut.{a-cut, b-cut, with-a, with-b}

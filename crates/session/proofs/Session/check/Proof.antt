@@ -3,7 +3,7 @@ use mathlib.Core.Path.{sym, _∙_}
 use native.Mathlib.Omega.{arith}
 use borrow.Author.Needs.{needs}
 use borrow.Author.Tests.{not-true, not-false}
-use Rattle.session_check.specs.Check.{inputsOf}
+use Rattle.session_check.specs.Stored.{inputsOf}
 use Rattle.session_progress.proofs.Limits.{within-due, round-known, bounds}
 use Rattle.session.specs.Session.{trailAt}
 use Rattle.session.proofs.CheckTests.{check-undue, check-judged}

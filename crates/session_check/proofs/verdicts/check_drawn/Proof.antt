@@ -3,10 +3,10 @@ use mathlib.Core.Path.{sym, ap, _∙_}
 use borrow.Author.Needs.{needs}
 use Rattle.codec.specs.Reply.{first}
 use Rattle.round.specs.Round.{Round, roundTests}
-use Rattle.round.specs.Sheets.{parameters}
+use Rattle.commitment.specs.Parameters.{parameters}
 use Rattle.session_check.specs.Stored.{Inputs, inputsOf, drawnRound}
 use Rattle.session_check.proofs.Held.{round-lengths}
-use Rattle.session_check.proofs.Outcome.{stopped, judged, judged-swept, drawn-round}
+use Rattle.session_check.proofs.Outcome.{stopped, judged, judged-zeroized, drawn-round}
 use Rattle.session_check.proofs.verdicts.check_drawn.Statement.{statement}
 use Rattle.session_check.proofs.verdicts.check_drawn.Tie as tie
 
@@ -25,7 +25,7 @@ check-round-requires c κs =
     (p .2, l .1, p .0 .1, l .0)
 
 returns : tie.Need-returns
-returns c = (stopped _ (c .before .before .before .before .before .before .before .test-lent .ensures) (c .before .before .before .before .before .early .given .1), c .before .before .sweep .ensures)
+returns c = (stopped _ (c .before .before .before .before .before .before .before .test-lent .ensures) (c .before .before .before .before .before .early .given .1), c .before .before .zeroize .ensures)
 
 returns-2 : tie.Need-returns-2
 returns-2 c =
@@ -38,7 +38,7 @@ returns-2 c =
     let e = c .before .before .before .check-round .ensures in
     let said = e .replied ∙ ap (λ (y : Round). first (roundTests P m y)) (drawn-round (a .held) (x s) (p .3) (p .4)) in
     let v = c .verdict-of .ensures in
-    (judged P m r v said (c .before .before .before .before .before .before .before .test-lent .ensures) (c .before .before .before .before .before .enum-told .given .1), e .cleared ∙ sym (judged-swept P m r v said (a .scratch .now)))
+    (judged P m r v said (c .before .before .before .before .before .before .before .test-lent .ensures) (c .before .before .before .before .before .enum-told .given .1), e .cleared ∙ sym (judged-zeroized P m r v said (a .scratch .now)))
 
 pub check-drawn-spec : {M : Type 1} → statement M
 check-drawn-spec = tie.close (tie.spec test-lent-requires (λ c. search needs) (λ c κs. search needs) (λ c. search needs) check-round-requires (λ c κs. search needs) (λ c. search needs) returns (λ c. search needs) returns-2)

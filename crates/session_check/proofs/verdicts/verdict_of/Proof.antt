@@ -2,7 +2,7 @@
 use mathlib.Core.Path.{sym, ap}
 use borrow.Author.Needs.{needs}
 use Rattle.codec.specs.declared.Reply.the-variants.{Taken}
-use Rattle.session_check.specs.Check.{verdict}
+use Rattle.session_check.specs.Internal.{verdict}
 use Rattle.session_check.proofs.verdicts.verdict_of.Statement.{statement}
 use Rattle.session_check.proofs.verdicts.verdict_of.Tie as tie
 

@@ -26,7 +26,7 @@ returns-2 c =
     let asked : Session → Reply = λ s. first (turnoutTests s (a .reg .now) (a .enrolled)) in
     let counted : Session → Reply → Turnout = λ s r. turnoutBy r (entries.turnout (a .reg .now) (s .progress .used) (a .enrolled)) in
     let held = c .before .before .load .ensures in
-    c .pack .ensures
+    c .pack-turnout .ensures
     ∙ ap countedAnswer (c .before .turnout .ensures ∙ ap (λ (s : Session). counted s (asked s)) held ∙ ap (counted (decode (a .image .now))) (sym (held-reply (a .image .now) asked (c .before .before .before .if1 .left))))
 
 pub turnout-spec : {M : Type 1} → statement M

@@ -11,7 +11,7 @@ use Rattle.codec.proofs.Laws.{length-part, part-part}
 use Rattle.keccak.specs.Keccak.{lane}
 use Rattle.keccak.proofs.Rows.{row5}
 use Rattle.keccak.proofs.Shape.{five-of, array-shape}
-use Rattle.sha3.specs.Blocks.{xorRow, xorBlock}
+use Rattle.sha3.specs.Internal.{xorRow, xorBlock}
 use Rattle.sha3.proofs.Blocks.{past, row-in}
 use Rattle.sha3.proofs.sponge.xor_block.Statement.{statement}
 use Rattle.sha3.proofs.sponge.xor_block.Tie as tie

@@ -7,7 +7,7 @@ use lib.Bits.{bitXor}
 use lib.ListN.{getD}
 use Rattle.codec.specs.Bytes.{number, part}
 use Rattle.keccak.proofs.Rows.{row5}
-use Rattle.sha3.specs.Blocks.{xorRow}
+use Rattle.sha3.specs.Internal.{xorRow}
 use Rattle.sha3.proofs.sponge.xor_row.Statement.{statement}
 use Rattle.sha3.proofs.sponge.xor_row.Tie as tie
 

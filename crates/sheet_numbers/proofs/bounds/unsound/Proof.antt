@@ -2,7 +2,7 @@
 use Prim.Native.Nat.{_+_}
 use native.Mathlib.Omega.{arith}
 use borrow.Author.Needs.{needs}
-use borrow.Author.Tests.{le-ltb, lt-ltb, le-leb, lt-leb, eq-eqb, ne-eqb}
+use Rattle.codec.proofs.Replies.{order}
 use Rattle.sheet_numbers.specs.Rules.{any, unsound}
 use Rattle.sheet_numbers.proofs.Ranges.{in-range, times}
 use Rattle.sheet_numbers.proofs.bounds.unsound.Statement.{statement}
@@ -16,10 +16,6 @@ mul-if1 c = let i = in-range (c .before .before .args .k) (c .before .before .pr
 
 rem-if1 : tie.Need-rem-if1
 rem-if1 c = let i = in-range (c .before .before .args .k) (c .before .before .pre) in omega arith
-
-returns : tie.Need-returns
-unfolding unsound any
-returns c = search (needs, le-ltb, lt-ltb, le-leb, lt-leb, eq-eqb, ne-eqb)
 
 sub-if2 : tie.Need-sub-if2
 sub-if2 c = let i = in-range (c .before .before .before .before .args .k) (c .before .before .before .before .pre) in omega arith
@@ -37,11 +33,12 @@ mul-if2 c =
 
 returns-2 : tie.Need-returns-2
 unfolding unsound any
-returns-2 c = rw (← c .before .noise-bound .ensures .0, ← c .before .before .power .ensures .0) (search (needs, le-ltb, lt-ltb, le-leb, lt-leb, eq-eqb, ne-eqb))
+returns-2 c = rw (← c .before .noise-bound .ensures .0, ← c .before .before .power .ensures .0) (search order)
 
 returns-3 : tie.Need-returns-3
 unfolding unsound any
-returns-3 c = rw (← c .before .noise-bound .ensures .0, ← c .before .before .power .ensures .0) (search (needs, le-ltb, lt-ltb, le-leb, lt-leb, eq-eqb, ne-eqb))
+returns-3 c = rw (← c .before .noise-bound .ensures .0, ← c .before .before .power .ensures .0) (search order)
 
 pub unsound-spec : {M : Type 1} → statement M
-unsound-spec = tie.close (tie.spec sub-if1 mul-if1 rem-if1 returns sub-if2 power-requires (λ c. search needs) noise-bound-requires mul-if2 returns-2 returns-3)
+unfolding unsound any
+unsound-spec = tie.close (tie.spec sub-if1 mul-if1 rem-if1 (λ c. search order) sub-if2 power-requires (λ c. search needs) noise-bound-requires mul-if2 returns-2 returns-3)

@@ -5,7 +5,7 @@ use native.Mathlib.Omega.{arith}
 use borrow.Author.Needs.{needs}
 use Rattle.codec.specs.Bytes.{part}
 use Rattle.hasher.specs.declared.Hasher.{Hasher}
-use Rattle.hasher.specs.Hasher.{updated}
+use Rattle.hasher.specs.Internal.{updated}
 use Rattle.hasher.proofs.Laws.{updated-append}
 use Rattle.stern.proofs.digests.absorb_pair.Statement.{statement}
 use Rattle.stern.proofs.digests.absorb_pair.Tie as tie

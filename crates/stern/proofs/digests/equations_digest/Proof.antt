@@ -3,9 +3,9 @@ use mathlib.Core.Path.{ap, _∙_}
 use Prim.Native.Nat.{_*_, _<_}
 use native.Mathlib.Omega.{arith}
 use borrow.Author.Needs.{needs}
-use Rattle.hasher.specs.Hasher.{updated}
+use Rattle.hasher.specs.Internal.{updated}
 use Rattle.commitment.specs.Commitment.{keysOf, pairBytes}
-use Rattle.stern.specs.Method.{equationPair}
+use Rattle.stern.specs.Internal.{equationPair}
 use Rattle.stern.proofs.Strings.{stands-bytes, covered, equations-taken}
 use Rattle.stern.proofs.digests.equations_digest.Statement.{statement}
 use Rattle.stern.proofs.digests.equations_digest.Tie as tie

@@ -2,7 +2,7 @@
 use mathlib.Core.Path.{ap, _∙_}
 use mathlib.Core.List.{_∷_, _++_}
 use borrow.Author.Needs.{needs}
-use Rattle.hasher.specs.Hasher.{finished}
+use Rattle.hasher.specs.Internal.{finished}
 use Rattle.hasher.proofs.Laws.{taken, finished-holding}
 use Rattle.stern.proofs.digests.tagged.Statement.{statement}
 use Rattle.stern.proofs.digests.tagged.Tie as tie

@@ -1,7 +1,7 @@
 -- `equations::load_sum` meets its contract. Assumes nothing.
 use native.Mathlib.Omega.{arith}
 use borrow.Author.Needs.{needs}
-use Rattle.stern.specs.Method.{words-at}
+use Rattle.stern.specs.Internal.{words-at}
 use Rattle.stern.proofs.Pairs.{lent, lent-length, lent-alike, lent-below, sum-loaded, copied-reads, copied-length}
 use Rattle.stern.proofs.equations.load_sum.Statement.{statement}
 use Rattle.stern.proofs.equations.load_sum.Tie as tie

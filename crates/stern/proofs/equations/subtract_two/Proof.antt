@@ -2,7 +2,7 @@
 use Prim.Native.Nat.{_<_}
 use native.Mathlib.Omega.{arith}
 use borrow.Author.Needs.{needs}
-use Rattle.stern.specs.Method.{words-at}
+use Rattle.stern.specs.Internal.{words-at}
 use Rattle.stern.proofs.Pairs.{lent, lent-length, lent-alike, lent-below, less-length, less-below, two-less}
 use Rattle.stern.proofs.equations.subtract_two.Statement.{statement}
 use Rattle.stern.proofs.equations.subtract_two.Tie as tie

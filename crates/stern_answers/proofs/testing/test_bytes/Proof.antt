@@ -6,7 +6,7 @@ use borrow.Author.Needs.{needs}
 use Rattle.codec.specs.Bytes.{zeros}
 use Rattle.commitment.specs.Commitment.{keysOf}
 use Rattle.stern.proofs.Answered.{lent-range, lent-length}
-use Rattle.stern_answers.specs.Permuted.{permutedTests}
+use Rattle.stern_answers.specs.Internal.{permutedTests}
 use Rattle.stern_answers.proofs.LentParts.{cut-alike}
 use Rattle.stern_answers.proofs.testing.test_bytes.Statement.{statement}
 use Rattle.stern_answers.proofs.testing.test_bytes.Tie as tie

@@ -3,9 +3,10 @@ use mathlib.Core.Path.{sym, _∙_}
 use native.Mathlib.Omega.{arith}
 use borrow.Author.Needs.{needs}
 use borrow.Author.Tests.{not-true, not-false}
-use Rattle.round.specs.Round.{Parameters, Round, roundOf}
-use Rattle.round.specs.Sheets.{parameters}
-use Rattle.round_lengths.proofs.Swept.{later-round, swept-later, unswept}
+use Rattle.round.specs.Round.{Round}
+use Rattle.round.specs.Internal.{roundOf}
+use Rattle.commitment.specs.Parameters.{Parameters, parameters}
+use Rattle.round_lengths.proofs.Zeroized.{later-round, zeroized-later, unzeroized}
 use Rattle.round_lengths.proofs.Sizes.{check-lengths}
 use Rattle.test_check.proofs.Tested.{check-many, check-message, check-second, check-rest}
 use Rattle.test_check.proofs.taken.check.Statement.{statement}
@@ -20,20 +21,20 @@ x s = let a = s .args in roundOf (a .side) (a .challenges .now) (a .ballots .now
 returns : tie.Need-returns
 returns c =
     let s = c .before .before .before .before .before .before .before .before .before .before .before .before .before in
-    (check-many (P s) (x s) (s .args .scratch .now) (c .before .before .count-of .ensures) (c .refused .ensures) (omega (arith, c .before .if1 .taken)), unswept (c .refused .ensures))
+    (check-many (P s) (x s) (s .args .scratch .now) (c .before .before .count-of .ensures) (c .refused .ensures) (omega (arith, c .before .if1 .taken)), unzeroized (c .refused .ensures))
 
 returns-2 : tie.Need-returns-2
 returns-2 c =
     let s = c .before .before .before .before .before .before .before .before .before .before .before .before .before .before .before in
     let z = c .before .before .message-sized in
-    (check-message (P s) (x s) (s .args .scratch .now) (c .before .before .before .before .count-of .ensures) (c .refused2 .ensures) (omega (arith, c .before .before .before .if1 .left)) (z .ensures) (not-true (z .result) (c .before .if2 .taken)), unswept (c .refused2 .ensures))
+    (check-message (P s) (x s) (s .args .scratch .now) (c .before .before .before .before .count-of .ensures) (c .refused2 .ensures) (omega (arith, c .before .before .before .if1 .left)) (z .ensures) (not-true (z .result) (c .before .if2 .taken)), unzeroized (c .refused2 .ensures))
 
 returns-3 : tie.Need-returns-3
 returns-3 c =
     let s = c .before .before .before .before .before .before .before .before .before .before .before .before .before .before .before .before .before .before in
     let z = c .before .before .before .before .before .message-sized in
     let t = c .before .before .second-sized in
-    (check-second (P s) (x s) (s .args .scratch .now) (c .before .before .before .before .before .before .before .count-of .ensures) (c .refused3 .ensures) (omega (arith, c .before .before .before .before .before .before .if1 .left)) (z .ensures) (not-false (z .result) (c .before .before .before .before .if2 .left)) (t .ensures) (not-true (t .result) (c .before .if3 .taken)), unswept (c .refused3 .ensures))
+    (check-second (P s) (x s) (s .args .scratch .now) (c .before .before .before .before .before .before .before .count-of .ensures) (c .refused3 .ensures) (omega (arith, c .before .before .before .before .before .before .if1 .left)) (z .ensures) (not-false (z .result) (c .before .before .before .before .if2 .left)) (t .ensures) (not-true (t .result) (c .before .if3 .taken)), unzeroized (c .refused3 .ensures))
 
 check-round-requires : tie.Need-check-round-requires
 check-round-requires c κs =
@@ -50,7 +51,7 @@ returns-4 c =
     let t = c .before .before .before .before .before .second-sized in
     let e = c .before .before .check-round .ensures in (
       check-rest (P s) (x s) (s .args .scratch .now) (c .before .before .before .before .before .before .before .before .before .before .count-of .ensures) (omega (arith, c .before .before .before .before .before .before .before .before .before .if1 .left)) (z .ensures) (not-false (z .result) (c .before .before .before .before .before .before .before .if2 .left)) (t .ensures) (not-false (t .result) (c .before .before .before .before .if3 .left)) (e .replied),
-      e .cleared ∙ sym (swept-later _ (later-round _ _ _) _ (e .replied) _),
+      e .cleared ∙ sym (zeroized-later _ (later-round _ _ _) _ (e .replied) _),
     )
 
 pub check-spec : {M : Type 1} → statement M

@@ -1,0 +1,77 @@
+-- What the contracts of inner functions and the proofs go by: no exported contract and no claim cites this file. Assumes nothing.
+use mathlib.Core.Path.{_≡_}
+use Prim.Native.Nat.{ℕ, _*_, _<_}
+use mathlib.Core.Bool.{true}
+use lib.ListN.{length, getD}
+use Rattle.codec.specs.Bytes.{Bytes, zeros}
+use Rattle.ring.specs.Poly.{Below}
+use Rattle.stern.specs.Shortness.{inRange}
+use Rattle.round.specs.Layout.{ballotLength, uAt, shareAt, answersLength, answerAt}
+use denote.Ref.{RefT}
+use Rattle.codec.specs.Slices.{Slice, given}
+use Rattle.round.specs.Producer.{Material, materialOf, openingBytes, answersBytes, producedHead, producedShares, producedClaims}
+use Rattle.round.specs.Writes.{FirstRoom, firstRoom, SecondRoom, secondRoom}
+use Rattle.commitment.specs.Parameters.{Parameters}
+use Rattle.round.specs.Round.{Round}
+use Rattle.sheet_numbers.specs.declared.Numbers.{Numbers}
+
+-- ---- what inner functions are given: ballots, claims, shares, challenges and answers that passed the tests of lengths and ranges
+
+-- the shares of one side for `count` ballots
+pub record Shares (q N count : ℕ) (shares : Bytes) : Type 0 where
+  pub sized : length shares ≡ 8 * N * count
+  pub below : (j : ℕ) → j < count → Below q N (shareAt N shares j)
+
+-- ballots and claims
+pub record Batch (q N count : ℕ) (ballots claims : Bytes) : Type 0 where
+  pub ballots-sized : length ballots ≡ ballotLength N * count
+  pub claims-sized : length claims ≡ N * count
+  pub below : (j : ℕ) → j < count → Below q (2 * N) (uAt N ballots j)
+
+-- challenges and answers: each answer has the length of its challenge, and is in range
+pub record Answers (q N repeats : ℕ) (challenges answers : Bytes) : Type 0 where
+  pub challenges-sized : length challenges ≡ repeats
+  pub answers-sized : length answers ≡ answersLength N challenges
+  pub below : (i : ℕ) → i < repeats → inRange q N (getD challenges i 0) (answerAt N challenges answers i) ≡ true
+
+abbrev pub materialNow : (secrets s0 e0 masks0 masks1 vectors permutations salts ballots : RefT Bytes) → Material
+materialNow secrets s0 e0 masks0 masks1 vectors permutations salts ballots =
+    materialOf (secrets .now) (s0 .now) (e0 .now) (masks0 .now) (masks1 .now) (vectors .now) (permutations .now) (salts .now) (ballots .now)
+
+abbrev pub firstNow : (head shares0 shares1 claims scratch : RefT Bytes) → FirstRoom
+firstNow head shares0 shares1 claims scratch = firstRoom (head .now) (shares0 .now) (shares1 .now) (claims .now) (scratch .now)
+
+abbrev pub secondNow : (opening answers scratch : RefT Bytes) → SecondRoom
+secondNow opening answers scratch = secondRoom (opening .now) (answers .now) (scratch .now)
+
+-- the same from the slices one by one
+abbrev pub roundOf : (side : ℕ) (challenges ballots claims head shares0 shares1 opening answers : Bytes) → Round
+roundOf side challenges ballots claims head shares0 shares1 opening answers = record {
+  side = side;
+  challenges = challenges;
+  ballots = ballots;
+  claims = claims;
+  head = head;
+  shares0 = shares0;
+  shares1 = shares1;
+  opening = opening;
+  answers = answers;
+}
+
+abbrev pub roundIn : (side : ℕ) (challenges ballots claims head shares0 shares1 opening answers : Slice) → Round
+roundIn side challenges ballots claims head shares0 shares1 opening answers =
+    roundOf side (given challenges) (given ballots) (given claims) (given head) (given shares0) (given shares1) (given opening) (given answers)
+
+-- all of m ballots is written, and scratch is zeroed
+pub record FirstProduced (P : Parameters) (m : ℕ) (x : Material) (before after : FirstRoom) : Type 0 where
+  pub head : after .head ≡ producedHead P m x
+  pub shares0 : after .shares0 ≡ producedShares P m x 0
+  pub shares1 : after .shares1 ≡ producedShares P m x 1
+  pub claims : after .claims ≡ producedClaims P m x
+  pub cleared : after .scratch ≡ zeros (length (before .scratch))
+
+-- the opening of a side and the answers to challenges are written, from what is read for them, and scratch is zeroed
+pub record SecondProduced (k : Numbers) (secrets s0 e0 vectors permutations salts : Bytes) (side : ℕ) (challenges : Bytes) (before after : SecondRoom) : Type 0 where
+  pub opening : after .opening ≡ openingBytes (k .modulus) (k .ring) secrets s0 e0 side
+  pub answers : after .answers ≡ answersBytes (k .modulus) (k .ring) (k .repeats) secrets vectors permutations salts challenges
+  pub cleared : after .scratch ≡ zeros (length (before .scratch))
