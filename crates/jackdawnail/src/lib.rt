@@ -51,7 +51,8 @@ pub extern "C" fn jdn_encrypt(
     ciphertext: &mut [u8],
     scratch: &mut [u8],
 ) -> u64
-    ensures { λ answer. ⌜ CallReplied (encryptOrder (given sheet) (given r) (given e1) (given e2) (given m) (given ciphertext) (given scratch))
+    ensures { λ answer. ⌜ CallReplied (encryptOrder (given sheet) (given r) (given e1) (given e2) (given m) (given ciphertext)
+        (given scratch))
         (ciphertextOf (given sheet) (given r) (given e1) (given e2) (given m)) answer (given ciphertext) (left ciphertext) (given scratch)
         (left scratch) ⌝ }
 {

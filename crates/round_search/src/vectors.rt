@@ -28,8 +28,8 @@ fn unknown(u: &[u8], r: &[u8], i: usize, n: usize, q: u64) -> u64
 
 // Number i of the openings' summed r less the summed r of the unknowns.
 fn excess(r0: &[u8], r1: &[u8], u: &[u8], r: &[u8], first: usize, i: usize, n: usize, q: u64) -> u64
-    requires { ⌜ (n ≤ 2048) × (3 ≤ q) × (q < 2 ^ 56) × (length (now r0) ≡ 3 * n) × (length (now r1) ≡ 3 * n) × MaskedVectors q n (now u) (now r)
-        × (first + 6 * n ≤ 14 * n) × (i < 3 * n) ⌝ }
+    requires { ⌜ (n ≤ 2048) × (3 ≤ q) × (q < 2 ^ 56) × (length (now r0) ≡ 3 * n) × (length (now r1) ≡ 3 * n)
+        × MaskedVectors q n (now u) (now r) × (first + 6 * n ≤ 14 * n) × (i < 3 * n) ⌝ }
     ensures { λ v. ⌜ v ≡ excess q n (given r0) (given r1) (unknownsOf q n (given u) (given r)) first i % q ⌝ }
 {
     let x = ring::from_ternary(r0[i], q);
@@ -52,8 +52,8 @@ fn write_excess(
     n: usize,
     q: u64,
 )
-    requires { ⌜ (n ≤ 2048) × (3 ≤ q) × (q < 2 ^ 56) × (length (now r0) ≡ 3 * n) × (length (now r1) ≡ 3 * n) × MaskedVectors q n (now u) (now r)
-        × (first + 6 * n ≤ 14 * n) × (length (now out) ≡ 24 * n) ⌝ }
+    requires { ⌜ (n ≤ 2048) × (3 ≤ q) × (q < 2 ^ 56) × (length (now r0) ≡ 3 * n) × (length (now r1) ≡ 3 * n)
+        × MaskedVectors q n (now u) (now r) × (first + 6 * n ≤ 14 * n) × (length (now out) ≡ 24 * n) ⌝ }
     ensures { λ _. ⌜ left out ≡ encode (3 * n) (modulo q (excess q n (given r0) (given r1) (unknownsOf q n (given u) (given r)) first)) ⌝ }
 {
     let mut i = 0;
@@ -76,8 +76,9 @@ fn vanishes(
     n: usize,
     q: u64,
 ) -> bool
-    requires { ⌜ (n ≤ 2048) × (3 ≤ q) × (q < 2 ^ 56) × (length (now r0) ≡ 3 * n) × (length (now r1) ≡ 3 * n) × MaskedVectors q n (now u) (now r)
-        × (first + 6 * n ≤ 14 * n) × (length (now out) ≡ 24 * n) × (length (now work) ≡ scratchLength) ⌝ }
+    requires { ⌜ (n ≤ 2048) × (3 ≤ q) × (q < 2 ^ 56) × (length (now r0) ≡ 3 * n) × (length (now r1) ≡ 3 * n)
+        × MaskedVectors q n (now u) (now r) × (first + 6 * n ≤ 14 * n) × (length (now out) ≡ 24 * n)
+        × (length (now work) ≡ scratchLength) ⌝ }
     ensures { λ yes. ⌜ (yes ≡ same (left out) (zeros (24 * n)))
         × ((left out ≡ encode (3 * n) (modulo q (excess q n (given r0) (given r1) (unknownsOf q n (given u) (given r)) first)))
         × Free (given work) (left work)) ⌝ }

@@ -31,7 +31,8 @@ pub fn check(
 ) -> Reply
     requires { ⌜ Loaded k (now public) ⌝ }
     ensures { λ reply. let x = roundIn side challenges ballots claims head shares0 shares1 opening answers in
-        ⌜ (reply ≡ first (roundCheckTests (parameters k (given public)) x (given scratch))) × (left scratch ≡ zeroized reply (given scratch)) ⌝ }
+        ⌜ (reply ≡ first (roundCheckTests (parameters k (given public)) x (given scratch)))
+        × (left scratch ≡ zeroized reply (given scratch)) ⌝ }
 {
     let n = k.ring as usize;
     let repeats = k.repeats as usize;

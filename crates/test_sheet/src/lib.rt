@@ -31,7 +31,8 @@ pub fn polynomials(text: &[u8], out: &mut [u8]) -> Reply
 // `polynomials` over the C boundary, for tests.
 #[no_mangle]
 pub extern "C" fn sheet_polynomials(text: &[u8], out: &mut [u8]) -> u64
-    ensures { λ r. ⌜ (r ≡ packed (sheetPolynomialsReply (given text) (given out))) × (left out ≡ sheetPolynomialsOut (given text) (given out)) ⌝ }
+    ensures { λ r. ⌜ (r ≡ packed (sheetPolynomialsReply (given text) (given out)))
+        × (left out ≡ sheetPolynomialsOut (given text) (given out)) ⌝ }
 {
     codec::pack(polynomials(text, out))
 }
