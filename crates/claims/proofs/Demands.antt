@@ -1,15 +1,21 @@
 -- The second and the third demand: `demand2` and `demand3` of specs/Demands.antt. Assumes nothing.
+use mathlib.Core.Path.{ap, _∙_}
 use Prim.Native.Nat.{ℕ, _*_, _<_}
 use native.Mathlib.Omega.{arith}
-use lib.ListN.{length-replicate}
-use Rattle.codec.specs.Bytes.{zeros}
+use lib.ListN.{length, length-replicate}
+use Rattle.codec.specs.Bytes.{Bytes, Octets, zeros}
+use Rattle.codec.specs.Reply.{None}
 use Rattle.codec.proofs.Replies.{taken-exactly}
 use Rattle.sheet.specs.Sheet.{order}
 use Rattle.sheet.specs.declared.Reading.the-variants as reading
 use Rattle.scratch.specs.Call.{scratchLength}
 use Rattle.bgv.proofs.Ballot.{honest-noise, honest-decrypts}
+use Rattle.round.specs.Round.{Round, roundTests}
+use Rattle.round.specs.Accepted.{Accepted}
+use Rattle.round.specs.Extractor.{Openings}
+use Rattle.round.specs.Refuses.{OfLent}
 use Rattle.round.proofs.Passed.{producer-exactly}
-use Rattle.round.proofs.Honest.{honest-round}
+use Rattle.round.proofs.Accepted.{none-exactly, honest-accepted}
 use Rattle.round.proofs.OpeningsAccepted.{openings-exactly}
 use Rattle.round.proofs.Extraction.{extraction}
 use Rattle.round.proofs.ExtractionHashed.{hashed}
@@ -35,7 +41,7 @@ use Rattle.claims.proofs.Exactly.{calls-exactly}
 use Rattle.claims.proofs.Yields.{extractor-takes}
 use Rattle.claims.proofs.Produces.{positive, fits, first-exactly, second-call-exactly}
 use Rattle.claims.proofs.Extracts.{extractor-exactly, lent-takes}
-use Rattle.claims.specs.Demands.{SheetExactly, StepExactly, HonestBallots, Demand2, ExtractorExactly, Extracts, AcceptedYields, RoundsYield, RefusesAsChecks, ProducerWrites, HonestRounds, Demand3}
+use Rattle.claims.specs.Demands.{SheetExactly, StepExactly, HonestBallots, Demand2, ExtractorExactly, Extracts, Yields, ExtractorTakes, AcceptedYields, RoundsYield, RefusesAsChecks, ProducerWrites, HonestRounds, Demand3}
 use Rattle.commitment.specs.Parameters.{parametersOf}
 
 -- ---- over an image
@@ -64,7 +70,7 @@ honest-rounds : HonestRounds
 honest-rounds text sheet m x sized suitable side low challenges size valid =
     let r = sheet-exactly text .0 (taken-exactly (order text) .0 sheet) .inside in
     let none = producer-exactly (parametersOf text) m x (omega (arith, r .modulus-low)) (omega (arith, r .modulus-high)) .1 suitable in
-    honest-round (parametersOf text) m x (sound text sheet) (omega (arith, r .modulus-low)) (omega (arith, r .modulus-high)) sized none side low
+    honest-accepted (parametersOf text) m x (sound text sheet) (omega (arith, r .modulus-low)) (omega (arith, r .modulus-high)) sized none side low
     challenges size valid
 
 producer-writes : ProducerWrites
@@ -86,19 +92,27 @@ extracts text x out scratch octets o1 o2 o3 e =
     (extraction P m x three high (t .lengths) none ok, hashed P m x o1 o2 o3, lowest P m x (omega arith) high, output P m x three high (t .lengths) none ok)
 
 -- its findings do not depend on output or scratch: any of the right lengths serve
-accepted-yields : AcceptedYields
-accepted-yields text x octets b1 b2 b3 o0 o1 a1 a2 a3 =
-    let taken = extractor-takes text x o0 o1 a1 a2 a3 octets in
+found : (text : Bytes) (x : Openings) → Octets (x .head) → Octets (x .answer1) → Octets (x .answer2) → Octets (x .answer3) → ExtractorTakes text x
+    → Yields text x × ExtractorTakes text x
+found text x octets b1 b2 b3 taken =
     let n = 24 * parametersOf text .N in
     (extracts text x (zeros n) (zeros scratchLength) octets b1 b2 b3 (taken (zeros n) (zeros scratchLength) (length-replicate {A = ℕ} n 0) (length-replicate {A = ℕ} scratchLength 0)), taken)
+
+accepted-yields : AcceptedYields
+accepted-yields text x octets b1 b2 b3 o0 o1 a1 a2 a3 = found text x octets b1 b2 b3 (extractor-takes text x o0 o1 a1 a2 a3 octets)
 
 rounds-yield : RoundsYield
 rounds-yield text x opens answers sheet o1 o2 o3 few lent lending within opened answered =
     let P = parametersOf text in
-    let none = takes-accepted P (ballotsIn text (x .ballots)) x opens answers lending within opened answered in
-    let n = 24 * P .N in
-    extracts text x (zeros n) (zeros scratchLength) (lent .octets) o1 o2 o3
-    (lent-takes text x (zeros n) (zeros scratchLength) sheet few lent (length-replicate {A = ℕ} n 0) (length-replicate {A = ℕ} scratchLength 0) none)
+    let m = ballotsIn text (x .ballots) in
+    let r = sheet .inside in
+    -- a round over the lent head that is accepted meets no test
+    let passes : (s : Round) → OfLent x s → Accepted P m s → None (roundTests P m s) = λ s of a.
+      none-exactly P m (omega (arith, r .modulus-low)) (omega (arith, r .modulus-high)) s (ap length (of .head) ∙ lent .head) (rw (of .head) (lent .octets)) .1 a in
+    let none = takes-accepted P m x opens answers lending within (λ i l. passes (opens i) (lending .sides i l .of-lent) (opened i l))
+      (λ c l h. passes (answers c) (lending .challenges c l h .of-lent) (answered c l h)) in
+    let taken : ExtractorTakes text x = λ out scratch o s. lent-takes text x out scratch sheet few lent o s none in
+    found text x (lent .octets) o1 o2 o3 taken
 
 refuses-as-checks : RefusesAsChecks
 refuses-as-checks P m x opens answers lending = (refuses-exactly P m x opens answers lending, refuses-alike P m x opens answers lending)

@@ -16,6 +16,7 @@ use Rattle.scratch.specs.Call.{scratchLength}
 use Rattle.bgv.specs.Scheme.{Small, key, cipher-u, cipher-v, opened, decrypted}
 use Rattle.bgv.specs.Examples.{Example}
 use Rattle.round.specs.Round.{Round, roundTests}
+use Rattle.round.specs.Accepted.{Accepted}
 use Rattle.round.specs.Producer.{Material, MaterialSized, producedRound}
 use Rattle.round.specs.Suitable.{Suitable}
 use Rattle.round.specs.Extractor as extractor
@@ -108,6 +109,10 @@ Yields text x =
     let m = ballotsIn text (x .ballots) in
     Found P m x (kind P m x) × Hashed P m x × Lowest P m x (kind P m x) × Output P m x (kind P m x) (extracted P m x)
 
+-- the extractor takes it, lent room and scratch of the right lengths
+abbrev pub ExtractorTakes : (text : Bytes) → Openings → Type 0
+ExtractorTakes text x = (out scratch : Bytes) → length out ≡ 24 * parametersOf text .N → length scratch ≡ scratchLength → extractReply text x (extractRoom out scratch) ≡ Taken
+
 -- the extractor takes what it is lent exactly if all of `TakesOpenings` holds
 abbrev pub ExtractorExactly : Type 0
 ExtractorExactly = (text : Bytes) (x : Openings) (out scratch : Bytes) → Octets (x .head) → (extractReply text x (extractRoom out scratch) ≡ Taken) ↔ TakesOpenings text x out scratch
@@ -143,8 +148,7 @@ pub record AcceptedAnswer (text : Bytes) (x : Openings) (challenge : ℕ) : Type
 abbrev pub AcceptedYields : Type 0
 AcceptedYields = (text : Bytes) (x : Openings) → Octets (x .head) → Octets (x .answer1) → Octets (x .answer2) → Octets (x .answer3)
     → AcceptedOpening text x 0 → AcceptedOpening text x 1 → AcceptedAnswer text x 1 → AcceptedAnswer text x 2 → AcceptedAnswer text x 3
-    → Yields text x
-    × ((out scratch : Bytes) → length out ≡ 24 * parametersOf text .N → length scratch ≡ scratchLength → extractReply text x (extractRoom out scratch) ≡ Taken)
+    → Yields text x × ExtractorTakes text x
 
 -- the extractor refuses exactly where the checks of those openings and answers would, and then as one of them does
 abbrev pub RefusesAsChecks : Type 0
@@ -160,13 +164,14 @@ CheckParts = (P : Parameters) (m : ℕ) (r : Round) → None (roundTests P m r) 
 abbrev pub LentRounds : Type 0
 LentRounds = (P : Parameters) (m : ℕ) (x : Openings) → extractor.Lent P m x → x .repetition < P .repeats → Lending P m x (λ i. lentRound P x i 1) (λ c. lentRound P x 0 c)
 
--- and so checks of any side and challenges that refuse nothing yield one of the three, whatever a seed draws
+-- and so accepted rounds of any side and challenges yield one of the three, whatever a seed draws, which the extractor takes and finds
 abbrev pub RoundsYield : Type 0
 RoundsYield = (text : Bytes) (x : Openings) (opens answers : ℕ → Round) → SheetTaken text → Octets (x .answer1) → Octets (x .answer2) → Octets (x .answer3)
     → let P = parametersOf text in
     let m = ballotsIn text (x .ballots) in
     m ≤ 4096 → extractor.Lent P m x → Lending P m x opens answers → x .repetition < P .repeats
-    → ((i : ℕ) → i < 2 → None (roundTests P m (opens i))) → ((c : ℕ) → 1 ≤ c → c ≤ 3 → None (roundTests P m (answers c))) → Yields text x
+    → ((i : ℕ) → i < 2 → Accepted P m (opens i)) → ((c : ℕ) → 1 ≤ c → c ≤ 3 → Accepted P m (answers c))
+    → Yields text x × ExtractorTakes text x
 
 -- the producer writes a round from all material that meets none of its refusals: its first message, and what answers a side and challenges
 abbrev pub ProducerWrites : Type 0
@@ -175,12 +180,12 @@ ProducerWrites = (text : Bytes) (x : Material)
     × ((side : ℕ) (challenges opening answers scratch : Bytes)
     → (secondReply text x side challenges (secondRoom opening answers scratch) ≡ Taken) ↔ WritesSecond text x side challenges opening answers scratch)
 
--- its round meets none of 5 to 13, with any side and challenges in range
+-- its round is accepted, that is, meets none of 5 to 13, with any side and challenges in range
 abbrev pub HonestRounds : Type 0
 HonestRounds = (text : Bytes) → first (order text) ≡ Taken
     → let P = parametersOf text in
     (m : ℕ) (x : Material) → MaterialSized P m x → Suitable P m x → (side : ℕ) → side < 2 → (challenges : Bytes) → length challenges ≡ P .repeats
-    → ((i : ℕ) → i < P .repeats → (1 ≤ getD challenges i 0) × (getD challenges i 0 ≤ 3)) → None (roundTests P m (producedRound P m x side challenges))
+    → ((i : ℕ) → i < P .repeats → (1 ≤ getD challenges i 0) × (getD challenges i 0 ≤ 3)) → Accepted P m (producedRound P m x side challenges)
 
 pub record Demand3 : Type 0 where
   pub accepted-yields : AcceptedYields
