@@ -141,8 +141,10 @@ host-stays-valid start b cs s =
     in-both start b s (λ (z : Session) (h : History). ValidSession z × (z .numbers ≡ sheetOf (h .sheet) .numbers)) cs (reachable-valid b cs (readable start b s))
 
 pub host-only-phase-or-round : HostOnlyPhaseOrRound
-host-only-phase-or-round start b cs s x register place e =
-    in-image start b s (λ (z : Session). Undue x z) cs (only-phase-or-round b cs (readable start b s) x register place (sym (answered start b s cs x register) ∙ e))
+host-only-phase-or-round start b cs s x register place =
+    let said = answered start b s cs x register in
+    let r = only-phase-or-round b cs (readable start b s) x register place in
+    (λ e. in-image start b s (λ (z : Session). Undue x z) cs (r .0 (sym said ∙ e)), λ u. said ∙ r .1 (rw (traced start b s cs .session) at u))
 
 pub host-honest-accepted : HostHonestAccepted
 host-honest-accepted start b cs s register material round x turn =

@@ -89,6 +89,7 @@ HostHonestAccepted = FromClear (λ b cs first last h. (register : Bytes) (materi
 abbrev pub HostStaysValid : Type 0
 HostStaysValid = FromClear (λ b cs first last h. ValidSession (decode last) × (decode last .numbers ≡ sheetOf (h .sheet) .numbers))
 
--- so 31 is only ever met for wrong phase or round
+-- so 31 is met for wrong phase or round, with place 0, and for nothing else
 abbrev pub HostOnlyPhaseOrRound : Type 0
-HostOnlyPhaseOrRound = FromClear (λ b cs first last h. (x : Step) (register : Bytes) (place : ℕ) → hostReply x (host last register) ≡ Refused 31 place → Undue x (decode last))
+HostOnlyPhaseOrRound = FromClear (λ b cs first last h. (x : Step) (register : Bytes) (place : ℕ)
+    → (hostReply x (host last register) ≡ Refused 31 place → Undue x (decode last)) × (Undue x (decode last) → hostReply x (host last register) ≡ Refused 31 0))

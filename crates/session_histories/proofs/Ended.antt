@@ -1,12 +1,12 @@
 -- A check that is refused for its round ends the session, and in an ended session no step but clear is taken and none changes anything. Assumes nothing.
 use mathlib.Core.Path.{_≡_, refl, ap}
-use mathlib.Core.Logic.{_≢_}
+use mathlib.Core.Logic.{_≢_, _⊎_, inl, inr}
 use mathlib.Core.Bool.{Bool, true, false, _&&_}
 use mathlib.Core.List.{List, _∷_}
-use Prim.Native.Nat.{ℕ, _<_}
+use Prim.Native.Nat.{ℕ, _≤_, _<_}
 use native.Mathlib.Omega.{arith}
-use lib.Dec.{eqb}
-use borrow.Author.Tests.{ne-eqb}
+use lib.Dec.{ltb, eqb}
+use borrow.Author.Tests.{ne-eqb, le-ltb}
 use Rattle.codec.specs.Bytes.{Bytes}
 use Rattle.codec.specs.Reply.{Test, first, leaves}
 use Rattle.codec.specs.declared.Reply.{Reply}
@@ -19,6 +19,7 @@ use Rattle.session.specs.Steps.{dueTest, admitTests, withdrawTests, closeTests,
 use Rattle.session.specs.Machine.{Step, clear, admit, withdraw, close, claim, commit, draw, check, State, state, next, still, reply, after}
 use Rattle.session_histories.specs.Runs.{clears}
 use Rattle.session_histories.specs.Conditions.{Reaches}
+use Rattle.session_histories.specs.Claims.{Undue}
 use Rattle.session_histories.proofs.Checked.{reaches-exactly}
 
 -- ---- a step that is not taken, and looked at no round, leaves everything
@@ -47,35 +48,53 @@ module _ (st : State) where
       go Taken h = absurd (h refl)
       go (Refused number place) h = kept-still y none
 
--- ---- an ended session
+-- ---- a step whose phase or round is not its own is refused 31
 
 and-false : (a : Bool) → (a && false) ≡ false
 and-false true = refl
 and-false false = refl
 
--- a step that is not due is refused 31
 not-due : (s : Session) (due : Bool) (ts : List Test) → due ≡ false → first (dueTest s due ∷ ts) ≡ Refused 31 0
 unfolding first
 not-due s due ts e = rw (e, and-false (valid s))
 
-module _ (s : Session) (reg : Bytes) (ended : 3 < s .progress .phase) where
-  phase-not : (k : ℕ) → k < 4 → eqb (s .progress .phase) k ≡ false
-  phase-not k l = ne-eqb (s .progress .phase) k (λ e. omega arith)
+both-off : (a b c d : ℕ) → (a ≢ b) ⊎ (c ≢ d) → (eqb a b && eqb c d) ≡ false
+both-off a b c d (inl h) = rw (ne-eqb a b h)
+both-off a b c d (inr h) = rw (ne-eqb c d h) (and-false (eqb a b))
 
-  -- and so is the rest of a condition that begins with the phase
-  phase-not-and : (k : ℕ) → k < 4 → (b : Bool) → (eqb (s .progress .phase) k && b) ≡ false
-  phase-not-and k l b = ap (λ (a : Bool). a && b) (phase-not k l)
+turn-off : (phase at r k n : ℕ) → (phase ≢ at) ⊎ (r ≢ k) ⊎ (n ≤ r) → (eqb phase at && (eqb r k && ltb r n)) ≡ false
+turn-off phase at r k n (inl h) = rw (ne-eqb phase at h)
+turn-off phase at r k n (inr (inl h)) = rw (ne-eqb r k h) (and-false (eqb phase at))
+turn-off phase at r k n (inr (inr h)) = rw (le-ltb r n h, and-false (eqb r k)) (and-false (eqb phase at))
+
+module _ (s : Session) (reg : Bytes) where
+  pub undue-refused : (y : Step) → Undue y s → reply y (state s reg) ≡ Refused 31 0
+  unfolding reply Undue admitTests withdrawTests closeTests claimTests commitTests drawTests checkTests checkEarly
+  undue-refused (clear b) u = absurd u
+  undue-refused (admit ballot) u = not-due s _ _ (ne-eqb _ _ u)
+  undue-refused (withdraw mark) u = not-due s _ _ (ne-eqb _ _ u)
+  undue-refused close u = not-due s _ _ (ne-eqb _ _ u)
+  undue-refused (claim claims) u = not-due s _ _ (ne-eqb _ _ u)
+  undue-refused (commit k head shares0 shares1) u = not-due s _ _ (turn-off _ _ _ _ _ u)
+  undue-refused (draw seed) u = not-due s _ _ (both-off _ _ _ _ u)
+  undue-refused (check k x) u = not-due s _ _ (turn-off _ _ _ _ _ u)
+
+-- ---- in an ended session every step but clear is such a one
+
+module _ (s : Session) (reg : Bytes) (ended : 3 < s .progress .phase) where
+  ended-undue : (y : Step) → clears y Taken ≡ false → Undue y s
+  unfolding Undue
+  ended-undue (clear b) e = absurd (let z : _≡_ {A = ℕ} 0 1 = cc in omega arith)
+  ended-undue (admit ballot) e = λ h. omega arith
+  ended-undue (withdraw mark) e = λ h. omega arith
+  ended-undue close e = λ h. omega arith
+  ended-undue (claim claims) e = λ h. omega arith
+  ended-undue (commit k head shares0 shares1) e = inl (λ h. omega arith)
+  ended-undue (draw seed) e = inl (λ h. omega arith)
+  ended-undue (check k x) e = inl (λ h. omega arith)
 
   pub ended-refuses : (y : Step) → clears y Taken ≡ false → reply y (state s reg) ≡ Refused 31 0
-  unfolding reply admitTests withdrawTests closeTests claimTests commitTests drawTests checkTests checkEarly
-  ended-refuses (clear b) e = absurd (let z : _≡_ {A = ℕ} 0 1 = cc in omega arith)
-  ended-refuses (admit ballot) e = not-due s _ _ (phase-not 0 (omega arith))
-  ended-refuses (withdraw mark) e = not-due s _ _ (phase-not 0 (omega arith))
-  ended-refuses close e = not-due s _ _ (phase-not 0 (omega arith))
-  ended-refuses (claim claims) e = not-due s _ _ (phase-not 1 (omega arith))
-  ended-refuses (commit k head shares0 shares1) e = not-due s _ _ (phase-not-and 2 (omega arith) _)
-  ended-refuses (draw seed) e = not-due s _ _ (phase-not-and 2 (omega arith) _)
-  ended-refuses (check k x) e = not-due s _ _ (phase-not-and 3 (omega arith) _)
+  ended-refuses y e = undue-refused s reg y (ended-undue y e)
 
   -- a clear that is refused changes nothing either
   pub refused-stays : (y : Step) → reply y (state s reg) ≢ Taken → after y (state s reg) ≡ state s reg

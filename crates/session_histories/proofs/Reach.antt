@@ -27,6 +27,7 @@ use Rattle.session_histories.proofs.Valid.{off-both, off-turn, valid-ho
 use Rattle.session_histories.proofs.Stepped.{after-taken}
 use Rattle.session_histories.proofs.Exact.{cleared-exactly}
 use Rattle.session_histories.proofs.Kept.{kept}
+use Rattle.session_histories.proofs.Ended.{undue-refused}
 use Rattle.session_check.specs.Stored.{Inputs, drawnRound}
 
 pub reachable-valid : (b : Beginning) (cs : List Call) → Begins b
@@ -71,11 +72,11 @@ module _ (s : Session) (reg : Bytes) (place : ℕ) (v : valid s ≡ true) where
   only-31 (draw seed) e = off-both _ _ _ _ (not-due _ _ (omega arith) e)
   only-31 (check k x) e = off-turn _ _ _ _ _ (not-due _ (earlyTests (storedFor s k) x ++ checkLate s k x) (check-others k x) e)
 
--- so 31 is only ever met for wrong phase or round
+-- so 31 is met for wrong phase or round, and for nothing else
 pub only-phase-or-round : (b : Beginning) (cs : List Call) → Begins b
     → (x : Step) (register : Bytes) (place : ℕ)
     → let s = trace cs (initial b) .session in
-    reply x (state s register) ≡ Refused 31 place → Undue x s
-only-phase-or-round b cs e x reg place r =
+    (reply x (state s register) ≡ Refused 31 place → Undue x s) × (Undue x s → reply x (state s register) ≡ Refused 31 0)
+only-phase-or-round b cs e x reg place =
     let s = trace cs (initial b) .session in
-    only-31 s reg place (valid-holds s (reachable-valid b cs e .0)) x r
+    (only-31 s reg place (valid-holds s (reachable-valid b cs e .0)) x, undue-refused s reg x)
