@@ -1,9 +1,9 @@
 -- The claim of specs/Exactly.antt: each call is taken exactly under its conditions. Assumes nothing.
-use mathlib.Core.Path.{_≡_, ap, ap₂}
+use mathlib.Core.Path.{_≡_, refl, ap, ap₂}
 use mathlib.Core.Logic.{_↔_, Iff·trans}
-use mathlib.Core.Bool.{_&&_, _||_, not}
-use Prim.Native.Nat.{ℕ}
-use borrow.Author.Tests.{leb-true, le-leb, ltb-true, lt-ltb, ltb-false, le-ltb, not-false}
+use mathlib.Core.Bool.{Bool, true, false, cond, _&&_, _||_, not}
+use Prim.Native.Nat.{ℕ, _+_, _*_, _/_, _%_, _^_, _<_}
+use borrow.Author.Tests.{eqb-true, eq-eqb, leb-true, le-leb, ltb-true, lt-ltb, ltb-false, le-ltb, not-false}
 use Rattle.codec.specs.Bytes.{Bytes}
 use Rattle.codec.specs.Reply.{first}
 use Rattle.codec.specs.declared.Reply.the-variants.{Taken}
@@ -16,8 +16,10 @@ use Rattle.session.specs.declared.Session.{Session}
 use Rattle.session.specs.Steps.{challengesTests, turnoutTests}
 use Rattle.session_image.specs.Image.{decode}
 use Rattle.session_image.specs.Images.{challengesReply, turnoutReply}
+use Rattle.round_check.specs.Opened.{isOpened, openedPlace, openedReply}
+use Rattle.session_histories.proofs.Sheets.{power-of, power-found, low-power}
 use Rattle.session_histories.proofs.Valid.{numbers-match, numbers-pass, ready, is-ready, valid-says, valid-holds, neither, sheet-exactly}
-use Rattle.claims.specs.Exactly.{TellsChallenges, Counts, CallsExactly}
+use Rattle.claims.specs.Exactly.{TellsChallenges, Counts, ShareThere, CallsExactly}
 use Rattle.claims.proofs.Images.{over-image}
 use Rattle.claims.proofs.Scheme.{keygen-exactly, encrypt-exactly, decrypt-exactly, split-exactly, share-exactly, reconstruct-exactly, commitment-exactly}
 
@@ -44,6 +46,50 @@ turnout-exactly s reg enrolled =
       λ c. (ap not (valid-holds s (c .sound)), (numbers-pass (c .register-size), (ap₂ _||_ (le-ltb enrolled 1 (c .some)) (le-ltb 1000000 enrolled (c .few)), tt))),
     )
 
+-- ---- over two slices of shares
+
+module _ (side N length0 length1 j : ℕ) where
+  share-there : isOpened side N length0 length1 j ≡ true → ShareThere side N length0 length1 j
+  unfolding isOpened
+  share-there e =
+      let a = both _ _ e in
+      let b = both _ _ (a .1) in
+      let c = both _ _ (b .1) in
+      let d = both _ _ (c .1) in
+      let f = both _ _ (d .1) in
+      let g = both _ _ (f .1) in
+      record {
+        side-high = leb-true _ _ (a .0);
+        ring-low = leb-true _ _ (b .0);
+        ring-high = leb-true _ _ (c .0);
+        ring-power = power-of 12 N (d .0);
+        equal = eqb-true _ _ (f .0);
+        whole = eqb-true _ _ (g .0);
+        within = ltb-true _ _ (g .1);
+      }
+
+  there-opened : ShareThere side N length0 length1 j → isOpened side N length0 length1 j ≡ true
+  unfolding isOpened
+  there-opened t =
+      let i = t .ring-power in
+      ap₂ _&&_ (le-leb side 1 (t .side-high)) (ap₂ _&&_ (le-leb 4 N (t .ring-low)) (ap₂ _&&_ (le-leb N 2048 (t .ring-high))
+      (ap₂ _&&_ (power-found 12 N (i .0) (low-power N (i .0) (t .ring-high) (i .1)) (i .1)) (ap₂ _&&_ (eq-eqb length0 length1 (t .equal))
+      (ap₂ _&&_ (eq-eqb (length0 % (8 * N)) 0 (t .whole)) (lt-ltb j (length0 / (8 * N)) (t .within)))))))
+
+  told : (b : Bool) → isOpened side N length0 length1 j ≡ b → 8 * N * j + 1 < 2 ^ 56 → openedReply side N length0 length1 j ≡ cond b (256 * (8 * N * j + 1)) 0
+  unfolding openedPlace
+  told true e l = rw (e, lt-ltb (8 * N * j + 1) (2 ^ 56) l)
+  told false e l = rw (e)
+
+  opened-exactly : 8 * N * j + 1 < 2 ^ 56
+      → (ShareThere side N length0 length1 j → openedReply side N length0 length1 j ≡ 256 * (8 * N * j + 1))
+      × ((ShareThere side N length0 length1 j → ⊥) → openedReply side N length0 length1 j ≡ 0)
+  opened-exactly l = (λ t. told true (there-opened t) l, λ none. absent (isOpened side N length0 length1 j) refl none)
+    where
+      absent : (b : Bool) → isOpened side N length0 length1 j ≡ b → (ShareThere side N length0 length1 j → ⊥) → openedReply side N length0 length1 j ≡ 0
+      absent true e none = absurd (none (share-there e))
+      absent false e none = told false e l
+
 -- ---- the claim
 
 pub calls-exactly : CallsExactly
@@ -60,4 +106,5 @@ calls-exactly = record {
   commitment = commitment-exactly;
   challenges = λ image round out. over-image image (λ s. first (challengesTests s round out)) (challenges-exactly (decode image) round out);
   turnout = λ image reg enrolled. over-image image (λ s. first (turnoutTests s reg enrolled)) (turnout-exactly (decode image) reg enrolled);
+  opened-share = opened-exactly;
 }

@@ -1,8 +1,8 @@
 -- Each call that is no step of a session, nor the producer's or the extractor's (specs/Produces.antt, specs/Extracts.antt), is taken exactly under its conditions (specs/Scheme.antt,
--- and here those of the two that read a session). Assumes nothing.
+-- and here those of the two that read a session and of the opened share). Assumes nothing.
 use mathlib.Core.Path.{_≡_}
 use mathlib.Core.Logic.{_↔_}
-use Prim.Native.Nat.{ℕ, _+_, _≤_, _<_}
+use Prim.Native.Nat.{ℕ, _+_, _*_, _/_, _%_, _^_, _≤_, _<_}
 use lib.ListN.{length}
 use Rattle.codec.specs.Bytes.{Bytes}
 use Rattle.codec.specs.Reply.{first}
@@ -15,6 +15,7 @@ use Rattle.session_progress.specs.Progress.{drawn}
 use Rattle.session.specs.declared.Session.{Session}
 use Rattle.session_image.specs.Image.{imageLength, decode}
 use Rattle.session_image.specs.Images.{challengesReply, turnoutReply}
+use Rattle.round_check.specs.Opened.{openedReply}
 use Rattle.session_histories.specs.Conditions.{SheetTaken, ValidSession}
 use Rattle.claims.specs.Scheme.{Keygens, Encrypts, Decrypts, Splits, Shares, Reconstructs, CommitsTo}
 
@@ -33,6 +34,18 @@ pub record Counts (s : Session) (reg : Bytes) (enrolled : ℕ) : Type 0 where
   pub register-size : length reg ≡ 163840  -- 1
   pub some : 1 ≤ enrolled  -- 3
   pub few : enrolled ≤ 1000000  -- 3
+
+-- ---- over two slices of shares
+
+-- ballot j's opened share is there: side is 0 or 1, N a ring size, the slices are equal and whole ballots, and j is not past them
+pub record ShareThere (side N length0 length1 j : ℕ) : Type 0 where
+  pub side-high : side ≤ 1
+  pub ring-low : 4 ≤ N
+  pub ring-high : N ≤ 2048
+  pub ring-power : (i : ℕ) × (N ≡ 2 ^ i)
+  pub equal : length0 ≡ length1
+  pub whole : length0 % (8 * N) ≡ 0
+  pub within : j < length0 / (8 * N)
 
 -- ---- the claim
 
@@ -53,3 +66,7 @@ pub record CallsExactly : Type 0 where
   pub challenges : (image : Bytes) (round : ℕ) (out : Bytes)
       → Exactly (challengesReply image round out) ((length image ≡ imageLength) × TellsChallenges (decode image) round out)
   pub turnout : (image reg : Bytes) (enrolled : ℕ) → Exactly (turnoutReply image reg enrolled) ((length image ≡ imageLength) × Counts (decode image) reg enrolled)
+  -- the call of the opened share refuses nothing: its value is the place of the share's first byte in the slice of the opened side plus one, and 0 exactly if it is not there; a value has 56 bits
+  pub opened-share : (side N length0 length1 j : ℕ) → 8 * N * j + 1 < 2 ^ 56
+      → (ShareThere side N length0 length1 j → openedReply side N length0 length1 j ≡ 256 * (8 * N * j + 1))
+      × ((ShareThere side N length0 length1 j → ⊥) → openedReply side N length0 length1 j ≡ 0)

@@ -42,7 +42,7 @@ nones (false ∷ ts) e = (refl, nones ts e)
 -- ---- 3
 
 -- what is found is a power of two
-power-of : (k n : ℕ) → power k n ≡ true → (j : ℕ) × (n ≡ 2 ^ j)
+pub power-of : (k n : ℕ) → power k n ≡ true → (j : ℕ) × (n ≡ 2 ^ j)
 unfolding power
 power-of zero n e = absurd (let z : _≡_ {A = ℕ} 0 1 = cc in omega arith)
 power-of (suc k) n e = go (eqb n (2 ^ k)) refl e (λ f. power-of k n f)
@@ -52,10 +52,10 @@ power-of (suc k) n e = go (eqb n (2 ^ k)) refl e (λ f. power-of k n f)
     go false q e f = f e
 
 -- a power of two below 2^k is found
-found : (k n j : ℕ) → j < k → n ≡ 2 ^ j → power k n ≡ true
+pub power-found : (k n j : ℕ) → j < k → n ≡ 2 ^ j → power k n ≡ true
 unfolding power
-found zero n j l e = absurd (omega arith)
-found (suc k) n j l e = go (ℕ-discrete j k) (λ h. found k n j h e)
+power-found zero n j l e = absurd (omega arith)
+power-found (suc k) n j l e = go (ℕ-discrete j k) (λ h. power-found k n j h e)
   where
     at : (b : Bool) → power k n ≡ true → cond b true (power k n) ≡ true
     at true h = refl
@@ -66,7 +66,7 @@ found (suc k) n j l e = go (ℕ-discrete j k) (λ h. found k n j h e)
     go (no i) f = at (eqb n (2 ^ k)) (f (omega arith))
 
 -- one that is at most 2048 is below 2^12
-low-power : (n j : ℕ) → n ≤ 2048 → n ≡ 2 ^ j → j < 12
+pub low-power : (n j : ℕ) → n ≤ 2048 → n ≡ 2 ^ j → j < 12
 low-power n j h e = go (decLt j 12)
   where
     go : Dec (j < 12) → j < 12
@@ -108,7 +108,7 @@ range-exactly k = (says, holds)
           (
             le-ltb 2048 (k .ring) (r .ring-high),
             (
-              ap not (found 12 (k .ring) (r .ring-power .0) (low-power (k .ring) (r .ring-power .0) (r .ring-high) (r .ring-power .1)) (r .ring-power .1)),
+              ap not (power-found 12 (k .ring) (r .ring-power .0) (low-power (k .ring) (r .ring-power .0) (r .ring-high) (r .ring-power .1)) (r .ring-power .1)),
               (
                 le-ltb (k .modulus) 3 (r .modulus-low),
                 (
