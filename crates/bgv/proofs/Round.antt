@@ -1,5 +1,5 @@
 -- One round: what is rebuilt from two shares is what decryption opens, less p times both masks, so that reconstruction equals decryption; and the mask
--- that is recoveredMask out from a share is the one that was lent. Assumes nothing.
+-- that is worked out from a share is the one that was lent. Assumes nothing.
 use mathlib.Core.Path.{_≡_, refl, sym, ap, _∙_}
 use Prim.Native.Nat.{ℕ, _+_, _-_, _*_, _/_, _%_, _^_, _≤_, _<_}
 use native.Mathlib.Nat.{add-mul, mul-add, one-mul, mul-comm, mul-assoc, mul-le-mul, div-mul-le-self}
@@ -40,7 +40,7 @@ module _ {q p D B : ℕ} (ok : Sound q p D B) where
   -- ---- masks
 
   module _ {N : ℕ} (s u t : Poly) where
-    -- a share with the mask that is recoveredMask out from it is that share
+    -- a share with the mask that is worked out from it is that share
     pub share-worked : Alike q N (share q N p s u (recoveredMask q N p s u t)) t
     unfolding noisy recoveredMask
     share-worked = alike-plus alike-refl masked so alike-eq (ap (plus (mul q N s u)) (plus-comm t (scale (q - 1) (mul q N s u)))) so alike-drop (mul q N s u) t positive
@@ -51,7 +51,7 @@ module _ {q p D B : ℕ} (ok : Sound q p D B) where
               same-mul (same-refl {x = p}) (same-eq (centre-remainder q x positive) then same-mod) then times-divide (ok .positive) (ok .apart) (minus q t (mul q N s u) k);
         }
 
-    -- the mask that is recoveredMask out from a share is the lent one
+    -- the mask that is worked out from a share is the lent one
     pub worked-share : (E : Wholes) → Bounded N B E → Alike q N t (share q N p s u E) → (k : ℕ) → k < N → recoveredMask q N p s u t k ≡ E k
     unfolding recoveredMask noisy
     worked-share E bounded made k l =

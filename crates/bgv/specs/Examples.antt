@@ -106,7 +106,7 @@ reply r = pos (numberOf r) ∷ pos (placeOf r) ∷ []
 abbrev masked : List ℤ → Reply
 masked E = first (test 12 0 (not (within (mask 2 4 0) 4 (lentMask (words (map (remainder (2 ^ 64)) E))))) ∷ [])
 
--- what is recoveredMask out, and what the paper has
+-- what is worked out, and what the paper has
 pub record Example : Type 0 where
   pub got : List ℤ
   pub said : List ℤ

@@ -78,7 +78,7 @@ lentMask mask = λ k. signed (poly mask k)
 abbrev pub share : (q N p : ℕ) (s u : Poly) → Wholes → Poly
 share q N p s u E = noisy q N p s u (residues q E)
 
--- the mask recoveredMask out from a share t: (t - s_i u) / p modulo q, then centred
+-- the mask worked out from a share t: (t - s_i u) / p modulo q, then centred
 unfoldable pub recoveredMask : (q N p : ℕ) (s u t : Poly) → Wholes
 recoveredMask q N p s u t = λ k. centre q (divide q p (minus q t (mul q N s u) k))
 
@@ -88,5 +88,3 @@ rebuilt q v t0 t1 = minus q (minus q v t0) t1
 
 abbrev pub reconstructed : (q p : ℕ) (v t0 t1 : Poly) → Poly
 reconstructed q p v t0 t1 = plain q p (rebuilt q v t0 t1)
-
--- ---- what the theorems ask of the numbers

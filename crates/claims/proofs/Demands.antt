@@ -108,9 +108,9 @@ rounds-yield text x opens answers sheet o1 o2 o3 few lent lending within opened 
     let r = sheet .inside in
     -- a round over the lent head that is accepted meets no test
     let passes : (s : Round) → OfLent x s → Accepted P m s → None (roundTests P m s) = λ s of a.
-      none-exactly P m (omega (arith, r .modulus-low)) (omega (arith, r .modulus-high)) s (ap length (of .head) ∙ lent .head) (rw (of .head) (lent .octets)) .1 a in
+    none-exactly P m (omega (arith, r .modulus-low)) (omega (arith, r .modulus-high)) s (ap length (of .head) ∙ lent .head) (rw (of .head) (lent .octets)) .1 a in
     let none = takes-accepted P m x opens answers lending within (λ i l. passes (opens i) (lending .sides i l .of-lent) (opened i l))
-      (λ c l h. passes (answers c) (lending .challenges c l h .of-lent) (answered c l h)) in
+    (λ c l h. passes (answers c) (lending .challenges c l h .of-lent) (answered c l h)) in
     let taken : ExtractorTakes text x = λ out scratch o s. lent-takes text x out scratch sheet few lent o s none in
     found text x (lent .octets) o1 o2 o3 taken
 

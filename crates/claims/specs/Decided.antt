@@ -1,5 +1,5 @@
 -- "The first case that holds in the order given decides, and no refusal comes otherwise" (document 01, "Refused because of the state"), for each exported call; and the orders'
--- refusalNumbers as that paragraph gives them. Assumes nothing.
+-- numbers as that paragraph gives them. Assumes nothing.
 use mathlib.Core.Path.{_≡_}
 use mathlib.Core.Logic.{_↔_}
 use mathlib.Core.Bool.{not}
@@ -63,7 +63,7 @@ pub record FirstDecides : Type 0 where
   pub challenges : (image : Bytes) (round : ℕ) (out : Bytes) → Decided (challengesReply image round out) (imageTest image ∷ challengesTests (decode image) round out)
   pub turnout : (image reg : Bytes) (enrolled : ℕ) → Decided (turnoutReply image reg enrolled) (imageTest image ∷ turnoutTests (decode image) reg enrolled)
 
--- ---- the refusalNumbers of the orders
+-- ---- the numbers of the orders
 
 abbrev pub refusalNumbers : List Test → List ℕ
 refusalNumbers ts = map (λ (t : Test). t .number) ts

@@ -52,7 +52,7 @@ abbrev pub SheetExactly : Type 0
 SheetExactly = (text : Bytes) → (first (order text) ≡ Taken) ↔ SheetTaken text
 
 -- a step is taken exactly if the image has its length and its conditions hold of the session in it: a check in every round if all of `Checks` holds, a ballot is admitted if all of
--- `Admits` does, where "full" means 4,096 entries, and so on; what is lent is bytes
+-- `Admits` does, where "full" means 4,096 entries, and so on; the head of a first message that a check is lent is bytes
 abbrev pub StepExactly : Type 0
 StepExactly = (x : Step) (image register : Bytes) → HeadIsBytes x
     → (hostReply x (host image register) ≡ Taken) ↔ ((length image ≡ imageLength) × Takes x (state (decode image) register))
@@ -74,7 +74,7 @@ Examples = map (λ (x : Example). x .got) all-rows ≡ map (λ (x : Example). x 
 pub record Demand2 : Type 0 where
   pub sheet-exactly : SheetExactly
   pub step-exactly : StepExactly
-  -- and each of the other calls that Demand3 does not speak of: keygen, encrypt, decrypt, split, share, reconstruct, commitment, challenges, turnout, and those of a digest and a sheet
+  -- and each of the other calls that Demand3 does not speak of: keygen, encrypt, decrypt, split, share, reconstruct, commitment, challenges, turnout, those of a digest and a sheet, and that of the opened share, which refuses nothing
   pub calls-exactly : CallsExactly
   -- over every list of calls from a clear that is taken: a round that a session counts as checked has had its check, and of a session that ended accepted every round has
   pub rounds-checked : HostRoundsChecked

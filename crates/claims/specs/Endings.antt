@@ -34,7 +34,7 @@ pub record RefusalEnds : Type 0 where
       (decode image .progress .phase ≡ ended-refused) × Over image
   -- every other call that is not taken leaves image and register
   pub keeps : (x : Step) (h : Host) → Octets (h .image) → hostReply x h ≢ Taken → ((round : ℕ) (y : Inputs) → x ≡ check round y → Reaches (decode (h .image)) round y → ⊥) → hostAfter x h ≡ h
-  -- and so is every session over that ended, refused or accepted
+  -- and so is every session over that ended, refused or accepted, or whose phase is unknown
   pub over : (image : Bytes) → length image ≡ imageLength → Octets image → ended-refused ≤ decode image .progress .phase → Over image
 
 -- a clear that is taken leaves a zeroed register, and a session at its start: on the sheet, with nothing gathered, closed, claimed, committed, drawn or checked

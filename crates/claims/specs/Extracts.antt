@@ -23,7 +23,7 @@ module _ (text : Bytes) (x : Openings) where
   pub record TakesOpenings (out scratch : Bytes) : Type 0 where
     pub sheet : SheetTaken text  -- the sheet's own 1 to 5
     pub few : m ≤ 4096  -- 1
-    pub lengths : Lent P m x  -- 1
+    pub lengths : Lent P m x  -- 1, and the head is bytes, as what is lent always is
     pub out-size : length out ≡ 24 * P .N  -- 1
     pub scratch-size : length scratch ≡ scratchLength  -- 1
     pub accepted : OpeningsAccepted P m x  -- 5, 6; by side 7, 8, 12, 13; by answer 9, 10, 11

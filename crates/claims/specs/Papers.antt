@@ -28,7 +28,7 @@ module _ (P : Parameters) where
     pub errors : Alike q N (plus e0 (other q e e0)) e
     pub keys : Alike q N (plus (key q N p a s0 e0) (key q N p a (other q s s0) (other q e e0))) (key q N p a s e)
 
-  -- Play: "samples bounded E_i and outputs t_i = s_i u + p E_i", as jdn_share does. The mask that a check works out from t_i is E_i, and any t is made by the mask recoveredMask out from it
+  -- Play: "samples bounded E_i and outputs t_i = s_i u + p E_i", as jdn_share does. The mask that a check works out from t_i is E_i, and any t is made by the mask worked out from it
   pub record Played (s u : Poly) : Type 0 where
     pub mask : (E : Wholes) → Bounded N B E → (t : Poly) → Alike q N t (share q N p s u E) → (i : ℕ) → i < N → recoveredMask q N p s u t i ≡ E i
     pub made : (t : Poly) → Alike q N (share q N p s u (recoveredMask q N p s u t)) t

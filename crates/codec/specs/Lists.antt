@@ -1,4 +1,4 @@
--- Lists of values and tests of every element, for all crates. Strings side by side are mathlib's `flatten` and `flatMap`. Assumes nothing.
+-- Lists of values and tests of every element, for all crates. Assumes nothing.
 use mathlib.Core.Bool.{Bool, true, _&&_}
 use mathlib.Core.List.{List, [], _∷_, _++_}
 use Prim.Native.Nat.{ℕ, zero, suc}

@@ -70,5 +70,3 @@ pub record Opens (q N : ℕ) (k : Keys) (c : Pair) (r : Three) (m : Poly) : Type
 -- the test of an opening, on the bytes of a pair
 unfoldable pub opens : (q N : ℕ) → Keys → Bytes → Three → Poly → Bool
 opens q N k c r m = same c (pairBytes q N (committed q N k r m))
-
--- ---- what the code is given, and what it leaves in scratch

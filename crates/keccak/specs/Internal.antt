@@ -6,7 +6,7 @@ use lib.ListN.{getD}
 use Rattle.keccak.specs.Steps.{Row, State, complement, lane, lanes, theta, rho, pi, iota}
 use mathlib.Core.Bool.{Bool, true, false, not}
 
--- ---- chi on a state of which some lanes stand complemented, so that few complements are needed: `flipped six` of keccak, specs/Complemented.antt, after theta, rho and pi
+-- ---- chi on a state of which some lanes stand complemented, so that few complements are needed: `flipped six` after theta, rho and pi
 
 -- chi on the rows that theta, rho and pi leave of such a state
 unfoldable pub chiRow0 : Row → Row

@@ -1,6 +1,6 @@
 -- What an accepted round is (document 01, "One round" and refusals 5 to 13), in propositions to hold against the paper: no test stands in them, and the numbers
--- beside them are those of the refusals that they exclude. The extractor asks for the same parts (specs/OpeningsAccepted.antt). The lengths (1) stand apart: `Lengths`,
--- specs/Round.antt. Assumes nothing.
+-- beside them are those of the refusals that they exclude. The extractor asks for the same parts (specs/OpeningsAccepted.antt). The lengths (1) stand apart: `InputsSized`,
+-- session_check, specs/Equations.antt. Assumes nothing.
 use mathlib.Core.Path.{_≡_}
 use mathlib.Core.List.{List}
 use Prim.Native.Nat.{ℕ, _+_, _*_, _≤_, _<_}
@@ -112,7 +112,7 @@ module _ (P : Parameters) (m : ℕ) where
     -- 8: the pairs of s_i and e_i are those of the opening
     pub s-committed : Opens q N k (pairOf N (pairAt N head side)) (threeOf q N (o .rs)) (o .s)
     pub e-committed : Opens q N k (pairOf N (pairAt N head (2 + side))) (threeOf q N (o .re)) (o .e)
-    -- 12: the mask of each ballot, recoveredMask out from the opened side's share, is at most B
+    -- 12: the mask of each ballot, worked out from the opened side's share, is at most B
     pub masked : (j : ℕ) → j < m → Bounded N B (recoveredMask q N p (o .s) (uAt N ballots j) (shareAt N (ofSide side shares0 shares1) j))
     -- 13: the claim of each ballot is the vote
     pub claimed : (j : ℕ) → j < m → claimAt N claims j ≡ list N (reconstructed q p (vAt N ballots j) (shareAt N shares0 j) (shareAt N shares1 j))

@@ -1,5 +1,4 @@
--- What the producer's calls are lent, from the names of their slices in a contract: in a `requires` (`..Now`), and in an `ensures` what stands in them at entry (`..In`)
--- and at exit (`..Out`). Assumes nothing.
+-- What the producer's calls are lent, from the names of their slices in a contract: what stands in them at entry (`..In`) and at exit (`..Out`). Assumes nothing.
 use Rattle.codec.specs.Slices.{Slice, given, left}
 use Rattle.round.specs.Producer.{Material, materialOf}
 use Rattle.round.specs.Writes.{FirstRoom, firstRoom, SecondRoom, secondRoom}

@@ -61,7 +61,7 @@ answersRanged q N repeats challenges answers =
 
 -- ---- by ballot 12, 13
 
--- 12: the mask of ballot j, recoveredMask out from the opened half s of the secret and that side's share, is at most B
+-- 12: the mask of ballot j, worked out from the opened half s of the secret and that side's share, is at most B
 abbrev pub maskTest : (q N p B : ℕ) (s : Poly) (ballots shares : Bytes) → ℕ → Test
 maskTest q N p B s ballots shares j = test 12 j (not (within B N (recoveredMask q N p s (uAt N ballots j) (shareAt N shares j))))
 

@@ -1,5 +1,5 @@
 -- Material from which the producer writes a round (document 01, "One round", third paragraph, and the producer's order), in propositions to hold against the paper: no
--- test stands in them, and the numbers beside them are those of the refusals that they exclude. The lengths (1) stand apart: `Sized`, specs/Producer.antt. Assumes nothing.
+-- test stands in them, and the numbers beside them are those of the refusals that they exclude. The lengths (1) stand apart: `MaterialSized`, specs/Producer.antt. Assumes nothing.
 use Prim.Native.Nat.{ℕ, _*_, _≤_, _<_}
 use lib.ListN.{getD}
 use Rattle.codec.specs.Bytes.{Bytes}

@@ -1,4 +1,4 @@
--- The room that the producer's calls are lent to write into, and what they write once the material passed all tests. Assumes nothing.
+-- The room that the producer's calls are lent to write into. Assumes nothing.
 use Rattle.codec.specs.Bytes.{Bytes}
 
 -- the room for the first message and the claims, and scratch

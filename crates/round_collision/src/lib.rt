@@ -47,7 +47,7 @@ fn is_kept(room: &[u8], work: &[u8], n: usize) -> bool
     )
 }
 
-// Whether two equations of the vector u, less their right-hand rightHandSides, are those of the vector r.
+// Whether two equations of the vector u, less their right-hand sides, are those of the vector r.
 fn pairs_agree(
     work: &mut [u8],
     room: &mut [u8],

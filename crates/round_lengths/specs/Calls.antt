@@ -1,5 +1,5 @@
--- The producer's two calls, the check of one round and the extractor once the sheet is taken (document 01, "Refused because of the state", the orders; "Layouts", the lengths).
--- Assumes nothing.
+-- The lengths of what the calls of a round are lent (document 01, "Layouts"), and the orders of the producer's two calls and of the extractor once the sheet is taken ("Refused because of
+-- the state"). Assumes nothing.
 use mathlib.Core.Bool.{Bool, true, not, _&&_}
 use mathlib.Core.List.{List, [], _∷_}
 use Prim.Native.Nat.{ℕ, _*_, _/_}

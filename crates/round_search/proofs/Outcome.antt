@@ -1,4 +1,4 @@
--- What is answered and writtenVectors by what differs, what is zero and what is not; and the same by a sheet. Assumes nothing.
+-- What is answered and written by what differs, what is zero and what is not; and the same by a sheet. Assumes nothing.
 use mathlib.Core.Path.{_≡_, refl, sym, ap, _∙_}
 use mathlib.Core.Logic.{_≢_}
 use mathlib.Core.Bool.{Bool, true, false, cond, not}

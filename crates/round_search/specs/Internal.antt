@@ -42,7 +42,7 @@ from z first = λ i. getD z (first + i) 0
 unfoldable pub excess : (q N : ℕ) (r0 r1 : Bytes) → List ℕ → ℕ → Poly
 excess q N r0 r1 z first = minus q (plus (ternary q r0) (ternary q r1)) (plus (from z first) (from z (first + 3 * N)))
 
--- 4, 5, 6: the vector for s, else the vector for e, else the key; and what is writtenVectors
+-- 4, 5, 6: the vector for s, else the vector for e, else the key; and what is written
 unfoldable pub solved : (q N : ℕ) (s e : Three) → ℕ
 solved q N s e = cond (not (isZero q N s)) 4 (cond (not (isZero q N e)) 5 6)
 

@@ -28,8 +28,6 @@ abbrev pub refusal : Reading → Reply
 refusal (sheets.Taken k) = Taken
 refusal (sheets.Refused number) = Refused number 0
 
--- ---- functions that test what they are lent
-
 -- ---- tests of lent slices
 
 -- 1: the lengths are not those that are wanted
@@ -51,5 +49,3 @@ coefficientsBelow q n (s ∷ ss) = allBelow q (list n (poly s)) && coefficientsB
 -- the polynomial of a list of coefficients
 abbrev pub coefficients : List ℕ → Poly
 coefficients xs i = getD xs i 0
-
--- ---- what stands in scratch

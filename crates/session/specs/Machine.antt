@@ -67,5 +67,3 @@ reply x st = first (tests x st)
 
 unfoldable pub after : Step → State → State
 after x st = leaves (reply x st) (next x st) (still x st)
-
--- ---- what a method of `Session` promises: its reply, the session that it hands back, and the register that it leaves

@@ -1,5 +1,5 @@
 -- The check of a round against what a session holds (document 01, "Refused because of the state", the order of check after 31): the sheet's 1 to 5, then 1, 16, and the
--- round's own 5 to 13. What is held, what is lent, 1 and 16 are those of the crate `stored`. Assumes nothing.
+-- round's own 5 to 13. What is held, what is lent, 1 and 16 stand in specs/Stored.antt. Assumes nothing.
 use mathlib.Core.List.{List, _++_}
 use Rattle.codec.specs.Slices.{Slice, given}
 use Rattle.codec.specs.Reply.{Test}

@@ -123,6 +123,6 @@ Takes (commit k head shares0 shares1) st = Commits (st .session) k head shares0 
 Takes (draw seed) st = Draws (st .session) seed
 Takes (check k x) st = Checks (st .session) k x
 
--- what a check is lent is bytes
+-- the head of the first message that a check is lent is bytes
 abbrev pub HeadIsBytes : Step → Type 0
 HeadIsBytes x = (k : ℕ) (y : Inputs) → x ≡ check k y → Octets (y .head)

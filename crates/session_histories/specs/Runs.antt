@@ -19,7 +19,7 @@ pub record Message : Type 0 where
 abbrev pub message : (head shares0 shares1 : Bytes) → Message
 message head shares0 shares1 = record { head = head; shares0 = shares0; shares1 = shares1 }
 
--- what was taken since the last clear taken
+-- what was lodged, that is, taken since the last clear taken: the sheet, the batch, the claims and the first messages
 pub record History : Type 0 where
   pub sheet : Bytes
   pub batch : List Bytes  -- the digests that close found standing, in order

@@ -1,5 +1,5 @@
 -- The sponge of FIPS 202 on messages of whole bytes, over Keccak-f[1600] and with the rate of SHA3-256, 136 bytes: its state and what it absorbs.
--- A message is absorbed byte by byte, so that it may come in parts; `Blocks.antt` has it block by block, as section 4. Assumes nothing.
+-- A message is absorbed byte by byte, so that it may come in parts; specs/Fips.antt has it block by block, as section 4. Assumes nothing.
 use mathlib.Core.Bool.{cond}
 use mathlib.Core.List.{[], _∷_}
 use Prim.Native.Nat.{ℕ, _+_, _*_, _/_, _%_, _^_}

@@ -45,7 +45,7 @@ few k n h f =
     absurd (omega (arith, f .2 (omega arith))))
     (le-or k 20)
 
--- the three parts of a printedLine
+-- the three parts of a printed line
 pub line-put : (d key ds : Bytes) (at k n : ℕ) → length ds ≡ k → ds ≡ decimal 20 n → at + (length key + 21) ≤ length d → k ≤ 20
     → Puts d at (printedLine key n) (at + length key + k + 1) (put (put (put d at key) (at + length key) ds) (at + length key + k) (10 ∷ []))
 unfolding printedLine

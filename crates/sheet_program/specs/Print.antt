@@ -13,13 +13,13 @@ use Rattle.sheet.specs.Sheet.{reading}
 use Rattle.sheet.specs.declared.Reading.{Reading}
 use Rattle.sheet.specs.declared.Reading.the-variants.{Taken, Refused}
 
--- a printedLine: a key with = after it, a number in decimal, LF
+-- a printed line: a key with = after it, a number in decimal, LF
 unfoldable pub printedLine : Bytes → ℕ → Bytes
 printedLine key n = key ++ (decimal 20 n ++ 10 ∷ [])
 
--- verdictLine=
-abbrev pub verdictLine= : Bytes
-verdictLine= = 118 ∷ 101 ∷ 114 ∷ 100 ∷ 105 ∷ 99 ∷ 116 ∷ 61 ∷ []
+-- verdict=
+abbrev pub verdict= : Bytes
+verdict= = 118 ∷ 101 ∷ 114 ∷ 100 ∷ 105 ∷ 99 ∷ 116 ∷ 61 ∷ []
 
 -- ring=, noise=, mask=, unknowns=
 abbrev pub ring= : Bytes
@@ -34,15 +34,15 @@ mask= = 109 ∷ 97 ∷ 115 ∷ 107 ∷ 61 ∷ []
 abbrev pub unknowns= : Bytes
 unknowns= = 117 ∷ 110 ∷ 107 ∷ 110 ∷ 111 ∷ 119 ∷ 110 ∷ 115 ∷ 61 ∷ []
 
--- verdictLine, N, D, B and L; a refusal prints the verdictLine printedLine only
+-- verdict, N, D, B and L; a refusal prints the verdict line only
 unfoldable pub printedBy : Reading → Bytes
 printedBy (Taken k) =
-    printedLine verdictLine= 0 ++ printedLine ring= (k .ring) ++ printedLine noise= (noiseOf k) ++ printedLine mask= (maskOf k) ++ printedLine unknowns= (unknowns (k .ring))
-printedBy (Refused n) = printedLine verdictLine= n
+    printedLine verdict= 0 ++ printedLine ring= (k .ring) ++ printedLine noise= (noiseOf k) ++ printedLine mask= (maskOf k) ++ printedLine unknowns= (unknowns (k .ring))
+printedBy (Refused n) = printedLine verdict= n
 
--- over 65,536 bytes: verdictLine 1
+-- over 65,536 bytes: verdict 1
 unfoldable pub printed : Bytes → Bytes
-printed text = cond (ltb 65536 (length text)) (printedLine verdictLine= 1) (printedBy (reading text))
+printed text = cond (ltb 65536 (length text)) (printedLine verdict= 1) (printedBy (reading text))
 
 -- t was put into d from at to r
 pub record Puts (d : Bytes) (at : ℕ) (t : Bytes) (r : ℕ) (out : Bytes) : Type 0 where

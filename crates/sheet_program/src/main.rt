@@ -13,7 +13,7 @@ ghost use Rattle.sheet_numbers.specs.Rules.{outside};
 ghost use Rattle.sheet.specs.declared.Reading.the-variants.{Taken};
 ghost use Rattle.sheet_program.specs.Print.{printedLine, printedBy, printed, Puts};
 
-// Puts a printedLine into out at a place: a key with its =, and a number. Answers the place after it.
+// Puts a printed line into out at a place: a key with its =, and a number. Answers the place after it.
 fn put_line(out: &mut [u8], at: usize, key: &[u8], n: u64) -> usize
     requires { ⌜ at + (length (now key) + 21) ≤ length (now out) ⌝ }
     ensures { λ r. ⌜ Puts (now (out .entry)) at (printedLine (now (key .entry)) n) r (now (out .exit))

@@ -101,7 +101,7 @@ module _ (q N : ℕ) (positive : 0 < q) where
         let b = half-alike 8 1 (8 * N) N (omega arith) (omega arith) (omega arith) (omega arith) in
         ap₂ _++_ (numbers-alike (a .0)) (ap₂ _++_ (numbers-alike (a .1)) (ap₂ _++_ (numbers-alike (b .0)) (numbers-alike (b .1))))
 
-    -- ---- the right-hand rightHandSides subtracted
+    -- ---- the right-hand sides subtracted
 
     less-part : (f : Poly) (i j a b : ℕ) → i ≡ 8 * a → j ≡ 8 * b → subtract q (numbers q N f) (numbers q N (plus (slot c i) (slot c j))) ≡ numbers q N (minus q (minus q f (words-at c a)) (words-at c b))
     less-part f i j a b ei ej =

@@ -30,7 +30,7 @@ threeFrom N x j = record { r1 = polynomial N x j; r2 = polynomial N x (j + 1); r
 abbrev pub numbers : (q N : ℕ) → Poly → List ℕ
 numbers q N f = list N (modulo q f)
 
--- the unknowns are s, e, then the three r of s0, of s1, of e0, of e1. The left-hand rightHandSides: the pair made from s and the summed r of s0 and s1, first half first, then
+-- the unknowns are s, e, then the three r of s0, of s1, of e0, of e1. The left-hand sides: the pair made from s and the summed r of s0 and s1, first half first, then
 -- likewise for e
 unfoldable pub equations : (q N : ℕ) → Keys → List ℕ → List ℕ
 equations q N k x =
@@ -41,7 +41,7 @@ equations q N k x =
     ++ (numbers q N (row q N k re)
     ++ numbers q N (second q N k re (polynomial N x 1))))
 
--- the right-hand rightHandSides: the committed pairs for s0 and s1 added, then those for e0 and e1. The pairs of s0, s1, e0, e1 are 64N bytes
+-- the right-hand sides: the committed pairs for s0 and s1 added, then those for e0 and e1. The pairs of s0, s1, e0, e1 are 64N bytes
 unfoldable pub rightHandSides : (q N : ℕ) → Bytes → List ℕ
 rightHandSides q N c =
     numbers q N (plus (slot c 0) (slot c (16 * N)))

@@ -47,7 +47,7 @@ fn absorb_pair(h: Hasher, work: &[u8], n: usize) -> Hasher
     one.absorbed(&work[commitment::MESSAGE..commitment::MESSAGE + 8 * n])
 }
 
-// Digest 1: of P and the equations applied to a vector, with their right-hand rightHandSides subtracted or not.
+// Digest 1: of P and the equations applied to a vector, with their right-hand sides subtracted or not.
 pub fn equations_digest(
     work: &mut [u8],
     k: &[u8],

@@ -21,7 +21,7 @@ balancedTests q n two three w t salt2 salt3 place =
     ∷ test 11 place (not (same two (sha3 (string2 salt2 t)) && same three (sha3 (string3 salt3 (add q (ternaries q w) (vector t))))))
     ∷ []
 
--- p is a permutation; `one` is the digest of the equations of x, less the right-hand rightHandSides or not, and `other` that of p applied to x
+-- p is a permutation; `one` is the digest of the equations of x, less the right-hand sides or not, and `other` that of p applied to x
 abbrev pub permutedTests : (q n : ℕ) → Keys → (c : Bytes) (less : Bool) (one : Bytes) (lead : ℕ) (other p x salt1 salt : Bytes) (place : ℕ) → List Test
 permutedTests q n k c less one lead other p x salt1 salt place =
     test 9 place (not (permutes (42 * n) (entries p)))
