@@ -124,7 +124,7 @@ rows =
     ∷ row (reduced (other 97 s s0)) (numbers (88 ∷ 77 ∷ 66 ∷ 57 ∷ []))  -- D
     ∷ row (reduced (share 97 4 2 s0 u (whole E0))) (numbers (29 ∷ 16 ∷ 13 ∷ 95 ∷ []))  -- E
     ∷ row (reduced (share 97 4 2 s1 u (whole E1))) (numbers (81 ∷ 74 ∷ 0 ∷ 90 ∷ []))  -- F
-    ∷ row (four (recoveredMask 97 4 2 s0 u t0)) E0  -- E and F back: the masks recoveredMask out from the shares
+    ∷ row (four (recoveredMask 97 4 2 s0 u t0)) E0  -- E and F back: the masks worked out from the shares
     ∷ row (four (recoveredMask 97 4 2 s1 u t1)) E1
     ∷ row (four (centred 97 (rebuilt 97 v t0 t1))) (- 5 ∷ pos 10 ∷ - 5 ∷ pos 7 ∷ [])  -- G
     ∷ row (four (λ k. pos (reconstructed 97 2 v t0 t1 k))) (numbers (1 ∷ 0 ∷ 1 ∷ 1 ∷ []))
