@@ -36,6 +36,7 @@ use Rattle.claims.proofs.AnySession.{any-session}
 use Rattle.claims.proofs.Endings.{refusal-ends, begun, scratch-zeroed}
 use Rattle.claims.proofs.Decided.{first-decides, orders-as-written}
 use Rattle.claims.proofs.FromCalls.{from-calls, turns-come}
+use Rattle.claims.proofs.SomeElection.{some-election}
 use Rattle.claims.proofs.Images.{over-image}
 use Rattle.claims.proofs.Exactly.{calls-exactly}
 use Rattle.claims.proofs.Yields.{extractor-takes}
@@ -154,6 +155,7 @@ demand3 = record {
   honest-accepted = host-honest-accepted;
   from-calls = from-calls;
   turns-come = turns-come;
+  some-election = some-election;
   honest-rounds = honest-rounds;
   any-session = any-session;
   producer-writes = producer-writes;

@@ -42,7 +42,7 @@ use Rattle.claims.specs.Replies.{RepliesTold}
 use Rattle.claims.specs.AnySession.{AnySession}
 use Rattle.claims.specs.Endings.{RefusalEnds, ClearBegins, ScratchZeroed}
 use Rattle.claims.specs.Decided.{FirstDecides, OrdersAsWritten}
-use Rattle.claims.specs.FromCalls.{FromCalls, TurnsCome}
+use Rattle.claims.specs.FromCalls.{FromCalls, TurnsCome, SomeElection}
 use Rattle.session_check.specs.Stored.{Inputs, drawnRound}
 
 -- ---- 2. Everything equals the papers, a round is accepted exactly if every listed check holds, and a withdrawn mark is in no closed batch.
@@ -199,8 +199,9 @@ pub record Demand3 : Type 0 where
   pub honest-accepted : HostHonestAccepted
   -- and where the host writes no register: from the producer's two calls, claim, commit, draw and challenges to the check
   pub from-calls : FromCalls
-  -- there are such lists: over suitable material every round comes to its turn, and the session ends accepted
+  -- there are such lists: over suitable material every round comes to its turn, and the session ends accepted; and there is such material
   pub turns-come : TurnsCome
+  pub some-election : SomeElection
   pub honest-rounds : HonestRounds
   -- and the check refuses it for none of those in any session, whatever bytes the image is
   pub any-session : AnySession

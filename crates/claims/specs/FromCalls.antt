@@ -71,3 +71,15 @@ abbrev pub TurnsCome : Type 0
 TurnsCome = (sheet : Bytes) (start : Host) (m : ℕ) (ballot : ℕ → Bytes) (material : ℕ → Material) (claims seed : Bytes) → Starts start (on sheet)
     → Countable sheet m ballot material claims seed
     → decode (hostRun (election sheet m ballot material claims seed) (hostAfter (clear (on sheet)) start) .image) .progress .phase ≡ phases.ended-accepted
+
+-- and there is such an election, so that neither is
+pub record SomeElection : Type 0 where
+  pub sheet : Bytes
+  pub start : Host
+  pub m : ℕ
+  pub ballot : ℕ → Bytes
+  pub material : ℕ → Material
+  pub claims : Bytes
+  pub seed : Bytes
+  pub starts : Starts start (on sheet)
+  pub countable : Countable sheet m ballot material claims seed
