@@ -17,7 +17,8 @@ use Rattle.bgv.proofs.Form.{noisy-adds, noisy-alike}
 use Rattle.bgv.proofs.Round.{share-worked, reconstructs}
 use Rattle.commitment.specs.Commitment.{pairOf}
 use Rattle.vector.specs.Vector.{vector}
-use Rattle.stern.specs.Argument.{Setting, Answer1, Answer2, Answer3, Passes1, Passes2, Passes3, Extracted, broken1, broken2, broken3, found, one-by2, one-by3, two-by1, two-by3, three-by1, three-by2}
+use Rattle.stern.specs.Argument.{Setting, Answer1, Answer2, Answer3, one-by2, one-by3, two-by1, two-by3, three-by1, three-by2}
+use Rattle.stern.specs.Internal.{Passes1, Passes2, Passes3, Extracted, broken1, broken2, broken3, found}
 use Rattle.stern.specs.Shortness.{polynomial, setting, firstOf, answer1Of, answer2Of, answer3Of}
 use Rattle.stern.specs.Claims.{Meets}
 use Rattle.stern.proofs.FourEquations.{setting-valid}
@@ -76,13 +77,13 @@ module _ (P : Parameters) (m : ℕ) (x : Openings) where
       -- ---- collisions
 
       collides1 : same (one-by2 s two) (one-by3 s third) ≡ false → Collision (one-by2 s two) (one-by3 s third)
-      collides1 e = record { differ = differ (one-by2 s two) (one-by3 s third) e; collide = sym (passes2 .d1) ∙ passes3 .d1 }
+      collides1 e = record { differ = differ (one-by2 s two) (one-by3 s third) e; collide = sym (passes2 .opens1) ∙ passes3 .opens1 }
 
       collides2 : same (two-by1 s one) (two-by3 s third) ≡ false → Collision (two-by1 s one) (two-by3 s third)
-      collides2 e = record { differ = differ (two-by1 s one) (two-by3 s third) e; collide = sym (passes1 .d2) ∙ passes3 .d2 }
+      collides2 e = record { differ = differ (two-by1 s one) (two-by3 s third) e; collide = sym (passes1 .d2) ∙ passes3 .opens }
 
       collides3 : same (three-by1 s one) (three-by2 s two) ≡ false → Collision (three-by1 s one) (three-by2 s two)
-      collides3 e = record { differ = differ (three-by1 s one) (three-by2 s two) e; collide = sym (passes1 .d3) ∙ passes2 .d3 }
+      collides3 e = record { differ = differ (three-by1 s one) (three-by2 s two) e; collide = sym (passes1 .d3) ∙ passes2 .opens }
 
       -- ---- vectors, and the key
 

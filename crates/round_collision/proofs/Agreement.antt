@@ -14,7 +14,8 @@ use Rattle.codec.proofs.Laws.{length-part, part-append, part-put, same-refl, sa
 use Rattle.codec.specs.Lists.{allBelow}
 use Rattle.commitment.specs.Commitment.{Keys, Pair, pairBytes}
 use Rattle.commitment.specs.Internal.{PairInSlots}
-use Rattle.vector.specs.Vector.{Vector, vector, ternaries, add, subtract}
+use Rattle.vector.specs.Vector.{vector, ternaries, add, subtract}
+use Rattle.vector.specs.Internal.{Vector}
 use Rattle.vector.specs.Permutation.{entries, apply}
 use Rattle.vector.proofs.Vectors.{each-length, add-vector, apply-each, allBelow-each, vector-sound, words-injective, length-entries, ternaries-vector}
 use Rattle.stern.specs.Argument.{Setting, Answer1, Answer2, Answer3, one-by2, one-by3, two-by1, two-by3, three-by1, three-by2}

@@ -155,5 +155,5 @@ module _ (sheet : Bytes) (m : ℕ) (ballot : ℕ → Bytes) (material : ℕ → 
         on-sheet = shut-on;
         batched = (λ i. ballotDigests (ballotLength (sym (numbers sheet shut shut-on) i .ring)) (length (shut .history .batch)) (concatenated (sym shut-roll i))) ∙ r .2;
         count = count;
-        closed = shut-on .kept .closed (omega arith) ∙ count;
+        closed = shut-on .kept .digests .closed (omega arith) ∙ count;
       }
