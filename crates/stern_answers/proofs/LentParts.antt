@@ -1,21 +1,23 @@
 -- The parts of an answer as its tests are lent them, and two digests that were compared. Assumes nothing.
 use mathlib.Core.Path.{_≡_, sym, ap, ap₂, _∙_}
-use mathlib.Core.Bool.{Bool, not, _&&_}
+use mathlib.Core.Bool.{Bool, false, not, _&&_}
 use mathlib.Core.Logic.{_≢_}
-use mathlib.Core.List.{List}
+use mathlib.Core.List.{List, [], _∷_}
 use Prim.Native.Nat.{ℕ, _+_, _*_}
 use lib.ListN.{take, drop}
 use Rattle.codec.specs.Bytes.{Bytes, same}
-use Rattle.codec.specs.Reply.{Test, first}
+use Rattle.codec.specs.Reply.{Test, test, first}
 use Rattle.codec.specs.declared.Reply.{Reply}
 use Rattle.scratch.specs.Internal.{Judged}
 use Rattle.commitment.specs.Commitment.{Keys}
 use Rattle.stern.specs.Shortness.{answer1Of, answer2Of, answer3Of, tests1, tests2, tests3, answerTests}
 use Rattle.stern.proofs.Answered.{chosen1, chosen2, chosen3}
 
--- two digests that were compared
-pub compared : (one other a b c d : Bytes) (r t : Bool) → r ≡ (same one a && same other b) → a ≡ c → b ≡ d → r ≡ t → not (same one c && same other d) ≡ not t
-compared one other a b c d r t e ea eb er = ap not (ap₂ (λ (x y : Bytes). same one x && same other y) (sym ea) (sym eb) ∙ sym e ∙ er)
+-- where the test before it refuses nothing, the test of two digests decides, by what they are the digests of
+pub digests-decide : (i place : ℕ) (x : Bool) (one other a b c d : Bytes) {r : Reply} → x ≡ false → r ≡ first (test 11 place (not (same one a && same other b)) ∷ []) → a ≡ c → b ≡ d
+    → r ≡ first (test i place x ∷ test 11 place (not (same one c && same other d)) ∷ [])
+unfolding first
+digests-decide i place x one other a b c d e er ea eb = rw e (er ∙ ap₂ (λ (s t : Bytes). first (test 11 place (not (same one s && same other t)) ∷ [])) ea eb)
 
 -- ---- the parts of an answer, lent with lengths that are differences of places
 
