@@ -14,11 +14,10 @@ use Rattle.ring.specs.Slots.{encode}
 use Rattle.sheet_numbers.specs.declared.Numbers.{Numbers}
 use Rattle.commitment.specs.Commitment.{Three, keysOf}
 use Rattle.commitment.specs.Loaded as commitment
-use Rattle.stern.specs.Argument.{Setting, Answer1, Answer2, Answer3, one-by2, one-by3, two-by1, two-by3, three-by1, three-by2}
 use Rattle.stern.specs.Shortness.{polynomial, setting, answer1Of, answer2Of, answer3Of}
 use Rattle.commitment.specs.Parameters.{Parameters, parameters}
 use Rattle.commitment.proofs.Cut.{keys-cut}
-use Rattle.round.specs.Extractor.{Openings, openingsOf, threeBytes, isZero, ternaryBytes, pairs, open0, open1, unknowns, vector-s, vector-e, kind, extracted}
+use Rattle.round.specs.Extractor.{Openings, openingsOf, threeBytes, isZero, ternaryBytes, open0, open1, argument, read1, read2, read3, first-by2, first-by3, second-by1, second-by3, third-by1, third-by2, unknowns, vector-s, vector-e, kind, extracted}
 use Rattle.round.proofs.ExtractionWritten.{collision-written}
 use Rattle.round_search.specs.Internal.{Finds, unknownsOf, lessUnknowns, excess, solved, writtenVectors, vectorAt, keyOf, solvedBy, writtenBy}
 use Rattle.round_collision.specs.Internal.{differing}
@@ -54,29 +53,17 @@ module _ (q N : ℕ) (o0 o1 : Bytes) (z : List ℕ) where
 module _ (P : Parameters) (m : ℕ) (x : Openings) where
   open Parameters P using (q, N, k)
 
-  abbrev s : Setting
-  s = setting q N k (pairs P m x)
-
-  abbrev one : Answer1
-  one = answer1Of N (x .answer1)
-
-  abbrev two : Answer2
-  two = answer2Of N (x .answer2)
-
-  abbrev three : Answer3
-  three = answer3Of N (x .answer3)
-
   abbrev agree1 : Bool
-  agree1 = same (one-by2 s two) (one-by3 s three)
+  agree1 = same (first-by2 P m x) (first-by3 P m x)
 
   abbrev agree2 : Bool
-  agree2 = same (two-by1 s one) (two-by3 s three)
+  agree2 = same (second-by1 P m x) (second-by3 P m x)
 
   abbrev agree3 : Bool
-  agree3 = same (three-by1 s one) (three-by2 s two)
+  agree3 = same (third-by1 P m x) (third-by2 P m x)
 
   abbrev lowest : ℕ
-  lowest = differing s one two three
+  lowest = differing (argument P m x) (read1 P m x) (read2 P m x) (read3 P m x)
 
   abbrev keyBytes : Bytes
   keyBytes = ternaryBytes q N (polynomial N (unknowns P m x) 0) ++ (ternaryBytes q N (polynomial N (unknowns P m x) 1) ++ zeros (22 * N))
@@ -115,9 +102,9 @@ module _ (P : Parameters) (m : ℕ) (x : Openings) where
   none-written e = by-kind (zeros (24 * N)) (threeBytes q N (vector-s P m x)) (threeBytes q N (vector-e P m x)) keyBytes (isZero q N (vector-s P m x)) (isZero q N (vector-e P m x)) (kind P m x) (none-found e)
 
   -- the same where the pairs of the head, and extended + R and R, are lent with lengths that are differences of places
-  module _ (i d : ℕ) (ei : i ≡ 64 * N) (ed : d ≡ differing (setting q N k (take i (drop (16 * N) (x .head)))) one two three) where
+  module _ (i d : ℕ) (ei : i ≡ 64 * N) (ed : d ≡ differing (setting q N k (take i (drop (16 * N) (x .head)))) (read1 P m x) (read2 P m x) (read3 P m x)) where
     lent-digest : d ≡ lowest
-    lent-digest = ed ∙ ap (λ (j : ℕ). differing (setting q N k (take j (drop (16 * N) (x .head)))) one two three) ei
+    lent-digest = ed ∙ ap (λ (j : ℕ). differing (setting q N k (take j (drop (16 * N) (x .head)))) (read1 P m x) (read2 P m x) (read3 P m x)) ei
 
     lent-found : d ≢ 0 → (d ≡ kind P m x) × (zeros (24 * N) ≡ extracted P m x)
     lent-found h = digest-found d lent-digest h
