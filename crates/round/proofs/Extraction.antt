@@ -17,6 +17,7 @@ use Rattle.bgv.proofs.Form.{noisy-adds, noisy-alike}
 use Rattle.bgv.proofs.Round.{share-worked, reconstructs}
 use Rattle.commitment.specs.Commitment.{pairOf}
 use Rattle.vector.specs.Vector.{vector}
+use Rattle.stern.specs.Argument.{one-by2, one-by3, two-by1, two-by3, three-by1, three-by2}
 use Rattle.stern.specs.Internal.{Passes1, Passes2, Passes3, Extracted, broken1, broken2, broken3, found}
 use Rattle.stern.specs.Shortness.{polynomial, firstOf}
 use Rattle.stern.specs.Claims.{Meets}
@@ -25,7 +26,7 @@ use Rattle.stern.proofs.Sound.{extract}
 use Rattle.stern.proofs.Extraction.{none-passes1, none-passes2, none-passes3, solves-meets}
 use Rattle.round.specs.Layout.{uAt, vAt, shareAt, pairAt}
 use Rattle.commitment.specs.Parameters.{Parameters}
-use Rattle.round.specs.Extractor.{Openings, Lent, isZero, pairs, digests, open0, open1, extractTests, argument, read1, read2, read3, first-by2, first-by3, second-by1, second-by3, third-by1, third-by2, unknowns, vector-s, vector-e, kind, Collision, Key, Found, collision1, collision2, collision3, short-s, short-e, secret}
+use Rattle.round.specs.Extractor.{Openings, Lent, isZero, pairs, digests, open0, open1, extractTests, argument, read1, read2, read3, unknowns, vector-s, vector-e, kind, Collision, Key, Found, collision1, collision2, collision3, short-s, short-e, secret}
 use Rattle.round.specs.OpeningsAccepted.{OpeningsAccepted}
 use Rattle.round.proofs.Ranged.{each-exactly}
 use Rattle.round.proofs.Tests.{differ, pair-half}
@@ -52,7 +53,7 @@ module _ (P : Parameters) (m : ℕ) (x : Openings) where
       passes3 = none-passes3 q N k (pairs P m x) (digests P m x) (x .repetition) (x .answer3) (lent .answer3) (each-exactly q (vector (read3 P m x .r)) .1 (accepted .in-range .answer3 .to3 refl)) (groups P m x none .4)
 
       -- equal strings give unknowns that meet the equations
-      meets : first-by2 P m x ≡ first-by3 P m x → second-by1 P m x ≡ second-by3 P m x → third-by1 P m x ≡ third-by2 P m x → Meets q N k (pairs P m x) (unknowns P m x)
+      meets : one-by2 (argument P m x) (read2 P m x) ≡ one-by3 (argument P m x) (read3 P m x) → two-by1 (argument P m x) (read1 P m x) ≡ two-by3 (argument P m x) (read3 P m x) → three-by1 (argument P m x) (read1 P m x) ≡ three-by2 (argument P m x) (read2 P m x) → Meets q N k (pairs P m x) (unknowns P m x)
       meets e1 e2 e3 = go (extract (argument P m x) (setting-valid q N k (pairs P m x) three fits) (firstOf (digests P m x)) (read1 P m x) (read2 P m x) (read3 P m x) passes1 passes2 passes3)
         where
           go : Extracted (argument P m x) (read1 P m x) (read2 P m x) (read3 P m x) → Meets q N k (pairs P m x) (unknowns P m x)
@@ -63,14 +64,14 @@ module _ (P : Parameters) (m : ℕ) (x : Openings) where
 
       -- ---- collisions
 
-      collides1 : same (first-by2 P m x) (first-by3 P m x) ≡ false → Collision (first-by2 P m x) (first-by3 P m x)
-      collides1 e = record { differ = differ (first-by2 P m x) (first-by3 P m x) e; collide = sym (passes2 .opens1) ∙ passes3 .opens1 }
+      collides1 : same (one-by2 (argument P m x) (read2 P m x)) (one-by3 (argument P m x) (read3 P m x)) ≡ false → Collision (one-by2 (argument P m x) (read2 P m x)) (one-by3 (argument P m x) (read3 P m x))
+      collides1 e = record { differ = differ (one-by2 (argument P m x) (read2 P m x)) (one-by3 (argument P m x) (read3 P m x)) e; collide = sym (passes2 .opens1) ∙ passes3 .opens1 }
 
-      collides2 : same (second-by1 P m x) (second-by3 P m x) ≡ false → Collision (second-by1 P m x) (second-by3 P m x)
-      collides2 e = record { differ = differ (second-by1 P m x) (second-by3 P m x) e; collide = sym (passes1 .d2) ∙ passes3 .opens }
+      collides2 : same (two-by1 (argument P m x) (read1 P m x)) (two-by3 (argument P m x) (read3 P m x)) ≡ false → Collision (two-by1 (argument P m x) (read1 P m x)) (two-by3 (argument P m x) (read3 P m x))
+      collides2 e = record { differ = differ (two-by1 (argument P m x) (read1 P m x)) (two-by3 (argument P m x) (read3 P m x)) e; collide = sym (passes1 .d2) ∙ passes3 .opens }
 
-      collides3 : same (third-by1 P m x) (third-by2 P m x) ≡ false → Collision (third-by1 P m x) (third-by2 P m x)
-      collides3 e = record { differ = differ (third-by1 P m x) (third-by2 P m x) e; collide = sym (passes1 .d3) ∙ passes2 .opens }
+      collides3 : same (three-by1 (argument P m x) (read1 P m x)) (three-by2 (argument P m x) (read2 P m x)) ≡ false → Collision (three-by1 (argument P m x) (read1 P m x)) (three-by2 (argument P m x) (read2 P m x))
+      collides3 e = record { differ = differ (three-by1 (argument P m x) (read1 P m x)) (three-by2 (argument P m x) (read2 P m x)) e; collide = sym (passes1 .d3) ∙ passes2 .opens }
 
       -- ---- vectors, and the key
 
@@ -136,11 +137,11 @@ module _ (P : Parameters) (m : ℕ) (x : Openings) where
       pub extraction : Sound q p D B → Found P m x (kind P m x)
       unfolding kind
       extraction ok =
-          choose (same (first-by2 P m x) (first-by3 P m x)) (same (second-by1 P m x) (second-by3 P m x)) (same (third-by1 P m x) (third-by2 P m x)) (isZero q N (vector-s P m x)) (isZero q N (vector-e P m x))
+          choose (same (one-by2 (argument P m x) (read2 P m x)) (one-by3 (argument P m x) (read3 P m x))) (same (two-by1 (argument P m x) (read1 P m x)) (two-by3 (argument P m x) (read3 P m x))) (same (three-by1 (argument P m x) (read1 P m x)) (three-by2 (argument P m x) (read2 P m x))) (isZero q N (vector-s P m x)) (isZero q N (vector-e P m x))
           (λ e. collision1 (collides1 e)) (λ e. collision2 (collides2 e)) (λ e. collision3 (collides3 e))
           (λ e1 e2 e3 e. short-s (for-s ok (met e1 e2 e3) .nonzero-short e))
           (λ e1 e2 e3 e. short-e (for-e ok (met e1 e2 e3) .nonzero-short e))
           (λ e1 e2 e3 es ee. secret (key-found ok (met e1 e2 e3) (for-s ok (met e1 e2 e3) .zero-adds es) (for-e ok (met e1 e2 e3) .zero-adds ee)))
         where
-          met : same (first-by2 P m x) (first-by3 P m x) ≡ true → same (second-by1 P m x) (second-by3 P m x) ≡ true → same (third-by1 P m x) (third-by2 P m x) ≡ true → Meets q N k (pairs P m x) (unknowns P m x)
-          met e1 e2 e3 = meets (same-equal (first-by2 P m x) (first-by3 P m x) e1) (same-equal (second-by1 P m x) (second-by3 P m x) e2) (same-equal (third-by1 P m x) (third-by2 P m x) e3)
+          met : same (one-by2 (argument P m x) (read2 P m x)) (one-by3 (argument P m x) (read3 P m x)) ≡ true → same (two-by1 (argument P m x) (read1 P m x)) (two-by3 (argument P m x) (read3 P m x)) ≡ true → same (three-by1 (argument P m x) (read1 P m x)) (three-by2 (argument P m x) (read2 P m x)) ≡ true → Meets q N k (pairs P m x) (unknowns P m x)
+          met e1 e2 e3 = meets (same-equal (one-by2 (argument P m x) (read2 P m x)) (one-by3 (argument P m x) (read3 P m x)) e1) (same-equal (two-by1 (argument P m x) (read1 P m x)) (two-by3 (argument P m x) (read3 P m x)) e2) (same-equal (three-by1 (argument P m x) (read1 P m x)) (three-by2 (argument P m x) (read2 P m x)) e3)

@@ -175,25 +175,6 @@ module _ (P : Parameters) (m : ℕ) (x : Openings) where
   abbrev pub read3 : Answer3
   read3 = answer3Of N (x .answer3)
 
-  -- the strings of the three digests, each by the two answers that open it
-  abbrev pub first-by2 : Bytes
-  first-by2 = one-by2 argument read2
-
-  abbrev pub first-by3 : Bytes
-  first-by3 = one-by3 argument read3
-
-  abbrev pub second-by1 : Bytes
-  second-by1 = two-by1 argument read1
-
-  abbrev pub second-by3 : Bytes
-  second-by3 = two-by3 argument read3
-
-  abbrev pub third-by1 : Bytes
-  third-by1 = three-by1 argument read1
-
-  abbrev pub third-by2 : Bytes
-  third-by2 = three-by2 argument read2
-
   -- the unknowns of the answers
   abbrev pub unknowns : List ℕ
   unknowns = solution argument read2 read3
@@ -208,9 +189,9 @@ module _ (P : Parameters) (m : ℕ) (x : Openings) where
   -- 1, 2, 3: the lowest digest whose two strings differ; 4: the vector for s; 5: the vector for e; 6: the key
   unfoldable pub kind : ℕ
   kind =
-      cond (not (same first-by2 first-by3)) 1
-      (cond (not (same second-by1 second-by3)) 2
-      (cond (not (same third-by1 third-by2)) 3
+      cond (not (same (one-by2 argument read2) (one-by3 argument read3))) 1
+      (cond (not (same (two-by1 argument read1) (two-by3 argument read3))) 2
+      (cond (not (same (three-by1 argument read1) (three-by2 argument read2))) 3
       (cond (not (isZero q N vector-s)) 4
       (cond (not (isZero q N vector-e)) 5 6))))
 
@@ -247,21 +228,21 @@ module _ (P : Parameters) (m : ℕ) (x : Openings) where
 
   -- by the kind
   pub data Found : ℕ → Type 0 where
-    collision1 : Collision first-by2 first-by3 → Found 1
-    collision2 : Collision second-by1 second-by3 → Found 2
-    collision3 : Collision third-by1 third-by2 → Found 3
+    collision1 : Collision (one-by2 argument read2) (one-by3 argument read3) → Found 1
+    collision2 : Collision (two-by1 argument read1) (two-by3 argument read3) → Found 2
+    collision3 : Collision (three-by1 argument read1) (three-by2 argument read2) → Found 3
     short-s : ShortVector vector-s → Found 4
     short-e : ShortVector vector-e → Found 5
     secret : Key (polynomial N unknowns 0) (polynomial N unknowns 1) → Found 6
 
   -- the strings of the answers' digests are bytes, as SHA3-256 takes them: a collision is one of byte strings
   pub record Hashed : Type 0 where
-    pub first-by2 : Octets first-by2
-    pub first-by3 : Octets first-by3
-    pub second-by1 : Octets second-by1
-    pub second-by3 : Octets second-by3
-    pub third-by1 : Octets third-by1
-    pub third-by2 : Octets third-by2
+    pub first-by2 : Octets (one-by2 argument read2)
+    pub first-by3 : Octets (one-by3 argument read3)
+    pub second-by1 : Octets (two-by1 argument read1)
+    pub second-by3 : Octets (two-by3 argument read3)
+    pub third-by1 : Octets (three-by1 argument read1)
+    pub third-by2 : Octets (three-by2 argument read2)
 
   -- what the 24N output bytes w are, by the kind
   pub record Output (n : ℕ) (w : Bytes) : Type 0 where
@@ -279,8 +260,8 @@ module _ (P : Parameters) (m : ℕ) (x : Openings) where
 
   -- nothing that comes before the kind was there: the two strings of every lower digest are equal, and a vector before it is zero
   pub record Lowest (n : ℕ) : Type 0 where
-    pub first : 1 < n → first-by2 ≡ first-by3
-    pub second : 2 < n → second-by1 ≡ second-by3
-    pub third : 3 < n → third-by1 ≡ third-by2
+    pub first : 1 < n → one-by2 argument read2 ≡ one-by3 argument read3
+    pub second : 2 < n → two-by1 argument read1 ≡ two-by3 argument read3
+    pub third : 3 < n → three-by1 argument read1 ≡ three-by2 argument read2
     pub zero-s : 4 < n → Alike3 q N vector-s zero3
     pub zero-e : 5 < n → Alike3 q N vector-e zero3

@@ -14,10 +14,11 @@ use Rattle.ring.specs.Slots.{encode}
 use Rattle.sheet_numbers.specs.declared.Numbers.{Numbers}
 use Rattle.commitment.specs.Commitment.{Three, keysOf}
 use Rattle.commitment.specs.Loaded as commitment
+use Rattle.stern.specs.Argument.{one-by2, one-by3, two-by1, two-by3, three-by1, three-by2}
 use Rattle.stern.specs.Shortness.{polynomial, setting, answer1Of, answer2Of, answer3Of}
 use Rattle.commitment.specs.Parameters.{Parameters, parameters}
 use Rattle.commitment.proofs.Cut.{keys-cut}
-use Rattle.round.specs.Extractor.{Openings, openingsOf, threeBytes, isZero, ternaryBytes, open0, open1, argument, read1, read2, read3, first-by2, first-by3, second-by1, second-by3, third-by1, third-by2, unknowns, vector-s, vector-e, kind, extracted}
+use Rattle.round.specs.Extractor.{Openings, openingsOf, threeBytes, isZero, ternaryBytes, open0, open1, argument, read1, read2, read3, unknowns, vector-s, vector-e, kind, extracted}
 use Rattle.round.proofs.ExtractionWritten.{collision-written}
 use Rattle.round_search.specs.Internal.{Finds, unknownsOf, lessUnknowns, excess, solved, writtenVectors, vectorAt, keyOf, solvedBy, writtenBy}
 use Rattle.round_collision.specs.Internal.{differing}
@@ -54,13 +55,13 @@ module _ (P : Parameters) (m : ℕ) (x : Openings) where
   open Parameters P using (q, N, k)
 
   abbrev agree1 : Bool
-  agree1 = same (first-by2 P m x) (first-by3 P m x)
+  agree1 = same (one-by2 (argument P m x) (read2 P m x)) (one-by3 (argument P m x) (read3 P m x))
 
   abbrev agree2 : Bool
-  agree2 = same (second-by1 P m x) (second-by3 P m x)
+  agree2 = same (two-by1 (argument P m x) (read1 P m x)) (two-by3 (argument P m x) (read3 P m x))
 
   abbrev agree3 : Bool
-  agree3 = same (third-by1 P m x) (third-by2 P m x)
+  agree3 = same (three-by1 (argument P m x) (read1 P m x)) (three-by2 (argument P m x) (read2 P m x))
 
   abbrev lowest : ℕ
   lowest = differing (argument P m x) (read1 P m x) (read2 P m x) (read3 P m x)
