@@ -8,7 +8,7 @@ use native.Mathlib.Omega.{arith}
 use borrow.Author.Tests.{not-true, not-false}
 use lib.Dec.{ltb}
 use lib.ListN.{take, drop}
-use Rattle.codec.specs.Bytes.{Bytes, zeros, same}
+use Rattle.codec.specs.Bytes.{Bytes, part, zeros, same}
 use Rattle.ring.specs.Poly.{modulo}
 use Rattle.ring.specs.Slots.{encode}
 use Rattle.sheet_numbers.specs.declared.Numbers.{Numbers}
@@ -22,24 +22,24 @@ use Rattle.round.specs.Extractor.{Openings, openingsOf, threeBytes, isZero, ter
 use Rattle.round.proofs.ExtractionWritten.{collision-written}
 use Rattle.round_search.specs.Internal.{Finds, unknownsOf, lessUnknowns, excess, solved, writtenVectors, vectorAt, keyOf, solvedBy, writtenBy}
 use Rattle.round_collision.specs.Internal.{differing}
-use Rattle.round_search.proofs.Unknowns.{lent-excess}
+use Rattle.round_search.proofs.Unknowns.{told-excess}
 
--- ---- the two vectors, in order, of the r of two openings, lent with lengths that are differences of places
+-- ---- the two vectors, in order, of the r of two openings
 
 module _ (q N : ℕ) (o0 o1 : Bytes) (z : List ℕ) where
   module _ (r1 : Bool) (d1 : Bytes) (y1 : r1 ≡ same d1 (zeros (24 * N)))
-      (e1 : d1 ≡ encode (3 * N) (modulo q (excess q N (take (19 * N - 16 * N) (drop (16 * N) o0)) (take (19 * N - 16 * N) (drop (16 * N) o1)) z (2 * N)))) where
+      (e1 : d1 ≡ encode (3 * N) (modulo q (excess q N (part o0 (16 * N) (3 * N)) (part o1 (16 * N) (3 * N)) z (2 * N)))) where
     first : (r1 ≡ isZero q N (vectorAt q N o0 o1 z (16 * N) 2)) × (d1 ≡ threeBytes q N (vectorAt q N o0 o1 z (16 * N) 2))
-    first = lent-excess q N o0 o1 z (16 * N) (19 * N - 16 * N) 2 (2 * N) (omega arith) (omega arith) r1 d1 y1 e1
+    first = told-excess q N o0 o1 z (16 * N) 2 (2 * N) (omega arith) r1 d1 y1 e1
 
     pub s-nonzero : not r1 ≡ true → (4 ≡ solvedBy q N o0 o1 z) × (d1 ≡ writtenBy q N o0 o1 z)
     unfolding solved writtenVectors
     s-nonzero n1 = rw (← (first .0), not-true r1 n1) (refl, first .1)
 
     module _ (n1 : not r1 ≡ false) (r2 : Bool) (d2 : Bytes) (y2 : r2 ≡ same d2 (zeros (24 * N)))
-        (e2 : d2 ≡ encode (3 * N) (modulo q (excess q N (take (22 * N - 19 * N) (drop (19 * N) o0)) (take (22 * N - 19 * N) (drop (19 * N) o1)) z (8 * N)))) where
+        (e2 : d2 ≡ encode (3 * N) (modulo q (excess q N (part o0 (19 * N) (3 * N)) (part o1 (19 * N) (3 * N)) z (8 * N)))) where
       second : (r2 ≡ isZero q N (vectorAt q N o0 o1 z (19 * N) 8)) × (d2 ≡ threeBytes q N (vectorAt q N o0 o1 z (19 * N) 8))
-      second = lent-excess q N o0 o1 z (19 * N) (22 * N - 19 * N) 8 (8 * N) (omega arith) (omega arith) r2 d2 y2 e2
+      second = told-excess q N o0 o1 z (19 * N) 8 (8 * N) (omega arith) r2 d2 y2 e2
 
       pub e-nonzero : not r2 ≡ true → (5 ≡ solvedBy q N o0 o1 z) × (d2 ≡ writtenBy q N o0 o1 z)
       unfolding solved writtenVectors
