@@ -17,7 +17,8 @@ use Rattle.sheet.specs.Sheet.{order}
 use Rattle.scratch.specs.Call.{scratchLength}
 use Rattle.stern.specs.Shortness.{answerLength}
 use Rattle.round.specs.Layout.{answersLength}
-use Rattle.round.specs.Round.{Round, Lengths, challengeAt, roundTests}
+use Rattle.round.specs.Round.{Round, challengeAt, roundTests}
+use Rattle.round.specs.Internal.{Lengths}
 use Rattle.round.specs.Extractor.{Openings, extractRoom, Lent, extractTests}
 use Rattle.round.specs.Refuses.{openingBy, answerBy, OfLent, OpensLent, AnswersLent}
 use Rattle.round.proofs.Answers.{answersLength-more, prefix-le}

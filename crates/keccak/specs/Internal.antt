@@ -1,6 +1,6 @@
 -- What the contracts of inner functions and the proofs go by: no exported contract and no claim cites this file. Assumes nothing.
-use mathlib.Core.List.{[], _∷_}
-use Prim.Native.Nat.{ℕ}
+use mathlib.Core.List.{List, [], _∷_}
+use Prim.Native.Nat.{ℕ, _<_}
 use lib.Bits.{bitXor, bitAnd, bitOr}
 use lib.ListN.{getD}
 use Rattle.keccak.specs.Steps.{Row, State, complement, lane, lanes, theta, rho, pi, iota}
@@ -75,3 +75,13 @@ six x y =
 
 unfoldable pub roundFlipped : State → ℕ → State
 roundFlipped s c = iota (chiFlipped (pi (rho (theta s)))) c
+
+-- ---- rho
+
+-- each of a row's offsets is below 64
+pub record Offsets (n : List ℕ) : Type 0 where
+  pub n0 : getD n 0 0 < 64
+  pub n1 : getD n 1 0 < 64
+  pub n2 : getD n 2 0 < 64
+  pub n3 : getD n 3 0 < 64
+  pub n4 : getD n 4 0 < 64

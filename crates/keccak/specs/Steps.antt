@@ -1,6 +1,6 @@
 -- The step mappings of FIPS 202, section 3.2, on lanes (3.1.4): bit z of the lane in column x of row y is the bit A[x, y, z] of the state array.
 -- Rows are FIPS 202's planes. Assumes nothing.
-use Prim.Native.Nat.{ℕ, _+_, _-_, _*_, _/_, _%_, _^_, _<_}
+use Prim.Native.Nat.{ℕ, _+_, _-_, _*_, _/_, _%_, _^_}
 use mathlib.Core.List.{List, [], _∷_}
 use lib.ListN.{getD, set}
 use lib.Bits.{bitXor, bitAnd}
@@ -67,14 +67,6 @@ offsets =
     ∷ (41 ∷ 45 ∷ 15 ∷ 21 ∷ 8 ∷ [])
     ∷ (18 ∷ 2 ∷ 61 ∷ 56 ∷ 14 ∷ [])
     ∷ []
-
--- each of a row's offsets is below 64
-pub record Offsets (n : List ℕ) : Type 0 where
-  pub n0 : getD n 0 0 < 64
-  pub n1 : getD n 1 0 < 64
-  pub n2 : getD n 2 0 < 64
-  pub n3 : getD n 3 0 < 64
-  pub n4 : getD n 4 0 < 64
 
 unfoldable pub rhoRow : Row → List ℕ → Row
 rhoRow r n = five (λ x. rotate (getD r x 0) (getD n x 0))

@@ -1,7 +1,8 @@
 // The step mappings of FIPS 202, section 3.2, on five rows of five lanes, by value; chi has a module of its own.
 ghost use mathlib.Core.Path.{_≡_};
 ghost use Prim.Native.Nat.{_<_};
-ghost use Rattle.keccak.specs.Steps.{rotate, xorRow, parity, effect, theta, rho, rhoRow, pi, iota, Offsets};
+ghost use Rattle.keccak.specs.Steps.{rotate, xorRow, parity, effect, theta, rho, rhoRow, pi, iota};
+ghost use Rattle.keccak.specs.Internal.{Offsets};
 
 // The rotation offsets of FIPS 202, table 2, modulo 64: row y, column x.
 const OFFSETS: [[u32; 5]; 5] = [

@@ -5,7 +5,8 @@ use native.Mathlib.Omega.{arith}
 use lib.ListN.{getD}
 use Rattle.keccak.specs.Keccak as lanes
 use Rattle.keccak.specs.Keccak.{State, lane, offsets, constants, keccak}
-use Rattle.keccak_bits.specs.Bits.{Bits, view, columnParity, theta, rho, pi, chi, iota, round, rounds}
+use Rattle.keccak_bits.specs.Bits.{Bits, columnParity, theta, rho, pi, chi, iota, round, rounds}
+use Rattle.keccak_bits.specs.Internal.{view}
 use Rattle.keccak.proofs.Lanes.{Words, constant-lt, theta-words, rho-words, pi-words, before-iota, rounds-words}
 use Rattle.keccak_bits.proofs.Steps.{theta-bits, rho-bits, pi-bits, chi-bits, iota-bits}
 

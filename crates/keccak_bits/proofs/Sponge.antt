@@ -23,7 +23,8 @@ use Rattle.sha3.specs.Fips as blocks
 use Rattle.sha3.specs.Sponge.{padding, squeeze, sha3}
 use Rattle.sha3.proofs.Padding.{length-padding, octets-padding}
 use Rattle.sha3.proofs.Fips.{sponge-is-sha3}
-use Rattle.keccak_bits.specs.Bits.{Bits, view, _⊕_, rounds}
+use Rattle.keccak_bits.specs.Bits.{Bits, _⊕_, rounds}
+use Rattle.keccak_bits.specs.Internal.{view}
 use Rattle.keccak_bits.specs.Sponge.{bitsOf, pad, arrayOf, stringOf, absorbed, sponge, sha3-256}
 use Rattle.keccak_bits.proofs.Lanes.{Agree, chain, rounds-agree, keccak-bits}
 

@@ -3,15 +3,11 @@ use mathlib.Core.Bool.{cond, _&&_}
 use Prim.Native.Nat.{ℕ, zero, suc, _+_, _-_, _*_, _%_}
 use lib.Dec.{eqb}
 use lib.ListN.{getD}
-use Rattle.keccak.specs.Keccak.{State, lane, bit, offsets, constants}
+use Rattle.keccak.specs.Keccak.{lane, bit, offsets, constants}
 
 -- A x y z is the bit A[x, y, z]
 abbrev pub Bits : Type 0
 Bits = ℕ → ℕ → ℕ → ℕ
-
--- the state array of lanes (3.1.4)
-abbrev pub view : State → Bits
-view s x y z = bit (lane s x y) z
 
 -- exclusive or of bits
 infixl 60 _⊕_

@@ -1,5 +1,5 @@
 -- The orders of an admission and a withdrawal, refusal by refusal, and what a call leaves by its order. Assumes nothing.
-use mathlib.Core.Path.{_≡_, sym}
+use mathlib.Core.Path.{_≡_, sym, ap, _∙_}
 use mathlib.Core.Logic.{_≢_}
 use mathlib.Core.Bool.{true, false}
 use mathlib.Core.List.{List}
@@ -13,7 +13,11 @@ use Rattle.register.specs.Register.{capacity, stateAt, find}
 use Rattle.register.specs.Orders.{admissionTests, withdrawalTests}
 use Rattle.register.specs.Internal.{Wrote}
 
-module _ (reg : Bytes) (used mark : ℕ) {i : ℕ} (f : i ≡ find reg mark used) where
+-- the first entry with a mark that was read stands at i
+module _ (reg : Bytes) (used mark : ℕ) {i m : ℕ} (at : i ≡ find reg m used) (read : m ≡ mark) where
+  f : i ≡ find reg mark used
+  f = at ∙ ap (λ (n : ℕ). find reg n used) read
+
   -- ---- admission
 
   pub is-standing : i < used → eqb (stateAt reg i) 1 ≡ true → first (admissionTests reg used mark) ≡ Refused 32 0

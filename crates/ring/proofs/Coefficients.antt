@@ -10,7 +10,8 @@ use borrow.Author.Tests.{le-leb, lt-leb, eq-eqb, ne-eqb}
 use lib.Dec.{leb}
 use Rattle.modular.specs.Modulo.{Same}
 use Rattle.modular.proofs.Congruence.{same-refl, same-mul}
-use Rattle.ring.specs.Poly.{Poly, sum, turn, coefficient, one-poly}
+use Rattle.ring.specs.Poly.{Poly, sum, turn, coefficient}
+use Rattle.ring.specs.Internal.{one-poly}
 use Rattle.codec.proofs.Laws.{le-or}
 use Rattle.ring.proofs.Sums.{sum-cong, sum-same, sum-add, sum-scale, sum-swap, sum-only}
 

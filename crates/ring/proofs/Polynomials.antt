@@ -7,7 +7,8 @@ use native.Mathlib.Nat.{add-assoc, add-comm, add-left-comm, mul-left-comm, mul-a
 use borrow.Author.Tests.{ltb-true, lt-ltb}
 use lib.Dec.{ltb}
 use Rattle.modular.proofs.Congruence.{same-refl, same-eq, same-sym, _then_, same-add, same-mul, same-opposite, same-cancel, same-minus}
-use Rattle.ring.specs.Poly.{Poly, coefficient, mul, plus, minus, scale, zero-poly, one-poly, modulo, Alike, Below}
+use Rattle.ring.specs.Poly.{Poly, coefficient, mul, plus, minus, scale, zero-poly, modulo, Alike, Below}
+use Rattle.ring.specs.Internal.{one-poly}
 use Rattle.ring.proofs.Coefficients.{coefficient-cong, coefficient-comm, coefficient-left-comm, coefficient-one, coefficient-add-right, coefficient-scale, coefficient-same}
 
 -- equal at every index

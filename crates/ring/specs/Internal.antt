@@ -2,6 +2,7 @@
 use mathlib.Core.Bool.{Bool, cond}
 use Prim.Native.Nat.{ℕ, _-_, _+_, _*_, _≤_}
 use mathlib.Core.Logic.{_⊎_}
+use lib.Dec.{eqb}
 use lib.ListN.{length}
 use Rattle.codec.specs.Bytes.{Bytes, signed, put}
 use Rattle.modular.specs.Modulo.{remainder}
@@ -27,3 +28,7 @@ pub record Slots (n at from : ℕ) (w : Bytes) : Type 0 where
   pub one : at + 8 * n ≤ length w
   pub other : from + 8 * n ≤ length w
   pub apart : (from + 8 * n ≤ at) ⊎ (at + 8 * n ≤ from)
+
+-- 1: what a product with it leaves as it is
+unfoldable pub one-poly : Poly
+one-poly = λ k. cond (eqb k 0) 1 0

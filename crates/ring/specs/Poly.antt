@@ -2,7 +2,7 @@
 -- as a function of the index. -1 is q - 1, and what a coefficient is modulo q counts. Assumes nothing.
 use mathlib.Core.Bool.{cond}
 use Prim.Native.Nat.{ℕ, zero, suc, _+_, _-_, _*_, _%_, _<_}
-use lib.Dec.{leb, ltb, eqb}
+use lib.Dec.{leb, ltb}
 use Rattle.modular.specs.Modulo.{Same}
 
 abbrev pub Poly : Type 0
@@ -37,9 +37,6 @@ minus q a b = plus a (scale (q - 1) b)
 
 unfoldable pub zero-poly : Poly
 zero-poly = λ k. 0
-
-unfoldable pub one-poly : Poly
-one-poly = λ k. cond (eqb k 0) 1 0
 
 -- each coefficient modulo q
 unfoldable pub modulo : ℕ → Poly → Poly

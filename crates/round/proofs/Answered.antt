@@ -1,13 +1,14 @@
 -- What the tests of an answer mean (9, 10, 11), in propositions: none of them holds exactly if the answer is `Answered`, for a challenge of 1, 2, 3. Assumes nothing.
 use mathlib.Core.Path.{_≡_, refl}
 use mathlib.Core.Logic.{_↔_}
+use mathlib.Core.Bool.{false, not}
 use Prim.Native.Nat.{ℕ, zero, suc, _*_, _≤_, _<_}
 use native.Mathlib.Omega.{arith}
 use borrow.Author.Tests.{not-false}
 use Rattle.codec.specs.Bytes.{Bytes}
 use Rattle.codec.specs.Reply.{None}
 use Rattle.ring.specs.Ternary.{count}
-use Rattle.vector.specs.Permutation.{entries, permutes, balanced}
+use Rattle.vector.specs.Permutation.{Permutes, entries, permutes, balanced}
 use Rattle.vector.proofs.Balance.{Balanced, balanced-sound, balanced-complete}
 use Rattle.vector.proofs.Counts.{permutes-sound, permutes-complete}
 use Rattle.commitment.specs.Commitment.{Keys}
@@ -43,27 +44,20 @@ module _ (q N : ℕ) (k : Keys) (c d : Bytes) (place : ℕ) where
           let b : Balanced (14 * N) (a .w) = record { size = omega arith; minus = h .balanced 2 (omega arith); zeros = h .balanced 0 (omega arith); ones = h .balanced 1 (omega arith) } in
           (rw (balanced-complete b), (digests-match _ _ _ _ (h .digest2) (h .digest3), tt))
 
-  exactly2 : (a : Answer2) → None (tests2 q N k c d place a) ↔ Answered2 q N k c d a
-  exactly2 a = (sound, complete)
-    where
-      sound : None (tests2 q N k c d place a) → Answered2 q N k c d a
-      sound n =
-          let e = digests-equal _ _ _ _ (n .1 .0) in
-          record { permutes = permutes-sound (42 * N) (entries (a .p)) (not-false (permutes (42 * N) (entries (a .p))) (n .0)); digest1 = e .0; digest3 = e .1 }
+  permuted : (p : Bytes) → not (permutes (42 * N) (entries p)) ≡ false → Permutes (42 * N) (entries p)
+  permuted p e = permutes-sound (42 * N) (entries p) (not-false (permutes (42 * N) (entries p)) e)
 
-      complete : Answered2 q N k c d a → None (tests2 q N k c d place a)
-      complete h = (rw (permutes-complete (h .permutes)), (digests-match _ _ _ _ (h .digest1) (h .digest3), tt))
+  exactly2 : (a : Answer2) → None (tests2 q N k c d place a) ↔ Answered2 q N k c d a
+  exactly2 a = (
+    λ n. let e = digests-equal _ _ _ _ (n .1 .0) in record { permutes = permuted (a .p) (n .0); digest1 = e .0; digest3 = e .1 },
+    λ h. (rw (permutes-complete (h .permutes)), (digests-match _ _ _ _ (h .digest1) (h .digest3), tt)),
+  )
 
   exactly3 : (a : Answer3) → None (tests3 q N k c d place a) ↔ Answered3 q N k c d a
-  exactly3 a = (sound, complete)
-    where
-      sound : None (tests3 q N k c d place a) → Answered3 q N k c d a
-      sound n =
-          let e = digests-equal _ _ _ _ (n .1 .0) in
-          record { permutes = permutes-sound (42 * N) (entries (a .p)) (not-false (permutes (42 * N) (entries (a .p))) (n .0)); digest1 = e .0; digest2 = e .1 }
-
-      complete : Answered3 q N k c d a → None (tests3 q N k c d place a)
-      complete h = (rw (permutes-complete (h .permutes)), (digests-match _ _ _ _ (h .digest1) (h .digest2), tt))
+  exactly3 a = (
+    λ n. let e = digests-equal _ _ _ _ (n .1 .0) in record { permutes = permuted (a .p) (n .0); digest1 = e .0; digest2 = e .1 },
+    λ h. (rw (permutes-complete (h .permutes)), (digests-match _ _ _ _ (h .digest1) (h .digest2), tt)),
+  )
 
   -- ---- by the challenge
 

@@ -17,15 +17,16 @@ use Rattle.bgv.proofs.Form.{noisy-adds, noisy-alike}
 use Rattle.bgv.proofs.Round.{share-worked, reconstructs}
 use Rattle.commitment.specs.Commitment.{pairOf}
 use Rattle.vector.specs.Vector.{vector}
-use Rattle.stern.specs.Argument.{Setting, Answer1, Answer2, Answer3, Passes1, Passes2, Passes3, Extracted, broken1, broken2, broken3, found, one-by2, one-by3, two-by1, two-by3, three-by1, three-by2}
-use Rattle.stern.specs.Shortness.{polynomial, setting, firstOf, answer1Of, answer2Of, answer3Of}
+use Rattle.stern.specs.Argument.{one-by2, one-by3, two-by1, two-by3, three-by1, three-by2}
+use Rattle.stern.specs.Internal.{Passes1, Passes2, Passes3, Extracted, broken1, broken2, broken3, found}
+use Rattle.stern.specs.Shortness.{polynomial, firstOf}
 use Rattle.stern.specs.Claims.{Meets}
 use Rattle.stern.proofs.FourEquations.{setting-valid}
 use Rattle.stern.proofs.Sound.{extract}
 use Rattle.stern.proofs.Extraction.{none-passes1, none-passes2, none-passes3, solves-meets}
 use Rattle.round.specs.Layout.{uAt, vAt, shareAt, pairAt}
 use Rattle.commitment.specs.Parameters.{Parameters}
-use Rattle.round.specs.Extractor.{Openings, Lent, isZero, pairs, digests, open0, open1, extractTests, unknowns, vector-s, vector-e, kind, Collision, Key, Found, collision1, collision2, collision3, short-s, short-e, secret}
+use Rattle.round.specs.Extractor.{Openings, Lent, isZero, pairs, digests, open0, open1, extractTests, argument, read1, read2, read3, unknowns, vector-s, vector-e, kind, Collision, Key, Found, collision1, collision2, collision3, short-s, short-e, secret}
 use Rattle.round.specs.OpeningsAccepted.{OpeningsAccepted}
 use Rattle.round.proofs.Ranged.{each-exactly}
 use Rattle.round.proofs.Tests.{differ, pair-half}
@@ -39,35 +40,23 @@ module _ (P : Parameters) (m : ℕ) (x : Openings) where
     module _ (none : None (extractTests P m x)) where
       -- ---- the tests, group by group
 
-      abbrev s : Setting
-      s = setting q N k (pairs P m x)
-
-      abbrev one : Answer1
-      one = answer1Of N (x .answer1)
-
-      abbrev two : Answer2
-      two = answer2Of N (x .answer2)
-
-      abbrev third : Answer3
-      third = answer3Of N (x .answer3)
-
       accepted : OpeningsAccepted P m x
       accepted = openings-exactly P m x (omega arith) fits lent .0 none
 
-      passes1 : Passes1 s (firstOf (digests P m x)) one
-      passes1 = none-passes1 q N k (pairs P m x) (digests P m x) (x .repetition) (x .answer1) (lent .answer1) (each-exactly q (vector (one .t)) .1 (accepted .in-range .answer1 .to1 refl)) (groups P m x none .2)
+      passes1 : Passes1 (argument P m x) (firstOf (digests P m x)) (read1 P m x)
+      passes1 = none-passes1 q N k (pairs P m x) (digests P m x) (x .repetition) (x .answer1) (lent .answer1) (each-exactly q (vector (read1 P m x .t)) .1 (accepted .in-range .answer1 .to1 refl)) (groups P m x none .2)
 
-      passes2 : Passes2 s (firstOf (digests P m x)) two
-      passes2 = none-passes2 q N k (pairs P m x) (digests P m x) (x .repetition) (x .answer2) (lent .answer2) (each-exactly q (vector (two .u)) .1 (accepted .in-range .answer2 .to2 refl)) (groups P m x none .3)
+      passes2 : Passes2 (argument P m x) (firstOf (digests P m x)) (read2 P m x)
+      passes2 = none-passes2 q N k (pairs P m x) (digests P m x) (x .repetition) (x .answer2) (lent .answer2) (each-exactly q (vector (read2 P m x .u)) .1 (accepted .in-range .answer2 .to2 refl)) (groups P m x none .3)
 
-      passes3 : Passes3 s (firstOf (digests P m x)) third
-      passes3 = none-passes3 q N k (pairs P m x) (digests P m x) (x .repetition) (x .answer3) (lent .answer3) (each-exactly q (vector (third .r)) .1 (accepted .in-range .answer3 .to3 refl)) (groups P m x none .4)
+      passes3 : Passes3 (argument P m x) (firstOf (digests P m x)) (read3 P m x)
+      passes3 = none-passes3 q N k (pairs P m x) (digests P m x) (x .repetition) (x .answer3) (lent .answer3) (each-exactly q (vector (read3 P m x .r)) .1 (accepted .in-range .answer3 .to3 refl)) (groups P m x none .4)
 
       -- equal strings give unknowns that meet the equations
-      meets : one-by2 s two ≡ one-by3 s third → two-by1 s one ≡ two-by3 s third → three-by1 s one ≡ three-by2 s two → Meets q N k (pairs P m x) (unknowns P m x)
-      meets e1 e2 e3 = go (extract s (setting-valid q N k (pairs P m x) three fits) (firstOf (digests P m x)) one two third passes1 passes2 passes3)
+      meets : one-by2 (argument P m x) (read2 P m x) ≡ one-by3 (argument P m x) (read3 P m x) → two-by1 (argument P m x) (read1 P m x) ≡ two-by3 (argument P m x) (read3 P m x) → three-by1 (argument P m x) (read1 P m x) ≡ three-by2 (argument P m x) (read2 P m x) → Meets q N k (pairs P m x) (unknowns P m x)
+      meets e1 e2 e3 = go (extract (argument P m x) (setting-valid q N k (pairs P m x) three fits) (firstOf (digests P m x)) (read1 P m x) (read2 P m x) (read3 P m x) passes1 passes2 passes3)
         where
-          go : Extracted s one two third → Meets q N k (pairs P m x) (unknowns P m x)
+          go : Extracted (argument P m x) (read1 P m x) (read2 P m x) (read3 P m x) → Meets q N k (pairs P m x) (unknowns P m x)
           go (broken1 c) = absurd (c .differ e1)
           go (broken2 d1 c) = absurd (c .differ e2)
           go (broken3 d1 d2 c) = absurd (c .differ e3)
@@ -75,14 +64,14 @@ module _ (P : Parameters) (m : ℕ) (x : Openings) where
 
       -- ---- collisions
 
-      collides1 : same (one-by2 s two) (one-by3 s third) ≡ false → Collision (one-by2 s two) (one-by3 s third)
-      collides1 e = record { differ = differ (one-by2 s two) (one-by3 s third) e; collide = sym (passes2 .d1) ∙ passes3 .d1 }
+      collides1 : same (one-by2 (argument P m x) (read2 P m x)) (one-by3 (argument P m x) (read3 P m x)) ≡ false → Collision (one-by2 (argument P m x) (read2 P m x)) (one-by3 (argument P m x) (read3 P m x))
+      collides1 e = record { differ = differ (one-by2 (argument P m x) (read2 P m x)) (one-by3 (argument P m x) (read3 P m x)) e; collide = sym (passes2 .opens1) ∙ passes3 .opens1 }
 
-      collides2 : same (two-by1 s one) (two-by3 s third) ≡ false → Collision (two-by1 s one) (two-by3 s third)
-      collides2 e = record { differ = differ (two-by1 s one) (two-by3 s third) e; collide = sym (passes1 .d2) ∙ passes3 .d2 }
+      collides2 : same (two-by1 (argument P m x) (read1 P m x)) (two-by3 (argument P m x) (read3 P m x)) ≡ false → Collision (two-by1 (argument P m x) (read1 P m x)) (two-by3 (argument P m x) (read3 P m x))
+      collides2 e = record { differ = differ (two-by1 (argument P m x) (read1 P m x)) (two-by3 (argument P m x) (read3 P m x)) e; collide = sym (passes1 .d2) ∙ passes3 .opens }
 
-      collides3 : same (three-by1 s one) (three-by2 s two) ≡ false → Collision (three-by1 s one) (three-by2 s two)
-      collides3 e = record { differ = differ (three-by1 s one) (three-by2 s two) e; collide = sym (passes1 .d3) ∙ passes2 .d3 }
+      collides3 : same (three-by1 (argument P m x) (read1 P m x)) (three-by2 (argument P m x) (read2 P m x)) ≡ false → Collision (three-by1 (argument P m x) (read1 P m x)) (three-by2 (argument P m x) (read2 P m x))
+      collides3 e = record { differ = differ (three-by1 (argument P m x) (read1 P m x)) (three-by2 (argument P m x) (read2 P m x)) e; collide = sym (passes1 .d3) ∙ passes2 .opens }
 
       -- ---- vectors, and the key
 
@@ -148,11 +137,11 @@ module _ (P : Parameters) (m : ℕ) (x : Openings) where
       pub extraction : Sound q p D B → Found P m x (kind P m x)
       unfolding kind
       extraction ok =
-          choose (same (one-by2 s two) (one-by3 s third)) (same (two-by1 s one) (two-by3 s third)) (same (three-by1 s one) (three-by2 s two)) (isZero q N (vector-s P m x)) (isZero q N (vector-e P m x))
+          choose (same (one-by2 (argument P m x) (read2 P m x)) (one-by3 (argument P m x) (read3 P m x))) (same (two-by1 (argument P m x) (read1 P m x)) (two-by3 (argument P m x) (read3 P m x))) (same (three-by1 (argument P m x) (read1 P m x)) (three-by2 (argument P m x) (read2 P m x))) (isZero q N (vector-s P m x)) (isZero q N (vector-e P m x))
           (λ e. collision1 (collides1 e)) (λ e. collision2 (collides2 e)) (λ e. collision3 (collides3 e))
           (λ e1 e2 e3 e. short-s (for-s ok (met e1 e2 e3) .nonzero-short e))
           (λ e1 e2 e3 e. short-e (for-e ok (met e1 e2 e3) .nonzero-short e))
           (λ e1 e2 e3 es ee. secret (key-found ok (met e1 e2 e3) (for-s ok (met e1 e2 e3) .zero-adds es) (for-e ok (met e1 e2 e3) .zero-adds ee)))
         where
-          met : same (one-by2 s two) (one-by3 s third) ≡ true → same (two-by1 s one) (two-by3 s third) ≡ true → same (three-by1 s one) (three-by2 s two) ≡ true → Meets q N k (pairs P m x) (unknowns P m x)
-          met e1 e2 e3 = meets (same-equal (one-by2 s two) (one-by3 s third) e1) (same-equal (two-by1 s one) (two-by3 s third) e2) (same-equal (three-by1 s one) (three-by2 s two) e3)
+          met : same (one-by2 (argument P m x) (read2 P m x)) (one-by3 (argument P m x) (read3 P m x)) ≡ true → same (two-by1 (argument P m x) (read1 P m x)) (two-by3 (argument P m x) (read3 P m x)) ≡ true → same (three-by1 (argument P m x) (read1 P m x)) (three-by2 (argument P m x) (read2 P m x)) ≡ true → Meets q N k (pairs P m x) (unknowns P m x)
+          met e1 e2 e3 = meets (same-equal (one-by2 (argument P m x) (read2 P m x)) (one-by3 (argument P m x) (read3 P m x)) e1) (same-equal (two-by1 (argument P m x) (read1 P m x)) (two-by3 (argument P m x) (read3 P m x)) e2) (same-equal (three-by1 (argument P m x) (read1 P m x)) (three-by2 (argument P m x) (read2 P m x)) e3)

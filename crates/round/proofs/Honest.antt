@@ -32,7 +32,8 @@ use Rattle.stern.specs.Claims.{Split}
 use Rattle.stern.proofs.Honest.{honest-range, honest-none}
 use Rattle.round.specs.Layout.{Opening, each, uAt, vAt, shareAt, claimAt, pairsOf, pairAt, digestsAt, openingOf, answerAt}
 use Rattle.round.specs.Round.{Round, challengeAt, sharesOf, openingRanged, headRanged, answersRanged, ranged, splits, opensKey, opensPairs, maskTest, claimTest, roundTests}
-use Rattle.round.specs.Producer.{Material, MaterialSized, secret-s, secret-e, half-s, half-e, hides-s, hides-e, maskAt, permutationAt, drawnAt, pairBytesOf, producerTests, pairsBytes, producedPairs, producedHead, producedShares, producedClaims, producedOpening, producedAnswers, producedRound}
+use Rattle.round.specs.Producer.{Material, MaterialSized, secret-s, secret-e, maskAt, permutationAt, producerTests, pairsBytes, producedHead, producedShares, producedClaims, producedOpening, producedAnswers, producedRound}
+use Rattle.round.specs.Internal.{half-s, half-e, hides-s, hides-e, drawnAt, pairBytesOf, producedPairs}
 use Rattle.round.specs.Suitable.{Suitable}
 use Rattle.round.proofs.Many.{none-append, each-none, stretch}
 use Rattle.round.proofs.Written.{Coefficients, below-append, below-joined, below-part, ranged-first, coefficients-written, coefficients-append, coefficients-joined, coefficients-vector, coefficients-part}

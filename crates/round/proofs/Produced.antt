@@ -21,7 +21,8 @@ use Rattle.stern.proofs.Layouts.{four-read}
 use Rattle.stern.proofs.Honest.{length-pairBytes, slot-alike}
 use Rattle.round.specs.Layout.{joined, headLength, uAt, vAt, shareAt, claimAt, keyAt, pairsOf, pairAt, digestsAt, openingOf, answersLength, answerAt}
 use Rattle.commitment.specs.Parameters.{Parameters}
-use Rattle.round.specs.Producer.{Material, MaterialSized, secret-s, half-s, half-e, hides-s, hides-e, maskAt, permutationAt, drawnAt, pairBytesOf, pairsBytes, producedPairs, producedHead, producedShares, producedClaims, producedOpening, producedAnswers}
+use Rattle.round.specs.Producer.{Material, MaterialSized, secret-s, maskAt, permutationAt, pairsBytes, producedHead, producedShares, producedClaims, producedOpening, producedAnswers}
+use Rattle.round.specs.Internal.{half-s, half-e, hides-s, hides-e, drawnAt, pairBytesOf, producedPairs}
 use Rattle.round.proofs.Many.{stretch, length-joined, joined-at}
 use Rattle.round.proofs.Written.{octets-encode, octets-joined}
 use Rattle.round.proofs.Answers.{length-answers, answers-at, length-honestAnswer}

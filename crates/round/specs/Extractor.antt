@@ -162,21 +162,22 @@ module _ (P : Parameters) (m : ℕ) (x : Openings) where
 
   -- ---- what it finds
 
-  abbrev s : Setting
-  s = setting q N k pairs
+  -- the shortness argument, and the three answers as they are read
+  abbrev pub argument : Setting
+  argument = setting q N k pairs
 
-  abbrev one : Answer1
-  one = answer1Of N (x .answer1)
+  abbrev pub read1 : Answer1
+  read1 = answer1Of N (x .answer1)
 
-  abbrev two : Answer2
-  two = answer2Of N (x .answer2)
+  abbrev pub read2 : Answer2
+  read2 = answer2Of N (x .answer2)
 
-  abbrev three : Answer3
-  three = answer3Of N (x .answer3)
+  abbrev pub read3 : Answer3
+  read3 = answer3Of N (x .answer3)
 
   -- the unknowns of the answers
   abbrev pub unknowns : List ℕ
-  unknowns = solution s two three
+  unknowns = solution argument read2 read3
 
   -- the openings' summed r less the extracted summed r, for s and for e
   abbrev pub vector-s : Three
@@ -188,9 +189,9 @@ module _ (P : Parameters) (m : ℕ) (x : Openings) where
   -- 1, 2, 3: the lowest digest whose two strings differ; 4: the vector for s; 5: the vector for e; 6: the key
   unfoldable pub kind : ℕ
   kind =
-      cond (not (same (one-by2 s two) (one-by3 s three))) 1
-      (cond (not (same (two-by1 s one) (two-by3 s three))) 2
-      (cond (not (same (three-by1 s one) (three-by2 s two))) 3
+      cond (not (same (one-by2 argument read2) (one-by3 argument read3))) 1
+      (cond (not (same (two-by1 argument read1) (two-by3 argument read3))) 2
+      (cond (not (same (three-by1 argument read1) (three-by2 argument read2))) 3
       (cond (not (isZero q N vector-s)) 4
       (cond (not (isZero q N vector-e)) 5 6))))
 
@@ -227,21 +228,21 @@ module _ (P : Parameters) (m : ℕ) (x : Openings) where
 
   -- by the kind
   pub data Found : ℕ → Type 0 where
-    collision1 : Collision (one-by2 s two) (one-by3 s three) → Found 1
-    collision2 : Collision (two-by1 s one) (two-by3 s three) → Found 2
-    collision3 : Collision (three-by1 s one) (three-by2 s two) → Found 3
+    collision1 : Collision (one-by2 argument read2) (one-by3 argument read3) → Found 1
+    collision2 : Collision (two-by1 argument read1) (two-by3 argument read3) → Found 2
+    collision3 : Collision (three-by1 argument read1) (three-by2 argument read2) → Found 3
     short-s : ShortVector vector-s → Found 4
     short-e : ShortVector vector-e → Found 5
     secret : Key (polynomial N unknowns 0) (polynomial N unknowns 1) → Found 6
 
   -- the strings of the answers' digests are bytes, as SHA3-256 takes them: a collision is one of byte strings
   pub record Hashed : Type 0 where
-    pub first-by2 : Octets (one-by2 s two)
-    pub first-by3 : Octets (one-by3 s three)
-    pub second-by1 : Octets (two-by1 s one)
-    pub second-by3 : Octets (two-by3 s three)
-    pub third-by1 : Octets (three-by1 s one)
-    pub third-by2 : Octets (three-by2 s two)
+    pub first-by2 : Octets (one-by2 argument read2)
+    pub first-by3 : Octets (one-by3 argument read3)
+    pub second-by1 : Octets (two-by1 argument read1)
+    pub second-by3 : Octets (two-by3 argument read3)
+    pub third-by1 : Octets (three-by1 argument read1)
+    pub third-by2 : Octets (three-by2 argument read2)
 
   -- what the 24N output bytes w are, by the kind
   pub record Output (n : ℕ) (w : Bytes) : Type 0 where
@@ -259,8 +260,8 @@ module _ (P : Parameters) (m : ℕ) (x : Openings) where
 
   -- nothing that comes before the kind was there: the two strings of every lower digest are equal, and a vector before it is zero
   pub record Lowest (n : ℕ) : Type 0 where
-    pub first : 1 < n → one-by2 s two ≡ one-by3 s three
-    pub second : 2 < n → two-by1 s one ≡ two-by3 s three
-    pub third : 3 < n → three-by1 s one ≡ three-by2 s two
+    pub first : 1 < n → one-by2 argument read2 ≡ one-by3 argument read3
+    pub second : 2 < n → two-by1 argument read1 ≡ two-by3 argument read3
+    pub third : 3 < n → three-by1 argument read1 ≡ three-by2 argument read2
     pub zero-s : 4 < n → Alike3 q N vector-s zero3
     pub zero-e : 5 < n → Alike3 q N vector-e zero3

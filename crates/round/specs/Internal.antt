@@ -4,12 +4,13 @@ use Prim.Native.Nat.{ℕ, _*_, _<_}
 use mathlib.Core.Bool.{true}
 use lib.ListN.{length, getD}
 use Rattle.codec.specs.Bytes.{Bytes, zeros}
-use Rattle.ring.specs.Poly.{Below}
+use Rattle.ring.specs.Poly.{Poly, Below}
+use Rattle.stern.specs.Argument.{Drawn}
 use Rattle.stern.specs.Shortness.{inRange}
-use Rattle.round.specs.Layout.{ballotLength, uAt, shareAt, answersLength, answerAt}
+use Rattle.round.specs.Layout.{ballotLength, uAt, headLength, shareAt, answersLength, answerAt}
 use denote.Ref.{RefT}
 use Rattle.codec.specs.Slices.{Slice, given}
-use Rattle.round.specs.Producer.{Material, materialOf, openingBytes, answersBytes, producedHead, producedShares, producedClaims}
+use Rattle.round.specs.Producer.{Material, materialOf, halfOf, sIn, eIn, hidesSIn, hidesEIn, drawnIn, committedPair, pairsBytes, openingBytes, answersBytes, producedHead, producedShares, producedClaims}
 use Rattle.round.specs.Writes.{FirstRoom, firstRoom, SecondRoom, secondRoom}
 use Rattle.commitment.specs.Parameters.{Parameters}
 use Rattle.round.specs.Round.{Round}
@@ -75,3 +76,48 @@ pub record SecondProduced (k : Numbers) (secrets s0 e0 vectors permutations salt
   pub opening : after .opening ≡ openingBytes (k .modulus) (k .ring) secrets s0 e0 side
   pub answers : after .answers ≡ answersBytes (k .modulus) (k .ring) (k .repeats) secrets vectors permutations salts challenges
   pub cleared : after .scratch ≡ zeros (length (before .scratch))
+
+-- ---- a producer's material, for the parameters of a sheet and m ballots
+
+module _ (P : Parameters) (m : ℕ) (x : Material) where
+  open Parameters P using (q, N, k)
+
+  -- the halves of the secret by side, and their three r
+  abbrev pub half-s : ℕ → Poly
+  half-s = halfOf q (sIn N (x .secrets)) (x .s0)
+
+  abbrev pub half-e : ℕ → Poly
+  half-e = halfOf q (eIn N (x .secrets)) (x .e0)
+
+  abbrev pub hides-s : ℕ → Bytes
+  hides-s = hidesSIn N (x .secrets)
+
+  abbrev pub hides-e : ℕ → Bytes
+  hides-e = hidesEIn N (x .secrets)
+
+  -- what is drawn for repetition i
+  abbrev pub drawnAt : ℕ → Drawn
+  drawnAt = drawnIn N (x .vectors) (x .permutations) (x .salts)
+
+  -- a committed pair, and the four of the head
+  abbrev pub pairBytesOf : (hides : Bytes) → Poly → Bytes
+  pairBytesOf = committedPair q N k
+
+  abbrev pub producedPairs : Bytes
+  producedPairs = pairsBytes q N (x .secrets) (x .s0) (x .e0) k
+
+-- ---- a round of m ballots
+
+module _ (P : Parameters) (m : ℕ) where
+  open Parameters P using (N, repeats)
+
+  -- the lengths, which refusal 1 asks for
+  pub record Lengths (r : Round) : Type 0 where
+    pub challenges : length (r .challenges) ≡ repeats
+    pub ballots : length (r .ballots) ≡ ballotLength N * m
+    pub claims : length (r .claims) ≡ N * m
+    pub head : length (r .head) ≡ headLength N repeats
+    pub shares0 : length (r .shares0) ≡ 8 * N * m
+    pub shares1 : length (r .shares1) ≡ 8 * N * m
+    pub opening : length (r .opening) ≡ 22 * N
+    pub answers : length (r .answers) ≡ answersLength N (r .challenges)

@@ -164,26 +164,14 @@ module _ (q N p m : ℕ) (secrets : Bytes) where
 -- ---- the same of the whole material, for the parameters of a sheet and m ballots
 
 module _ (P : Parameters) (m : ℕ) (x : Material) where
-  open Parameters P using (q, N, p, B, D, repeats, a, b, k)
+  open Parameters P using (q, N, p, B, D, repeats)
 
-  -- the secret, and its halves by side
+  -- the secret
   abbrev pub secret-s : Poly
   secret-s = ternary q (sIn N (x .secrets))
 
   abbrev pub secret-e : Poly
   secret-e = ternary q (eIn N (x .secrets))
-
-  abbrev pub half-s : ℕ → Poly
-  half-s = halfOf q (sIn N (x .secrets)) (x .s0)
-
-  abbrev pub half-e : ℕ → Poly
-  half-e = halfOf q (eIn N (x .secrets)) (x .e0)
-
-  abbrev pub hides-s : ℕ → Bytes
-  hides-s = hidesSIn N (x .secrets)
-
-  abbrev pub hides-e : ℕ → Bytes
-  hides-e = hidesEIn N (x .secrets)
 
   -- E of a side for ballot j
   abbrev pub masksOf : ℕ → Bytes
@@ -193,12 +181,9 @@ module _ (P : Parameters) (m : ℕ) (x : Material) where
   abbrev pub maskAt : (side j : ℕ) → Bytes
   maskAt side j = maskIn N (masksOf side) j
 
-  -- what is drawn for repetition i
+  -- the P of repetition i
   abbrev pub permutationAt : ℕ → Bytes
   permutationAt = permutationIn N (x .permutations)
-
-  abbrev pub drawnAt : ℕ → Drawn
-  drawnAt = drawnIn N (x .vectors) (x .permutations) (x .salts)
 
   -- the lengths, which refusal 1 asks for
   pub record MaterialSized : Type 0 where
@@ -226,12 +211,6 @@ module _ (P : Parameters) (m : ℕ) (x : Material) where
       ++ noiseTests q N D m (x .secrets) (x .ballots)))
 
   -- ---- the first call: the first message and the claims
-
-  abbrev pub pairBytesOf : (hides : Bytes) → Poly → Bytes
-  pairBytesOf = committedPair q N k
-
-  abbrev pub producedPairs : Bytes
-  producedPairs = pairsBytes q N (x .secrets) (x .s0) (x .e0) k
 
   unfoldable pub producedHead : Bytes
   producedHead = headBytes P (x .secrets) (x .s0) (x .e0) (x .vectors) (x .permutations) (x .salts)

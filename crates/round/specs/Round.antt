@@ -112,17 +112,6 @@ module _ (P : Parameters) where
 module _ (P : Parameters) (m : ℕ) where
   open Parameters P using (q, N, p, B, repeats)
 
-  -- the lengths, which refusal 1 asks for
-  pub record Lengths (r : Round) : Type 0 where
-    pub challenges : length (r .challenges) ≡ repeats
-    pub ballots : length (r .ballots) ≡ ballotLength N * m
-    pub claims : length (r .claims) ≡ N * m
-    pub head : length (r .head) ≡ headLength N repeats
-    pub shares0 : length (r .shares0) ≡ 8 * N * m
-    pub shares1 : length (r .shares1) ≡ 8 * N * m
-    pub opening : length (r .opening) ≡ 22 * N
-    pub answers : length (r .answers) ≡ answersLength N (r .challenges)
-
   -- ---- 5: every coefficient, claim, ternary byte, side and challenge is in its range
 
   unfoldable pub ballotsRanged : Bytes → Bool

@@ -24,8 +24,8 @@ ghost use Rattle.scratch.specs.Call.{scratchLength};
 ghost use Rattle.scratch.specs.Internal.{Judged};
 ghost use Rattle.commitment.specs.Internal.{Loaded};
 ghost use Rattle.round.specs.Layout.{ballotLength, answersLength};
-ghost use Rattle.round.specs.Round.{Lengths, ofSide, ranged, answersTests, votesTests, roundLater, roundTests};
-ghost use Rattle.round.specs.Internal.{roundOf, roundIn, Batch, Shares};
+ghost use Rattle.round.specs.Round.{ofSide, ranged, answersTests, votesTests, roundLater, roundTests};
+ghost use Rattle.round.specs.Internal.{roundOf, roundIn, Batch, Shares, Lengths};
 ghost use Rattle.commitment.specs.Parameters.{parameters};
 ghost use Rattle.round_side.specs.Internal.{Opened, RoundInRange};
 

@@ -1,12 +1,12 @@
 -- Strings that are compared part by part, and vectors that are compared number by number. Assumes nothing.
 use mathlib.Core.Path.{_≡_, refl, sym, ap, ap₂, _∙_}
 use mathlib.Core.Logic.{_≢_}
-use mathlib.Core.Bool.{Bool, true, false, not}
+use mathlib.Core.Bool.{Bool, true, false, _&&_}
 use mathlib.Core.List.{List, [], _∷_, _++_, append-assoc}
 use Prim.Native.Nat.{ℕ, _+_, _*_, _/_, _^_, _≤_, _<_}
 use native.Mathlib.Nat.{zero-add}
 use native.Mathlib.Omega.{arith}
-use borrow.Author.Tests.{eq-eqb, not-true, not-false}
+use borrow.Author.Tests.{eq-eqb}
 use lib.ListN.{length, take, drop, getD, length-append}
 use lib.Seq.{ext-getD}
 use Rattle.codec.specs.Bytes.{Bytes, part, put, words, same}
@@ -14,7 +14,8 @@ use Rattle.codec.proofs.Laws.{length-part, part-append, part-put, same-refl, sa
 use Rattle.codec.specs.Lists.{allBelow}
 use Rattle.commitment.specs.Commitment.{Keys, Pair, pairBytes}
 use Rattle.commitment.specs.Internal.{PairInSlots}
-use Rattle.vector.specs.Vector.{Vector, vector, ternaries, add, subtract}
+use Rattle.vector.specs.Vector.{vector, ternaries, add, subtract}
+use Rattle.vector.specs.Internal.{Vector}
 use Rattle.vector.specs.Permutation.{entries, apply}
 use Rattle.vector.proofs.Vectors.{each-length, add-vector, apply-each, allBelow-each, vector-sound, words-injective, length-entries, ternaries-vector}
 use Rattle.stern.specs.Argument.{Setting, Answer1, Answer2, Answer3, one-by2, one-by3, two-by1, two-by3, three-by1, three-by2}
@@ -32,18 +33,15 @@ unfolding same
 same-behind [] b d = refl
 same-behind (x ∷ a) b d = rw (eq-eqb x x refl) (same-behind a b d)
 
--- first parts that are as long and were compared: where they differ they decide, and else what stands behind them does
-module _ (a c b d : Bytes) (r : Bool) (e : r ≡ same a c) where
-  pub by-first : length a ≡ length c → not r ≡ true → false ≡ same (a ++ b) (c ++ d)
-  by-first l n = sym (not-same (a ++ b) (c ++ d) (λ g. differ (parts a c {b = b} {d = d} l g .0)))
-    where
-      differ : a ≡ c → ⊥
-      differ g = let z : false ≡ true = sym (not-true r n) ∙ e ∙ ap (same a) (sym g) ∙ same-refl a in absurd (let y : _≡_ {A = ℕ} 0 1 = cc in omega arith)
-
-  pub by-rest : not r ≡ false → (t : Bool) → t ≡ same b d → t ≡ same (a ++ b) (c ++ d)
-  by-rest n t f =
-      let g : a ≡ c = same-equal a c (sym e ∙ not-false r n) in
-      f ∙ sym (ap (λ (x : Bytes). same (x ++ b) (c ++ d)) g ∙ same-behind c b d)
+-- first parts that are as long, and what stands behind them
+pub by-parts : (a c b d : Bytes) (r t : Bool) → r ≡ same a c → t ≡ same b d → length a ≡ length c → (r && t) ≡ same (a ++ b) (c ++ d)
+by-parts a c b d true t e f l =
+    let g : a ≡ c = same-equal a c (sym e) in
+    f ∙ sym (ap (λ (x : Bytes). same (x ++ b) (c ++ d)) g ∙ same-behind c b d)
+by-parts a c b d false t e f l = sym (not-same (a ++ b) (c ++ d) (λ g. differ (parts a c {b = b} {d = d} l g .0)))
+  where
+    differ : a ≡ c → ⊥
+    differ g = let z : false ≡ true = e ∙ ap (same a) (sym g) ∙ same-refl a in absurd (let y : _≡_ {A = ℕ} 0 1 = cc in omega arith)
 
 -- parts lent with lengths that are differences of places
 pub lent-same : (s t : Bytes) (i j m n k : ℕ) → m ≡ k → n ≡ k → same (take m (drop i s)) (take n (drop j t)) ≡ same (part s i k) (part t j k)

@@ -2,7 +2,7 @@
 // part by part: salts, permutations, equations and vectors. Nothing is hashed.
 use stern::equations::equation_pair;
 ghost use mathlib.Core.Path.{_≡_};
-ghost use mathlib.Core.Bool.{true, false};
+ghost use mathlib.Core.Bool.{true, false, _&&_};
 ghost use mathlib.Core.List.{_++_};
 ghost use Prim.Native.Nat.{_+_, _*_, _≤_, _<_, _^_};
 ghost use lib.ListN.{length, take};
@@ -17,6 +17,13 @@ ghost use Rattle.stern.specs.Argument.{string2, string3, one-by2, one-by3};
 ghost use Rattle.stern.specs.Shortness.{equations, rightHandSides, setting, answer1Of, answer2Of, answer3Of};
 ghost use Rattle.stern.specs.Internal.{equationPair};
 ghost use Rattle.round_collision.specs.Internal.{ThreeAnswers, Ground, MaskedVectors, Compared, ComparedBy, lowestOf, Searched};
+
+// Whether both hold.
+fn both(a: bool, b: bool) -> bool
+    ensures { λ r. ⌜ r ≡ (a && b) ⌝ }
+{
+    if a { b } else { false }
+}
 
 // ---- string 1: P and the equations
 
@@ -38,13 +45,12 @@ fn is_kept(room: &[u8], work: &[u8], n: usize) -> bool
     requires { ⌜ (16 * n ≤ length (now room)) × (49152 + 8 * n ≤ length (now work)) ⌝ }
     ensures { λ yes. ⌜ yes ≡ same (part (given room) 0 (16 * n)) (part (given work) 0 (8 * n) ++ part (given work) 49152 (8 * n)) ⌝ }
 {
-    if !codec::equal(&room[0..8 * n], &work[0..8 * n]) {
-        return false;
-    }
-    codec::equal(
+    let one = codec::equal(&room[0..8 * n], &work[0..8 * n]);
+    let two = codec::equal(
         &room[8 * n..16 * n],
         &work[commitment::MESSAGE..commitment::MESSAGE + 8 * n],
-    )
+    );
+    both(one, two)
 }
 
 // Whether two equations of the vector u, less their right-hand sides, are those of the vector r.
@@ -89,10 +95,9 @@ fn equations_agree(
         (rightHandSides q n (given c)))) (words (equations q n (keysOf n (given k)) (take (14 * n) (vector (given r))))) yes (given work)
         (left work) (given room) (left room) ⌝ }
 {
-    if !pairs_agree(work, room, k, c, u, r, 2 * n, 0, 0, n, q) {
-        return false;
-    }
-    pairs_agree(work, room, k, c, u, r, 8 * n, n, 4 * n, n, q)
+    let of_s = pairs_agree(work, room, k, c, u, r, 2 * n, 0, 0, n, q);
+    let of_e = pairs_agree(work, room, k, c, u, r, 8 * n, n, 4 * n, n, q);
+    both(of_s, of_e)
 }
 
 // Whether answers 2 and 3 have one salt 1 and one P.
@@ -102,10 +107,9 @@ fn starts_agree(answer2: &[u8], answer3: &[u8], n: usize) -> bool
         ++ answer2Of n (given answer2) .p) (answer3Of n (given answer3) .salt1 ++ answer3Of n (given answer3) .p) ⌝ }
 {
     let salt = 504 * n;
-    if !codec::equal(&answer2[salt..salt + 32], &answer3[salt..salt + 32]) {
-        return false;
-    }
-    codec::equal(&answer2[0..168 * n], &answer3[0..168 * n])
+    let salts = codec::equal(&answer2[salt..salt + 32], &answer3[salt..salt + 32]);
+    let permutations = codec::equal(&answer2[0..168 * n], &answer3[0..168 * n]);
+    both(salts, permutations)
 }
 
 // String 1 of answers 2 and 3.
@@ -126,10 +130,8 @@ fn first_agrees(
         ⌜ ComparedBy (one-by2 s (answer2Of n (given answer2))) (one-by3 s (answer3Of n (given answer3))) yes (given work) (left work)
         (given room) (left room) ⌝ }
 {
-    if !starts_agree(answer2, answer3, n) {
-        return false;
-    }
-    equations_agree(
+    let starts = starts_agree(answer2, answer3, n);
+    let rest = equations_agree(
         work,
         room,
         k,
@@ -138,7 +140,8 @@ fn first_agrees(
         &answer3[168 * n..504 * n],
         n,
         q,
-    )
+    );
+    both(starts, rest)
 }
 
 // ---- string 2: P(R)
@@ -163,16 +166,15 @@ fn second_agrees(work: &mut [u8], answer1: &[u8], answer3: &[u8], n: usize) -> b
 {
     let one = 378 * n;
     let three = 504 * n + 32;
-    if !codec::equal(&answer1[one..one + 32], &answer3[three..three + 32]) {
-        return false;
-    }
-    is_gathered(
+    let salts = codec::equal(&answer1[one..one + 32], &answer3[three..three + 32]);
+    let vectors = is_gathered(
         work,
         &answer3[0..168 * n],
         &answer3[168 * n..504 * n],
         &answer1[42 * n..378 * n],
         n,
-    )
+    );
+    both(salts, vectors)
 }
 
 // ---- string 3: P(extended + R)
@@ -208,17 +210,16 @@ fn third_agrees(answer1: &[u8], answer2: &[u8], n: usize, q: u64) -> bool
 {
     let one = 378 * n + 32;
     let two = 504 * n + 32;
-    if !codec::equal(&answer1[one..one + 32], &answer2[two..two + 32]) {
-        return false;
-    }
-    sums_agree(
+    let salts = codec::equal(&answer1[one..one + 32], &answer2[two..two + 32]);
+    let sums = sums_agree(
         &answer1[0..42 * n],
         &answer1[42 * n..378 * n],
         &answer2[0..168 * n],
         &answer2[168 * n..504 * n],
         42 * n,
         q,
-    )
+    );
+    both(salts, sums)
 }
 
 // ---- all three

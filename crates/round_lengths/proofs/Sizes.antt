@@ -18,7 +18,8 @@ use Rattle.scratch.specs.Call.{scratchLength}
 use Rattle.scratch.proofs.Order.{length-at, refuses, passes}
 use Rattle.stern.specs.Shortness.{answerLength}
 use Rattle.round.specs.Layout.{ballotLength, headLength, answersLength}
-use Rattle.round.specs.Round.{Round, Lengths}
+use Rattle.round.specs.Round.{Round}
+use Rattle.round.specs.Internal.{Lengths}
 use Rattle.round.specs.Producer.{Material, MaterialSized}
 use Rattle.round.specs.Writes.{FirstRoom}
 use Rattle.round.proofs.Tests.{equal-same}

@@ -17,8 +17,7 @@ use Rattle.commitment.specs.Parameters.{Parameters, parameters}
 use Rattle.commitment.proofs.Sheets.{parameters-are}
 use Rattle.round.specs.Producer.{Material}
 use Rattle.round.specs.Writes.{FirstRoom, firstRoom, SecondRoom, secondRoom}
-use Rattle.round_produce.specs.First.{FirstWritten}
-use Rattle.round_produce.specs.Second.{SecondWritten}
+use Rattle.round_produce.specs.Internal.{FirstWritten, SecondWritten}
 use Rattle.round_produce.specs.Replies.{firstReply, FirstCalled, secondReply, SecondCalled}
 
 -- ---- the sheet is taken

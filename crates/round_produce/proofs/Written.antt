@@ -13,9 +13,7 @@ use Rattle.round.specs.Producer.{Material, producedOpening, producedAnswers}
 use Rattle.round.specs.Writes.{FirstRoom, firstRoom, SecondRoom, secondRoom}
 use Rattle.round.specs.Internal.{FirstProduced, SecondProduced}
 use Rattle.round_lengths.specs.Calls.{countOf, firstTests, secondTests}
-use Rattle.round_produce.specs.Internal.{Tested}
-use Rattle.round_produce.specs.First.{FirstWritten}
-use Rattle.round_produce.specs.Second.{SecondWritten}
+use Rattle.round_produce.specs.Internal.{Tested, FirstWritten, SecondWritten}
 
 -- scratch that is zeroized by the tests of a call and zeroed by its writing
 twice : (r : Reply) (w w1 w2 : Bytes) → r ≡ Taken → w1 ≡ zeroized r w → w2 ≡ zeros (length w1) → w2 ≡ zeroized r w

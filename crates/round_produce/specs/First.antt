@@ -1,13 +1,12 @@
--- What the producer's first call comes to once the sheet is taken: its reply, what it leaves in the room that it is lent, and scratch. Assumes nothing.
+-- What the producer's first call leaves in the room that it is lent. Assumes nothing.
 use mathlib.Core.Path.{_≡_}
 use Prim.Native.Nat.{ℕ}
-use Rattle.codec.specs.Reply.{first, leaves}
+use Rattle.codec.specs.Reply.{leaves}
 use Rattle.codec.specs.declared.Reply.{Reply}
-use Rattle.scratch.specs.Call.{zeroized}
 use Rattle.commitment.specs.Parameters.{Parameters}
 use Rattle.round.specs.Producer.{Material, producedHead, producedShares, producedClaims}
 use Rattle.round.specs.Writes.{FirstRoom}
-use Rattle.round_lengths.specs.Calls.{countOf, firstTests}
+use Rattle.round_lengths.specs.Calls.{countOf}
 
 module _ (P : Parameters) (x : Material) (before : FirstRoom) (reply : Reply) (after : FirstRoom) where
   abbrev m : ℕ
@@ -19,8 +18,3 @@ module _ (P : Parameters) (x : Material) (before : FirstRoom) (reply : Reply) (a
     pub shares0 : after .shares0 ≡ leaves reply (producedShares P m x 0) (before .shares0)
     pub shares1 : after .shares1 ≡ leaves reply (producedShares P m x 1) (before .shares1)
     pub claims : after .claims ≡ leaves reply (producedClaims P m x) (before .claims)
-
-  pub record FirstWritten : Type 0 where
-    pub replied : reply ≡ first (firstTests P x before)
-    pub left : FirstLeft
-    pub cleared : after .scratch ≡ zeroized reply (before .scratch)

@@ -1,14 +1,13 @@
--- What the producer's second call comes to once the sheet is taken: its reply, what it leaves in the room that it is lent, and scratch. Assumes nothing.
+-- What the producer's second call leaves in the room that it is lent. Assumes nothing.
 use mathlib.Core.Path.{_≡_}
 use Prim.Native.Nat.{ℕ}
 use Rattle.codec.specs.Bytes.{Bytes}
-use Rattle.codec.specs.Reply.{first, leaves}
+use Rattle.codec.specs.Reply.{leaves}
 use Rattle.codec.specs.declared.Reply.{Reply}
-use Rattle.scratch.specs.Call.{zeroized}
 use Rattle.commitment.specs.Parameters.{Parameters}
 use Rattle.round.specs.Producer.{Material, producedOpening, producedAnswers}
 use Rattle.round.specs.Writes.{SecondRoom}
-use Rattle.round_lengths.specs.Calls.{countOf, secondTests}
+use Rattle.round_lengths.specs.Calls.{countOf}
 
 module _ (P : Parameters) (x : Material) (side : ℕ) (challenges : Bytes) (before : SecondRoom) (reply : Reply) (after : SecondRoom) where
   abbrev m : ℕ
@@ -18,8 +17,3 @@ module _ (P : Parameters) (x : Material) (side : ℕ) (challenges : Bytes) (befo
   pub record SecondLeft : Type 0 where
     pub opening : after .opening ≡ leaves reply (producedOpening P m x side) (before .opening)
     pub answers : after .answers ≡ leaves reply (producedAnswers P m x challenges) (before .answers)
-
-  pub record SecondWritten : Type 0 where
-    pub replied : reply ≡ first (secondTests P x side challenges before)
-    pub left : SecondLeft
-    pub cleared : after .scratch ≡ zeroized reply (before .scratch)

@@ -7,8 +7,7 @@ ghost use Rattle.codec.specs.Slices.{given};
 ghost use Rattle.commitment.specs.Internal.{Loaded};
 ghost use Rattle.commitment.specs.Parameters.{parameters};
 ghost use Rattle.round.specs.Lent.{materialIn, firstIn, firstOut, secondIn, secondOut};
-ghost use Rattle.round_produce.specs.First.{FirstWritten};
-ghost use Rattle.round_produce.specs.Second.{SecondWritten};
+ghost use Rattle.round_produce.specs.Internal.{FirstWritten, SecondWritten};
 
 // The first call: the first message and the claims.
 pub fn produce_first(

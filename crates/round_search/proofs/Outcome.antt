@@ -8,38 +8,38 @@ use native.Mathlib.Omega.{arith}
 use borrow.Author.Tests.{not-true, not-false}
 use lib.Dec.{ltb}
 use lib.ListN.{take, drop}
-use Rattle.codec.specs.Bytes.{Bytes, zeros, same}
+use Rattle.codec.specs.Bytes.{Bytes, part, zeros, same}
 use Rattle.ring.specs.Poly.{modulo}
 use Rattle.ring.specs.Slots.{encode}
 use Rattle.sheet_numbers.specs.declared.Numbers.{Numbers}
 use Rattle.commitment.specs.Commitment.{Three, keysOf}
 use Rattle.commitment.specs.Loaded as commitment
-use Rattle.stern.specs.Argument.{Setting, Answer1, Answer2, Answer3, one-by2, one-by3, two-by1, two-by3, three-by1, three-by2}
+use Rattle.stern.specs.Argument.{one-by2, one-by3, two-by1, two-by3, three-by1, three-by2}
 use Rattle.stern.specs.Shortness.{polynomial, setting, answer1Of, answer2Of, answer3Of}
 use Rattle.commitment.specs.Parameters.{Parameters, parameters}
 use Rattle.commitment.proofs.Cut.{keys-cut}
-use Rattle.round.specs.Extractor.{Openings, openingsOf, threeBytes, isZero, ternaryBytes, pairs, open0, open1, unknowns, vector-s, vector-e, kind, extracted}
+use Rattle.round.specs.Extractor.{Openings, openingsOf, threeBytes, isZero, ternaryBytes, open0, open1, argument, read1, read2, read3, unknowns, vector-s, vector-e, kind, extracted}
 use Rattle.round.proofs.ExtractionWritten.{collision-written}
 use Rattle.round_search.specs.Internal.{Finds, unknownsOf, lessUnknowns, excess, solved, writtenVectors, vectorAt, keyOf, solvedBy, writtenBy}
 use Rattle.round_collision.specs.Internal.{differing}
-use Rattle.round_search.proofs.Unknowns.{lent-excess}
+use Rattle.round_search.proofs.Unknowns.{told-excess}
 
--- ---- the two vectors, in order, of the r of two openings, lent with lengths that are differences of places
+-- ---- the two vectors, in order, of the r of two openings
 
 module _ (q N : ℕ) (o0 o1 : Bytes) (z : List ℕ) where
   module _ (r1 : Bool) (d1 : Bytes) (y1 : r1 ≡ same d1 (zeros (24 * N)))
-      (e1 : d1 ≡ encode (3 * N) (modulo q (excess q N (take (19 * N - 16 * N) (drop (16 * N) o0)) (take (19 * N - 16 * N) (drop (16 * N) o1)) z (2 * N)))) where
+      (e1 : d1 ≡ encode (3 * N) (modulo q (excess q N (part o0 (16 * N) (3 * N)) (part o1 (16 * N) (3 * N)) z (2 * N)))) where
     first : (r1 ≡ isZero q N (vectorAt q N o0 o1 z (16 * N) 2)) × (d1 ≡ threeBytes q N (vectorAt q N o0 o1 z (16 * N) 2))
-    first = lent-excess q N o0 o1 z (16 * N) (19 * N - 16 * N) 2 (2 * N) (omega arith) (omega arith) r1 d1 y1 e1
+    first = told-excess q N o0 o1 z (16 * N) 2 (2 * N) (omega arith) r1 d1 y1 e1
 
     pub s-nonzero : not r1 ≡ true → (4 ≡ solvedBy q N o0 o1 z) × (d1 ≡ writtenBy q N o0 o1 z)
     unfolding solved writtenVectors
     s-nonzero n1 = rw (← (first .0), not-true r1 n1) (refl, first .1)
 
     module _ (n1 : not r1 ≡ false) (r2 : Bool) (d2 : Bytes) (y2 : r2 ≡ same d2 (zeros (24 * N)))
-        (e2 : d2 ≡ encode (3 * N) (modulo q (excess q N (take (22 * N - 19 * N) (drop (19 * N) o0)) (take (22 * N - 19 * N) (drop (19 * N) o1)) z (8 * N)))) where
+        (e2 : d2 ≡ encode (3 * N) (modulo q (excess q N (part o0 (19 * N) (3 * N)) (part o1 (19 * N) (3 * N)) z (8 * N)))) where
       second : (r2 ≡ isZero q N (vectorAt q N o0 o1 z (19 * N) 8)) × (d2 ≡ threeBytes q N (vectorAt q N o0 o1 z (19 * N) 8))
-      second = lent-excess q N o0 o1 z (19 * N) (22 * N - 19 * N) 8 (8 * N) (omega arith) (omega arith) r2 d2 y2 e2
+      second = told-excess q N o0 o1 z (19 * N) 8 (8 * N) (omega arith) r2 d2 y2 e2
 
       pub e-nonzero : not r2 ≡ true → (5 ≡ solvedBy q N o0 o1 z) × (d2 ≡ writtenBy q N o0 o1 z)
       unfolding solved writtenVectors
@@ -54,29 +54,17 @@ module _ (q N : ℕ) (o0 o1 : Bytes) (z : List ℕ) where
 module _ (P : Parameters) (m : ℕ) (x : Openings) where
   open Parameters P using (q, N, k)
 
-  abbrev s : Setting
-  s = setting q N k (pairs P m x)
-
-  abbrev one : Answer1
-  one = answer1Of N (x .answer1)
-
-  abbrev two : Answer2
-  two = answer2Of N (x .answer2)
-
-  abbrev three : Answer3
-  three = answer3Of N (x .answer3)
-
   abbrev agree1 : Bool
-  agree1 = same (one-by2 s two) (one-by3 s three)
+  agree1 = same (one-by2 (argument P m x) (read2 P m x)) (one-by3 (argument P m x) (read3 P m x))
 
   abbrev agree2 : Bool
-  agree2 = same (two-by1 s one) (two-by3 s three)
+  agree2 = same (two-by1 (argument P m x) (read1 P m x)) (two-by3 (argument P m x) (read3 P m x))
 
   abbrev agree3 : Bool
-  agree3 = same (three-by1 s one) (three-by2 s two)
+  agree3 = same (three-by1 (argument P m x) (read1 P m x)) (three-by2 (argument P m x) (read2 P m x))
 
   abbrev lowest : ℕ
-  lowest = differing s one two three
+  lowest = differing (argument P m x) (read1 P m x) (read2 P m x) (read3 P m x)
 
   abbrev keyBytes : Bytes
   keyBytes = ternaryBytes q N (polynomial N (unknowns P m x) 0) ++ (ternaryBytes q N (polynomial N (unknowns P m x) 1) ++ zeros (22 * N))
@@ -115,9 +103,9 @@ module _ (P : Parameters) (m : ℕ) (x : Openings) where
   none-written e = by-kind (zeros (24 * N)) (threeBytes q N (vector-s P m x)) (threeBytes q N (vector-e P m x)) keyBytes (isZero q N (vector-s P m x)) (isZero q N (vector-e P m x)) (kind P m x) (none-found e)
 
   -- the same where the pairs of the head, and extended + R and R, are lent with lengths that are differences of places
-  module _ (i d : ℕ) (ei : i ≡ 64 * N) (ed : d ≡ differing (setting q N k (take i (drop (16 * N) (x .head)))) one two three) where
+  module _ (i d : ℕ) (ei : i ≡ 64 * N) (ed : d ≡ differing (setting q N k (take i (drop (16 * N) (x .head)))) (read1 P m x) (read2 P m x) (read3 P m x)) where
     lent-digest : d ≡ lowest
-    lent-digest = ed ∙ ap (λ (j : ℕ). differing (setting q N k (take j (drop (16 * N) (x .head)))) one two three) ei
+    lent-digest = ed ∙ ap (λ (j : ℕ). differing (setting q N k (take j (drop (16 * N) (x .head)))) (read1 P m x) (read2 P m x) (read3 P m x)) ei
 
     lent-found : d ≢ 0 → (d ≡ kind P m x) × (zeros (24 * N) ≡ extracted P m x)
     lent-found h = digest-found d lent-digest h

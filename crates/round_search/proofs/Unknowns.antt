@@ -104,12 +104,17 @@ module _ (q N : ℕ) (r0 r1 : Bytes) (z : List ℕ) where
       ∙ ap₂ _++_ (encode-cong N (λ k l. excess-part first N (j + 1) (j + 3 + 1) (omega (arith, add-mul j 1 N)) (omega (arith, add-mul j 3 N, add-mul (j + 3) 1 N)) k l))
       (encode-cong N (λ k l. (let i : N + (N + k) ≡ 2 * N + k = omega arith in ap f i) ∙ excess-part first (2 * N) (j + 2) (j + 3 + 2) (omega (arith, add-mul j 2 N)) (omega (arith, add-mul j 3 N, add-mul (j + 3) 2 N)) k l)))
 
--- the same of the r of two openings, lent with a length that is a difference of places; and whether it is zero
-pub lent-excess : (q N : ℕ) (o0 o1 : Bytes) (z : List ℕ) (at m j first : ℕ) → m ≡ 3 * N → first ≡ j * N → (r : Bool) (d : Bytes) → r ≡ same d (zeros (24 * N))
-    → d ≡ encode (3 * N) (modulo q (excess q N (take m (drop at o0)) (take m (drop at o1)) z first))
+-- the same of the r of two openings, lent with a length that is a difference of places
+pub lent-excess : (q N : ℕ) (o0 o1 : Bytes) (z : List ℕ) (at m first : ℕ) → m ≡ 3 * N → {d : Bytes}
+    → d ≡ encode (3 * N) (modulo q (excess q N (take m (drop at o0)) (take m (drop at o1)) z first)) → d ≡ encode (3 * N) (modulo q (excess q N (part o0 at (3 * N)) (part o1 at (3 * N)) z first))
+lent-excess q N o0 o1 z at m first em e = e ∙ ap (λ (k : ℕ). encode (3 * N) (modulo q (excess q N (take k (drop at o0)) (take k (drop at o1)) z first))) em
+
+-- and whether it is zero
+pub told-excess : (q N : ℕ) (o0 o1 : Bytes) (z : List ℕ) (at j first : ℕ) → first ≡ j * N → (r : Bool) (d : Bytes) → r ≡ same d (zeros (24 * N))
+    → d ≡ encode (3 * N) (modulo q (excess q N (part o0 at (3 * N)) (part o1 at (3 * N)) z first))
     → (r ≡ isZero q N (lessUnknowns q N (part o0 at (3 * N)) (part o1 at (3 * N)) z j)) × (d ≡ threeBytes q N (lessUnknowns q N (part o0 at (3 * N)) (part o1 at (3 * N)) z j))
-lent-excess q N o0 o1 z at m j first em ef r d y e =
-    let w = e ∙ ap (λ (k : ℕ). encode (3 * N) (modulo q (excess q N (take k (drop at o0)) (take k (drop at o1)) z first))) em ∙ excess-bytes q N (part o0 at (3 * N)) (part o1 at (3 * N)) z j first ef in
+told-excess q N o0 o1 z at j first ef r d y e =
+    let w = e ∙ excess-bytes q N (part o0 at (3 * N)) (part o1 at (3 * N)) z j first ef in
     (y ∙ ap (λ (s : Bytes). same s (zeros (24 * N))) w, w)
 
 -- ---- the key: two polynomials as ternary bytes, and zeros

@@ -5,7 +5,7 @@ ghost use mathlib.Core.List.{_++_};
 ghost use Prim.Native.Nat.{_+_, _*_, _%_, _≤_, _<_, _^_};
 ghost use lib.Dec.{eqb};
 ghost use lib.ListN.{length, getD};
-ghost use Rattle.codec.specs.Bytes.{put, zeros, same};
+ghost use Rattle.codec.specs.Bytes.{part, put, zeros, same};
 ghost use Rattle.codec.specs.Slices.{given, left};
 ghost use Rattle.ring.specs.Poly.{modulo};
 ghost use Rattle.ring.specs.Slots.{encode};
@@ -64,26 +64,37 @@ fn write_excess(
     }
 }
 
-// Writes them, and answers whether they are all zero.
+// Writes them, for the three r of two openings at a place, and answers whether they are all zero.
 fn vanishes(
     work: &mut [u8],
     out: &mut [u8],
-    r0: &[u8],
-    r1: &[u8],
+    opening0: &[u8],
+    opening1: &[u8],
     u: &[u8],
     r: &[u8],
+    at: usize,
     first: usize,
     n: usize,
     q: u64,
 ) -> bool
-    requires { ⌜ (n ≤ 2048) × (3 ≤ q) × (q < 2 ^ 56) × (length (now r0) ≡ 3 * n) × (length (now r1) ≡ 3 * n)
+    requires { ⌜ (n ≤ 2048) × (3 ≤ q) × (q < 2 ^ 56) × (at + 3 * n ≤ length (now opening0)) × (at + 3 * n ≤ length (now opening1))
         × MaskedVectors q n (now u) (now r) × (first + 6 * n ≤ 14 * n) × (length (now out) ≡ 24 * n)
-        × (length (now work) ≡ scratchLength) ⌝ }
-    ensures { λ yes. ⌜ (yes ≡ same (left out) (zeros (24 * n)))
-        × ((left out ≡ encode (3 * n) (modulo q (excess q n (given r0) (given r1) (unknownsOf q n (given u) (given r)) first)))
+        × (length (now work) ≡ scratchLength) × (at ≤ 19 * n) ⌝ }
+    ensures { λ yes. let z = unknownsOf q n (given u) (given r) in ⌜ (yes ≡ same (left out) (zeros (24 * n)))
+        × ((left out ≡ encode (3 * n) (modulo q (excess q n (part (given opening0) at (3 * n)) (part (given opening1) at (3 * n)) z first)))
         × Free (given work) (left work)) ⌝ }
 {
-    write_excess(out, r0, r1, u, r, first, n, q);
+    let end = at + 3 * n;
+    write_excess(
+        out,
+        &opening0[at..end],
+        &opening1[at..end],
+        u,
+        r,
+        first,
+        n,
+        q,
+    );
     vector::clear(work, 0, 24 * n);
     codec::equal(out, &work[0..24 * n])
 }
@@ -142,33 +153,10 @@ pub fn solve(
     ensures { λ kind. let z = unknownsOf q n (given u) (given r) in ⌜ (kind ≡ solvedBy q n (given opening0) (given opening1) z)
         × ((left out ≡ writtenBy q n (given opening0) (given opening1) z) × Free (given work) (left work)) ⌝ }
 {
-    let s = 16 * n;
-    let e = 19 * n;
-    let end = 22 * n;
-    if !vanishes(
-        work,
-        out,
-        &opening0[s..e],
-        &opening1[s..e],
-        u,
-        r,
-        2 * n,
-        n,
-        q,
-    ) {
+    if !vanishes(work, out, opening0, opening1, u, r, 16 * n, 2 * n, n, q) {
         return 4;
     }
-    if !vanishes(
-        work,
-        out,
-        &opening0[e..end],
-        &opening1[e..end],
-        u,
-        r,
-        8 * n,
-        n,
-        q,
-    ) {
+    if !vanishes(work, out, opening0, opening1, u, r, 19 * n, 8 * n, n, q) {
         return 5;
     }
     write_key(out, u, r, n, q);

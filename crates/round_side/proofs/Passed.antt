@@ -20,8 +20,8 @@ use Rattle.vector.specs.Vector.{vector}
 use Rattle.stern.specs.Shortness.{inRange}
 use Rattle.stern.proofs.Written.{vector-below}
 use Rattle.round.specs.Layout.{ballotLength, headLength, uAt, pairsOf, answerAt}
-use Rattle.round.specs.Round.{Round, Lengths, challengeAt, isChallenge, ballotsRanged, openingRanged, headRanged, answersRanged, ranged}
-use Rattle.round.specs.Internal.{Batch, Shares}
+use Rattle.round.specs.Round.{Round, challengeAt, isChallenge, ballotsRanged, openingRanged, headRanged, answersRanged, ranged}
+use Rattle.round.specs.Internal.{Batch, Shares, Lengths}
 use Rattle.round.proofs.Many.{stretch}
 use Rattle.round.proofs.Written.{below-slot, coefficients-vector}
 use Rattle.round.proofs.Compared.{lent-public}

@@ -19,8 +19,8 @@ use Rattle.sheet.specs.declared.Reading.the-variants.{Taken, Refused}
 use Rattle.sheet_numbers.specs.Internal.{Usable}
 use Rattle.sheet_numbers.proofs.Ranges.{usable}
 use Rattle.sheet.proofs.Taken.{onwards, order-first, taken}
-use Rattle.scratch.specs.Call.{coefficients, zeroized, refusal}
-use Rattle.scratch.specs.Internal.{Polynomial, Called}
+use Rattle.scratch.specs.Call.{coefficients, zeroized}
+use Rattle.scratch.specs.Internal.{Polynomial, Called, refusal}
 use Rattle.scratch.proofs.Zeroizing.{leaves-refused}
 use Rattle.scratch.proofs.Sheets.{put-room, lent-public, lent-alike}
 

@@ -8,12 +8,9 @@ use lib.ListN.{length, getD}
 use Rattle.codec.specs.Bytes.{Bytes, zeros, same}
 use Rattle.codec.specs.Reply.{Test, test, numberOf}
 use Rattle.codec.specs.declared.Reply.{Reply}
-use Rattle.codec.specs.declared.Reply.the-variants.{Taken, Refused}
 use Rattle.codec.specs.Lists.{list, allBelow}
 use Rattle.ring.specs.Poly.{Poly}
 use Rattle.ring.specs.Slots.{poly}
-use Rattle.sheet.specs.declared.Reading.{Reading}
-use Rattle.sheet.specs.declared.Reading.the-variants as sheets
 
 -- scratch: 64 slots of 16,384 bytes, each with room for a polynomial of 2048 coefficients
 abbrev pub scratchLength : ℕ
@@ -22,11 +19,6 @@ scratchLength = 1048576
 -- what a call leaves in scratch, of any length
 unfoldable pub zeroized : Reply → Bytes → Bytes
 zeroized r w = cond (eqb (numberOf r) 1 || eqb (numberOf r) 31) w (zeros (length w))
-
--- what a call answers that ends with what is said of its sheet
-abbrev pub refusal : Reading → Reply
-refusal (sheets.Taken k) = Taken
-refusal (sheets.Refused number) = Refused number 0
 
 -- ---- tests of lent slices
 

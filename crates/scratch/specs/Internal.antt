@@ -6,9 +6,11 @@ use lib.ListN.{length}
 use Rattle.codec.specs.Bytes.{Bytes, part, zeros}
 use Rattle.codec.specs.Reply.{Test, first, leaves}
 use Rattle.codec.specs.declared.Reply.{Reply}
+use Rattle.codec.specs.declared.Reply.the-variants.{Taken, Refused}
 use Rattle.ring.specs.Poly.{Poly, Below}
 use Rattle.ring.specs.Slots.{coefficientBytes, poly}
 use Rattle.scratch.specs.Call.{zeroized}
+use Rattle.sheet.specs.declared.Reading.{Reading}
 use Rattle.sheet.specs.declared.Reading.the-variants as sheets
 
 -- scratch that a function leaves free, for its caller to zero or to use on: it is as long as before
@@ -50,3 +52,8 @@ pub record Polynomial (n q : ℕ) (a : Bytes) : Type 0 where
 pub record InSlot (q n : ℕ) (f : Poly) (w w' : Bytes) : Type 0 where
   pub sized : Free w w'
   pub bytes : part w' 0 (8 * n) ≡ coefficientBytes q n f
+
+-- what a call answers that ends with what is said of its sheet
+abbrev pub refusal : Reading → Reply
+refusal (sheets.Taken k) = Taken
+refusal (sheets.Refused number) = Refused number 0

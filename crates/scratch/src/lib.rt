@@ -6,7 +6,8 @@ ghost use mathlib.Core.List.{[], _∷_};
 ghost use Prim.Native.Nat.{_+_, _*_, _≤_};
 ghost use lib.ListN.{length};
 ghost use Rattle.codec.specs.Bytes.{part, put, same};
-ghost use Rattle.scratch.specs.Call.{bytesBelow, coefficientsBelow, zeroized, refusal};
+ghost use Rattle.scratch.specs.Call.{bytesBelow, coefficientsBelow, zeroized};
+ghost use Rattle.scratch.specs.Internal.{refusal};
 
 // The length of scratch, for every call that is lent one: 64 slots of 16,384 bytes, each with room for a polynomial of 2048 coefficients.
 pub const SCRATCH: usize = 1048576;

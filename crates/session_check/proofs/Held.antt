@@ -13,8 +13,7 @@ use Rattle.codec.proofs.Replies.{taken-exactly}
 use Rattle.sheet.specs.Reader.{sheetOf}
 use Rattle.sheet_numbers.specs.declared.Numbers.{Numbers}
 use Rattle.scratch.specs.Call.{scratchLength}
-use Rattle.round.specs.Round.{Lengths}
-use Rattle.round.specs.Internal.{roundOf}
+use Rattle.round.specs.Internal.{roundOf, Lengths}
 use Rattle.round_lengths.specs.Calls.{messageSized, secondSized}
 use Rattle.commitment.specs.Parameters as sheets
 use Rattle.round_lengths.proofs.Sizes.{check-lengths}

@@ -15,7 +15,7 @@ use Rattle.codec.proofs.Laws.{both, same-refl, same-equal}
 use Rattle.codec.proofs.Replies.{not-taken}
 use Rattle.sheet.specs.Sheet.{order}
 use Rattle.scratch.specs.Call.{scratchLength}
-use Rattle.round.specs.Round.{Lengths}
+use Rattle.round.specs.Internal.{Lengths}
 use Rattle.round.proofs.Many.{none-append, append-none}
 use Rattle.round_lengths.specs.Calls.{messageSized, secondSized}
 use Rattle.round_lengths.proofs.Sizes.{message-sizes, second-sizes}

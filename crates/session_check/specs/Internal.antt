@@ -1,7 +1,10 @@
 -- What the contracts of inner functions and the proofs go by: no exported contract and no claim cites this file. Assumes nothing.
 use mathlib.Core.Path.{_≡_}
+use mathlib.Core.Bool.{false}
+use Prim.Native.Nat.{_≤_}
 use Rattle.codec.specs.Bytes.{Bytes}
 use Rattle.codec.specs.Reply.{first}
+use Rattle.sheet_numbers.specs.Rules.{outside}
 use Rattle.scratch.specs.Call.{zeroized}
 use Rattle.round.specs.Round.{roundTests}
 use Rattle.session_check.specs.declared.stored.Stored.{Stored}
@@ -42,3 +45,7 @@ takenOutcome P s x = verdict (first (lentTests s x)) (first (roundTests P (s .cl
 
 abbrev pub TakenChecked : Parameters → Stored → Inputs → Verdict → (scratch : Bytes) → Type 0
 TakenChecked P s x v scratch = (v ≡ takenOutcome P s x) × (scratch ≡ zeroized (replyOfVerdict v) (x .scratch))
+
+-- numbers and a count as a valid session has them
+abbrev pub Within : Stored → Type 0
+Within s = (outside (s .numbers) ≡ false) × (s .closed ≤ 4096)

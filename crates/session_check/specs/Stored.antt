@@ -1,14 +1,12 @@
 -- What is lent to the check of a round, compared with what a session holds (document 01, the order of check): 1 by the session's numbers and closed count, then 16. What a
 -- session holds is the code's own `Stored`. Assumes nothing.
-use mathlib.Core.Path.{_≡_}
-use mathlib.Core.Bool.{Bool, false, not, _&&_}
+use mathlib.Core.Bool.{Bool, not, _&&_}
 use mathlib.Core.List.{List, [], _∷_}
-use Prim.Native.Nat.{ℕ, _≤_}
+use Prim.Native.Nat.{ℕ}
 use Rattle.codec.specs.Bytes.{Bytes, same}
 use Rattle.codec.specs.Reply.{Test, test}
 use Rattle.sha3.specs.Sponge.{sha3}
 use Rattle.sheet.specs.Reader.{sheetOf}
-use Rattle.sheet_numbers.specs.Rules.{outside}
 use Rattle.sheet_numbers.specs.declared.Numbers.{Numbers}
 use Rattle.round.specs.Layout.{ballotLength}
 use Rattle.round.specs.Round.{Round}
@@ -49,10 +47,6 @@ sameNumbers a b =
     same (a .ring ∷ a .modulus ∷ a .drown ∷ a .rounds ∷ a .repeats ∷ []) (b .ring ∷ b .modulus ∷ b .drown ∷ b .rounds ∷ b .repeats ∷ [])
 
 module _ (s : Stored) where
-  -- numbers and a count as a valid session has them
-  abbrev pub Within : Type 0
-  Within = (outside (s .numbers) ≡ false) × (s .closed ≤ 4096)
-
   -- what was drawn for the round
   abbrev pub sideOf : ℕ
   sideOf = drawnSide (s .seed) (s .round)

@@ -6,9 +6,8 @@ use crate::stored::Stored;
 use codec::Reply;
 ghost use mathlib.Core.Path.{_≡_};
 ghost use Rattle.codec.specs.Slices.{left};
-ghost use Rattle.session_check.specs.Stored.{Within};
 ghost use Rattle.session_check.specs.Check.{inputsIn};
-ghost use Rattle.session_check.specs.Internal.{replyOfVerdict, CheckMade};
+ghost use Rattle.session_check.specs.Internal.{replyOfVerdict, CheckMade, Within};
 
 // What a check comes to: stopped before the round was looked at, failed by the round itself, or passed.
 pub enum Verdict {

@@ -11,7 +11,8 @@ ghost use lib.ListN.{length};
 ghost use Rattle.codec.specs.Reply.{first};
 ghost use Rattle.sheet.specs.Reader.{sheetOf};
 ghost use Rattle.round.specs.Layout.{ballotLength};
-ghost use Rattle.session_check.specs.Stored.{Within, challengesOf, inputsOf, sameNumbers, inputsSized, storedTests, lentTests};
+ghost use Rattle.session_check.specs.Stored.{challengesOf, inputsOf, sameNumbers, inputsSized, storedTests, lentTests};
+ghost use Rattle.session_check.specs.Internal.{Within};
 
 // What a session holds for the check of a round: the sheet's numbers, how many ballots were closed, the digests of the sheet, of closing,
 // of the claims and of the

@@ -13,9 +13,9 @@ ghost use Rattle.sheet.specs.Reader.{sheetOf};
 ghost use Rattle.commitment.specs.Internal.{Loaded};
 ghost use Rattle.commitment.specs.Parameters.{parameters};
 ghost use Rattle.session_digests.specs.Draw.{drawnChallenges};
-ghost use Rattle.session_check.specs.Stored.{Within, sideOf, challengesOf};
+ghost use Rattle.session_check.specs.Stored.{sideOf, challengesOf};
 ghost use Rattle.session_check.specs.Check.{inputsIn};
-ghost use Rattle.session_check.specs.Internal.{verdict, TakenChecked};
+ghost use Rattle.session_check.specs.Internal.{verdict, TakenChecked, Within};
 
 // The challenges that are drawn for a round, at the head of room for as many as there can be.
 fn challenges_of(seed: &[u8; 32], round: u16, repeats: usize) -> [u8; 256]

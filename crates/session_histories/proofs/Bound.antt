@@ -73,29 +73,29 @@ module _ (s : Session) (h : History) (k : Kept s h) (m : Measured s h) (round : 
 
   -- the session's digests are those of the strings
   sheet-is : s .sheet ≡ sha3 (h .sheet)
-  sheet-is = k .sheet
+  sheet-is = k .origin .sheet
 
   closing-is : s .closing ≡ sha3 (batchString h (h .batch))
   unfolding closingDigest
-  closing-is = k .closing (let l = late in omega arith) ∙ ap (λ (d : Bytes). sha3 (d ++ concatenated (h .batch))) sheet-is
+  closing-is = k .digests .closing (let l = late in omega arith) ∙ ap (λ (d : Bytes). sha3 (d ++ concatenated (h .batch))) sheet-is
 
   claim-is : s .claim ≡ sha3 (claimsString h (h .claims))
   unfolding claimDigest
-  claim-is = k .claim (let l = late in omega arith) ∙ ap (λ (d : Bytes). sha3 (d ++ h .claims)) closing-is
+  claim-is = k .digests .claim (let l = late in omega arith) ∙ ap (λ (d : Bytes). sha3 (d ++ h .claims)) closing-is
 
   committed : round < s .progress .committed
-  committed = let all = k .whole late in let within = r .within in omega arith
+  committed = let all = k .counts .whole late in let within = r .within in omega arith
 
   message-is : trailAt s round ≡ sha3 (messageString h round (h .firsts round))
   unfolding trailAt roundDigest
   message-is =
       let f = h .firsts round in
-      k .trail (let l = late in omega arith) round committed ∙ ap (λ (d : Bytes). sha3 (d ++ (bytes 2 round ++ (f .head ++ (f .shares0 ++ f .shares1))))) claim-is
+      k .digests .trail (let l = late in omega arith) round committed ∙ ap (λ (d : Bytes). sha3 (d ++ (bytes 2 round ++ (f .head ++ (f .shares0 ++ f .shares1))))) claim-is
 
   -- and so are those of what is lent
   lent-closing : sha3 (batchString h (lentBatch h x)) ≡ sha3 (batchString h (h .batch))
   unfolding closingDigest
-  lent-closing = rw (← (k .numbers), ← (k .closed (let l = late in omega arith)), ← sheet-is) (r .matches .ballots ∙ k .closing (let l = late in omega arith))
+  lent-closing = rw (← (k .origin .numbers), ← (k .digests .closed (let l = late in omega arith)), ← sheet-is) (r .matches .ballots ∙ k .digests .closing (let l = late in omega arith))
 
   lent-claim : sha3 (claimsString h (x .claims)) ≡ sha3 (claimsString h (h .claims))
   unfolding claimDigest

@@ -117,7 +117,7 @@ module _ (sheet : Bytes) (m : ℕ) (ballot : ℕ → Bytes) (material : ℕ → 
   claimed-now : Committing 0 with-claims
   unfolding claimedBy historyAfter
   claimed-now =
-      let zero-committed = shut-on .kept .uncommitted (let one = shut-phase in omega arith) in
+      let zero-committed = shut-on .kept .counts .uncommitted (let one = shut-phase in omega arith) in
       subst (Committing 0) (sym (extend-is (claim claims) shut claims-taken)) (record {
         closed = closed-next sheet m ballots (claim claims) shut shut-closed claims-taken refl refl refl;
         phase = refl;
@@ -192,7 +192,7 @@ module _ (sheet : Bytes) (m : ℕ) (ballot : ℕ → Bytes) (material : ℕ → 
   drawn-now =
       let h = all-committed in
       let two = h .phase in
-      let none-checked = h .closed .on-sheet .kept .unchecked (omega arith) in
+      let none-checked = h .closed .on-sheet .kept .counts .unchecked (omega arith) in
       subst (Checking 0) (sym (extend-is (draw seed) with-messages draw-taken)) (record {
         closed = closed-next sheet m ballots (draw seed) with-messages (h .closed) draw-taken refl refl refl;
         checked = none-checked;

@@ -9,9 +9,6 @@ use Rattle.codec.specs.Lists.{list}
 use Rattle.codec.specs.declared.Reply.the-variants.{Taken}
 use Rattle.codec.proofs.Lists.{length-list}
 use Rattle.sha3.specs.Sponge.{sha3}
-use Rattle.sheet.specs.Reader.{sheetOf}
-use Rattle.sheet_numbers.specs.declared.Numbers.{Numbers}
-use Rattle.commitment.specs.Parameters.{Parameters, parametersOf}
 use Rattle.round.specs.Producer.{Material}
 use Rattle.register.specs.Register.{registerLength, markAt, stateAt, markOf, admitted}
 use Rattle.register.proofs.Entries.{admitted-length, admitted-marks, admitted-states, admitted-mark, admitted-state}
@@ -28,15 +25,6 @@ use Rattle.session_histories.proofs.Roll.{roll-is-batch}
 use Rattle.session_histories.proofs.Stages.{trace-append, trace-none, trace-next, extend-is, up-to, by-last, On, numbers, on-next, Closed}
 
 module _ (sheet : Bytes) (m : ℕ) (ballot : ℕ → Bytes) (material : ℕ → Material) (claims seed : Bytes) (c : Countable sheet m ballot material claims seed) (readable : Begins (on sheet)) where
-  abbrev P : Parameters
-  P = parametersOf sheet
-
-  abbrev k : Numbers
-  k = sheetOf sheet .numbers
-
-  abbrev ballots : Bytes
-  ballots = batch sheet m ballot material claims seed
-
   -- ---- admit
 
   record Gathering (n : ℕ) (t : OwnTrace) : Type 0 where
@@ -143,7 +131,7 @@ module _ (sheet : Bytes) (m : ℕ) (ballot : ℕ → Bytes) (material : ℕ → 
   shut-on : On sheet shut
   shut-on = subst (On sheet) (sym (extend-is close gathered closes)) (on-next sheet close gathered (g .on-sheet) closes (unfold historyAfter in refl))
 
-  pub shut-closed : Closed sheet m ballots shut
+  pub shut-closed : Closed sheet m (batch sheet m ballot material claims seed) shut
   shut-closed =
       let one = shut-phase in
       let of : OwnTrace → Type 0 = λ t. 0 < t .now .session .progress .phase
@@ -155,5 +143,5 @@ module _ (sheet : Bytes) (m : ℕ) (ballot : ℕ → Bytes) (material : ℕ → 
         on-sheet = shut-on;
         batched = (λ i. ballotDigests (ballotLength (sym (numbers sheet shut shut-on) i .ring)) (length (shut .history .batch)) (concatenated (sym shut-roll i))) ∙ r .2;
         count = count;
-        closed = shut-on .kept .closed (omega arith) ∙ count;
+        closed = shut-on .kept .digests .closed (omega arith) ∙ count;
       }

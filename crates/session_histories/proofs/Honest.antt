@@ -98,13 +98,13 @@ module _ (l : Trace) (k : Kept (l .session) (l .history)) (material : Material) 
   made = turn .made
 
   sheet-taken : SheetTaken (x .sheet)
-  sheet-taken = rw (turn .sheet) (k .taken)
+  sheet-taken = rw (turn .sheet) (k .origin .taken)
 
   numbers : sheetOf (x .sheet) .numbers ≡ s .numbers
-  numbers = rw (turn .sheet) (sym (k .numbers))
+  numbers = rw (turn .sheet) (sym (k .origin .numbers))
 
   closed : s .progress .closed ≡ count
-  closed = let phase = turn .phase in k .closed (omega arith)
+  closed = let phase = turn .phase in k .digests .closed (omega arith)
 
   -- ---- the lengths
 
@@ -126,22 +126,22 @@ module _ (l : Trace) (k : Kept (l .session) (l .history)) (material : Material) 
   unfolding trailAt
   matches =
       let phase = turn .phase in
-      let next = k .next phase in
+      let next = k .counts .next phase in
       let due = turn .due in
-      let all = k .whole (omega arith) in
+      let all = k .counts .whole (omega arith) in
       let batch : ballotDigests (ballotLength (s .numbers .ring)) (s .progress .closed) (x .ballots) ≡ l .history .batch = rw (closed, ← numbers) (turn .batch) in
       record {
-        sheet = ap sha3 (turn .sheet) ∙ sym (k .sheet);
+        sheet = ap sha3 (turn .sheet) ∙ sym (k .origin .sheet);
         numbers = numbers;
-        ballots = ap (closingDigest (s .sheet)) batch ∙ sym (k .closing (omega arith));
-        claims = ap (claimDigest (s .closing)) (turn .claims) ∙ sym (k .claim (omega arith));
-        message = ap (messageDigest (s .claim) round) (turn .first-message) ∙ sym (k .trail (omega arith) round (omega arith));
+        ballots = ap (closingDigest (s .sheet)) batch ∙ sym (k .digests .closing (omega arith));
+        claims = ap (claimDigest (s .closing)) (turn .claims) ∙ sym (k .digests .claim (omega arith));
+        message = ap (messageDigest (s .claim) round) (turn .first-message) ∙ sym (k .digests .trail (omega arith) round (omega arith));
       }
 
   pub turn-accepted : first (checkTests s round x) ≡ Taken
   unfolding checkTests
   turn-accepted =
-      let next = k .next (turn .phase) in
+      let next = k .counts .next (turn .phase) in
       let due = turn .due in
       taken-exactly (checkTests s round x) .1
       (none-append (checkEarly s round x) (checkLate s round x) (reaches-exactly s round x .1 (record { sound = k .sound; phase = turn .phase; due = due; within = omega arith; sheet = sheet-taken; lengths = lengths; matches = matches }))

@@ -14,6 +14,7 @@ use Rattle.codec.specs.declared.Reply.the-variants.{Taken}
 use Rattle.codec.proofs.Laws.{length-put, part-put, part-put-before}
 use Rattle.codec.proofs.Replies.{taken-exactly}
 use Rattle.sha3.specs.Sponge.{sha3}
+use Rattle.sheet_numbers.specs.declared.Numbers.{Numbers}
 use Rattle.sheet.specs.Reader.{sheetOf}
 use Rattle.sheet.specs.Sheet.{order}
 use Rattle.register.specs.Register.{digestAt, standing, standingDigests}
@@ -36,37 +37,41 @@ use Rattle.session_histories.proofs.Exact.{cleared-exactly, admitted-ex
 abbrev pub messageDigest : Bytes → (k : ℕ) → Message → Bytes
 messageDigest d k m = roundDigest d k (m .head) (m .shares0) (m .shares1)
 
+-- what clear sets and no later step changes: the numbers k of the sheet's text, and its digest
+pub record Origin (k : Numbers) (digest text : Bytes) : Type 0 where
+  pub taken : SheetTaken text
+  pub numbers : k ≡ sheetOf text .numbers
+  pub sheet : digest ≡ sha3 text
+
+-- how many rounds are committed and checked in a phase
+pub record Counts (phase committed checked rounds : ℕ) : Type 0 where
+  pub uncommitted : phase < 2 → committed ≡ 0
+  pub unchecked : phase < 3 → checked ≡ 0
+  pub whole : 2 < phase → committed ≡ rounds
+  pub next : phase ≡ 3 → checked < rounds
+
+-- d, c, m are the digests of sheet, closing and claims, ds those of the rounds committed, n the closed count
+pub record Digests (d c m ds : Bytes) (phase n committed : ℕ) (h : History) : Type 0 where
+  pub closing : 0 < phase → c ≡ closingDigest d (h .batch)
+  pub closed : 0 < phase → n ≡ length (h .batch)
+  pub claim : 1 < phase → m ≡ claimDigest c (h .claims)
+  pub trail : 1 < phase → (j : ℕ) → j < committed → part ds (32 * j) 32 ≡ messageDigest m j (h .firsts j)
+
 pub record Kept (s : Session) (h : History) : Type 0 where
   pub sound : ValidSession s
-  pub taken : SheetTaken (h .sheet)
-  pub numbers : s .numbers ≡ sheetOf (h .sheet) .numbers
-  pub sheet : s .sheet ≡ sha3 (h .sheet)
+  pub origin : Origin (s .numbers) (s .sheet) (h .sheet)
   pub long : length (s .trail) ≡ 4096
-  pub uncommitted : s .progress .phase < 2 → s .progress .committed ≡ 0
-  pub unchecked : s .progress .phase < 3 → s .progress .checked ≡ 0
-  pub closing : 0 < s .progress .phase → s .closing ≡ closingDigest (s .sheet) (h .batch)
-  pub closed : 0 < s .progress .phase → s .progress .closed ≡ length (h .batch)
-  pub claim : 1 < s .progress .phase → s .claim ≡ claimDigest (s .closing) (h .claims)
-  pub trail : 1 < s .progress .phase → (j : ℕ) → j < s .progress .committed → part (s .trail) (32 * j) 32 ≡ messageDigest (s .claim) j (h .firsts j)
-  pub whole : 2 < s .progress .phase → s .progress .committed ≡ s .numbers .rounds
-  pub next : s .progress .phase ≡ 3 → s .progress .checked < s .numbers .rounds
+  pub counts : Counts (s .progress .phase) (s .progress .committed) (s .progress .checked) (s .numbers .rounds)
+  pub digests : Digests (s .sheet) (s .closing) (s .claim) (s .trail) (s .progress .phase) (s .progress .closed) (s .progress .committed) h
 
 kept-clear : (b : Beginning) → SheetTaken (b .sheet) → Kept (cleared b) (emptyHistory b)
 unfolding cleared
 kept-clear b t = record {
   sound = record { phase = omega arith; inside = t .inside; sound = t .sound; used = omega arith; closed = omega arith; committed = omega arith; checked = omega arith };
-  taken = t;
-  numbers = refl;
-  sheet = refl;
+  origin = record { taken = t; numbers = refl; sheet = refl };
   long = length-replicate {A = ℕ} 4096 0;
-  uncommitted = λ l. refl;
-  unchecked = λ l. refl;
-  closing = λ l. absurd (omega arith);
-  closed = λ l. absurd (omega arith);
-  claim = λ l. absurd (omega arith);
-  trail = λ l. absurd (omega arith);
-  whole = λ l. absurd (omega arith);
-  next = λ l. absurd (omega arith);
+  counts = record { uncommitted = λ l. refl; unchecked = λ l. refl; whole = λ l. absurd (omega arith); next = λ l. absurd (omega arith) };
+  digests = record { closing = λ l. absurd (omega arith); closed = λ l. absurd (omega arith); claim = λ l. absurd (omega arith); trail = λ l. absurd (omega arith) };
 }
 
 module _ (s : Session) (h : History) (k : Kept s h) where
@@ -79,18 +84,10 @@ module _ (s : Session) (h : History) (k : Kept s h) where
       let room = a .room in
       record {
         sound = record { phase = v .phase; inside = v .inside; sound = v .sound; used = omega arith; closed = v .closed; committed = v .committed; checked = v .checked };
-        taken = k .taken;
-        numbers = k .numbers;
-        sheet = k .sheet;
+        origin = k .origin;
         long = k .long;
-        uncommitted = k .uncommitted;
-        unchecked = k .unchecked;
-        closing = k .closing;
-        closed = k .closed;
-        claim = k .claim;
-        trail = k .trail;
-        whole = k .whole;
-        next = k .next;
+        counts = k .counts;
+        digests = k .digests;
       }
 
   kept-close : (reg : Bytes) → Closes s reg → Kept (closedBy s reg) (historyAfter close (state s reg) h)
@@ -109,59 +106,33 @@ module _ (s : Session) (h : History) (k : Kept s h) where
           committed = v .committed;
           checked = v .checked;
         };
-        taken = k .taken;
-        numbers = k .numbers;
-        sheet = k .sheet;
+        origin = k .origin;
         long = k .long;
-        uncommitted = λ l. k .uncommitted (omega arith);
-        unchecked = λ l. k .unchecked (omega arith);
-        closing = λ l. refl;
-        closed = λ l. refl;
-        claim = λ l. absurd (omega arith);
-        trail = λ l. absurd (omega arith);
-        whole = λ l. absurd (omega arith);
-        next = λ l. absurd (omega arith);
+        counts = record {
+          uncommitted = λ l. k .counts .uncommitted (omega arith);
+          unchecked = λ l. k .counts .unchecked (omega arith);
+          whole = λ l. absurd (omega arith);
+          next = λ l. absurd (omega arith);
+        };
+        digests = record { closing = λ l. refl; closed = λ l. refl; claim = λ l. absurd (omega arith); trail = λ l. absurd (omega arith) };
       }
 
   kept-claim : (st : State) (claims : Bytes) → Claims s claims → Kept (claimedBy s claims) (historyAfter (claim claims) st h)
   unfolding claimedBy historyAfter
   kept-claim st claims c =
       let was = c .phase in
+      let z = k .counts .uncommitted (omega arith) in
       record {
         sound = record { phase = omega arith; inside = v .inside; sound = v .sound; used = v .used; closed = v .closed; committed = v .committed; checked = v .checked };
-        taken = k .taken;
-        numbers = k .numbers;
-        sheet = k .sheet;
+        origin = k .origin;
         long = k .long;
-        uncommitted = λ l. absurd (omega arith);
-        unchecked = λ l. k .unchecked (omega arith);
-        closing = λ l. k .closing (omega arith);
-        closed = λ l. k .closed (omega arith);
-        claim = λ l. refl;
-        trail = λ l j g. let z = k .uncommitted (omega arith) in absurd (omega arith);
-        whole = λ l. absurd (omega arith);
-        next = λ l. absurd (omega arith);
-      }
-
-  kept-draw : (seed : Bytes) → Draws s seed → Kept (drawnBy s seed) h
-  unfolding drawnBy
-  kept-draw seed d =
-      let was = d .phase in
-      let some = v .inside .rounds-low in
-      record {
-        sound = record { phase = omega arith; inside = v .inside; sound = v .sound; used = v .used; closed = v .closed; committed = v .committed; checked = v .checked };
-        taken = k .taken;
-        numbers = k .numbers;
-        sheet = k .sheet;
-        long = k .long;
-        uncommitted = λ l. absurd (omega arith);
-        unchecked = λ l. absurd (omega arith);
-        closing = λ l. k .closing (omega arith);
-        closed = λ l. k .closed (omega arith);
-        claim = λ l. k .claim (omega arith);
-        trail = λ l. k .trail (omega arith);
-        whole = λ l. d .all;
-        next = λ l. let z = k .unchecked (omega arith) in omega arith;
+        counts = record { uncommitted = λ l. z; unchecked = λ l. k .counts .unchecked (omega arith); whole = λ l. absurd (omega arith); next = λ l. absurd (omega arith) };
+        digests = record {
+          closing = λ l. k .digests .closing (omega arith);
+          closed = λ l. k .digests .closed (omega arith);
+          claim = λ l. refl;
+          trail = λ l j g. absurd (omega arith);
+        };
       }
 
   -- ---- commit
@@ -181,12 +152,12 @@ module _ (s : Session) (h : History) (k : Kept s h) where
         omega (arith, size)
 
     -- the new digest stands at its place, and the earlier ones stay
-    digests : (j : ℕ) → Dec (j ≡ r) → j < s .progress .committed + 1 → 1 < s .progress .phase
+    stands : (j : ℕ) → Dec (j ≡ r) → j < s .progress .committed + 1 → 1 < s .progress .phase
         → part (put (s .trail) (32 * r) new) (32 * j) 32 ≡ messageDigest (s .claim) j (cond (eqb j r) (message head shares0 shares1) (h .firsts j))
-    digests j (yes e) l g = rw (e, eq-eqb r r refl) (ap (λ (n : ℕ). part (put (s .trail) (32 * r) new) (32 * r) n) (sym size) ∙ part-put (s .trail) (32 * r) new fits)
-    digests j (no e) l g =
+    stands j (yes e) l g = rw (e, eq-eqb r r refl) (ap (λ (n : ℕ). part (put (s .trail) (32 * r) new) (32 * r) n) (sym size) ∙ part-put (s .trail) (32 * r) new fits)
+    stands j (no e) l g =
         let due = c .due in
-        rw (ne-eqb j r e) (part-put-before (s .trail) (32 * r) new (32 * j) 32 fits (omega arith) ∙ k .trail g j (omega arith))
+        rw (ne-eqb j r e) (part-put-before (s .trail) (32 * r) new (32 * j) 32 fits (omega arith) ∙ k .digests .trail g j (omega arith))
 
     kept-commit : (st : State) → Kept (committedBy s r head shares0 shares1) (historyAfter (commit r head shares0 shares1) st h)
     unfolding committedBy historyAfter
@@ -196,43 +167,51 @@ module _ (s : Session) (h : History) (k : Kept s h) where
         let low = c .within in
         record {
           sound = record { phase = v .phase; inside = v .inside; sound = v .sound; used = v .used; closed = v .closed; committed = omega arith; checked = v .checked };
-          taken = k .taken;
-          numbers = k .numbers;
-          sheet = k .sheet;
+          origin = k .origin;
           long = length-put (s .trail) (32 * r) new fits ∙ k .long;
-          uncommitted = λ l. absurd (omega arith);
-          unchecked = k .unchecked;
-          closing = k .closing;
-          closed = k .closed;
-          claim = k .claim;
-          trail = λ l j g. digests j (ℕ-discrete j r) g l;
-          whole = λ l. absurd (omega arith);
-          next = k .next;
+          counts = record { uncommitted = λ l. absurd (omega arith); unchecked = k .counts .unchecked; whole = λ l. absurd (omega arith); next = k .counts .next };
+          digests = record {
+            closing = k .digests .closing;
+            closed = k .digests .closed;
+            claim = k .digests .claim;
+            trail = λ l j g. stands j (ℕ-discrete j r) g l;
+          };
         }
 
-  -- ---- check
+  -- ---- draw and check
 
   abbrev moved : (phase checked : ℕ) → Progress
   moved phase checked = record { phase = phase; used = s .progress .used; closed = s .progress .closed; committed = s .progress .committed; checked = checked }
 
-  -- one that is not stopped early leaves another phase, from drawn on, and a count
+  -- once all rounds are committed, a step leaves another phase, from drawn on, a count of checks and a seed
+  kept-moved : (phase checked : ℕ) (seed : Bytes) → 1 < s .progress .phase → 3 ≤ phase → phase ≤ 5 → s .progress .committed ≡ s .numbers .rounds
+      → checked ≤ s .numbers .rounds → (phase ≡ 3 → checked < s .numbers .rounds)
+      → Kept (changed s (moved phase checked) (s .closing) (s .claim) seed (s .trail)) h
+  kept-moved phase checked seed was low high all few next = record {
+    sound = record { phase = high; inside = v .inside; sound = v .sound; used = v .used; closed = v .closed; committed = v .committed; checked = few };
+    origin = k .origin;
+    long = k .long;
+    counts = record { uncommitted = λ l. absurd (omega arith); unchecked = λ l. absurd (omega arith); whole = λ l. all; next = next };
+    digests = record {
+      closing = λ l. k .digests .closing (omega arith);
+      closed = λ l. k .digests .closed (omega arith);
+      claim = λ l. k .digests .claim was;
+      trail = λ l. k .digests .trail was;
+    };
+  }
+
+  kept-draw : (seed : Bytes) → Draws s seed → Kept (drawnBy s seed) h
+  unfolding drawnBy
+  kept-draw seed d =
+      let was = d .phase in
+      let some = v .inside .rounds-low in
+      let none = k .counts .unchecked (omega arith) in
+      kept-moved 3 (s .progress .checked) seed (omega arith) (omega arith) (omega arith) (d .all) (omega arith) (λ l. omega arith)
+
+  -- a check in its turn
   kept-checked : (phase checked : ℕ) → s .progress .phase ≡ 3 → 3 ≤ phase → phase ≤ 5 → checked ≤ s .numbers .rounds → (phase ≡ 3 → checked < s .numbers .rounds)
       → Kept (changed s (moved phase checked) (s .closing) (s .claim) (s .seed) (s .trail)) h
-  kept-checked phase checked was low high few next = record {
-    sound = record { phase = high; inside = v .inside; sound = v .sound; used = v .used; closed = v .closed; committed = v .committed; checked = few };
-    taken = k .taken;
-    numbers = k .numbers;
-    sheet = k .sheet;
-    long = k .long;
-    uncommitted = λ l. absurd (omega arith);
-    unchecked = λ l. absurd (omega arith);
-    closing = λ l. k .closing (omega arith);
-    closed = λ l. k .closed (omega arith);
-    claim = λ l. k .claim (omega arith);
-    trail = λ l. k .trail (omega arith);
-    whole = λ l. k .whole (omega arith);
-    next = next;
-  }
+  kept-checked phase checked was low high few next = kept-moved phase checked (s .seed) (omega arith) low high (k .counts .whole (omega arith)) few next
 
   kept-accepted : s .progress .phase ≡ 3 → s .progress .checked < s .numbers .rounds → Kept (acceptedBy s) h
   unfolding acceptedBy

@@ -65,7 +65,7 @@ module _ (reg : Bytes) (s : Session) (h : History) (k : Kept s h) (m : Measured 
       record { batch = long-standing reg (s .progress .used) (c .register-size) (k .sound .used); firsts = λ l. absurd (omega arith) }
   measured-next (claim claims) e =
       let was = claimed-exactly s claims .0 e .phase in
-      record { batch = m .batch; firsts = λ l j g. let z = k .uncommitted (omega arith) in absurd (omega arith) }
+      record { batch = m .batch; firsts = λ l j g. let z = k .counts .uncommitted (omega arith) in absurd (omega arith) }
   measured-next (commit r head shares0 shares1) e = record { batch = m .batch; firsts = λ l j g. go j (ℕ-discrete j r) l g }
     where
       go : (j : ℕ) → Dec (j ≡ r) → 1 < s .progress .phase → j < s .progress .committed + 1

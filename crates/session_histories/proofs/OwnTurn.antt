@@ -161,16 +161,16 @@ module _ (b : Beginning) (readable : Begins b) (before between later last : List
         (kept-steps between claimed-now (kept-extend (claim claims) gathered k)))))
 
     pub numbers-are : with-seed .now .session .numbers ≡ sheetOf (b .sheet) .numbers
-    numbers-are = kept-last .numbers ∙ ap (λ (t : Bytes). sheetOf t .numbers) sheet-is
+    numbers-are = kept-last .origin .numbers ∙ ap (λ (t : Bytes). sheetOf t .numbers) sheet-is
 
     -- the claims that were taken are of as many ballots as were closed
     closed-count : gathered .now .session .progress .closed ≡ length (with-seed .history .batch)
-    closed-count = k .closed (omega (arith, closed-then)) ∙ sym (ap (λ (ds : List Bytes). length ds) batch-is)
+    closed-count = k .digests .closed (omega (arith, closed-then)) ∙ sym (ap (λ (ds : List Bytes). length ds) batch-is)
 
     pub claims-size : length claims ≡ sheetOf (b .sheet) .numbers .ring * gathered .now .session .progress .closed
     claims-size =
         claimed-exactly (gathered .now .session) claims .0 (unfold reply in l .claim-taken) .size
-        ∙ ap (λ (n : Numbers). n .ring * gathered .now .session .progress .closed) (k .numbers ∙ ap (λ (t : Bytes). sheetOf t .numbers) same-sheet)
+        ∙ ap (λ (n : Numbers). n .ring * gathered .now .session .progress .closed) (k .origin .numbers ∙ ap (λ (t : Bytes). sheetOf t .numbers) same-sheet)
 
     -- ---- the turn
 
@@ -178,7 +178,7 @@ module _ (b : Beginning) (readable : Begins b) (before between later last : List
         (sheet : x .sheet ≡ b .sheet) (ballots : x .ballots ≡ concatenated (gathered .roll)) (claimed : x .claims ≡ claims) (first : message (x .head) (x .shares0) (x .shares1) ≡ message head shares0 shares1)
         (made : Produced (parametersOf (x .sheet)) (gathered .now .session .progress .closed) material (with-seed .now .session .seed) round x) (scratch : length (x .scratch) ≡ scratchLength) where
       ring : sheetOf (x .sheet) .numbers .ring ≡ gathered .now .session .numbers .ring
-      ring = ap (λ (t : Bytes). sheetOf t .numbers .ring) (sheet ∙ sym same-sheet) ∙ sym (ap (λ (n : Numbers). n .ring) (k .numbers))
+      ring = ap (λ (t : Bytes). sheetOf t .numbers .ring) (sheet ∙ sym same-sheet) ∙ sym (ap (λ (n : Numbers). n .ring) (k .origin .numbers))
 
       abbrev reached : Trace
       reached = record { session = with-seed .now .session; history = with-seed .history }

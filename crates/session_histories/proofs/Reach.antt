@@ -33,7 +33,7 @@ use Rattle.session_check.specs.Stored.{Inputs, drawnRound}
 pub reachable-valid : (b : Beginning) (cs : List Call) → Begins b
     → let l = trace cs (initial b) in
     ValidSession (l .session) × (l .session .numbers ≡ sheetOf (l .history .sheet) .numbers)
-reachable-valid b cs e = let k = kept b cs e in (k .sound, k .numbers)
+reachable-valid b cs e = let k = kept b cs e in (k .sound, k .origin .numbers)
 
 -- a clear that is taken leaves what a list of steps starts from
 pub clear-taken : (start : State) (b : Beginning) → reply (clear b) start ≡ Taken → Begins b × (after (clear b) start ≡ ownInitial b .now)

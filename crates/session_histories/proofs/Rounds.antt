@@ -151,7 +151,7 @@ module _ (b : Beginning) (readable : Begins b) where
 
     step : All (cs ++ (c ∷ []))
     unfolding extend
-    step = record { of = λ k l. go (c .step) refl (moves s (c .register) (kept b cs readable .unchecked) (c .step)) k (rw (at-more cs c) at l) }
+    step = record { of = λ k l. go (c .step) refl (moves s (c .register) (kept b cs readable .counts .unchecked) (c .step)) k (rw (at-more cs c) at l) }
       where
         now : after (c .step) (lent (at cs) c) .session ≡ t
         now = ap (λ (l : Trace). l .session) (sym (at-more cs c))

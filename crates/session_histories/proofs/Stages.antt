@@ -70,7 +70,7 @@ module _ (sheet : Bytes) where
     pub sheet-is : t .history .sheet ≡ sheet
 
   pub numbers : (t : OwnTrace) → On t → t .now .session .numbers ≡ k
-  numbers t o = o .kept .numbers ∙ ap (λ (s : Bytes). sheetOf s .numbers) (o .sheet-is)
+  numbers t o = o .kept .origin .numbers ∙ ap (λ (s : Bytes). sheetOf s .numbers) (o .sheet-is)
 
   -- a step that is taken and no clear
   pub on-next : (x : Step) (t : OwnTrace) → On t → reply x (t .now) ≡ Taken → historyAfter x (t .now) (t .history) .sheet ≡ t .history .sheet → On (stepTo x t)

@@ -4,7 +4,7 @@ use sheet_numbers::Numbers;
 ghost use mathlib.Core.Path.{_≡_};
 ghost use mathlib.Core.Bool.{_&&_};
 ghost use Prim.Native.Nat.{_≤_, _<_};
-ghost use lib.Dec.{eqb};
+ghost use lib.Dec.{eqb, ltb};
 ghost use Rattle.session_progress.specs.Progress.{drawn, inLimits, commitDue, drawDue, checkDue, challengesDue, initial, withEntry};
 ghost use Rattle.session_progress.specs.Progress.{withBatch, withClaims, withMessage, withSeed, withRefusal, withAcceptance};
 
@@ -55,17 +55,24 @@ impl Progress {
         self.phase == phase
     }
 
+    // Whether all that is valid, in a phase, and the round is the one after those that were counted.
+    fn is_next(self, numbers: Numbers, phase: u8, counted: u64, round: u64) -> bool
+        ensures { λ r. ⌜ r ≡ (inLimits numbers self && (eqb (self .phase) phase && (eqb round counted && ltb round (numbers .rounds)))) ⌝ }
+    {
+        if !self.is_in(numbers, phase) {
+            return false;
+        }
+        if round != counted {
+            return false;
+        }
+        round < numbers.rounds
+    }
+
     // Whether the first message of a round is due.
     pub fn may_commit(self, numbers: Numbers, round: u64) -> bool
         ensures { λ r. ⌜ r ≡ (inLimits numbers self && commitDue numbers self round) ⌝ }
     {
-        if !self.is_in(numbers, 2) {
-            return false;
-        }
-        if round != self.committed {
-            return false;
-        }
-        round < numbers.rounds
+        self.is_next(numbers, 2, self.committed, round)
     }
 
     // Whether the seed is due: all rounds are committed.
@@ -82,13 +89,7 @@ impl Progress {
     pub fn may_check(self, numbers: Numbers, round: u64) -> bool
         ensures { λ r. ⌜ r ≡ (inLimits numbers self && checkDue numbers self round) ⌝ }
     {
-        if !self.is_in(numbers, 3) {
-            return false;
-        }
-        if round != self.checked {
-            return false;
-        }
-        round < numbers.rounds
+        self.is_next(numbers, 3, self.checked, round)
     }
 
     // Whether challenges are drawn, and the session has the round.

@@ -2,7 +2,7 @@
 use mathlib.Core.Path.{_≡_, refl, sym, ap, _∙_}
 use mathlib.Core.Bool.{Bool, true, false, _&&_}
 use mathlib.Core.List.{List, [], _∷_}
-use Prim.Native.Nat.{ℕ, zero, suc, _+_, _≤_, _<_}
+use Prim.Native.Nat.{ℕ, zero, suc, _+_, _-_, _≤_, _<_}
 use native.Mathlib.Nat.{le-of-suc-le-suc, not-suc-le-zero}
 use native.Mathlib.Numerals.{add-one}
 use lib.ListN.{length, take, getD}
@@ -34,3 +34,11 @@ module _ (f : ℕ → Bool) where
 
   pub each : (xs : List ℕ) (i : ℕ) → length xs ≤ i → every f (take i xs) ≡ true → true ≡ every f xs
   each xs i h p = sym p ∙ ap (every f) (take-all i xs h)
+
+-- a loop over five numbers, which ends at the first that fails the test f v: what holds before number i
+module _ (f : ℕ → ℕ → Bool) where
+  abbrev pub Held : (v : ℕ) (xs : List ℕ) (i₀ i : ℕ) → Type 0
+  Held v xs i₀ i = (i ≤ 5) × (every (f v) (take i xs) ≡ true)
+
+  abbrev pub left : (v : ℕ) (xs : List ℕ) (i₀ i : ℕ) → ℕ
+  left v xs i₀ i = 5 - i

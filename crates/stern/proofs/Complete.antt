@@ -7,11 +7,13 @@ use lib.ListN.{length, take}
 use Rattle.codec.specs.Bytes.{Bytes, words}
 use Rattle.codec.proofs.Numbers.{length-words}
 use Rattle.codec.specs.Lists.{allBelow}
-use Rattle.vector.specs.Vector.{Each, Vector, vector, ternaries, add, subtract}
+use Rattle.vector.specs.Vector.{Each, vector, ternaries, add, subtract}
+use Rattle.vector.specs.Internal.{Vector}
 use Rattle.vector.specs.Permutation.{entries, apply, extend}
 use Rattle.vector.proofs.Vectors.{each-length, take-each, add-vector, add-subtract, commute, add-take, apply-add, apply-each, length-apply, vector-words, ternaries-vector, ternaries-apply, take-extend}
 use Rattle.vector.proofs.Balance.{length-extend, extend-balanced, balanced-apply}
-use Rattle.stern.specs.Argument.{Setting, Valid, Drawn, Fit, masked, first, answer1, answer2, answer3, Passes1, Passes2, Passes3}
+use Rattle.stern.specs.Argument.{Setting, Drawn, masked, first, answer1, answer2, answer3}
+use Rattle.stern.specs.Internal.{Valid, Fit, Passes1, Passes2, Passes3}
 
 module _ (s : Setting) (ok : Valid s) (x : Bytes) (size : length x ≡ s .L) (ternary : allBelow 3 x ≡ true) (equation : s .A (ternaries (s .q) x) ≡ s .y)
     (c : Drawn) (fit : Fit s c) where
@@ -61,10 +63,10 @@ module _ (s : Setting) (ok : Valid s) (x : Bytes) (size : length x ≡ s .L) (te
     sized = fit .size-p;
     below = rw read-u masked-vector;
     size1 = fit .size1;
-    size3 = fit .size3;
-    d1 = rw opened refl;
-    d3 = rw read-u refl;
+    size = fit .size3;
+    opens1 = rw opened refl;
+    opens = rw read-u refl;
   }
 
   pub passes3 : Passes3 s (first s x c) (answer3 c)
-  passes3 = record { permutes = fit .permutes; sized = fit .size-p; below = fit .below; size1 = fit .size1; size2 = fit .size2; d1 = refl; d2 = refl }
+  passes3 = record { permutes = fit .permutes; sized = fit .size-p; below = fit .below; size1 = fit .size1; size = fit .size2; opens1 = refl; opens = refl }

@@ -10,7 +10,7 @@ use native.Mathlib.Omega.{arith}
 use borrow.Author.Tests.{not-false}
 use lib.IntN.{natAbs}
 use lib.ListN.{length}
-use Rattle.codec.specs.Bytes.{Bytes, same}
+use Rattle.codec.specs.Bytes.{Bytes, part, same}
 use Rattle.codec.specs.Reply.{None}
 use Rattle.codec.proofs.Laws.{length-part, both, same-equal}
 use Rattle.codec.specs.Lists.{allBelow}
@@ -23,7 +23,8 @@ use Rattle.vector.specs.Vector.{vector}
 use Rattle.vector.specs.Permutation.{entries, permutes, balanced}
 use Rattle.vector.proofs.Vectors.{at-each}
 use Rattle.commitment.specs.Commitment.{Keys}
-use Rattle.stern.specs.Argument.{Short, Solves, Passes1, Passes2, Passes3, Extracted, two-by1, three-by1, one-by2, three-by2, one-by3, two-by3}
+use Rattle.stern.specs.Argument.{two-by1, three-by1, one-by2, three-by2, one-by3, two-by3}
+use Rattle.stern.specs.Internal.{Short, Solves, Passes1, PassesPermuted, Passes2, Passes3, Extracted}
 use Rattle.stern.specs.Shortness.{polynomial, numbers, equations, rightHandSides, setting, firstOf, answerLength, answer1Of, answer2Of, answer3Of, tests1, tests2, tests3}
 use Rattle.stern.specs.Claims.{Meets}
 use Rattle.stern.proofs.FourEquations.{alike-numbers, setting-valid}
@@ -55,37 +56,34 @@ module _ (q N : ℕ) (k : Keys) (c d : Bytes) (place : ℕ) where
         d3 = g .1;
       }
 
+  -- the parts of an answer 2 or 3, against the digests of two strings
+  permuted-passes : (s d1 string1 e string : Bytes) → length s ≡ 504 * N + 64 → allBelow q (vector (part s (168 * N) (336 * N))) ≡ true
+      → not (permutes (42 * N) (entries (part s 0 (168 * N)))) ≡ false → not (same d1 (sha3 string1) && same e (sha3 string)) ≡ false
+      → PassesPermuted (setting q N k c) (part s 0 (168 * N)) (part s (168 * N) (336 * N)) (part s (504 * N) 32) (part s (504 * N + 32) 32) d1 e string1 string
+  permuted-passes s d1 string1 e string l b n m =
+      let size : length (part s 0 (168 * N)) ≡ 168 * N = length-part s 0 (168 * N) (omega arith) in
+      let g = digests-equal d1 (sha3 string1) e (sha3 string) m in
+      record {
+        permutes = permutes-of N (entries (part s 0 (168 * N))) (not-false (permutes (42 * N) (entries (part s 0 (168 * N)))) n);
+        sized = omega arith;
+        below = vector-of q N (part s (168 * N) (336 * N)) (length-part s (168 * N) (336 * N) (omega arith)) b;
+        size1 = length-part s (504 * N) 32 (omega arith);
+        size = length-part s (504 * N + 32) 32 (omega arith);
+        opens1 = g .0;
+        opens = g .1;
+      }
+
   pub none-passes2 : (s : Bytes) → length s ≡ answerLength N 2 → allBelow q (vector (answer2Of N s .u)) ≡ true → None (tests2 q N k c d place (answer2Of N s))
       → Passes2 (setting q N k c) (firstOf d) (answer2Of N s)
   none-passes2 s l e n =
       let b = answer2Of N s in
-      let size : length (b .p) ≡ 168 * N = length-part s 0 (168 * N) (omega arith) in
-      let g = digests-equal (firstOf d .d1) (sha3 (one-by2 (setting q N k c) b)) (firstOf d .d3) (sha3 (three-by2 (setting q N k c) b)) (n .1 .0) in
-      record {
-        permutes = permutes-of N (entries (b .p)) (not-false (permutes (42 * N) (entries (b .p))) (n .0));
-        sized = omega arith;
-        below = vector-of q N (b .u) (length-part s (168 * N) (336 * N) (omega arith)) e;
-        size1 = length-part s (504 * N) 32 (omega arith);
-        size3 = length-part s (504 * N + 32) 32 (omega arith);
-        d1 = g .0;
-        d3 = g .1;
-      }
+      permuted-passes s (firstOf d .d1) (one-by2 (setting q N k c) b) (firstOf d .d3) (three-by2 (setting q N k c) b) l e (n .0) (n .1 .0)
 
   pub none-passes3 : (s : Bytes) → length s ≡ answerLength N 3 → allBelow q (vector (answer3Of N s .r)) ≡ true → None (tests3 q N k c d place (answer3Of N s))
       → Passes3 (setting q N k c) (firstOf d) (answer3Of N s)
   none-passes3 s l e n =
       let a = answer3Of N s in
-      let size : length (a .p) ≡ 168 * N = length-part s 0 (168 * N) (omega arith) in
-      let g = digests-equal (firstOf d .d1) (sha3 (one-by3 (setting q N k c) a)) (firstOf d .d2) (sha3 (two-by3 (setting q N k c) a)) (n .1 .0) in
-      record {
-        permutes = permutes-of N (entries (a .p)) (not-false (permutes (42 * N) (entries (a .p))) (n .0));
-        sized = omega arith;
-        below = vector-of q N (a .r) (length-part s (168 * N) (336 * N) (omega arith)) e;
-        size1 = length-part s (504 * N) 32 (omega arith);
-        size2 = length-part s (504 * N + 32) 32 (omega arith);
-        d1 = g .0;
-        d2 = g .1;
-      }
+      permuted-passes s (firstOf d .d1) (one-by3 (setting q N k c) a) (firstOf d .d2) (two-by3 (setting q N k c) a) l e (n .0) (n .1 .0)
 
   -- three answers, one to each challenge
   pub extracted : 2 < q → q ≤ 2 ^ 64 → (a b e : Bytes)

@@ -16,12 +16,13 @@ use Rattle.ring.specs.Slots.{poly, slot}
 use Rattle.ring.specs.Ternary.{meaning, ternary}
 use Rattle.ring.proofs.Polynomials.{plus-assoc, plus-left-comm, alike-eq, _so_, alike-plus, below-modulo}
 use Rattle.ring.proofs.Ranges.{below-complete}
-use Rattle.vector.specs.Vector.{Vector, Linear, vector, ternaries, add}
+use Rattle.vector.specs.Vector.{vector, ternaries, add}
+use Rattle.vector.specs.Internal.{Vector, Linear}
 use Rattle.vector.proofs.Vectors.{each-length, append-each, allBelow-each, add-vector, add-at, getD-vector, getD-ternaries}
 use Rattle.vector.proofs.Linear.{join}
 use Rattle.commitment.specs.Commitment.{Keys, Three, Alike3, plus3, row, second}
 use Rattle.commitment.proofs.Additive.{row-adds, second-adds, row-alike, second-alike}
-use Rattle.stern.specs.Argument.{Valid}
+use Rattle.stern.specs.Internal.{Valid}
 use Rattle.stern.specs.Shortness.{polynomial, threeFrom, numbers, equations, rightHandSides, setting}
 
 -- ---- the numbers of a polynomial

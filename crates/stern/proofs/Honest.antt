@@ -1,5 +1,5 @@
 -- The unknowns of an honest split meet the equations, so that the honest answers, as bytes, meet no refusal. Assumes nothing.
-use mathlib.Core.Path.{_≡_, refl, sym, ap, ap₂, _∙_}
+use mathlib.Core.Path.{_≡_, refl, sym, ap, ap₂, subst, _∙_}
 use mathlib.Core.Bool.{Bool, true, false, cond, not, _&&_}
 use mathlib.Core.List.{_++_}
 use Prim.Native.Nat.{ℕ, _+_, _*_, _^_, _≤_, _<_}
@@ -26,7 +26,8 @@ use Rattle.vector.proofs.Balance.{balanced-sound, balanced-ternary}
 use Rattle.commitment.specs.Commitment.{Keys, Three, Pair, Alike3, threeOf, plus3, row, second, committed, pairBytes, Opens}
 use Rattle.commitment.proofs.Additive.{row-alike, second-alike, opens-add}
 use Rattle.commitment.proofs.Opening.{poly-modulo}
-use Rattle.stern.specs.Argument.{Setting, Valid, Drawn, Answer1, Answer2, Answer3, Fit, Passes1, Passes2, Passes3, masked, first, answer1, answer2, answer3}
+use Rattle.stern.specs.Argument.{Setting, Drawn, First, Answer1, Answer2, Answer3, masked, first, answer1, answer2, answer3}
+use Rattle.stern.specs.Internal.{Valid, Fit, Passes1, Passes2, Passes3}
 use Rattle.stern.specs.Shortness.{polynomial, threeFrom, equations, rightHandSides, setting, drawnOf, firstOf, firstBytes, answerLength, honestAnswer, inRange, answer1Of, answer2Of, answer3Of, answer1Bytes, answer2Bytes, answer3Bytes, tests1, tests2, tests3, answerTests}
 use Rattle.stern.specs.Claims.{Split}
 use Rattle.stern.proofs.Complete as Complete
@@ -91,10 +92,10 @@ module _ (q N : ℕ) (k : Keys) (c d : Bytes) (place : ℕ) where
   passes1-none a h = (rw (h .balanced), (digests-match _ _ _ _ (h .d2) (h .d3), tt))
 
   passes2-none : (b : Answer2) → Passes2 (setting q N k c) (firstOf d) b → None (tests2 q N k c d place b)
-  passes2-none b h = (rw (of-permutes N (entries (b .p)) (h .permutes)), (digests-match _ _ _ _ (h .d1) (h .d3), tt))
+  passes2-none b h = (rw (of-permutes N (entries (b .p)) (h .permutes)), (digests-match _ _ _ _ (h .opens1) (h .opens), tt))
 
   passes3-none : (a : Answer3) → Passes3 (setting q N k c) (firstOf d) a → None (tests3 q N k c d place a)
-  passes3-none a h = (rw (of-permutes N (entries (a .p)) (h .permutes)), (digests-match _ _ _ _ (h .d1) (h .d2), tt))
+  passes3-none a h = (rw (of-permutes N (entries (a .p)) (h .permutes)), (digests-match _ _ _ _ (h .opens1) (h .opens), tt))
 
 -- ---- the equations are met
 
@@ -201,6 +202,12 @@ module _ (q N : ℕ) (k : Keys) (x c : Bytes) (s0 s1 e0 e1 : Poly) (split : Spli
     read3 : answer3Of N (answer3Bytes (answer3 drawn)) ≡ answer3 drawn
     read3 = answer3Of-answer3Bytes N (answer3 drawn) size-p size-r (fit .size1) (fit .size2)
 
+    read-pass2 : Passes2 s (first s x drawn) (answer2Of N (answer2Bytes (answer2 q (14 * N) x drawn)))
+    read-pass2 = subst (λ (a : Answer2). Passes2 s (first s x drawn) a) (sym read2) pass2
+
+    read-pass3 : Passes3 s (first s x drawn) (answer3Of N (answer3Bytes (answer3 drawn)))
+    read-pass3 = subst (λ (a : Answer3). Passes3 s (first s x drawn) a) (sym read3) pass3
+
     pub honest-length : (challenge : ℕ) → length (honestAnswer q N x (drawnOf P R salts) challenge) ≡ answerLength N challenge
     honest-length challenge = go (eqb challenge 1) (eqb challenge 2)
       where
@@ -215,18 +222,12 @@ module _ (q N : ℕ) (k : Keys) (x c : Bytes) (s0 s1 e0 e1 : Poly) (split : Spli
         range1 : (a : Answer1) → Passes1 s (first s x drawn) a → (allBelow 3 (a .w) && allBelow q (vector (a .t))) ≡ true
         range1 a h = rw (balanced-ternary (14 * N) (a .w) (h .balanced), each-allBelow (h .below))
 
-        range2 : (b : Answer2) → Passes2 s (first s x drawn) b → allBelow q (vector (b .u)) ≡ true
-        range2 b h = each-allBelow (h .below)
-
-        range3 : (a : Answer3) → Passes3 s (first s x drawn) a → allBelow q (vector (a .r)) ≡ true
-        range3 a h = each-allBelow (h .below)
-
         go : (one two : Bool)
             → (let answer = cond one (answer1Bytes (answer1 (14 * N) x drawn)) (cond two (answer2Bytes (answer2 q (14 * N) x drawn)) (answer3Bytes (answer3 drawn))) in
             cond one (allBelow 3 (answer1Of N answer .w) && allBelow q (vector (answer1Of N answer .t))) (cond two (allBelow q (vector (answer2Of N answer .u))) (allBelow q (vector (answer3Of N answer .r))))) ≡ true
         go true two = range1 (answer1Of N (answer1Bytes (answer1 (14 * N) x drawn))) (rw read1 pass1)
-        go false true = range2 (answer2Of N (answer2Bytes (answer2 q (14 * N) x drawn))) (rw read2 pass2)
-        go false false = range3 (answer3Of N (answer3Bytes (answer3 drawn))) (rw read3 pass3)
+        go false true = each-allBelow (read-pass2 .below)
+        go false false = each-allBelow (read-pass3 .below)
 
     -- no test of an honest answer holds
     pub honest-none : (d : Bytes) → d ≡ firstBytes (first (setting q N k c) x (drawnOf P R salts)) → (place challenge : ℕ)
@@ -240,5 +241,9 @@ module _ (q N : ℕ) (k : Keys) (x c : Bytes) (s0 s1 e0 e1 : Poly) (split : Spli
             → None (let answer = cond one (answer1Bytes (answer1 (14 * N) x drawn)) (cond two (answer2Bytes (answer2 q (14 * N) x drawn)) (answer3Bytes (answer3 drawn))) in
             cond one (tests1 q N k c d place (answer1Of N answer)) (cond two (tests2 q N k c d place (answer2Of N answer)) (tests3 q N k c d place (answer3Of N answer))))
         go true two = passes1-none q N k c d place (answer1Of N (answer1Bytes (answer1 (14 * N) x drawn))) (rw (digests, read1) pass1)
-        go false true = passes2-none q N k c d place (answer2Of N (answer2Bytes (answer2 q (14 * N) x drawn))) (rw (digests, read2) pass2)
-        go false false = passes3-none q N k c d place (answer3Of N (answer3Bytes (answer3 drawn))) (rw (digests, read3) pass3)
+        go false true =
+            let a = answer2Of N (answer2Bytes (answer2 q (14 * N) x drawn)) in
+            passes2-none q N k c d place a (subst (λ (f : First). Passes2 s f a) (sym digests) read-pass2)
+        go false false =
+            let a = answer3Of N (answer3Bytes (answer3 drawn)) in
+            passes3-none q N k c d place a (subst (λ (f : First). Passes3 s f a) (sym digests) read-pass3)

@@ -10,7 +10,8 @@ use lib.Seq.{take-all, take-at, drop-at, drop-drop}
 use Rattle.codec.specs.Bytes.{Bytes, part}
 use Rattle.codec.proofs.Laws.{part-append}
 use Rattle.codec.specs.Lists.{allBelow}
-use Rattle.vector.specs.Vector.{Vector, vector}
+use Rattle.vector.specs.Vector.{vector}
+use Rattle.vector.specs.Internal.{Vector}
 use Rattle.vector.specs.Permutation.{Permutes, permutes}
 use Rattle.vector.proofs.Vectors.{vector-sound}
 use Rattle.vector.proofs.Counts.{permutes-sound, permutes-complete}

@@ -8,12 +8,14 @@ use native.Mathlib.Decide.{ℕ-discrete}
 use lib.ListN.{length, take, drop}
 use lib.Seq.{take-at, drop-at}
 use Rattle.codec.specs.Bytes.{Bytes, words}
-use Rattle.vector.specs.Vector.{Each, Vector, vector, ternaries, add, subtract}
+use Rattle.vector.specs.Vector.{Each, vector, ternaries, add, subtract}
+use Rattle.vector.specs.Internal.{Vector}
 use Rattle.vector.specs.Permutation.{entries, apply}
 use Rattle.vector.proofs.Vectors.{each-length, take-each, add-vector, subtract-vector, subtract-add, commute, cancel, add-take, apply-add, apply-each, vector-words, words-injective, ternaries-vector, ternaries-short}
 use Rattle.vector.proofs.Counts.{unapply}
 use Rattle.vector.proofs.Balance.{balanced-sound}
-use Rattle.stern.specs.Argument.{Setting, Valid, string1, Short, Solves, First, Answer1, Answer2, Answer3, Passes1, Passes2, Passes3, Extracted, broken1, broken2, broken3, found, solution, one-by2, one-by3, two-by1, two-by3, three-by1, three-by2}
+use Rattle.stern.specs.Argument.{Setting, string1, First, Answer1, Answer2, Answer3, solution, one-by2, one-by3, two-by1, two-by3, three-by1, three-by2}
+use Rattle.stern.specs.Internal.{Valid, Short, Solves, Passes1, Passes2, Passes3, Extracted, broken1, broken2, broken3, found}
 
 -- joined strings whose first parts are as long are equal part by part
 pub parts : (a c : Bytes) {b d : Bytes} → length a ≡ length c → a ++ b ≡ c ++ d → (a ≡ c) × (b ≡ d)
@@ -55,12 +57,12 @@ module _ (s : Setting) (ok : Valid s) (f : First) (a : Answer1) (b : Answer2) (c
         words-injective (ok .fits) (subtract-vector (ok .linear .vector (first-of (pb .below))) (ok .right)) (ok .linear .vector (first-of (pc .below))) (joined .1)
 
     same-t : vector (a .t) ≡ apply (entries (c .p)) (vector (c .r))
-    same-t = ap vector (parts (a .salt2) (c .salt2) (pa .size2 ∙ sym (pc .size2)) (cc) .1) ∙ vector-words (ok .fits) image-r
+    same-t = ap vector (parts (a .salt2) (c .salt2) (pa .size2 ∙ sym (pc .size)) (cc) .1) ∙ vector-words (ok .fits) image-r
 
     same-sum : add q (ternaries q (a .w)) (vector (a .t)) ≡ apply (entries (b .p)) (vector (b .u))
     same-sum =
         words-injective (ok .fits) (add-vector w-vector (pa .below)) (apply-each (pb .permutes .indices) (pb .below))
-        (parts (a .salt3) (b .salt3) (pa .size3 ∙ sym (pb .size3)) (cc) .1)
+        (parts (a .salt3) (b .salt3) (pa .size3 ∙ sym (pb .size)) (cc) .1)
 
     -- u = z + R
     back : add q z (vector (c .r)) ≡ vector (b .u)
@@ -89,9 +91,9 @@ module _ (s : Setting) (ok : Valid s) (f : First) (a : Answer1) (b : Answer2) (c
   extract = decide (List-discrete ℕ-discrete _ _) (List-discrete ℕ-discrete _ _) (List-discrete ℕ-discrete _ _)
     where
       decide : Dec (one-by2 s b ≡ one-by3 s c) → Dec (two-by1 s a ≡ two-by3 s c) → Dec (three-by1 s a ≡ three-by2 s b) → Extracted s a b c
-      decide (no n1) d2 d3 = broken1 (record { differ = n1; collide = sym (pb .d1) ∙ pc .d1 })
-      decide (yes e1) (no n2) d3 = broken2 e1 (record { differ = n2; collide = sym (pa .d2) ∙ pc .d2 })
-      decide (yes e1) (yes e2) (no n3) = broken3 e1 e2 (record { differ = n3; collide = sym (pa .d3) ∙ pb .d3 })
+      decide (no n1) d2 d3 = broken1 (record { differ = n1; collide = sym (pb .opens1) ∙ pc .opens1 })
+      decide (yes e1) (no n2) d3 = broken2 e1 (record { differ = n2; collide = sym (pa .d2) ∙ pc .opens })
+      decide (yes e1) (yes e2) (no n3) = broken3 e1 e2 (record { differ = n3; collide = sym (pa .d3) ∙ pb .opens })
       decide (yes e1) (yes e2) (yes e3) = found e1 e2 e3 (solved e1 e2 e3)
 
 -- the strings are injective encodings: equal strings have equal salts, permutations and vectors

@@ -1,14 +1,13 @@
 -- Stern's argument that linear equations A x = y modulo q have a ternary solution (document 01, "One round"; document 000, section 5.5), over any such equations
 -- and any hash. What is drawn and what is answered are bytes. Assumes nothing.
 use mathlib.Core.Path.{_≡_}
-use mathlib.Core.Bool.{true}
-use mathlib.Core.Logic.{_⊎_, _≢_}
+use mathlib.Core.Logic.{_≢_}
 use mathlib.Core.List.{List, _∷_, _++_}
-use Prim.Native.Nat.{ℕ, _-_, _*_, _^_, _≤_, _<_}
-use lib.ListN.{length, take}
+use Prim.Native.Nat.{ℕ}
+use lib.ListN.{take}
 use Rattle.codec.specs.Bytes.{Bytes, words}
-use Rattle.vector.specs.Vector.{Each, Vector, Linear, vector, ternaries, add, subtract}
-use Rattle.vector.specs.Permutation.{Permutes, entries, apply, extend, balanced}
+use Rattle.vector.specs.Vector.{vector, ternaries, add, subtract}
+use Rattle.vector.specs.Permutation.{entries, apply, extend}
 
 -- what the prover draws: P, R and three salts
 pub record Drawn : Type 0 where
@@ -83,32 +82,6 @@ pub record Setting : Type 0 where
 module _ (s : Setting) where
   open Setting s using (q, L, M, S, A, y, H)
 
-  -- what the theorems ask of it: numbers and entries fit their bytes, and A is additive
-  pub record Valid : Type 0 where
-    pub three : 2 < q
-    pub fits : q ≤ 2 ^ 64
-    pub right : Vector q M y
-    pub linear : Linear q L M A
-
-  -- 0, 1 or -1 modulo q
-  abbrev pub Short : ℕ → Type 0
-  Short v = (v ≡ 0) ⊎ (v ≡ 1) ⊎ (v ≡ q - 1)
-
-  -- x is L short numbers with A x = y
-  pub record Solves (x : List ℕ) : Type 0 where
-    pub short : Each Short L x
-    pub equation : A x ≡ y
-
-  -- what may be drawn: a permutation of 3L entries, a vector of 3L numbers below q, and salts
-  pub record Fit (c : Drawn) : Type 0 where
-    pub permutes : Permutes (3 * L) (entries (c .p))
-    pub size-p : length (c .p) ≡ 4 * (3 * L)
-    pub sized : length (c .r) ≡ 8 * (3 * L)
-    pub below : Vector q (3 * L) (vector (c .r))
-    pub size1 : length (c .salt1) ≡ S
-    pub size2 : length (c .salt2) ≡ S
-    pub size3 : length (c .salt3) ≡ S
-
   -- ---- the prover, for L ternary bytes x
 
   abbrev pub first : Bytes → Drawn → First
@@ -139,33 +112,6 @@ module _ (s : Setting) where
   abbrev pub three-by2 : Answer2 → Bytes
   three-by2 b = string3 (b .salt3) (apply (entries (b .p)) (vector (b .u)))
 
-  pub record Passes1 (f : First) (a : Answer1) : Type 0 where
-    pub balanced : balanced L (a .w) ≡ true
-    pub sized : length (a .t) ≡ 8 * (3 * L)
-    pub below : Vector q (3 * L) (vector (a .t))
-    pub size2 : length (a .salt2) ≡ S
-    pub size3 : length (a .salt3) ≡ S
-    pub d2 : f .d2 ≡ H (two-by1 a)
-    pub d3 : f .d3 ≡ H (three-by1 a)
-
-  pub record Passes2 (f : First) (b : Answer2) : Type 0 where
-    pub permutes : Permutes (3 * L) (entries (b .p))
-    pub sized : length (b .p) ≡ 4 * (3 * L)
-    pub below : Vector q (3 * L) (vector (b .u))
-    pub size1 : length (b .salt1) ≡ S
-    pub size3 : length (b .salt3) ≡ S
-    pub d1 : f .d1 ≡ H (one-by2 b)
-    pub d3 : f .d3 ≡ H (three-by2 b)
-
-  pub record Passes3 (f : First) (c : Answer3) : Type 0 where
-    pub permutes : Permutes (3 * L) (entries (c .p))
-    pub sized : length (c .p) ≡ 4 * (3 * L)
-    pub below : Vector q (3 * L) (vector (c .r))
-    pub size1 : length (c .salt1) ≡ S
-    pub size2 : length (c .salt2) ≡ S
-    pub d1 : f .d1 ≡ H (one-by3 c)
-    pub d2 : f .d2 ≡ H (two-by3 c)
-
   -- ---- what three answers give
 
   -- two different strings with one hash
@@ -175,10 +121,3 @@ module _ (s : Setting) where
 
   abbrev pub solution : Answer2 → Answer3 → List ℕ
   solution b c = take L (subtract q (vector (b .u)) (vector (c .r)))
-
-  -- a collision at the lowest digest whose two strings differ, or a solution
-  pub data Extracted (a : Answer1) (b : Answer2) (c : Answer3) : Type 0 where
-    broken1 : Collision (one-by2 b) (one-by3 c) → Extracted a b c
-    broken2 : one-by2 b ≡ one-by3 c → Collision (two-by1 a) (two-by3 c) → Extracted a b c
-    broken3 : one-by2 b ≡ one-by3 c → two-by1 a ≡ two-by3 c → Collision (three-by1 a) (three-by2 b) → Extracted a b c
-    found : one-by2 b ≡ one-by3 c → two-by1 a ≡ two-by3 c → three-by1 a ≡ three-by2 b → Solves (solution b c) → Extracted a b c

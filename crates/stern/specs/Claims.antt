@@ -12,7 +12,7 @@ use Rattle.ring.specs.Poly.{Poly, plus, Alike}
 use Rattle.ring.specs.Slots.{slot}
 use Rattle.ring.specs.Ternary.{ternary}
 use Rattle.commitment.specs.Commitment.{Keys, threeOf, plus3, row, second, committed, pairBytes}
-use Rattle.stern.specs.Argument.{Short}
+use Rattle.stern.specs.Internal.{Short}
 use Rattle.stern.specs.Shortness.{polynomial, threeFrom, setting}
 
 -- what the committer of a split has: x is s, e and the three r of s0, of s1, of e0, of e1 as ternary bytes, and c the pairs of s0, s1, e0, e1

@@ -1,23 +1,36 @@
 -- The parts of an answer as its tests are lent them, and two digests that were compared. Assumes nothing.
 use mathlib.Core.Path.{_≡_, sym, ap, ap₂, _∙_}
-use mathlib.Core.Bool.{Bool, not, _&&_}
+use mathlib.Core.Bool.{Bool, false, not, _&&_}
 use mathlib.Core.Logic.{_≢_}
-use mathlib.Core.List.{List}
-use Prim.Native.Nat.{ℕ, _+_, _*_}
-use lib.ListN.{take, drop}
+use mathlib.Core.List.{List, [], _∷_}
+use Prim.Native.Nat.{ℕ, _+_, _-_, _*_}
+use native.Mathlib.Omega.{arith}
+use lib.ListN.{length, take, drop}
 use Rattle.codec.specs.Bytes.{Bytes, same}
-use Rattle.codec.specs.Reply.{Test, first}
+use Rattle.codec.specs.Reply.{Test, test, first}
 use Rattle.codec.specs.declared.Reply.{Reply}
 use Rattle.scratch.specs.Internal.{Judged}
 use Rattle.commitment.specs.Commitment.{Keys}
 use Rattle.stern.specs.Shortness.{answer1Of, answer2Of, answer3Of, tests1, tests2, tests3, answerTests}
-use Rattle.stern.proofs.Answered.{chosen1, chosen2, chosen3}
+use Rattle.stern.proofs.Answered.{lent-length, chosen1, chosen2, chosen3}
 
--- two digests that were compared
-pub compared : (one other a b c d : Bytes) (r t : Bool) → r ≡ (same one a && same other b) → a ≡ c → b ≡ d → r ≡ t → not (same one c && same other d) ≡ not t
-compared one other a b c d r t e ea eb er = ap not (ap₂ (λ (x y : Bytes). same one x && same other y) (sym ea) (sym eb) ∙ sym e ∙ er)
+-- where the test before it refuses nothing, the test of two digests decides, by what they are the digests of
+pub digests-decide : (i place : ℕ) (x : Bool) (one other a b c d : Bytes) {r : Reply} → x ≡ false → r ≡ first (test 11 place (not (same one a && same other b)) ∷ []) → a ≡ c → b ≡ d
+    → r ≡ first (test i place x ∷ test 11 place (not (same one c && same other d)) ∷ [])
+unfolding first
+digests-decide i place x one other a b c d e er ea eb = rw e (er ∙ ap₂ (λ (s t : Bytes). first (test 11 place (not (same one s && same other t)) ∷ [])) ea eb)
 
 -- ---- the parts of an answer, lent with lengths that are differences of places
+
+-- an answer is cut at x and at y, and two salts follow
+pub cut-lengths : (s : Bytes) (x m y : ℕ) → y ≡ x + m → length s ≡ y + 64
+    → (length (take (x - 0) (drop 0 s)) ≡ x) × (length (take (y - x) (drop x s)) ≡ m) × (length (take (y + 32 - y) (drop y s)) ≡ 32) × (length (take (y + 64 - (y + 32)) (drop (y + 32) s)) ≡ 32)
+cut-lengths s x m y e l = (
+  lent-length s 0 (x - 0) x (omega arith) (omega arith),
+  lent-length s x (y - x) m (omega arith) (omega arith),
+  lent-length s y (y + 32 - y) 32 (omega arith) (omega arith),
+  lent-length s (y + 32) (y + 64 - (y + 32)) 32 (omega arith) (omega arith),
+)
 
 module _ (q n place : ℕ) (k : Keys) (c d answer : Bytes) where
   abbrev with1 : (a b e f : ℕ) → List Test

@@ -4,11 +4,12 @@ use stern::digests::equations_digest;
 use stern::digests::gathered_digest;
 use stern::digests::tagged;
 ghost use mathlib.Core.Path.{_≡_};
-ghost use mathlib.Core.Bool.{true, _&&_};
-ghost use mathlib.Core.List.{[]};
+ghost use mathlib.Core.Bool.{true, not, _&&_};
+ghost use mathlib.Core.List.{[], _∷_};
 ghost use Prim.Native.Nat.{_+_, _*_, _≤_, _<_, _^_};
 ghost use lib.ListN.{length};
 ghost use Rattle.codec.specs.Bytes.{same};
+ghost use Rattle.codec.specs.Reply.{test, first};
 ghost use Rattle.codec.specs.Slices.{given, left};
 ghost use Rattle.codec.specs.Lists.{allBelow};
 ghost use Rattle.scratch.specs.Call.{scratchLength};
@@ -43,11 +44,7 @@ fn test_balanced(
     let second = tagged(2, salt2, t);
     vector::sum(work, 0, w, t, 42 * n, q);
     let third = tagged(3, salt3, &work[0..336 * n]);
-    if both_equal(two, &second, three, &third) {
-        Reply::Taken
-    } else {
-        Reply::Refused { number: 11, place }
-    }
+    test_digests(two, &second, three, &third, place)
 }
 
 // Whether two digests are two others.
@@ -58,6 +55,17 @@ fn both_equal(a: &[u8], b: &[u8], c: &[u8], d: &[u8]) -> bool
         codec::equal(c, d)
     } else {
         false
+    }
+}
+
+// 11, unless two digests are two others.
+fn test_digests(a: &[u8], b: &[u8], c: &[u8], d: &[u8], place: u32) -> Reply
+    ensures { λ reply. ⌜ reply ≡ first (test 11 place (not (same (given a) (given b) && same (given c) (given d))) ∷ []) ⌝ }
+{
+    if both_equal(a, b, c, d) {
+        Reply::Taken
+    } else {
+        Reply::Refused { number: 11, place }
     }
 }
 
@@ -90,11 +98,7 @@ fn test_permuted(
     }
     let first = equations_digest(work, k, c, less, x, p, salt1, n, q);
     let second = gathered_digest(lead, work, p, x, salt, n);
-    if both_equal(one, &first, other, &second) {
-        Reply::Taken
-    } else {
-        Reply::Refused { number: 11, place }
-    }
+    test_digests(one, &first, other, &second, place)
 }
 
 // Answer 1 from its bytes; the keys and the committed pairs do not enter.

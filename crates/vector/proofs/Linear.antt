@@ -2,7 +2,8 @@
 use mathlib.Core.Path.{_≡_, refl, sym, ap, ap₂, _∙_}
 use mathlib.Core.List.{List, _∷_, _++_}
 use Prim.Native.Nat.{ℕ, _+_, _%_}
-use Rattle.vector.specs.Vector.{none, more, Vector, Linear, add}
+use Rattle.vector.specs.Vector.{none, more, add}
+use Rattle.vector.specs.Internal.{Vector, Linear}
 use Rattle.vector.proofs.Vectors.{append-each}
 
 append-add : {q n : ℕ} {x z : List ℕ} (y w : List ℕ) → Vector q n x → Vector q n z → add q (x ++ y) (z ++ w) ≡ add q x z ++ add q y w

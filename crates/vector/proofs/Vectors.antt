@@ -19,7 +19,8 @@ use Rattle.ring.specs.Slots.{poly, encode}
 use Rattle.ring.specs.Ternary.{meaning, ternary}
 use Rattle.ring.proofs.Bridge.{poly-encode}
 use Rattle.ring.proofs.Sizes.{ternary-value}
-use Rattle.vector.specs.Vector.{Each, none, more, Vector, vector, ternaries, add, subtract}
+use Rattle.vector.specs.Vector.{Each, none, more, vector, ternaries, add, subtract}
+use Rattle.vector.specs.Internal.{Vector}
 use Rattle.vector.specs.Permutation.{entries, apply, extend}
 
 -- ---- a property of each entry

@@ -1,2 +1,3 @@
 pub mod Vector
 pub mod Permutation
+pub mod Internal

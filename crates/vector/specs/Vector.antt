@@ -1,7 +1,6 @@
 -- Vectors of numbers modulo q as lists, and as bytes (document 01, "One round" and "Layouts"). Assumes nothing.
-use mathlib.Core.Path.{_≡_}
 use mathlib.Core.List.{List, [], _∷_}
-use Prim.Native.Nat.{ℕ, zero, suc, _+_, _-_, _/_, _%_, _<_}
+use Prim.Native.Nat.{ℕ, zero, suc, _+_, _-_, _/_, _%_}
 use lib.ListN.{length}
 use Rattle.codec.specs.Bytes.{Bytes}
 use Rattle.codec.specs.Lists.{list}
@@ -21,10 +20,6 @@ pub data Each (P : ℕ → Type 0) : ℕ → List ℕ → Type 0 where
   none : Each P zero []
   more : {n x : ℕ} {xs : List ℕ} → P x → Each P n xs → Each P (suc n) (x ∷ xs)
 
--- n numbers below q
-abbrev pub Vector : ℕ → ℕ → List ℕ → Type 0
-Vector q n xs = Each (λ v. v < q) n xs
-
 unfoldable pub add : ℕ → List ℕ → List ℕ → List ℕ
 add q [] ys = []
 add q (x ∷ xs) [] = []
@@ -34,8 +29,3 @@ unfoldable pub subtract : ℕ → List ℕ → List ℕ → List ℕ
 subtract q [] ys = []
 subtract q (x ∷ xs) [] = []
 subtract q (x ∷ xs) (y ∷ ys) = (x + (q - y)) % q ∷ subtract q xs ys
-
--- A takes vectors of L numbers to vectors of M numbers, and sums to sums
-pub record Linear (q L M : ℕ) (A : List ℕ → List ℕ) : Type 0 where
-  pub vector : {x : List ℕ} → Vector q L x → Vector q M (A x)
-  pub sum : {x z : List ℕ} → Vector q L x → Vector q L z → A (add q x z) ≡ add q (A x) (A z)

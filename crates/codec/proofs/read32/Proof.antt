@@ -5,10 +5,6 @@ use Rattle.codec.proofs.Numbers.{number-join}
 use Rattle.codec.proofs.read32.Statement.{statement}
 use Rattle.codec.proofs.read32.Tie as tie
 
-returns : tie.Need-returns
-returns c =
-    let a = c .before .before .before .args in
-    omega (arith, number-join (a .s .now) (a .at) 2 2 (omega arith))
-
 pub read32-spec : {M : Type 1} → statement M
-read32-spec = tie.close (tie.spec (λ c κs. search needs) (λ c. search needs) (λ c. search needs) (λ c κs. search needs) (λ c. search needs) (λ c. search needs) (λ c. search needs) returns)
+read32-spec = tie.close (tie.spec (λ c κs. search needs) (λ c. search needs) (λ c. search needs) (λ c κs. search needs) (λ c. search needs) (λ c. search needs) (λ c. search needs)
+    (λ c. let a = c .before .before .before .args in omega (arith, number-join (a .s .now) (a .at) 2 2 (omega arith))))

@@ -12,8 +12,8 @@ use Rattle.codec.proofs.Numbers.{length-words}
 use Rattle.sha3.specs.Sponge.{sha3}
 use Rattle.vector.specs.Vector.{vector, ternaries, add}
 use Rattle.vector.proofs.Vectors.{length-add, length-vector, length-ternaries}
-use Rattle.stern.proofs.Answered.{first-fails, second-fails, both-hold}
-use Rattle.stern_answers.proofs.LentParts.{compared}
+use Rattle.stern.proofs.Answered.{first-fails}
+use Rattle.stern_answers.proofs.LentParts.{digests-decide}
 use Rattle.stern.proofs.Gathered.{head-lent, head-length}
 use Rattle.stern_answers.proofs.testing.test_balanced.Statement.{statement}
 use Rattle.stern_answers.proofs.testing.test_balanced.Tie as tie
@@ -36,27 +36,17 @@ sum-requires c κs =
 
 returns-2 : tie.Need-returns-2
 returns-2 c =
-    let a = c .before .before .before .before .before .before .before .before .before .before .before .before .before .before .before .before .before .before .before .before .before .args in
-    let p = c .before .before .before .before .before .before .before .before .before .before .before .before .before .before .before .before .before .before .before .before .before .pre in
+    let a = c .before .before .before .before .before .before .before .before .before .before .before .before .before .before .before .before .before .before .before .before .args in
+    let p = c .before .before .before .before .before .before .before .before .before .before .before .before .before .before .before .before .before .before .before .before .pre in
     let h = p .0 in
+    let b = c .before .before .before .before .before .before .before .before .before .before .before .before .is-balanced in
+    let s = c .before .before .before .before .before .before .before .before .sum .ensures in
     let l = sum-length (a .q) (a .n) (a .w .now) (a .t .now) (p .4) (p .5) in
-    let d3 = c .before .before .before .before .tagged2 .ensures ∙ ap (λ (s : Bytes). sha3 (3 ∷ (a .salt3 .now ++ s))) (head-lent (a .work .now) _ _ (336 * a .n) l (omega (arith, p .3)) (c .before .before .before .before .before .before .before .before .before .sum .ensures)) in
     record {
-      replied = both-hold 10 11 (a .place) _ _ (ap not (sym (c .before .before .before .before .before .before .before .before .before .before .before .before .before .is-balanced .ensures) ∙ not-false (c .before .before .before .before .before .before .before .before .before .before .before .before .before .is-balanced .result) (c .before .before .before .before .before .before .before .before .before .before .before .before .if1 .left))) (compared (a .two .now) (a .three .now) _ _ _ _ (c .before .both-equal .result) _ (c .before .both-equal .ensures) (c .before .before .before .before .before .before .before .before .before .before .before .tagged .ensures) d3 (c .if2 .taken));
-      kept = head-length (a .work .now) _ _ (336 * a .n) l (omega (arith, p .3)) (c .before .before .before .before .before .before .before .before .before .sum .ensures);
-    }
-
-returns-3 : tie.Need-returns-3
-returns-3 c =
-    let a = c .before .before .before .before .before .before .before .before .before .before .before .before .before .before .before .before .before .before .before .before .before .args in
-    let p = c .before .before .before .before .before .before .before .before .before .before .before .before .before .before .before .before .before .before .before .before .before .pre in
-    let h = p .0 in
-    let l = sum-length (a .q) (a .n) (a .w .now) (a .t .now) (p .4) (p .5) in
-    let d3 = c .before .before .before .before .tagged2 .ensures ∙ ap (λ (s : Bytes). sha3 (3 ∷ (a .salt3 .now ++ s))) (head-lent (a .work .now) _ _ (336 * a .n) l (omega (arith, p .3)) (c .before .before .before .before .before .before .before .before .before .sum .ensures)) in
-    record {
-      replied = second-fails 10 11 (a .place) _ _ (ap not (sym (c .before .before .before .before .before .before .before .before .before .before .before .before .before .is-balanced .ensures) ∙ not-false (c .before .before .before .before .before .before .before .before .before .before .before .before .before .is-balanced .result) (c .before .before .before .before .before .before .before .before .before .before .before .before .if1 .left))) (compared (a .two .now) (a .three .now) _ _ _ _ (c .before .both-equal .result) _ (c .before .both-equal .ensures) (c .before .before .before .before .before .before .before .before .before .before .before .tagged .ensures) d3 (c .if2 .left));
-      kept = head-length (a .work .now) _ _ (336 * a .n) l (omega (arith, p .3)) (c .before .before .before .before .before .before .before .before .before .sum .ensures);
+      replied = digests-decide 10 (a .place) _ (a .two .now) (a .three .now) _ _ _ _ (ap not (sym (b .ensures) ∙ not-false (b .result) (c .before .before .before .before .before .before .before .before .before .before .before .if1 .left))) (c .test-digests .ensures) (c .before .before .before .before .before .before .before .before .before .before .tagged .ensures)
+          (c .before .before .before .tagged2 .ensures ∙ ap (λ (s : Bytes). sha3 (3 ∷ (a .salt3 .now ++ s))) (head-lent (a .work .now) _ _ (336 * a .n) l (omega (arith, p .3)) s));
+      kept = head-length (a .work .now) _ _ (336 * a .n) l (omega (arith, p .3)) s;
     }
 
 pub test-balanced-spec : {M : Type 1} → statement M
-test-balanced-spec = tie.close (tie.spec (λ c. search needs) (λ c κs. search needs) returns (λ c κs. search needs) (λ c. search needs) sum-requires (λ c. search needs) (λ c. search needs) (λ c. search needs) (λ c. search needs) (λ c κs. search needs) (λ c. search needs) (λ c. search needs) (λ c κs. search needs) (λ c. search needs) returns-2 (λ c. search needs) returns-3)
+test-balanced-spec = tie.close (tie.spec (λ c. search needs) (λ c κs. search needs) returns (λ c κs. search needs) (λ c. search needs) sum-requires (λ c. search needs) (λ c. search needs) (λ c. search needs) (λ c. search needs) (λ c κs. search needs) (λ c. search needs) (λ c. search needs) (λ c κs. search needs) (λ c. search needs) returns-2)

@@ -5,9 +5,9 @@ use native.Mathlib.Omega.{arith}
 use borrow.Author.Needs.{needs}
 use Rattle.codec.specs.Bytes.{zeros}
 use Rattle.commitment.specs.Commitment.{keysOf}
-use Rattle.stern.proofs.Answered.{lent-range, lent-length}
+use Rattle.stern.proofs.Answered.{lent-range}
 use Rattle.stern_answers.specs.Internal.{permutedTests}
-use Rattle.stern_answers.proofs.LentParts.{cut-alike}
+use Rattle.stern_answers.proofs.LentParts.{cut-lengths, cut-alike}
 use Rattle.stern_answers.proofs.testing.test_bytes.Statement.{statement}
 use Rattle.stern_answers.proofs.testing.test_bytes.Tie as tie
 
@@ -16,17 +16,9 @@ test-permuted-requires c κs =
     let a = c .before .before .before .before .before .before .before .before .before .before .before .args in
     let p = c .before .before .before .before .before .before .before .before .before .before .before .pre in
     let s = a .answer .now in
-    let n = a .n in (
-      p .0,
-      p .1,
-      lent-length s 0 (168 * n - 0) (168 * n) (omega arith) (omega (arith, p .2)),
-      lent-length s (168 * n) (504 * n - 168 * n) (336 * n) (omega arith) (omega (arith, p .2)),
-      lent-length s (504 * n) (504 * n + 32 - 504 * n) 32 (omega arith) (omega (arith, p .2)),
-      lent-length s (504 * n + 32) (504 * n + 64 - (504 * n + 32)) 32 (omega arith) (omega (arith, p .2)),
-      lent-range (a .q) s (168 * n) (504 * n - 168 * n) (336 * n) (omega arith) (p .5),
-      p .3,
-      p .4,
-    )
+    let n = a .n in
+    let l = cut-lengths s (168 * n) (336 * n) (504 * n) (omega arith) (p .2) in
+    (p .0, p .1, l .0, l .1, l .2, l .3, lent-range (a .q) s (168 * n) (504 * n - 168 * n) (336 * n) (omega arith) (p .5), p .3, p .4)
 
 returns : tie.Need-returns
 returns c =

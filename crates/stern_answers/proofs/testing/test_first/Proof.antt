@@ -6,8 +6,8 @@ use native.Mathlib.Omega.{arith}
 use borrow.Author.Needs.{needs}
 use Rattle.codec.specs.Bytes.{zeros}
 use Rattle.commitment.specs.Commitment.{keysOf}
-use Rattle.stern.proofs.Answered.{lent-range, lent-length}
-use Rattle.stern_answers.proofs.LentParts.{lent1}
+use Rattle.stern.proofs.Answered.{lent-range}
+use Rattle.stern_answers.proofs.LentParts.{cut-lengths, lent1}
 use Rattle.stern_answers.proofs.testing.test_first.Statement.{statement}
 use Rattle.stern_answers.proofs.testing.test_first.Tie as tie
 
@@ -16,17 +16,9 @@ test-balanced-requires c κs =
     let a = c .before .before .before .before .before .before .before .before .before .before .args in
     let p = c .before .before .before .before .before .before .before .before .before .before .pre in
     let s = a .answer .now in
-    let n = a .n in (
-      p .0,
-      p .1,
-      p .2,
-      p .3,
-      lent-length s 0 (42 * n - 0) (42 * n) (omega arith) (omega (arith, p .5)),
-      lent-length s (42 * n) (378 * n - 42 * n) (336 * n) (omega arith) (omega (arith, p .5)),
-      lent-length s (378 * n) (378 * n + 32 - 378 * n) 32 (omega arith) (omega (arith, p .5)),
-      lent-length s (378 * n + 32) (378 * n + 64 - (378 * n + 32)) 32 (omega arith) (omega (arith, p .5)),
-      lent-range (a .q) s (42 * n) (378 * n - 42 * n) (336 * n) (omega arith) (p .6),
-    )
+    let n = a .n in
+    let l = cut-lengths s (42 * n) (336 * n) (378 * n) (omega arith) (p .5) in
+    (p .0, p .1, p .2, p .3, l .0, l .1, l .2, l .3, lent-range (a .q) s (42 * n) (378 * n - 42 * n) (336 * n) (omega arith) (p .6))
 
 returns : tie.Need-returns
 returns c =

@@ -10,8 +10,8 @@ use Rattle.codec.specs.Bytes.{zeros}
 use Rattle.codec.proofs.Laws.{written-length}
 use Rattle.vector.specs.Permutation.{entries, permutes}
 use Rattle.vector.proofs.Counts.{permutes-below}
-use Rattle.stern.proofs.Answered.{first-fails, second-fails, both-hold}
-use Rattle.stern_answers.proofs.LentParts.{compared}
+use Rattle.stern.proofs.Answered.{first-fails}
+use Rattle.stern_answers.proofs.LentParts.{digests-decide}
 use Rattle.stern.proofs.Written.{vector-below}
 use Rattle.stern_answers.proofs.testing.test_permuted.Statement.{statement}
 use Rattle.stern_answers.proofs.testing.test_permuted.Tie as tie
@@ -45,25 +45,17 @@ gathered-digest-requires c κs =
 
 returns-2 : tie.Need-returns-2
 returns-2 c =
-    let a = c .before .before .before .before .before .before .before .before .before .before .before .before .before .before .before .before .before .before .before .before .before .before .before .before .before .before .args in
-    let p = c .before .before .before .before .before .before .before .before .before .before .before .before .before .before .before .before .before .before .before .before .before .before .before .before .before .before .pre in
+    let a = c .before .before .before .before .before .before .before .before .before .before .before .before .before .before .before .before .before .before .before .before .before .before .before .before .before .args in
+    let p = c .before .before .before .before .before .before .before .before .before .before .before .before .before .before .before .before .before .before .before .before .before .before .before .before .before .pre in
     let h = p .0 .one .ring-high in
-    let l = written-length (a .work .now) _ (zeros (42 * a .n)) 0 (omega (arith, p .1, length-replicate {A = ℕ} (42 * a .n) 0)) (c .before .before .before .before .before .before .before .before .before .before .before .before .before .before .before .is-permutation .ensures .1) in
+    let b = c .before .before .before .before .before .before .before .before .before .before .before .before .before .before .is-permutation in
+    let e = c .before .before .before .before .before .before .before .before .before .equations-digest .ensures in
+    let g = c .before .before .before .before .before .gathered-digest .ensures in
+    let l = written-length (a .work .now) _ (zeros (42 * a .n)) 0 (omega (arith, p .1, length-replicate {A = ℕ} (42 * a .n) 0)) (b .ensures .1) in
     record {
-      replied = both-hold 9 11 (a .place) _ _ (ap not (sym (c .before .before .before .before .before .before .before .before .before .before .before .before .before .before .before .is-permutation .ensures .0) ∙ not-false (c .before .before .before .before .before .before .before .before .before .before .before .before .before .before .before .is-permutation .result) (c .before .before .before .before .before .before .before .before .before .before .before .before .if1 .left))) (compared (a .one .now) (a .other .now) _ _ _ _ (c .before .both-equal .result) _ (c .before .both-equal .ensures) (c .before .before .before .before .before .before .before .before .before .before .equations-digest .ensures .0) (c .before .before .before .before .before .before .gathered-digest .ensures .0) (c .if2 .taken));
-      kept = c .before .before .before .before .before .before .gathered-digest .ensures .1 ∙ c .before .before .before .before .before .before .before .before .before .before .equations-digest .ensures .1 ∙ l;
-    }
-
-returns-3 : tie.Need-returns-3
-returns-3 c =
-    let a = c .before .before .before .before .before .before .before .before .before .before .before .before .before .before .before .before .before .before .before .before .before .before .before .before .before .before .args in
-    let p = c .before .before .before .before .before .before .before .before .before .before .before .before .before .before .before .before .before .before .before .before .before .before .before .before .before .before .pre in
-    let h = p .0 .one .ring-high in
-    let l = written-length (a .work .now) _ (zeros (42 * a .n)) 0 (omega (arith, p .1, length-replicate {A = ℕ} (42 * a .n) 0)) (c .before .before .before .before .before .before .before .before .before .before .before .before .before .before .before .is-permutation .ensures .1) in
-    record {
-      replied = second-fails 9 11 (a .place) _ _ (ap not (sym (c .before .before .before .before .before .before .before .before .before .before .before .before .before .before .before .is-permutation .ensures .0) ∙ not-false (c .before .before .before .before .before .before .before .before .before .before .before .before .before .before .before .is-permutation .result) (c .before .before .before .before .before .before .before .before .before .before .before .before .if1 .left))) (compared (a .one .now) (a .other .now) _ _ _ _ (c .before .both-equal .result) _ (c .before .both-equal .ensures) (c .before .before .before .before .before .before .before .before .before .before .equations-digest .ensures .0) (c .before .before .before .before .before .before .gathered-digest .ensures .0) (c .if2 .left));
-      kept = c .before .before .before .before .before .before .gathered-digest .ensures .1 ∙ c .before .before .before .before .before .before .before .before .before .before .equations-digest .ensures .1 ∙ l;
+      replied = digests-decide 9 (a .place) _ (a .one .now) (a .other .now) _ _ _ _ (ap not (sym (b .ensures .0) ∙ not-false (b .result) (c .before .before .before .before .before .before .before .before .before .before .before .if1 .left))) (c .test-digests .ensures) (e .0) (g .0);
+      kept = g .1 ∙ e .1 ∙ l;
     }
 
 pub test-permuted-spec : {M : Type 1} → statement M
-test-permuted-spec = tie.close (tie.spec (λ c. search needs) (λ c κs. search needs) (λ c. search needs) returns equations-digest-requires gathered-digest-requires (λ c. search needs) (λ c. search needs) (λ c κs. search needs) (λ c. search needs) returns-2 (λ c. search needs) returns-3)
+test-permuted-spec = tie.close (tie.spec (λ c. search needs) (λ c κs. search needs) (λ c. search needs) returns equations-digest-requires gathered-digest-requires (λ c. search needs) (λ c. search needs) (λ c κs. search needs) (λ c. search needs) returns-2)
