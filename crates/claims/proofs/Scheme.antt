@@ -23,7 +23,7 @@ use Rattle.round.specs.Accepted.{EachBelow}
 use Rattle.round.proofs.Many.{append-none, none-append}
 use Rattle.round.proofs.Ranged.{each-exactly}
 use Rattle.round.proofs.Tests.{within-sound, within-complete}
-use Rattle.scheme_calls.specs.Orders.{keygenOrder, encryptOrder, decryptOrder, splitOrder, shareOrder, reconstructOrder, commitmentOrder}
+use Rattle.scheme.specs.Orders.{keygenOrder, encryptOrder, decryptOrder, splitOrder, shareOrder, reconstructOrder, commitmentOrder}
 use Rattle.session_histories.specs.Conditions.{SheetTaken}
 use Rattle.session_histories.proofs.Valid.{bytes-pass, sheet-exactly}
 use Rattle.claims.specs.Scheme.{Keygens, Encrypts, Decrypts, Splits, Shares, Reconstructs, CommitsTo}

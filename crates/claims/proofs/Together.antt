@@ -37,7 +37,7 @@ use Rattle.commitment.specs.Parameters.{Parameters, parametersOf}
 use Rattle.round.proofs.ExtractionSizes.{small-alike, small-ternary}
 use Rattle.round.proofs.Many.{append-none}
 use Rattle.round.proofs.Tests.{within-sound}
-use Rattle.scheme_calls.specs.Orders.{keyOf, ciphertextOf, voteOf, splitOf, shareOf, voteOfShares}
+use Rattle.scheme.specs.Orders.{keyOf, ciphertextOf, voteOf, splitOf, shareOf, voteOfShares}
 use Rattle.session_histories.specs.Conditions.{SheetTaken}
 use Rattle.session_histories.proofs.Valid.{sheet-exactly}
 use Rattle.claims.specs.Papers.{DecryptsTogether}

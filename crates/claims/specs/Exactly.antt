@@ -10,7 +10,7 @@ use Rattle.codec.specs.declared.Reply.{Reply}
 use Rattle.codec.specs.declared.Reply.the-variants.{Taken}
 use Rattle.sha3.specs.Digest.{digestReply}
 use Rattle.sheet.specs.Calls.{describeReply}
-use Rattle.scheme_calls.specs.Orders.{keygenOrder, encryptOrder, decryptOrder, splitOrder, shareOrder, reconstructOrder, commitmentOrder}
+use Rattle.scheme.specs.Orders.{keygenOrder, encryptOrder, decryptOrder, splitOrder, shareOrder, reconstructOrder, commitmentOrder}
 use Rattle.session_progress.specs.Progress.{drawn}
 use Rattle.session.specs.declared.Session.{Session}
 use Rattle.session_image.specs.Image.{imageLength, decode}

@@ -17,7 +17,7 @@ use Rattle.sha3.specs.Sponge.{sha3}
 use Rattle.keccak_bits.specs.Sponge.{bitsOf, sha3-256}
 use Rattle.bgv.specs.Scheme.{Wholes, Bounded, Small, key, opened, decrypted, other, share, recoveredMask, reconstructed}
 use Rattle.commitment.specs.Parameters.{Parameters, parametersOf}
-use Rattle.scheme_calls.specs.Orders.{encryptOrder, splitOrder, shareOrder, keyOf, ciphertextOf, voteOf, splitOf, shareOf, voteOfShares}
+use Rattle.scheme.specs.Orders.{encryptOrder, splitOrder, shareOrder, keyOf, ciphertextOf, voteOf, splitOf, shareOf, voteOfShares}
 
 module _ (P : Parameters) where
   open Parameters P using (q, N, p, B, D, a)

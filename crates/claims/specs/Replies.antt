@@ -15,7 +15,7 @@ use Rattle.round.specs.Writes.{FirstRoom, SecondRoom}
 use Rattle.round.specs.Extractor.{Openings, ExtractRoom, kind}
 use Rattle.round_lengths.specs.Sheets.{ballotsIn}
 use Rattle.register.specs.Register as entries
-use Rattle.scheme_calls.specs.Orders.{keygenOrder, encryptOrder, decryptOrder, splitOrder, shareOrder, reconstructOrder, commitmentOrder}
+use Rattle.scheme.specs.Orders.{keygenOrder, encryptOrder, decryptOrder, splitOrder, shareOrder, reconstructOrder, commitmentOrder}
 use Rattle.round_extract.specs.Extraction.{answered}
 use Rattle.round_produce.specs.Replies.{firstReply, secondReply}
 use Rattle.round_extract.specs.Replies.{extractReply, extractFound}

@@ -4,9 +4,9 @@ pub mod rounds;
 pub mod steps;
 
 ghost use Rattle.codec.specs.Slices.{given, left};
-ghost use Rattle.scheme_calls.specs.Orders.{keygenOrder, encryptOrder, decryptOrder, splitOrder, shareOrder, reconstructOrder};
-ghost use Rattle.scheme_calls.specs.Orders.{commitmentOrder};
-ghost use Rattle.scheme_calls.specs.Orders.{keyOf, ciphertextOf, voteOf, splitOf, shareOf, voteOfShares, pairOf};
+ghost use Rattle.scheme.specs.Orders.{keygenOrder, encryptOrder, decryptOrder, splitOrder, shareOrder, reconstructOrder};
+ghost use Rattle.scheme.specs.Orders.{commitmentOrder};
+ghost use Rattle.scheme.specs.Orders.{keyOf, ciphertextOf, voteOf, splitOf, shareOf, voteOfShares, pairOf};
 ghost use Rattle.jackdawnail.specs.Answers.{CallReplied, Digested, Described};
 
 // SHA3-256 of a message into 32 lent bytes.
@@ -37,7 +37,13 @@ pub extern "C" fn jdn_keygen(
     ensures { λ answer. ⌜ CallReplied (keygenOrder (given sheet) (given s) (given e) (given b) (given scratch))
         (keyOf (given sheet) (given s) (given e)) answer (given b) (left b) (given scratch) (left scratch) ⌝ }
 {
-    codec::pack(scheme_calls::keygen(sheet, s, e, b, scratch))
+    let mut public = [0u8; 81920];
+    let reading = sheet::load(sheet, &mut public);
+    let sheet::Reading::Taken(k) = reading else {
+        return codec::pack(scratch::refuse(reading, scratch));
+    };
+    let reply = scheme_keys::keygen(k, &public, s, e, b, scratch);
+    codec::pack(scratch::finish(reply, scratch))
 }
 
 // Writes the ciphertext: u = a r + p e', then v = b r + p e'' + m.
@@ -56,7 +62,13 @@ pub extern "C" fn jdn_encrypt(
         (ciphertextOf (given sheet) (given r) (given e1) (given e2) (given m)) answer (given ciphertext) (left ciphertext) (given scratch)
         (left scratch) ⌝ }
 {
-    codec::pack(scheme_calls::encrypt(sheet, r, e1, e2, m, ciphertext, scratch))
+    let mut public = [0u8; 81920];
+    let reading = sheet::load(sheet, &mut public);
+    let sheet::Reading::Taken(k) = reading else {
+        return codec::pack(scratch::refuse(reading, scratch));
+    };
+    let reply = scheme_encryption::encrypt(k, &public, r, e1, e2, m, ciphertext, scratch);
+    codec::pack(scratch::finish(reply, scratch))
 }
 
 // Writes the vote of a ciphertext: v - s u centred, by p.
@@ -71,7 +83,13 @@ pub extern "C" fn jdn_decrypt(
     ensures { λ answer. ⌜ CallReplied (decryptOrder (given sheet) (given s) (given ciphertext) (given vote) (given scratch))
         (voteOf (given sheet) (given s) (given ciphertext)) answer (given vote) (left vote) (given scratch) (left scratch) ⌝ }
 {
-    codec::pack(scheme_calls::decrypt(sheet, s, ciphertext, vote, scratch))
+    let mut public = [0u8; 81920];
+    let reading = sheet::load(sheet, &mut public);
+    let sheet::Reading::Taken(k) = reading else {
+        return codec::pack(scratch::refuse(reading, scratch));
+    };
+    let reply = scheme_encryption::decrypt(k, s, ciphertext, vote, scratch);
+    codec::pack(scratch::finish(reply, scratch))
 }
 
 // Writes the other half of a key split and the keys of both: s1, e1, b0, b1.
@@ -88,7 +106,13 @@ pub extern "C" fn jdn_split(
     ensures { λ answer. ⌜ CallReplied (splitOrder (given sheet) (given s) (given e) (given s0) (given e0) (given out) (given scratch))
         (splitOf (given sheet) (given s) (given e) (given s0) (given e0)) answer (given out) (left out) (given scratch) (left scratch) ⌝ }
 {
-    codec::pack(scheme_calls::split(sheet, s, e, s0, e0, out, scratch))
+    let mut public = [0u8; 81920];
+    let reading = sheet::load(sheet, &mut public);
+    let sheet::Reading::Taken(k) = reading else {
+        return codec::pack(scratch::refuse(reading, scratch));
+    };
+    let reply = scheme_keys::split(k, &public, s, e, s0, e0, out, scratch);
+    codec::pack(scratch::finish(reply, scratch))
 }
 
 // Writes the decryption share t = s_i u + p E.
@@ -104,7 +128,13 @@ pub extern "C" fn jdn_share(
     ensures { λ answer. ⌜ CallReplied (shareOrder (given sheet) (given «key_share») (given u) (given mask) (given t) (given scratch))
         (shareOf (given sheet) (given «key_share») (given u) (given mask)) answer (given t) (left t) (given scratch) (left scratch) ⌝ }
 {
-    codec::pack(scheme_calls::share(sheet, key_share, u, mask, t, scratch))
+    let mut public = [0u8; 81920];
+    let reading = sheet::load(sheet, &mut public);
+    let sheet::Reading::Taken(k) = reading else {
+        return codec::pack(scratch::refuse(reading, scratch));
+    };
+    let reply = scheme::share(k, key_share, u, mask, t, scratch);
+    codec::pack(scratch::finish(reply, scratch))
 }
 
 // Writes the vote of two decryption shares: v - t0 - t1 centred, by p.
@@ -120,7 +150,13 @@ pub extern "C" fn jdn_reconstruct(
     ensures { λ answer. ⌜ CallReplied (reconstructOrder (given sheet) (given v) (given t0) (given t1) (given vote) (given scratch))
         (voteOfShares (given sheet) (given v) (given t0) (given t1)) answer (given vote) (left vote) (given scratch) (left scratch) ⌝ }
 {
-    codec::pack(scheme_calls::reconstruct(sheet, v, t0, t1, vote, scratch))
+    let mut public = [0u8; 81920];
+    let reading = sheet::load(sheet, &mut public);
+    let sheet::Reading::Taken(k) = reading else {
+        return codec::pack(scratch::refuse(reading, scratch));
+    };
+    let reply = scheme::reconstruct(k, v, t0, t1, vote, scratch);
+    codec::pack(scratch::finish(reply, scratch))
 }
 
 // Writes the pair that commits to a polynomial m: r1 + k1 r2 + k2 r3, then r2 + k3 r3 + m.
@@ -135,5 +171,11 @@ pub extern "C" fn jdn_commitment(
     ensures { λ answer. ⌜ CallReplied (commitmentOrder (given sheet) (given m) (given r) (given pair) (given scratch))
         (pairOf (given sheet) (given m) (given r)) answer (given pair) (left pair) (given scratch) (left scratch) ⌝ }
 {
-    codec::pack(scheme_calls::commitment(sheet, m, r, pair, scratch))
+    let mut public = [0u8; 81920];
+    let reading = sheet::load(sheet, &mut public);
+    let sheet::Reading::Taken(k) = reading else {
+        return codec::pack(scratch::refuse(reading, scratch));
+    };
+    let reply = scheme::commitments::commitment(k, &public, m, r, pair, scratch);
+    codec::pack(scratch::finish(reply, scratch))
 }

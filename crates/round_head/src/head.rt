@@ -38,10 +38,9 @@ fn write_keys(
     let n = k.ring as usize;
     let p = sheet_numbers::plain(k);
     let q = k.modulus;
-    scheme::written::lent_key(head, 0, work, &public[0..8 * n], s0, e0, p, n, q);
-    scheme::written::other_key(
-        head,
-        8 * n,
+    bgv::noisy_lent(work, &public[0..8 * n], s0, e0, p, n, q);
+    scheme::hand_out(head, 0, work, n);
+    bgv::noisy_difference(
         work,
         &public[0..8 * n],
         &secrets[0..n],
@@ -52,6 +51,7 @@ fn write_keys(
         n,
         q,
     );
+    scheme::hand_out(head, 8 * n, work, n);
 }
 
 // The whole head. Scratch is given back zeroed.

@@ -25,26 +25,6 @@ fn write_halves(out: &mut [u8], at: usize, work: &[u8], n: usize)
     scratch::write_out(out, at + 8 * n, work, commitment::MESSAGE, n);
 }
 
-// The pair of a lent polynomial x0, the half of s or of e that is lent, with the three r in ternary bytes.
-fn lent_pair(
-    out: &mut [u8],
-    at: usize,
-    work: &mut [u8],
-    k: &[u8],
-    x0: &[u8],
-    r: &[u8],
-    n: usize,
-    q: u64,
-)
-    requires { ⌜ PublicKeys n q (now k) × Polynomial n q (now x0) × (length (now r) ≡ 3 * n) × (length (now work) ≡ scratchLength)
-        × (at + 16 * n ≤ length (now out)) ⌝ }
-    ensures { λ _. ⌜ (left out ≡ put (given out) at (committedPair q n (keysOf n (given k)) (given r) (poly (given x0))))
-        × Free (given work) (left work) ⌝ }
-{
-    commitment::pair(work, k, x0, r, n, q);
-    write_halves(out, at, work, n);
-}
-
 // The pair of x - x0, the other half, stands in scratch, for ternary bytes x.
 fn pair_difference(work: &mut [u8], k: &[u8], x: &[u8], x0: &[u8], r: &[u8], n: usize, q: u64)
     requires { ⌜ PublicKeys n q (now k) × Polynomial n q (now x0) × (length (now x) ≡ n) × (length (now r) ≡ 3 * n)
@@ -57,28 +37,6 @@ fn pair_difference(work: &mut [u8], k: &[u8], x: &[u8], x0: &[u8], r: &[u8], n: 
     ring::load_ternary(work, commitment::MESSAGE, x, q);
     ring::subtract(work, commitment::MESSAGE, x0, n, q);
     commitment::commit(work, k, n, q);
-}
-
-// The pair of x - x0, the other half, with its three r.
-fn other_pair(
-    out: &mut [u8],
-    at: usize,
-    work: &mut [u8],
-    k: &[u8],
-    x: &[u8],
-    x0: &[u8],
-    r: &[u8],
-    n: usize,
-    q: u64,
-)
-    requires { ⌜ PublicKeys n q (now k) × Polynomial n q (now x0) × (length (now x) ≡ n) × (length (now r) ≡ 3 * n)
-        × (length (now work) ≡ scratchLength) × (at + 16 * n ≤ length (now out)) ⌝ }
-    ensures { λ _. let half = other q (ternary q (given x)) (poly (given x0)) in
-        ⌜ (left out ≡ put (given out) at (committedPair q n (keysOf n (given k)) (given r) half))
-        × Free (given work) (left work) ⌝ }
-{
-    pair_difference(work, k, x, x0, r, n, q);
-    write_halves(out, at, work, n);
 }
 
 // The pairs of both halves, x0 and then x - x0, for the three r of each, 6n ternary bytes.
@@ -100,9 +58,10 @@ fn both_pairs(
         let two = committedPair q n (keysOf n (given k)) (part (given r) (3 * n) (3 * n)) half in
         ⌜ (left out ≡ put (given out) at (one ++ two)) × Free (given work) (left work) ⌝ }
 {
-    let second = at + 16 * n;
-    lent_pair(out, at, work, k, x0, &r[0..3 * n], n, q);
-    other_pair(out, second, work, k, x, x0, &r[3 * n..6 * n], n, q);
+    commitment::pair(work, k, x0, &r[0..3 * n], n, q);
+    write_halves(out, at, work, n);
+    pair_difference(work, k, x, x0, &r[3 * n..6 * n], n, q);
+    write_halves(out, at + 16 * n, work, n);
 }
 
 // The committed pairs of s0, s1, e0, e1 where they stand in the head of the first message.

@@ -1,7 +1,11 @@
 // The producer's two calls once the sheet is taken: the tests of the lent slices, and then the work.
-use crate::orders::first_tests;
-use crate::orders::second_tests;
+use crate::asked::asked_ranged;
+use crate::orders::tests;
 use codec::Reply;
+use codec::refused;
+use round_lengths::count_of;
+use round_lengths::first_sized;
+use round_lengths::second_sized;
 use sheet_numbers::Numbers;
 ghost use Rattle.codec.specs.Slices.{given};
 ghost use Rattle.commitment.specs.Internal.{Loaded};
@@ -33,7 +37,12 @@ pub fn produce_first(
         let before = firstIn head shares0 shares1 claims scratch in let after = firstOut head shares0 shares1 claims scratch in
         ⌜ FirstWritten (parameters k (given public)) x before reply after ⌝ }
 {
-    let reply = first_tests(
+    let count = count_of(ballots, k.ring as usize);
+    if count > 4096 {
+        return refused(1);
+    }
+    let fits = first_sized(k, head, shares0, shares1, claims, scratch, count);
+    let reply = tests(
         k,
         public,
         secrets,
@@ -45,10 +54,9 @@ pub fn produce_first(
         permutations,
         salts,
         ballots,
-        head,
-        shares0,
-        shares1,
-        claims,
+        count,
+        fits,
+        true,
         scratch,
     );
     match reply {
@@ -104,7 +112,15 @@ pub fn produce_second(
         let before = secondIn opening answers scratch in let after = secondOut opening answers scratch in
         ⌜ SecondWritten (parameters k (given public)) x side (given challenges) before reply after ⌝ }
 {
-    let reply = second_tests(
+    let n = k.ring as usize;
+    let repeats = k.repeats as usize;
+    let count = count_of(ballots, n);
+    if count > 4096 {
+        return refused(1);
+    }
+    let fits = second_sized(challenges, opening, answers, scratch, repeats, n);
+    let asked = asked_ranged(side, challenges);
+    let reply = tests(
         k,
         public,
         secrets,
@@ -116,10 +132,9 @@ pub fn produce_second(
         permutations,
         salts,
         ballots,
-        side,
-        challenges,
-        opening,
-        answers,
+        count,
+        fits,
+        asked,
         scratch,
     );
     match reply {

@@ -40,8 +40,10 @@ fn other_halves(
         ⌜ (left opening ≡ put (given opening) 0 (coefficientBytes q n s1 ++ coefficientBytes q n e1))
         × Free (given work) (left work) ⌝ }
 {
-    scheme::written::difference(opening, 0, work, &secrets[0..n], s0, n, q);
-    scheme::written::difference(opening, 8 * n, work, &secrets[n..2 * n], e0, n, q);
+    bgv::difference(work, 0, &secrets[0..n], s0, n, q);
+    scheme::hand_out(opening, 0, work, n);
+    bgv::difference(work, 0, &secrets[n..2 * n], e0, n, q);
+    scheme::hand_out(opening, 8 * n, work, n);
 }
 
 // The three r of a half of s and those of a half of e, from places of the secrets.

@@ -2,48 +2,13 @@
 // given back zeroed, or as it was where the call is refused.
 use codec::Reply;
 use sheet_numbers::Numbers;
-ghost use mathlib.Core.Path.{_≡_};
-ghost use Prim.Native.Nat.{_*_, _≤_};
-ghost use lib.ListN.{length};
-ghost use Rattle.codec.specs.Bytes.{zeros};
-ghost use Rattle.codec.specs.Reply.{first};
 ghost use Rattle.codec.specs.Slices.{given, left};
-ghost use Rattle.scratch.specs.Call.{scratchLength};
-ghost use Rattle.scratch.specs.Internal.{Polynomial, Computed};
+ghost use Rattle.scratch.specs.Internal.{Computed};
 ghost use Rattle.commitment.specs.Internal.{Loaded};
 ghost use Rattle.commitment.specs.Parameters.{parameters};
 ghost use Rattle.scheme.specs.Calls.{commitmentTests, commitmentWrites};
 
-// What `commitment` refuses, in order.
-fn commitment_tests(k: Numbers, m: &[u8], r: &[u8], pair: &[u8], scratch: &[u8]) -> Reply
-    requires { ⌜ k .ring ≤ 2048 ⌝ }
-    ensures { λ reply. ⌜ reply ≡ first (commitmentTests k (given m) (given r) (given pair) (given scratch)) ⌝ }
-{
-    let n = k.ring as usize;
-    if !scratch::sized(
-        [m.len(), r.len(), pair.len(), scratch.len(), 0, 0],
-        [8 * n, 3 * n, 16 * n, scratch::SCRATCH, 0, 0],
-    ) {
-        return codec::refused(1);
-    }
-    codec::tested(scratch::ternary_and_in_range(r, m, n, k.modulus), 5)
-}
-
-// The work of `commitment`, for slices that passed its tests: the row stands at the head of scratch, the second half where m was put.
-fn write_pair(k: Numbers, public: &[u8], m: &[u8], r: &[u8], pair: &mut [u8], scratch: &mut [u8])
-    requires { ⌜ Loaded k (now public) × Polynomial (k .ring) (k .modulus) (now m) × (length (now r) ≡ 3 * k .ring)
-        × (length (now pair) ≡ 16 * k .ring) × (length (now scratch) ≡ scratchLength) ⌝ }
-    ensures { λ _. ⌜ (left pair ≡ commitmentWrites (parameters k (given public)) (given m) (given r))
-        × (left scratch ≡ zeros (length (given scratch))) ⌝ }
-{
-    let n = k.ring as usize;
-    commitment::pair(scratch, &public[16 * n..40 * n], m, r, n, k.modulus);
-    scratch::write_out(pair, 0, scratch, 0, n);
-    scratch::write_out(pair, 8 * n, scratch, commitment::MESSAGE, n);
-    codec::wipe(scratch);
-}
-
-// The pair that commits to m.
+// The pair that commits to m: the row stands at the head of scratch, the second half where m was put.
 pub fn commitment(
     k: Numbers,
     public: &[u8],
@@ -57,9 +22,19 @@ pub fn commitment(
         (commitmentWrites (parameters k (given public)) (given m) (given r)) reply
         (given pair) (left pair) (given scratch) (left scratch) ⌝ }
 {
-    let reply = commitment_tests(k, m, r, pair, scratch);
-    if let Reply::Taken = reply {
-        write_pair(k, public, m, r, pair, scratch);
+    let n = k.ring as usize;
+    if !scratch::sized(
+        [m.len(), r.len(), pair.len(), scratch.len(), 0, 0],
+        [8 * n, 3 * n, 16 * n, scratch::SCRATCH, 0, 0],
+    ) {
+        return codec::refused(1);
     }
-    reply
+    if !scratch::ternary_and_in_range(r, m, n, k.modulus) {
+        return codec::refused(5);
+    }
+    commitment::pair(scratch, &public[16 * n..40 * n], m, r, n, k.modulus);
+    scratch::write_out(pair, 0, scratch, 0, n);
+    scratch::write_out(pair, 8 * n, scratch, commitment::MESSAGE, n);
+    codec::wipe(scratch);
+    Reply::Taken
 }

@@ -1,40 +1,19 @@
 // Decryption shares and the vote of two once the sheet is taken: the tests of the lent slices, and then the work. Scratch is given back
 // zeroed, or as it was where the call is refused.
-use crate::written;
+use crate::hand_out;
 use codec::Reply;
 use sheet_numbers::Numbers;
 ghost use mathlib.Core.Path.{_≡_};
 ghost use mathlib.Core.List.{[], _∷_};
 ghost use Prim.Native.Nat.{_*_};
 ghost use lib.ListN.{length};
-ghost use Rattle.codec.specs.Bytes.{zeros};
-ghost use Rattle.codec.specs.Reply.{first};
 ghost use Rattle.codec.specs.Slices.{given, left};
 ghost use Rattle.sheet_numbers.specs.Internal.{Usable};
-ghost use Rattle.scratch.specs.Call.{scratchLength, coefficientsBelow};
-ghost use Rattle.scratch.specs.Internal.{Polynomial, Computed};
+ghost use Rattle.scratch.specs.Call.{coefficientsBelow};
+ghost use Rattle.scratch.specs.Internal.{Computed};
 ghost use Rattle.scheme.specs.Calls.{shareTests, shareWrites, reconstructTests, reconstructWrites};
 
-// What `share` refuses, in order. A lent mask is bounded as it is lent.
-fn share_tests(k: Numbers, half: &[u8], u: &[u8], mask: &[u8], t: &[u8], scratch: &[u8]) -> Reply
-    requires { ⌜ Usable k ⌝ }
-    ensures { λ reply. ⌜ reply ≡ first (shareTests k (given half) (given u) (given mask) (given t) (given scratch)) ⌝ }
-{
-    let n = k.ring as usize;
-    if !scratch::sized(
-        [half.len(), u.len(), mask.len(), t.len(), scratch.len(), 0],
-        [8 * n, 8 * n, 8 * n, 8 * n, scratch::SCRATCH, 0],
-    ) {
-        return codec::refused(1);
-    }
-    if !scratch::both_in_range(half, u, n, k.modulus) {
-        return codec::refused(5);
-    }
-    let bound = sheet_numbers::mask_bound(k);
-    codec::tested(bgv::bounded(mask, bound, n), 12)
-}
-
-// The decryption share t.
+// The decryption share t. A lent mask is bounded as it is lent.
 pub fn share(
     k: Numbers,
     half: &[u8],
@@ -47,12 +26,24 @@ pub fn share(
     ensures { λ reply. ⌜ Computed (shareTests k (given half) (given u) (given mask) (given t) (given scratch))
         (shareWrites k (given half) (given u) (given mask)) reply (given t) (left t) (given scratch) (left scratch) ⌝ }
 {
-    let reply = share_tests(k, half, u, mask, t, scratch);
-    if let Reply::Taken = reply {
-        let p = sheet_numbers::plain(k);
-        written::share(t, 0, scratch, half, u, mask, p, k.ring as usize, k.modulus);
+    let n = k.ring as usize;
+    if !scratch::sized(
+        [half.len(), u.len(), mask.len(), t.len(), scratch.len(), 0],
+        [8 * n, 8 * n, 8 * n, 8 * n, scratch::SCRATCH, 0],
+    ) {
+        return codec::refused(1);
     }
-    reply
+    if !scratch::both_in_range(half, u, n, k.modulus) {
+        return codec::refused(5);
+    }
+    let bound = sheet_numbers::mask_bound(k);
+    if !bgv::bounded(mask, bound, n) {
+        return codec::refused(12);
+    }
+    let p = sheet_numbers::plain(k);
+    bgv::share(scratch, half, u, mask, p, n, k.modulus);
+    hand_out(t, 0, scratch, n);
+    Reply::Taken
 }
 
 // v, t0 and t1 are in range.
@@ -65,41 +56,6 @@ fn reconstruct_ranged(v: &[u8], t0: &[u8], t1: &[u8], n: usize, q: u64) -> bool
     } else {
         false
     }
-}
-
-// What `reconstruct` refuses, in order.
-fn reconstruct_tests(
-    k: Numbers,
-    v: &[u8],
-    t0: &[u8],
-    t1: &[u8],
-    vote: &[u8],
-    scratch: &[u8],
-) -> Reply
-    requires { ⌜ Usable k ⌝ }
-    ensures { λ reply. ⌜ reply ≡ first (reconstructTests k (given v) (given t0) (given t1) (given vote) (given scratch)) ⌝ }
-{
-    let n = k.ring as usize;
-    if !scratch::sized(
-        [v.len(), t0.len(), t1.len(), vote.len(), scratch.len(), 0],
-        [8 * n, 8 * n, 8 * n, n, scratch::SCRATCH, 0],
-    ) {
-        return codec::refused(1);
-    }
-    codec::tested(reconstruct_ranged(v, t0, t1, n, k.modulus), 5)
-}
-
-// The work of `reconstruct`, for slices that passed its tests.
-fn write_rebuilt(k: Numbers, v: &[u8], t0: &[u8], t1: &[u8], vote: &mut [u8], scratch: &mut [u8])
-    requires { ⌜ Usable k × Polynomial (k .ring) (k .modulus) (now v) × Polynomial (k .ring) (k .modulus) (now t0)
-        × Polynomial (k .ring) (k .modulus) (now t1) × (length (now vote) ≡ k .ring) × (length (now scratch) ≡ scratchLength) ⌝ }
-    ensures { λ _. ⌜ (left vote ≡ reconstructWrites k (given v) (given t0) (given t1)) × (left scratch ≡ zeros (length (given scratch))) ⌝ }
-{
-    let n = k.ring as usize;
-    let p = sheet_numbers::plain(k);
-    bgv::rebuilt(scratch, v, t0, t1, n, k.modulus);
-    bgv::plain(scratch, vote, p, n, k.modulus);
-    codec::wipe(scratch);
 }
 
 // The vote, from two shares.
@@ -115,9 +71,19 @@ pub fn reconstruct(
     ensures { λ reply. ⌜ Computed (reconstructTests k (given v) (given t0) (given t1) (given vote) (given scratch))
         (reconstructWrites k (given v) (given t0) (given t1)) reply (given vote) (left vote) (given scratch) (left scratch) ⌝ }
 {
-    let reply = reconstruct_tests(k, v, t0, t1, vote, scratch);
-    if let Reply::Taken = reply {
-        write_rebuilt(k, v, t0, t1, vote, scratch);
+    let n = k.ring as usize;
+    if !scratch::sized(
+        [v.len(), t0.len(), t1.len(), vote.len(), scratch.len(), 0],
+        [8 * n, 8 * n, 8 * n, n, scratch::SCRATCH, 0],
+    ) {
+        return codec::refused(1);
     }
-    reply
+    if !reconstruct_ranged(v, t0, t1, n, k.modulus) {
+        return codec::refused(5);
+    }
+    let p = sheet_numbers::plain(k);
+    bgv::rebuilt(scratch, v, t0, t1, n, k.modulus);
+    bgv::plain(scratch, vote, p, n, k.modulus);
+    codec::wipe(scratch);
+    Reply::Taken
 }

@@ -2,36 +2,19 @@
 // and then the work.
 // Scratch is given back zeroed, or as it was where the call is refused.
 use codec::Reply;
-use scheme::written;
+use scheme::hand_out;
 use sheet_numbers::Numbers;
 ghost use mathlib.Core.Path.{_≡_};
 ghost use mathlib.Core.Bool.{_&&_};
 ghost use mathlib.Core.List.{[], _∷_};
-ghost use Prim.Native.Nat.{_*_, _≤_};
+ghost use Prim.Native.Nat.{_*_};
 ghost use lib.ListN.{length};
-ghost use Rattle.codec.specs.Bytes.{zeros};
-ghost use Rattle.codec.specs.Reply.{first};
 ghost use Rattle.codec.specs.Slices.{given, left};
-ghost use Rattle.scratch.specs.Call.{scratchLength, bytesBelow, coefficientsBelow};
-ghost use Rattle.scratch.specs.Internal.{Polynomial, Computed};
+ghost use Rattle.scratch.specs.Call.{bytesBelow, coefficientsBelow};
+ghost use Rattle.scratch.specs.Internal.{Computed};
 ghost use Rattle.commitment.specs.Internal.{Loaded};
 ghost use Rattle.commitment.specs.Parameters.{parameters};
 ghost use Rattle.scheme.specs.Calls.{keygenTests, keygenWrites, splitTests, splitWrites};
-
-// What `keygen` refuses, in order.
-fn keygen_tests(k: Numbers, s: &[u8], e: &[u8], b: &[u8], scratch: &[u8]) -> Reply
-    requires { ⌜ k .ring ≤ 2048 ⌝ }
-    ensures { λ reply. ⌜ reply ≡ first (keygenTests k (given s) (given e) (given b) (given scratch)) ⌝ }
-{
-    let n = k.ring as usize;
-    if !scratch::sized(
-        [s.len(), e.len(), b.len(), scratch.len(), 0, 0],
-        [n, n, 8 * n, scratch::SCRATCH, 0, 0],
-    ) {
-        return codec::refused(1);
-    }
-    codec::tested(scratch::both_ternary(s, e), 5)
-}
 
 // The key b.
 pub fn keygen(
@@ -46,13 +29,20 @@ pub fn keygen(
     ensures { λ reply. ⌜ Computed (keygenTests k (given s) (given e) (given b) (given scratch))
         (keygenWrites (parameters k (given public)) (given s) (given e)) reply (given b) (left b) (given scratch) (left scratch) ⌝ }
 {
-    let reply = keygen_tests(k, s, e, b, scratch);
-    if let Reply::Taken = reply {
-        let n = k.ring as usize;
-        let p = sheet_numbers::plain(k);
-        written::noisy(b, 0, scratch, &public[0..8 * n], s, e, p, n, k.modulus);
+    let n = k.ring as usize;
+    if !scratch::sized(
+        [s.len(), e.len(), b.len(), scratch.len(), 0, 0],
+        [n, n, 8 * n, scratch::SCRATCH, 0, 0],
+    ) {
+        return codec::refused(1);
     }
-    reply
+    if !scratch::both_ternary(s, e) {
+        return codec::refused(5);
+    }
+    let p = sheet_numbers::plain(k);
+    bgv::noisy(scratch, &public[0..8 * n], s, e, p, n, k.modulus);
+    hand_out(b, 0, scratch, n);
+    Reply::Taken
 }
 
 // s and e are ternary, and s0 and e0 in range.
@@ -65,74 +55,6 @@ fn split_ranged(s: &[u8], e: &[u8], s0: &[u8], e0: &[u8], n: usize, q: u64) -> b
     } else {
         false
     }
-}
-
-// What `split` refuses, in order.
-fn split_tests(
-    k: Numbers,
-    s: &[u8],
-    e: &[u8],
-    s0: &[u8],
-    e0: &[u8],
-    out: &[u8],
-    scratch: &[u8],
-) -> Reply
-    requires { ⌜ k .ring ≤ 2048 ⌝ }
-    ensures { λ reply. ⌜ reply ≡ first (splitTests k (given s) (given e) (given s0) (given e0) (given out) (given scratch)) ⌝ }
-{
-    let n = k.ring as usize;
-    if !scratch::sized(
-        [
-            s.len(),
-            e.len(),
-            s0.len(),
-            e0.len(),
-            out.len(),
-            scratch.len(),
-        ],
-        [n, n, 8 * n, 8 * n, 32 * n, scratch::SCRATCH],
-    ) {
-        return codec::refused(1);
-    }
-    codec::tested(split_ranged(s, e, s0, e0, n, k.modulus), 5)
-}
-
-// The work of `split`, for slices that passed its tests.
-fn write_split(
-    k: Numbers,
-    public: &[u8],
-    s: &[u8],
-    e: &[u8],
-    s0: &[u8],
-    e0: &[u8],
-    out: &mut [u8],
-    scratch: &mut [u8],
-)
-    requires { ⌜ Loaded k (now public) × Polynomial (k .ring) (k .modulus) (now s0) × Polynomial (k .ring) (k .modulus) (now e0)
-        × (length (now s) ≡ k .ring) × (length (now e) ≡ k .ring) × (length (now out) ≡ 32 * k .ring)
-        × (length (now scratch) ≡ scratchLength) ⌝ }
-    ensures { λ _. ⌜ (left out ≡ splitWrites (parameters k (given public)) (given s) (given e) (given s0) (given e0))
-        × (left scratch ≡ zeros (length (given scratch))) ⌝ }
-{
-    let n = k.ring as usize;
-    let q = k.modulus;
-    let p = sheet_numbers::plain(k);
-    written::difference(out, 0, scratch, s, s0, n, q);
-    written::difference(out, 8 * n, scratch, e, e0, n, q);
-    written::lent_key(out, 16 * n, scratch, &public[0..8 * n], s0, e0, p, n, q);
-    written::other_key(
-        out,
-        24 * n,
-        scratch,
-        &public[0..8 * n],
-        s,
-        s0,
-        e,
-        e0,
-        p,
-        n,
-        q,
-    );
 }
 
 // The key split: s1, e1, b0, b1.
@@ -151,9 +73,32 @@ pub fn split(
         (splitWrites (parameters k (given public)) (given s) (given e) (given s0) (given e0)) reply
         (given out) (left out) (given scratch) (left scratch) ⌝ }
 {
-    let reply = split_tests(k, s, e, s0, e0, out, scratch);
-    if let Reply::Taken = reply {
-        write_split(k, public, s, e, s0, e0, out, scratch);
+    let n = k.ring as usize;
+    let q = k.modulus;
+    if !scratch::sized(
+        [
+            s.len(),
+            e.len(),
+            s0.len(),
+            e0.len(),
+            out.len(),
+            scratch.len(),
+        ],
+        [n, n, 8 * n, 8 * n, 32 * n, scratch::SCRATCH],
+    ) {
+        return codec::refused(1);
     }
-    reply
+    if !split_ranged(s, e, s0, e0, n, q) {
+        return codec::refused(5);
+    }
+    let p = sheet_numbers::plain(k);
+    bgv::difference(scratch, 0, s, s0, n, q);
+    hand_out(out, 0, scratch, n);
+    bgv::difference(scratch, 0, e, e0, n, q);
+    hand_out(out, 8 * n, scratch, n);
+    bgv::noisy_lent(scratch, &public[0..8 * n], s0, e0, p, n, q);
+    hand_out(out, 16 * n, scratch, n);
+    bgv::noisy_difference(scratch, &public[0..8 * n], s, s0, e, e0, p, n, q);
+    hand_out(out, 24 * n, scratch, n);
+    Reply::Taken
 }

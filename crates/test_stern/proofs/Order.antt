@@ -15,7 +15,7 @@ use Rattle.scratch.specs.Call.{zeroized}
 use Rattle.scratch.proofs.Zeroizing.{zeroized-taken, zeroized-refused}
 use Rattle.commitment.specs.Commitment.{Keys}
 use Rattle.stern.specs.Shortness.{answer1Of, answer2Of, answer3Of, tests1, tests2, tests3, answerTests}
-use Rattle.test_stern.specs.Calls.{Sifted, Made, CallAnswered, CallTold}
+use Rattle.test_stern.specs.Calls.{Sifted, CallAnswered, CallTold}
 
 module _ (n : ℕ) {r : Reply} (b : Bool) (ts : List Test) {x : Bool} (is : x ≡ b) where
   -- a fact fails
@@ -58,11 +58,10 @@ module _ (r : Reply) (w w' : Bytes) (sized : length w' ≡ length w) where
 
 -- ---- a call, from its part before the zeroize
 
-module _ {is r : Reply} {answer : ℕ} (e : answer ≡ packed r) {w w' w'' : Bytes} (z : w'' ≡ zeroized r w') where
-  pub answered : {writes out out' : Bytes} → Made is r writes out out' w w' → CallAnswered is writes answer out out' w w''
-  answered {writes} {out} m =
-      let i = m .replied in
-      record { replied = e ∙ ap packed i; written = m .written ∙ ap (λ (x : Reply). leaves x writes out) i; cleared = z ∙ m .used ∙ ap (λ (x : Reply). zeroized x w) i }
+module _ {is r r' : Reply} {answer : ℕ} (e : answer ≡ packed r') {w w'' : Bytes} (w' : Bytes) (z : (r' ≡ r) × (w'' ≡ zeroized r w')) where
+  pub answered : {writes out out' : Bytes} → r ≡ is → out' ≡ leaves r writes out → zeroized r w' ≡ zeroized r w → CallAnswered is writes answer out out' w w''
+  answered {writes} {out} i written used =
+      record { replied = e ∙ ap packed (z .0 ∙ i); written = written ∙ ap (λ (x : Reply). leaves x writes out) i; cleared = z .1 ∙ used ∙ ap (λ (x : Reply). zeroized x w) i }
 
   pub told : Sifted is r w w' → CallTold is answer w w''
-  told m = let i = m .replied in record { replied = e ∙ ap packed i; cleared = z ∙ m .used ∙ ap (λ (x : Reply). zeroized x w) i }
+  told m = let i = m .replied in record { replied = e ∙ ap packed (z .0 ∙ i); cleared = z .1 ∙ m .used ∙ ap (λ (x : Reply). zeroized x w) i }

@@ -66,12 +66,6 @@ pub record Sifted (is reply : Reply) (scratch scratch' : Bytes) : Type 0 where
   pub used : zeroized reply scratch' ≡ zeroized reply scratch
   pub kept : Free scratch scratch'
 
--- the tests and the writing
-pub record Made (is reply : Reply) (writes out out' scratch scratch' : Bytes) : Type 0 where
-  pub replied : reply ≡ is
-  pub written : out' ≡ leaves reply writes out
-  pub used : zeroized reply scratch' ≡ zeroized reply scratch
-
 -- a call: the one number that it answers, and what it leaves in each slice
 pub record CallAnswered (is : Reply) (writes : Bytes) (answer : ℕ) (out out' scratch scratch' : Bytes) : Type 0 where
   pub replied : answer ≡ packed is

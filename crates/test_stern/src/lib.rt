@@ -11,36 +11,7 @@ use codec::Reply;
 ghost use Rattle.codec.specs.Slices.{given, left};
 ghost use Rattle.commitment.specs.Commitment.{keysOf};
 ghost use Rattle.stern.specs.Shortness.{drawnOf, honestDigests, honestAnswer};
-ghost use Rattle.test_stern.specs.Calls.{digestsReply, answerReply, testReply, Made, CallAnswered, CallTold};
-
-// The digests, where every test is passed.
-fn digests(
-    keys: &[u8],
-    x: &[u8],
-    r: &[u8],
-    p: &[u8],
-    salts: &[u8],
-    out: &mut [u8],
-    scratch: &mut [u8],
-    n: usize,
-    q: u64,
-) -> Reply
-    ensures { λ reply. let is = digestsReply n q (given keys) (given x) (given r) (given p) (given salts) (given out) (given scratch) in
-        let writes = honestDigests q n (keysOf n (given keys)) (given x) (drawnOf (given p) (given r) (given salts)) in
-        ⌜ Made is reply writes (given out) (left out) (given scratch) (left scratch) ⌝ }
-{
-    let reply = orders::digests_tests(keys, x, r, p, salts, out, scratch, n, q);
-    match reply {
-        Reply::Taken => {
-            stern_answers::writing::write_digests(out, 0, scratch, keys, x, r, p, salts, n, q);
-        }
-        Reply::Refused {
-            number: _,
-            place: _,
-        } => {}
-    }
-    reply
-}
+ghost use Rattle.test_stern.specs.Calls.{digestsReply, answerReply, testReply, CallAnswered, CallTold};
 
 // uint64_t stern_digests(const uint8_t *keys, size_t, const uint8_t *x, size_t, const uint8_t *r, size_t, const uint8_t *p, size_t, const
 // uint8_t *salts, size_t,
@@ -62,38 +33,12 @@ pub extern "C" fn stern_digests(
         let writes = honestDigests q n (keysOf n (given keys)) (given x) (drawnOf (given p) (given r) (given salts)) in
         ⌜ CallAnswered is writes v (given out) (left out) (given scratch) (left scratch) ⌝ }
 {
-    let reply = digests(keys, x, r, p, salts, out, scratch, n, q);
-    scratch::zeroize(reply, scratch);
-    codec::pack(reply)
-}
-
-// The answer, where every test is passed.
-fn answer(
-    challenge: u8,
-    x: &[u8],
-    r: &[u8],
-    p: &[u8],
-    salts: &[u8],
-    out: &mut [u8],
-    scratch: &mut [u8],
-    n: usize,
-    q: u64,
-) -> Reply
-    ensures { λ reply. let is = answerReply n q challenge (given x) (given r) (given p) (given salts) (given out) (given scratch) in
-        let writes = honestAnswer q n (given x) (drawnOf (given p) (given r) (given salts)) challenge in
-        ⌜ Made is reply writes (given out) (left out) (given scratch) (left scratch) ⌝ }
-{
-    let reply = orders::answer_tests(challenge, x, r, p, salts, out, scratch, n, q);
-    match reply {
-        Reply::Taken => {
-            stern_answers::writing::write_answer(out, challenge, x, r, p, salts, n, q);
-        }
-        Reply::Refused {
-            number: _,
-            place: _,
-        } => {}
-    }
-    reply
+    let reply = orders::digests_tests(keys, x, r, p, salts, out, scratch, n, q);
+    let Reply::Taken = reply else {
+        return codec::pack(scratch::finish(reply, scratch));
+    };
+    stern_answers::writing::write_digests(out, 0, scratch, keys, x, r, p, salts, n, q);
+    codec::pack(scratch::finish(reply, scratch))
 }
 
 // uint64_t stern_answer(uint8_t challenge, const uint8_t *x, size_t, const uint8_t *r, size_t, const uint8_t *p, size_t, const uint8_t
@@ -116,9 +61,12 @@ pub extern "C" fn stern_answer(
         let writes = honestAnswer q n (given x) (drawnOf (given p) (given r) (given salts)) challenge in
         ⌜ CallAnswered is writes v (given out) (left out) (given scratch) (left scratch) ⌝ }
 {
-    let reply = answer(challenge, x, r, p, salts, out, scratch, n, q);
-    scratch::zeroize(reply, scratch);
-    codec::pack(reply)
+    let reply = orders::answer_tests(challenge, x, r, p, salts, out, scratch, n, q);
+    let Reply::Taken = reply else {
+        return codec::pack(scratch::finish(reply, scratch));
+    };
+    stern_answers::writing::write_answer(out, challenge, x, r, p, salts, n, q);
+    codec::pack(scratch::finish(reply, scratch))
 }
 
 // uint64_t stern_test(const uint8_t *keys, size_t, const uint8_t *pairs, size_t, const uint8_t *digests, size_t, uint8_t challenge, const
@@ -151,6 +99,5 @@ pub extern "C" fn stern_test(
         n,
         q,
     );
-    scratch::zeroize(reply, scratch);
-    codec::pack(reply)
+    codec::pack(scratch::finish(reply, scratch))
 }

@@ -1,4 +1,4 @@
--- `ballots::encrypt_ranged` meets its contract. Assumes nothing.
+-- `encrypt_ranged` meets its contract. Assumes nothing.
 use mathlib.Core.Path.{_≡_, sym, _∙_}
 use mathlib.Core.Bool.{true, false}
 use mathlib.Core.List.{[], _∷_}
@@ -7,8 +7,8 @@ use borrow.Author.Tests.{not-true, not-false}
 use Rattle.codec.specs.Lists.{allBelow}
 use Rattle.scratch.specs.Call.{bytesBelow}
 use Rattle.scratch.proofs.Order.{last}
-use Rattle.scheme_encryption.proofs.ballots.encrypt_ranged.Statement.{statement}
-use Rattle.scheme_encryption.proofs.ballots.encrypt_ranged.Tie as tie
+use Rattle.scheme_encryption.proofs.encrypt_ranged.Statement.{statement}
+use Rattle.scheme_encryption.proofs.encrypt_ranged.Tie as tie
 
 returns : tie.Need-returns
 returns c =

@@ -1,8 +1,0 @@
--- `written::other_key` meets its contract. Assumes nothing.
-use borrow.Author.Needs.{needs}
-use Rattle.scheme.proofs.Places.{handed}
-use Rattle.scheme.proofs.written.other_key.Statement.{statement}
-use Rattle.scheme.proofs.written.other_key.Tie as tie
-
-pub other-key-spec : {M : Type 1} → statement M
-other-key-spec = tie.close (tie.spec (λ c κs. search needs) (λ c κs. search needs) (λ c. search needs) (λ c. search needs) (λ c. handed (c .before .before .before .before .before .before .before .before .before .noisy-difference .ensures) (c .before .before .before .before .hand-out .ensures)))
