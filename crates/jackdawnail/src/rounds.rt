@@ -8,7 +8,7 @@ ghost use Rattle.round.specs.Lent.{materialIn, firstIn, firstOut, secondIn, sec
 ghost use Rattle.round_extract.specs.Extraction.{answered};
 ghost use Rattle.round_produce.specs.Replies.{firstReply, FirstCalled, secondReply, SecondCalled};
 ghost use Rattle.round_extract.specs.Replies.{extractFound, ExtractCalled};
-ghost use Rattle.round_check.specs.Opened.{openedReply};
+ghost use Rattle.round_tests.specs.Opened.{openedReply};
 
 // The producer's first call: the first message and the claims.
 #[no_mangle]
@@ -97,11 +97,11 @@ pub extern "C" fn jdn_produce_second(
 
 // What two openings and three answers give away.
 #[no_mangle]
-pub extern "C" fn jdn_extract(
+pub extern "C" fn jdn_extract<'a>(
     sheet: &[u8],
     head: &[u8],
-    shares0: &[u8],
-    shares1: &[u8],
+    shares0: &'a [u8],
+    shares1: &'a [u8],
     ballots: &[u8],
     claims: &[u8],
     opening0: &[u8],
@@ -140,5 +140,5 @@ pub extern "C" fn jdn_extract(
 pub extern "C" fn jdn_opened_share(side: u64, n: u64, shares0: &[u8], shares1: &[u8], j: u64) -> u64
     ensures { λ answer. ⌜ answer ≡ openedReply side n (length (now (shares0 .entry))) (length (now (shares1 .entry))) j ⌝ }
 {
-    round_check::opened::opened_reply(side, n, shares0.len(), shares1.len(), j)
+    round_tests::opened::opened_reply(side, n, shares0.len(), shares1.len(), j)
 }

@@ -97,15 +97,15 @@ pub extern "C" fn jdn_draw(image: &mut [u8], seed: &[u8]) -> u64
 
 // Checks a round.
 #[no_mangle]
-pub extern "C" fn jdn_check(
+pub extern "C" fn jdn_check<'a>(
     image: &mut [u8],
     sheet: &[u8],
     ballots: &[u8],
     claims: &[u8],
     round: u64,
     head: &[u8],
-    shares0: &[u8],
-    shares1: &[u8],
+    shares0: &'a [u8],
+    shares1: &'a [u8],
     opening: &[u8],
     answers: &[u8],
     scratch: &mut [u8],

@@ -6,11 +6,11 @@ ghost use Rattle.round.specs.RoundSlices.{openingsIn, extractIn, extractOut};
 ghost use Rattle.round_extract.specs.Replies.{ExtractCalled};
 
 // Finds what two openings and three answers give away.
-pub fn extract(
+pub fn extract<'a>(
     sheet: &[u8],
     head: &[u8],
-    shares0: &[u8],
-    shares1: &[u8],
+    shares0: &'a [u8],
+    shares1: &'a [u8],
     ballots: &[u8],
     claims: &[u8],
     opening0: &[u8],

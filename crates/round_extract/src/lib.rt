@@ -30,12 +30,12 @@ pub fn pack_extraction(answer: Extraction) -> u64
 }
 
 // The extractor: where its tests take what is lent, what openings and answers give away, in the output.
-pub fn extract(
+pub fn extract<'a>(
     k: Numbers,
     public: &[u8],
     head: &[u8],
-    shares0: &[u8],
-    shares1: &[u8],
+    shares0: &'a [u8],
+    shares1: &'a [u8],
     ballots: &[u8],
     claims: &[u8],
     opening0: &[u8],

@@ -7,15 +7,15 @@ ghost use Rattle.session_check.specs.Check.{inputsIn};
 ghost use Rattle.session_image.specs.Images.{CheckCalled, ChallengesCalled, turnoutAnswer, countedAnswer};
 
 // Checks a round.
-pub fn check(
+pub fn check<'a>(
     image: &mut [u8],
     sheet: &[u8],
     ballots: &[u8],
     claims: &[u8],
     round: u64,
     head: &[u8],
-    shares0: &[u8],
-    shares1: &[u8],
+    shares0: &'a [u8],
+    shares1: &'a [u8],
     opening: &[u8],
     answers: &[u8],
     scratch: &mut [u8],

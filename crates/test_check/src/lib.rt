@@ -11,15 +11,15 @@ ghost use Rattle.round.specs.Internal.{roundIn};
 ghost use Rattle.test_check.specs.Replies.{checkReply, RoundCheckCalled};
 
 // Checks one round with the side and the challenges that are lent.
-fn check(
+fn check<'a>(
     sheet: &[u8],
     side: u64,
     challenges: &[u8],
     ballots: &[u8],
     claims: &[u8],
     head: &[u8],
-    shares0: &[u8],
-    shares1: &[u8],
+    shares0: &'a [u8],
+    shares1: &'a [u8],
     opening: &[u8],
     answers: &[u8],
     scratch: &mut [u8],
@@ -54,15 +54,15 @@ fn check(
 
 // Answers 0 where the round is accepted, and else document 01's number, with the place above the low byte.
 #[no_mangle]
-pub extern "C" fn test_check_round(
+pub extern "C" fn test_check_round<'a>(
     sheet: &[u8],
     side: u64,
     challenges: &[u8],
     ballots: &[u8],
     claims: &[u8],
     head: &[u8],
-    shares0: &[u8],
-    shares1: &[u8],
+    shares0: &'a [u8],
+    shares1: &'a [u8],
     opening: &[u8],
     answers: &[u8],
     scratch: &mut [u8],

@@ -5,10 +5,10 @@ use native.Mathlib.Omega.{arith}
 use borrow.Author.Needs.{needs}
 use lib.ListN.{length}
 use Rattle.codec.specs.Bytes.{part}
-use Rattle.round_check.specs.Internal.{sliceOf}
-use Rattle.round_check.proofs.OpenedPlaces.{place-opened, share-empty, share-at}
-use Rattle.round_check.proofs.opened.opened_share.Statement.{statement}
-use Rattle.round_check.proofs.opened.opened_share.Tie as tie
+use Rattle.round.specs.Round.{ofSide}
+use Rattle.round_tests.proofs.OpenedPlaces.{place-opened, share-empty, share-at}
+use Rattle.round_tests.proofs.opened.opened_share.Statement.{statement}
+use Rattle.round_tests.proofs.opened.opened_share.Tie as tie
 
 returns : tie.Need-returns
 returns c =
@@ -40,7 +40,7 @@ returns-2 c =
     let e : r ≡ r - 1 + 1 = omega arith in
     let l : r - 1 + 8 * a .n - (r - 1) ≡ 8 * a .n = omega arith in
     sym (share-at (a .side) (a .n) (a .shares0 .now) (a .shares1 .now) (a .j) (r - 1) (r - 1 + 8 * a .n - (r - 1)) (sym (c .before .before .before .opened-place .ensures) ∙ e) l
-    ∙ ap (λ (i : ℕ). part (sliceOf i (a .shares0 .now) (a .shares1 .now)) (r - 1) (r - 1 + 8 * a .n - (r - 1))) (c .before .if2 .taken))
+    ∙ ap (λ (i : ℕ). part (ofSide i (a .shares0 .now) (a .shares1 .now)) (r - 1) (r - 1 + 8 * a .n - (r - 1))) (c .before .if2 .taken))
 
 part-result-end-2 : tie.Need-part-result-end-2
 part-result-end-2 c =
@@ -57,7 +57,7 @@ returns-3 c =
     let s : a .side ≡ 1 = omega (arith, o .one) in
     let l : r - 1 + 8 * a .n - (r - 1) ≡ 8 * a .n = omega arith in
     sym (share-at (a .side) (a .n) (a .shares0 .now) (a .shares1 .now) (a .j) (r - 1) (r - 1 + 8 * a .n - (r - 1)) (sym (c .before .before .before .opened-place .ensures) ∙ e) l
-    ∙ ap (λ (i : ℕ). part (sliceOf i (a .shares0 .now) (a .shares1 .now)) (r - 1) (r - 1 + 8 * a .n - (r - 1))) s)
+    ∙ ap (λ (i : ℕ). part (ofSide i (a .shares0 .now) (a .shares1 .now)) (r - 1) (r - 1 + 8 * a .n - (r - 1))) s)
 
 pub opened-share-spec : {M : Type 1} → statement M
 opened-share-spec = tie.close (tie.spec (λ c κs. search needs) (λ c. search needs) returns (λ c. search needs) mul-end add-end (λ c. search needs) (λ c. search needs) part-result-end returns-2 (λ c. search needs) (λ c. search needs) part-result-end-2 returns-3)

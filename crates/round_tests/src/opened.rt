@@ -1,7 +1,7 @@
 // Ballot j's opened share: the stretch of whichever side's slice was opened (document 01, "Layouts").
 ghost use mathlib.Core.Path.{_≡_};
-ghost use Rattle.round_check.specs.Opened.{openedPlace, openedReply};
-ghost use Rattle.round_check.specs.Internal.{openedShare};
+ghost use Rattle.round_tests.specs.Opened.{openedPlace, openedReply};
+ghost use Rattle.round_tests.specs.Internal.{openedShare};
 
 // The place of its first byte in that slice plus one; 0 where the stretch is empty.
 pub fn opened_place(side: u64, n: usize, length0: usize, length1: usize, j: usize) -> usize

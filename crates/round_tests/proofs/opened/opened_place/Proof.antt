@@ -4,10 +4,10 @@ use borrow.Author.Needs.{needs}
 use borrow.Author.Tests.{le-ltb, lt-ltb, le-leb, lt-leb, eq-eqb, ne-eqb}
 use Prim.Native.Nat.{_*_}
 use Rattle.sheet_numbers.proofs.Ranges.{divides}
-use Rattle.round_check.specs.Opened.{isOpened, openedPlace}
-use Rattle.round_check.proofs.OpenedPlaces.{whole-stretch}
-use Rattle.round_check.proofs.opened.opened_place.Statement.{statement}
-use Rattle.round_check.proofs.opened.opened_place.Tie as tie
+use Rattle.round_tests.specs.Opened.{isOpened, openedPlace}
+use Rattle.round_tests.proofs.OpenedPlaces.{whole-stretch}
+use Rattle.round_tests.proofs.opened.opened_place.Statement.{statement}
+use Rattle.round_tests.proofs.opened.opened_place.Tie as tie
 
 returns : tie.Need-returns
 unfolding openedPlace isOpened

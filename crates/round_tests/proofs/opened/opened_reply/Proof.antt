@@ -6,8 +6,8 @@ use native.Mathlib.Omega.{arith}
 use borrow.Author.Needs.{needs}
 use borrow.Author.Tests.{lt-ltb, le-ltb}
 use lib.Dec.{ltb}
-use Rattle.round_check.proofs.opened.opened_reply.Statement.{statement}
-use Rattle.round_check.proofs.opened.opened_reply.Tie as tie
+use Rattle.round_tests.proofs.opened.opened_reply.Statement.{statement}
+use Rattle.round_tests.proofs.opened.opened_reply.Tie as tie
 
 -- a place that fits the value of a reply, and one that does not
 fits : (place told : ℕ) → told ≡ place → told < 2 ^ 56 → 256 * told ≡ cond (ltb place (2 ^ 56)) (256 * place) 0

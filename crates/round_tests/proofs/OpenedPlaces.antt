@@ -4,16 +4,17 @@ use mathlib.Core.Logic.{_≢_}
 use mathlib.Core.Bool.{Bool, true, false, cond}
 use mathlib.Core.List.{[]}
 use Prim.Native.Nat.{ℕ, suc, _+_, _*_, _/_, _%_, _≤_, _<_}
-use native.Mathlib.Nat.{mul-suc, mul-le-mul, mul-comm, div-add-mod'}
+use native.Mathlib.Nat.{mul-suc, mul-le-mul, mul-comm, mul-mod-right, mul-div-right, div-add-mod'}
 use native.Mathlib.Omega.{arith}
-use borrow.Author.Tests.{eqb-true, leb-true, ltb-true}
+use borrow.Author.Tests.{eqb-true, leb-true, ltb-true, eq-eqb, le-leb, lt-ltb}
 use lib.Dec.{leb, ltb, eqb}
 use lib.ListN.{length}
 use Rattle.codec.specs.Bytes.{Bytes, part}
 use Rattle.codec.proofs.Laws.{both}
 use Rattle.sheet_numbers.specs.Bounds.{power}
-use Rattle.round_check.specs.Opened.{isOpened, openedPlace}
-use Rattle.round_check.specs.Internal.{sliceOf, openedShare}
+use Rattle.round.specs.Round.{ofSide}
+use Rattle.round_tests.specs.Opened.{isOpened, openedPlace}
+use Rattle.round_tests.specs.Internal.{openedShare}
 
 -- stretch j of those of m bytes each ends within l bytes
 pub whole-stretch : (l m j : ℕ) → j < l / m → m * j + m ≤ l
@@ -65,7 +66,7 @@ module _ (side N : ℕ) (shares0 shares1 : Bytes) (j : ℕ) where
   unfolding openedPlace openedShare
   share-empty e = go (isOpened side N (length shares0) (length shares1) j) e
     where
-      go : (b : Bool) → cond b (8 * N * j + 1) 0 ≡ 0 → cond b (part (sliceOf side shares0 shares1) (8 * N * j) (8 * N)) [] ≡ []
+      go : (b : Bool) → cond b (8 * N * j + 1) 0 ≡ 0 → cond b (part (ofSide side shares0 shares1) (8 * N * j) (8 * N)) [] ≡ []
       go true f = absurd (omega arith)
       go false f = refl
 
@@ -74,9 +75,21 @@ module _ (side N : ℕ) (shares0 shares1 : Bytes) (j : ℕ) where
     there : Opened side N (length shares0) (length shares1) j (at + 1)
     there = place-opened side N (length shares0) (length shares1) j (at + 1) (sym e) (λ z. omega arith)
 
-    pub share-at : openedShare side N shares0 shares1 j ≡ part (sliceOf side shares0 shares1) at long
+    pub share-at : openedShare side N shares0 shares1 j ≡ part (ofSide side shares0 shares1) at long
     unfolding openedShare
     share-at =
         let o = there in
         let f : 8 * N * j ≡ at = omega (arith, o .begins) in
-        ap (λ (b : Bool). cond b (part (sliceOf side shares0 shares1) (8 * N * j) (8 * N)) []) (o .holds) ∙ ap₂ (part (sliceOf side shares0 shares1)) f (sym l)
+        ap (λ (b : Bool). cond b (part (ofSide side shares0 shares1) (8 * N * j) (8 * N)) []) (o .holds) ∙ ap₂ (part (ofSide side shares0 shares1)) f (sym l)
+
+  -- of m whole ballots, ballot j among them: it is that stretch of the side's slice
+  module _ (m : ℕ) (one : side < 2) (low : 4 ≤ N) (high : N ≤ 2048) (size : power 12 N ≡ true) (l0 : length shares0 ≡ 8 * N * m) (l1 : length shares1 ≡ 8 * N * m) (h : j < m) where
+    is-opened : isOpened side N (length shares0) (length shares1) j ≡ true
+    unfolding isOpened
+    is-opened =
+        rw (le-leb side 1 (omega arith), le-leb 4 N low, le-leb N 2048 high, size, eq-eqb (length shares0) (length shares1) (l0 ∙ sym l1))
+        (rw l0 (rw (mul-mod-right (8 * N) m, mul-div-right m {m = 8 * N} (omega arith)) (lt-ltb j m h)))
+
+    pub share-of : openedShare side N shares0 shares1 j ≡ part (ofSide side shares0 shares1) (8 * N * j) (8 * N)
+    unfolding openedShare
+    share-of = ap (λ (b : Bool). cond b (part (ofSide side shares0 shares1) (8 * N * j) (8 * N)) []) is-opened
