@@ -33,8 +33,14 @@ pub extern "C" fn jdn_produce_first(
         let before = firstIn head shares0 shares1 claims scratch in let after = firstOut head shares0 shares1 claims scratch in
         let reply = firstReply (given sheet) x before in ⌜ (answer ≡ packed reply) × FirstCalled (given sheet) x before reply after ⌝ }
 {
-    codec::pack(round_produce::calls::produce_first(
-        sheet,
+    let mut public = [0u8; 81920];
+    let reading = sheet::load(sheet, &mut public);
+    let sheet::Reading::Taken(k) = reading else {
+        return codec::pack(scratch::refuse(reading, scratch));
+    };
+    codec::pack(round_produce::producing::produce_first(
+        k,
+        &public,
         secrets,
         s0,
         e0,
@@ -76,8 +82,14 @@ pub extern "C" fn jdn_produce_second(
         let reply = secondReply (given sheet) x side (given challenges) before in
         ⌜ (answer ≡ packed reply) × SecondCalled (given sheet) x side (given challenges) before reply after ⌝ }
 {
-    codec::pack(round_produce::calls::produce_second(
-        sheet,
+    let mut public = [0u8; 81920];
+    let reading = sheet::load(sheet, &mut public);
+    let sheet::Reading::Taken(k) = reading else {
+        return codec::pack(scratch::refuse(reading, scratch));
+    };
+    codec::pack(round_produce::producing::produce_second(
+        k,
+        &public,
         secrets,
         s0,
         e0,
@@ -117,8 +129,14 @@ pub extern "C" fn jdn_extract<'a>(
         let before = extractIn out scratch in let found = extractFound (given sheet) x before in
         ⌜ (answer ≡ answered found) × ExtractCalled (given sheet) x before found (extractOut out scratch) ⌝ }
 {
-    round_extract::pack_extraction(round_extract::calls::extract(
-        sheet,
+    let mut public = [0u8; 81920];
+    let reading = sheet::load(sheet, &mut public);
+    let sheet::Reading::Taken(k) = reading else {
+        return codec::pack(scratch::refuse(reading, scratch));
+    };
+    round_extract::pack_extraction(round_extract::extract(
+        k,
+        &public,
         head,
         shares0,
         shares1,

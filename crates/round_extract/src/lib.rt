@@ -1,5 +1,4 @@
 // The extractor's call once the sheet is taken: the tests of lengths, then the order of refusals, then the work.
-pub mod calls;
 mod openings;
 
 use crate::openings::openings_tests;

@@ -1,14 +1,14 @@
--- `checks::challenges` meets its contract. Assumes nothing.
+-- `steps::jdn_challenges` meets its contract. Assumes nothing.
 use mathlib.Core.Path.{sym, ap, _∙_}
 use borrow.Author.Needs.{needs}
 use Rattle.codec.specs.Reply.{first, leaves, packed}
 use Rattle.codec.specs.declared.Reply.{Reply}
 use Rattle.session.specs.declared.Session.{Session}
 use Rattle.session.specs.Steps.{challengesTests, challengesOut}
 use Rattle.session_image.specs.Images.{challengesReply}
 use Rattle.session_image.proofs.Over.{wrong-reply, held-reply}
-use Rattle.session_image.proofs.checks.challenges.Statement.{statement}
-use Rattle.session_image.proofs.checks.challenges.Tie as tie
+use Rattle.jackdawnail.proofs.steps.jdn_challenges.Statement.{statement}
+use Rattle.jackdawnail.proofs.steps.jdn_challenges.Tie as tie
 
 returns : tie.Need-returns
 unfolding challengesReply leaves
@@ -31,5 +31,5 @@ returns-2 c =
           ∙ ap (λ (s : Session). leaves (challengesReply (a .image .now) (a .round) (a .out .now)) (challengesOut s (a .round)) (a .out .now)) held;
     }
 
-pub challenges-spec : {M : Type 1} → statement M
-challenges-spec = tie.close (tie.spec returns (λ c κs. search needs) (λ c κs. search needs) (λ c κs. search needs) (λ c. search needs) returns-2)
+pub jdn-challenges-spec : {M : Type 1} → statement M
+jdn-challenges-spec = tie.close (tie.spec returns (λ c κs. search needs) (λ c κs. search needs) (λ c κs. search needs) (λ c. search needs) returns-2)

@@ -1,4 +1,4 @@
--- `checks::turnout` meets its contract. Assumes nothing.
+-- `steps::jdn_turnout` meets its contract. Assumes nothing.
 use mathlib.Core.Path.{sym, ap, _∙_}
 use borrow.Author.Needs.{needs}
 use Rattle.codec.specs.Reply.{first}
@@ -7,11 +7,11 @@ use Rattle.register.specs.Register as entries
 use Rattle.session.specs.declared.Session.{Session}
 use Rattle.session.specs.declared.Turnout.{Turnout}
 use Rattle.session.specs.Steps.{turnoutTests, turnoutBy}
 use Rattle.session_image.specs.Image.{decode}
 use Rattle.session_image.specs.Images.{turnoutReply, turnoutAnswer, countedAnswer}
 use Rattle.session_image.proofs.Over.{wrong-reply, held-reply}
-use Rattle.session_image.proofs.checks.turnout.Statement.{statement}
-use Rattle.session_image.proofs.checks.turnout.Tie as tie
+use Rattle.jackdawnail.proofs.steps.jdn_turnout.Statement.{statement}
+use Rattle.jackdawnail.proofs.steps.jdn_turnout.Tie as tie
 
 returns : tie.Need-returns
 unfolding turnoutReply turnoutAnswer
@@ -29,5 +29,5 @@ returns-2 c =
     c .pack-turnout .ensures
     ∙ ap countedAnswer (c .before .turnout .ensures ∙ ap (λ (s : Session). counted s (asked s)) held ∙ ap (counted (decode (a .image .now))) (sym (held-reply (a .image .now) asked (c .before .before .before .if1 .left))))
 
-pub turnout-spec : {M : Type 1} → statement M
-turnout-spec = tie.close (tie.spec returns (λ c κs. search needs) (λ c κs. search needs) (λ c κs. search needs) returns-2)
+pub jdn-turnout-spec : {M : Type 1} → statement M
+jdn-turnout-spec = tie.close (tie.spec returns (λ c κs. search needs) (λ c κs. search needs) (λ c κs. search needs) returns-2)

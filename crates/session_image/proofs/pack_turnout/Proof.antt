@@ -1,9 +1,9 @@
--- `checks::pack_turnout` meets its contract. Assumes nothing.
+-- `pack_turnout` meets its contract. Assumes nothing.
 use mathlib.Core.Path.{sym, ap}
 use borrow.Author.Needs.{needs}
 use Rattle.session_image.specs.Images.{countedAnswer}
-use Rattle.session_image.proofs.checks.pack_turnout.Statement.{statement}
-use Rattle.session_image.proofs.checks.pack_turnout.Tie as tie
+use Rattle.session_image.proofs.pack_turnout.Statement.{statement}
+use Rattle.session_image.proofs.pack_turnout.Tie as tie
 
 returns : tie.Need-returns
 returns c = sym (ap countedAnswer (c .before .answer .given .1))
