@@ -14,7 +14,7 @@ use Rattle.codec.specs.declared.Reply.{Reply}
 use Rattle.codec.specs.declared.Reply.the-variants.{Taken, Refused}
 use Rattle.codec.proofs.Replies.{not-taken}
 use Rattle.sheet.specs.Sheet.{order}
-use Rattle.round_check.specs.Opened.{openedPlace}
+use Rattle.round_tests.specs.Opened.{openedPlace}
 use Rattle.sha3.specs.Digest.{digestReply}
 use Rattle.sheet.specs.Calls.{describeReply}
 use Rattle.register.specs.Register as entries

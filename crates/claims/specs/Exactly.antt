@@ -15,7 +15,7 @@ use Rattle.session_progress.specs.Progress.{drawn}
 use Rattle.session.specs.declared.Session.{Session}
 use Rattle.session_image.specs.Image.{imageLength, decode}
 use Rattle.session_image.specs.Images.{challengesReply, turnoutReply}
-use Rattle.round_check.specs.Opened.{openedReply}
+use Rattle.round_tests.specs.Opened.{openedReply}
 use Rattle.session_histories.specs.Conditions.{SheetTaken, ValidSession}
 use Rattle.claims.specs.Scheme.{Keygens, Encrypts, Decrypts, Splits, Shares, Reconstructs, CommitsTo}
 

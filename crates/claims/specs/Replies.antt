@@ -7,7 +7,7 @@ use Rattle.codec.specs.Bytes.{Bytes}
 use Rattle.codec.specs.Reply.{first, packed}
 use Rattle.codec.specs.declared.Reply.{Reply}
 use Rattle.codec.specs.declared.Reply.the-variants.{Taken, Refused}
-use Rattle.round_check.specs.Opened.{openedReply}
+use Rattle.round_tests.specs.Opened.{openedReply}
 use Rattle.sha3.specs.Digest.{digestReply}
 use Rattle.sheet.specs.Calls.{describeReply}
 use Rattle.round.specs.Producer.{Material}

@@ -8,7 +8,7 @@ ghost use Rattle.round.specs.Lent.{materialIn, firstIn, firstOut, secondIn, sec
 ghost use Rattle.round_extract.specs.Extraction.{answered};
 ghost use Rattle.round_produce.specs.Replies.{firstReply, FirstCalled, secondReply, SecondCalled};
 ghost use Rattle.round_extract.specs.Replies.{extractFound, ExtractCalled};
-ghost use Rattle.round_check.specs.Opened.{openedReply};
+ghost use Rattle.round_tests.specs.Opened.{openedReply};
 
 // The producer's first call: the first message and the claims.
 #[no_mangle]
@@ -33,8 +33,14 @@ pub extern "C" fn jdn_produce_first(
         let before = firstIn head shares0 shares1 claims scratch in let after = firstOut head shares0 shares1 claims scratch in
         let reply = firstReply (given sheet) x before in ⌜ (answer ≡ packed reply) × FirstCalled (given sheet) x before reply after ⌝ }
 {
-    codec::pack(round_produce::calls::produce_first(
-        sheet,
+    let mut public = [0u8; 81920];
+    let reading = sheet::load(sheet, &mut public);
+    let sheet::Reading::Taken(k) = reading else {
+        return codec::pack(scratch::refuse(reading, scratch));
+    };
+    codec::pack(round_produce::producing::produce_first(
+        k,
+        &public,
         secrets,
         s0,
         e0,
@@ -76,8 +82,14 @@ pub extern "C" fn jdn_produce_second(
         let reply = secondReply (given sheet) x side (given challenges) before in
         ⌜ (answer ≡ packed reply) × SecondCalled (given sheet) x side (given challenges) before reply after ⌝ }
 {
-    codec::pack(round_produce::calls::produce_second(
-        sheet,
+    let mut public = [0u8; 81920];
+    let reading = sheet::load(sheet, &mut public);
+    let sheet::Reading::Taken(k) = reading else {
+        return codec::pack(scratch::refuse(reading, scratch));
+    };
+    codec::pack(round_produce::producing::produce_second(
+        k,
+        &public,
         secrets,
         s0,
         e0,
@@ -97,11 +109,11 @@ pub extern "C" fn jdn_produce_second(
 
 // What two openings and three answers give away.
 #[no_mangle]
-pub extern "C" fn jdn_extract(
+pub extern "C" fn jdn_extract<'a>(
     sheet: &[u8],
     head: &[u8],
-    shares0: &[u8],
-    shares1: &[u8],
+    shares0: &'a [u8],
+    shares1: &'a [u8],
     ballots: &[u8],
     claims: &[u8],
     opening0: &[u8],
@@ -117,8 +129,14 @@ pub extern "C" fn jdn_extract(
         let before = extractIn out scratch in let found = extractFound (given sheet) x before in
         ⌜ (answer ≡ answered found) × ExtractCalled (given sheet) x before found (extractOut out scratch) ⌝ }
 {
-    round_extract::pack_extraction(round_extract::calls::extract(
-        sheet,
+    let mut public = [0u8; 81920];
+    let reading = sheet::load(sheet, &mut public);
+    let sheet::Reading::Taken(k) = reading else {
+        return codec::pack(scratch::refuse(reading, scratch));
+    };
+    round_extract::pack_extraction(round_extract::extract(
+        k,
+        &public,
         head,
         shares0,
         shares1,
@@ -140,5 +158,5 @@ pub extern "C" fn jdn_extract(
 pub extern "C" fn jdn_opened_share(side: u64, n: u64, shares0: &[u8], shares1: &[u8], j: u64) -> u64
     ensures { λ answer. ⌜ answer ≡ openedReply side n (length (now (shares0 .entry))) (length (now (shares1 .entry))) j ⌝ }
 {
-    round_check::opened::opened_reply(side, n, shares0.len(), shares1.len(), j)
+    round_tests::opened::opened_reply(side, n, shares0.len(), shares1.len(), j)
 }

@@ -1,4 +1,8 @@
-// The calls of a session: its eight steps over a lent image, challenges and turnout, and the fixed lengths.
+// The calls of a session: its eight steps over a lent image, challenges and turnout, and the fixed lengths. A step loads the session from
+// its image, and stores the one that it leaves.
+use session_image::IMAGE;
+use session_image::keep;
+use session_image::load;
 ghost use mathlib.Core.Path.{_≡_};
 ghost use Rattle.codec.specs.Slices.{given, left};
 ghost use Rattle.scratch.specs.Call.{scratchLength};
@@ -38,7 +42,12 @@ pub extern "C" fn jdn_register_length() -> u64
 pub extern "C" fn jdn_clear(image: &mut [u8], reg: &mut [u8], sheet: &[u8]) -> u64
     ensures { λ answer. ⌜ StepCalled (clear (on (given sheet))) (host (given image) (given reg)) answer (host (left image) (left reg)) ⌝ }
 {
-    session_image::calls::clear(image, reg, sheet)
+    if image.len() != IMAGE {
+        return 1;
+    }
+    let session = load(image);
+    let stepped = session.clear(reg, sheet);
+    keep(stepped, image)
 }
 
 // Admits a ballot: mark, u, v.
@@ -46,7 +55,12 @@ pub extern "C" fn jdn_clear(image: &mut [u8], reg: &mut [u8], sheet: &[u8]) -> u
 pub extern "C" fn jdn_admit(image: &mut [u8], reg: &mut [u8], ballot: &[u8]) -> u64
     ensures { λ answer. ⌜ StepCalled (admit (given ballot)) (host (given image) (given reg)) answer (host (left image) (left reg)) ⌝ }
 {
-    session_image::calls::admit(image, reg, ballot)
+    if image.len() != IMAGE {
+        return 1;
+    }
+    let session = load(image);
+    let stepped = session.admit(reg, ballot);
+    keep(stepped, image)
 }
 
 // Withdraws the ballot with a mark.
@@ -54,7 +68,12 @@ pub extern "C" fn jdn_admit(image: &mut [u8], reg: &mut [u8], ballot: &[u8]) -> 
 pub extern "C" fn jdn_withdraw(image: &mut [u8], reg: &mut [u8], mark: u32) -> u64
     ensures { λ answer. ⌜ StepCalled (withdraw mark) (host (given image) (given reg)) answer (host (left image) (left reg)) ⌝ }
 {
-    session_image::calls::withdraw(image, reg, mark)
+    if image.len() != IMAGE {
+        return 1;
+    }
+    let session = load(image);
+    let stepped = session.withdraw(reg, mark);
+    keep(stepped, image)
 }
 
 // Closes the batch of the standing entries.
@@ -62,7 +81,12 @@ pub extern "C" fn jdn_withdraw(image: &mut [u8], reg: &mut [u8], mark: u32) -> u
 pub extern "C" fn jdn_close(image: &mut [u8], reg: &[u8]) -> u64
     ensures { λ answer. ⌜ StepCalled close (host (given image) (given reg)) answer (host (left image) (given reg)) ⌝ }
 {
-    session_image::calls::close(image, reg)
+    if image.len() != IMAGE {
+        return 1;
+    }
+    let session = load(image);
+    let stepped = session.close(reg);
+    keep(stepped, image)
 }
 
 // Takes the claims.
@@ -70,7 +94,12 @@ pub extern "C" fn jdn_close(image: &mut [u8], reg: &[u8]) -> u64
 pub extern "C" fn jdn_claim(image: &mut [u8], claims: &[u8]) -> u64
     ensures { λ answer. ⌜ StepCalledAlone (claim (given claims)) (given image) answer (left image) ⌝ }
 {
-    session_image::calls::claim(image, claims)
+    if image.len() != IMAGE {
+        return 1;
+    }
+    let session = load(image);
+    let stepped = session.claim(claims);
+    keep(stepped, image)
 }
 
 // Commits the first message of a round.
@@ -84,7 +113,12 @@ pub extern "C" fn jdn_commit(
 ) -> u64
     ensures { λ answer. ⌜ StepCalledAlone (commit round (given head) (given shares0) (given shares1)) (given image) answer (left image) ⌝ }
 {
-    session_image::calls::commit(image, round, head, shares0, shares1)
+    if image.len() != IMAGE {
+        return 1;
+    }
+    let session = load(image);
+    let stepped = session.commit(round, head, shares0, shares1);
+    keep(stepped, image)
 }
 
 // Takes the seed of 32 bytes.
@@ -92,20 +126,25 @@ pub extern "C" fn jdn_commit(
 pub extern "C" fn jdn_draw(image: &mut [u8], seed: &[u8]) -> u64
     ensures { λ answer. ⌜ StepCalledAlone (draw (given seed)) (given image) answer (left image) ⌝ }
 {
-    session_image::calls::draw(image, seed)
+    if image.len() != IMAGE {
+        return 1;
+    }
+    let session = load(image);
+    let stepped = session.draw(seed);
+    keep(stepped, image)
 }
 
 // Checks a round.
 #[no_mangle]
-pub extern "C" fn jdn_check(
+pub extern "C" fn jdn_check<'a>(
     image: &mut [u8],
     sheet: &[u8],
     ballots: &[u8],
     claims: &[u8],
     round: u64,
     head: &[u8],
-    shares0: &[u8],
-    shares1: &[u8],
+    shares0: &'a [u8],
+    shares1: &'a [u8],
     opening: &[u8],
     answers: &[u8],
     scratch: &mut [u8],
@@ -113,8 +152,11 @@ pub extern "C" fn jdn_check(
     ensures { λ answer. let x = inputsIn sheet ballots claims head shares0 shares1 opening answers scratch in
         ⌜ CheckCalled round x (given image) answer (left image) (left scratch) ⌝ }
 {
-    session_image::checks::check(
-        image,
+    if image.len() != IMAGE {
+        return 1;
+    }
+    let session = load(image);
+    let stepped = session.check(
         sheet,
         ballots,
         claims,
@@ -125,7 +167,8 @@ pub extern "C" fn jdn_check(
         opening,
         answers,
         scratch,
-    )
+    );
+    keep(stepped, image)
 }
 
 // Writes the side and the challenges that were drawn for a round.
@@ -133,7 +176,11 @@ pub extern "C" fn jdn_check(
 pub extern "C" fn jdn_challenges(image: &[u8], round: u64, out: &mut [u8]) -> u64
     ensures { λ answer. ⌜ ChallengesCalled (given image) round answer (given out) (left out) ⌝ }
 {
-    session_image::checks::challenges(image, round, out)
+    if image.len() != IMAGE {
+        return 1;
+    }
+    let session = load(image);
+    codec::pack(session.challenges(round, out))
 }
 
 // The standing entries in thousandths of the enrolled, as the reply's value.
@@ -141,5 +188,9 @@ pub extern "C" fn jdn_challenges(image: &[u8], round: u64, out: &mut [u8]) -> u6
 pub extern "C" fn jdn_turnout(image: &[u8], reg: &[u8], enrolled: u64) -> u64
     ensures { λ answer. ⌜ answer ≡ turnoutAnswer (given image) (given reg) enrolled ⌝ }
 {
-    session_image::checks::turnout(image, reg, enrolled)
+    if image.len() != IMAGE {
+        return 1;
+    }
+    let session = load(image);
+    session_image::pack_turnout(session.turnout(reg, enrolled))
 }

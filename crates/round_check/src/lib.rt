@@ -1,6 +1,4 @@
 // The check of a round: 5, 6, 7, 8; by repetition 9, 10, 11; by ballot 12, 13.
-pub mod opened;
-
 use codec::Reply;
 use codec::refused;
 use round_side::openings::splits;
@@ -19,15 +17,14 @@ ghost use Rattle.codec.specs.Bytes.{Bytes};
 ghost use Rattle.codec.specs.Slices.{given, left};
 ghost use Rattle.ring.specs.Slots.{slot};
 ghost use Rattle.sheet_numbers.specs.Plain.{plain, maskOf};
-ghost use Rattle.sheet_numbers.specs.Internal.{Usable};
 ghost use Rattle.scratch.specs.Call.{scratchLength};
 ghost use Rattle.scratch.specs.Internal.{Judged};
 ghost use Rattle.commitment.specs.Internal.{Loaded};
 ghost use Rattle.round.specs.Layout.{ballotLength, answersLength};
 ghost use Rattle.round.specs.Round.{ofSide, ranged, answersTests, votesTests, roundLater, roundTests};
-ghost use Rattle.round.specs.Internal.{roundOf, roundIn, Batch, Shares, Lengths};
+ghost use Rattle.round.specs.Internal.{roundOf, roundIn, Lengths};
 ghost use Rattle.commitment.specs.Parameters.{parameters};
-ghost use Rattle.round_side.specs.Internal.{Opened, RoundInRange};
+ghost use Rattle.round_side.specs.Internal.{RoundInRange};
 
 // 5: whether all that is lent is in range. The polynomials of the sheet, whatever they are, do not enter.
 fn round_ranged(
@@ -61,52 +58,8 @@ fn round_ranged(
     opening_ranged(k, opening)
 }
 
-// By ballot 12, 13, with the shares of the opened side; and scratch zeroed.
-fn check_votes(
-    work: &mut [u8],
-    k: Numbers,
-    side: u64,
-    opening: &[u8],
-    ballots: &[u8],
-    claims: &[u8],
-    shares0: &[u8],
-    shares1: &[u8],
-    count: usize,
-) -> Reply
-    requires { ⌜ Usable k × Opened (k .modulus) (k .ring) (now opening) × (length (now work) ≡ scratchLength) × (count ≤ 4096)
-        × Batch (k .modulus) (k .ring) count (now ballots) (now claims) × Shares (k .modulus) (k .ring) count (now shares0)
-        × Shares (k .modulus) (k .ring) count (now shares1) ⌝ }
-    ensures { λ reply. ⌜ Judged (votesTests (k .modulus) (k .ring) (plain k) (maskOf k) count (slot (given opening) 0) (given ballots)
-        (given claims) (given shares0) (given shares1) (ofSide side (given shares0) (given shares1))) reply (given work) (left work) ⌝ }
-{
-    if side == 0 {
-        return test_votes(
-            work,
-            k,
-            opening,
-            ballots,
-            claims,
-            shares0,
-            shares1,
-            shares0,
-            count,
-        );
-    }
-    test_votes(
-        work,
-        k,
-        opening,
-        ballots,
-        claims,
-        shares0,
-        shares1,
-        shares1,
-        count,
-    )
-}
-
-// By repetition 9, 10, 11, then by ballot 12, 13; and scratch zeroed.
-fn check_answers(
+// By repetition 9, 10, 11, then by ballot 12, 13 with the shares of the opened side; and scratch zeroed.
+fn check_answers<'a>(
     work: &mut [u8],
     k: Numbers,
     public: &[u8],
@@ -115,8 +68,8 @@ fn check_answers(
     ballots: &[u8],
     claims: &[u8],
     head: &[u8],
-    shares0: &[u8],
-    shares1: &[u8],
+    shares0: &'a [u8],
+    shares1: &'a [u8],
     opening: &[u8],
     answers: &[u8],
     count: usize,
@@ -132,13 +85,13 @@ fn check_answers(
     let Reply::Taken = answered else {
         return answered;
     };
-    check_votes(
+    test_votes(
         work,
         k,
-        side,
         opening,
         ballots,
         claims,
+        side,
         shares0,
         shares1,
         count,
@@ -146,7 +99,7 @@ fn check_answers(
 }
 
 // 6, 7, 8, then the answers and the ballots, of a round that is in range; and scratch zeroed.
-fn check_ranged(
+fn check_ranged<'a>(
     work: &mut [u8],
     k: Numbers,
     public: &[u8],
@@ -155,8 +108,8 @@ fn check_ranged(
     ballots: &[u8],
     claims: &[u8],
     head: &[u8],
-    shares0: &[u8],
-    shares1: &[u8],
+    shares0: &'a [u8],
+    shares1: &'a [u8],
     opening: &[u8],
     answers: &[u8],
     count: usize,
@@ -192,7 +145,7 @@ fn check_ranged(
 }
 
 // The whole check of a round whose lengths are right, for a sheet that was taken and `count` ballots; and scratch zeroed.
-pub fn check_round(
+pub fn check_round<'a>(
     work: &mut [u8],
     k: Numbers,
     public: &[u8],
@@ -201,8 +154,8 @@ pub fn check_round(
     ballots: &[u8],
     claims: &[u8],
     head: &[u8],
-    shares0: &[u8],
-    shares1: &[u8],
+    shares0: &'a [u8],
+    shares1: &'a [u8],
     opening: &[u8],
     answers: &[u8],
     count: usize,

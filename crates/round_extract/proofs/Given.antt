@@ -3,15 +3,14 @@ use mathlib.Core.Path.{_≡_, refl, ap, subst, _∙_}
 use Prim.Native.Nat.{ℕ}
 use lib.ListN.{replicate}
 use Rattle.codec.specs.Bytes.{Bytes}
-use Rattle.codec.specs.Reply.{leaves}
+use Rattle.codec.specs.Reply.{leaves, packed}
 use Rattle.codec.specs.declared.Reply.{Reply}
-use Rattle.codec.specs.declared.Reply.the-variants as reply
 use Rattle.sheet.specs.Sheet.{reading}
 use Rattle.sheet.specs.Internal.{loaded}
 use Rattle.sheet_numbers.specs.declared.Numbers.{Numbers}
 use Rattle.sheet.specs.declared.Reading.{Reading}
 use Rattle.sheet.specs.declared.Reading.the-variants.{Taken, Refused}
-use Rattle.scratch.specs.Call.{zeroized}
+use Rattle.scratch.specs.Call.{zeroized, refusal}
 use Rattle.scratch.proofs.Lent.{lent, order-taken, order-refused}
 use Rattle.commitment.specs.Parameters.{Parameters, parameters, parametersOf}
 use Rattle.commitment.proofs.Sheets.{parameters-are}
@@ -33,17 +32,18 @@ extract-over text load e x before {answer} {after} f = record {
       (subst (λ (P : Parameters). ExtractWritten P x before answer after) (parameters-are text load e) f);
 }
 
--- it is refused
-pub extract-unread : (text : Bytes) {s : Reading} {i : ℕ} → s ≡ reading text → s ≡ Refused i → (x : Openings) (room : ExtractRoom) {w : Bytes} → w ≡ zeroized (reply.Refused i 0) (room .scratch)
-    → ExtractCalled text x room (found.Refused i 0) (extractRoom (room .out) w)
-unfolding extractReply extraction leaves
-extract-unread text {s} {i} f e x room {w} z = record {
-  left =
-      subst (λ (r : Reply). ExtractLeft (parametersOf text) x room r (found.Refused i 0) (extractRoom (room .out) w)) (order-refused text (openingsTests (parametersOf text) x room) f e)
-      (record { told = refl; out = refl; scratch = z });
-}
-
 -- with what it finds packed into an answer
 pub extract-packed : {text : Bytes} {x : Openings} {before after : ExtractRoom} {found : Extraction} {answer : ℕ} → answer ≡ answered found → ExtractCalled text x before found after
     → (answer ≡ answered (extractFound text x before)) × ExtractCalled text x before (extractFound text x before) after
 extract-packed {text} {x} {before} {after} e f = (e ∙ ap answered (f .left .told), subst (λ (z : Extraction). ExtractCalled text x before z after) (f .left .told) f)
+
+-- the sheet is refused
+pub extract-unread : (text : Bytes) {s : Reading} {i : ℕ} → s ≡ reading text → s ≡ Refused i → (x : Openings) (room : ExtractRoom) {r : Reply} {w : Bytes} {answer : ℕ}
+    → (r ≡ refusal s) × (w ≡ zeroized (refusal s) (room .scratch)) → answer ≡ packed r → (answer ≡ answered (extractFound text x room)) × ExtractCalled text x room (extractFound text x room) (extractRoom (room .out) w)
+unfolding extractReply extraction leaves
+extract-unread text {s} {i} f e x room {w = w} z is =
+    extract-packed {found = found.Refused i 0} (is ∙ ap packed (z .0 ∙ ap refusal e)) (record {
+      left =
+          subst (λ (r : Reply). ExtractLeft (parametersOf text) x room r (found.Refused i 0) (extractRoom (room .out) w)) (order-refused text (openingsTests (parametersOf text) x room) f e)
+          (record { told = refl; out = refl; scratch = z .1 ∙ ap (λ (q : Reading). zeroized (refusal q) (room .scratch)) e });
+    })

@@ -1,5 +1,4 @@
 // The extractor's call once the sheet is taken: the tests of lengths, then the order of refusals, then the work.
-pub mod calls;
 mod openings;
 
 use crate::openings::openings_tests;
@@ -30,12 +29,12 @@ pub fn pack_extraction(answer: Extraction) -> u64
 }
 
 // The extractor: where its tests take what is lent, what openings and answers give away, in the output.
-pub fn extract(
+pub fn extract<'a>(
     k: Numbers,
     public: &[u8],
     head: &[u8],
-    shares0: &[u8],
-    shares1: &[u8],
+    shares0: &'a [u8],
+    shares1: &'a [u8],
     ballots: &[u8],
     claims: &[u8],
     opening0: &[u8],

@@ -15,12 +15,12 @@ ghost use Rattle.commitment.specs.Parameters.{parameters};
 ghost use Rattle.round_lengths.specs.Calls.{openingsTests};
 
 // 1, and then both openings and the three answers in the extractor's order.
-pub fn openings_tests(
+pub fn openings_tests<'a>(
     k: Numbers,
     public: &[u8],
     head: &[u8],
-    shares0: &[u8],
-    shares1: &[u8],
+    shares0: &'a [u8],
+    shares1: &'a [u8],
     ballots: &[u8],
     claims: &[u8],
     opening0: &[u8],

@@ -1,17 +1,16 @@
 -- What the producer's calls promise once the sheet is taken, and the same over the sheet. Assumes nothing.
-use mathlib.Core.Path.{_≡_, refl, ap, subst, _∙_}
+use mathlib.Core.Path.{_≡_, refl, sym, ap, subst, _∙_}
 use Prim.Native.Nat.{ℕ}
 use lib.ListN.{replicate}
 use Rattle.codec.specs.Bytes.{Bytes}
 use Rattle.codec.specs.Reply.{packed, leaves}
 use Rattle.codec.specs.declared.Reply.{Reply}
-use Rattle.codec.specs.declared.Reply.the-variants as reply
 use Rattle.sheet.specs.Sheet.{reading}
 use Rattle.sheet.specs.Internal.{loaded}
 use Rattle.sheet_numbers.specs.declared.Numbers.{Numbers}
 use Rattle.sheet.specs.declared.Reading.{Reading}
 use Rattle.sheet.specs.declared.Reading.the-variants.{Taken, Refused}
-use Rattle.scratch.specs.Call.{zeroized}
+use Rattle.scratch.specs.Call.{zeroized, refusal}
 use Rattle.scratch.proofs.Lent.{lent, order-taken, order-refused}
 use Rattle.commitment.specs.Parameters.{Parameters, parameters}
 use Rattle.commitment.proofs.Sheets.{parameters-are}
@@ -39,13 +38,17 @@ module _ (text : Bytes) {public : Bytes} {s : Reading} {k : Numbers} (load : (s 
 -- ---- it is refused
 
 module _ (text : Bytes) {s : Reading} {i : ℕ} (f : s ≡ reading text) (e : s ≡ Refused i) (x : Material) where
-  pub first-unread : (room : FirstRoom) {w : Bytes} → w ≡ zeroized (reply.Refused i 0) (room .scratch) → FirstCalled text x room (reply.Refused i 0) (firstRoom (room .head) (room .shares0) (room .shares1) (room .claims) w)
+  pub first-unread : (room : FirstRoom) {r : Reply} {w : Bytes} → (r ≡ refusal s) × (w ≡ zeroized (refusal s) (room .scratch)) → FirstCalled text x room r (firstRoom (room .head) (room .shares0) (room .shares1) (room .claims) w)
   unfolding firstReply leaves
-  first-unread room z = record { replied = order-refused text _ f e; left = record { head = refl; shares0 = refl; shares1 = refl; claims = refl }; cleared = z }
+  first-unread room {w = w} z =
+      subst (λ (q : Reply). FirstCalled text x room q (firstRoom (room .head) (room .shares0) (room .shares1) (room .claims) w)) (sym (z .0 ∙ ap refusal e))
+      (record { replied = order-refused text _ f e; left = record { head = refl; shares0 = refl; shares1 = refl; claims = refl }; cleared = z .1 ∙ ap (λ (q : Reading). zeroized (refusal q) (room .scratch)) e })
 
-  pub second-unread : (side : ℕ) (challenges : Bytes) (room : SecondRoom) {w : Bytes} → w ≡ zeroized (reply.Refused i 0) (room .scratch) → SecondCalled text x side challenges room (reply.Refused i 0) (secondRoom (room .opening) (room .answers) w)
+  pub second-unread : (side : ℕ) (challenges : Bytes) (room : SecondRoom) {r : Reply} {w : Bytes} → (r ≡ refusal s) × (w ≡ zeroized (refusal s) (room .scratch)) → SecondCalled text x side challenges room r (secondRoom (room .opening) (room .answers) w)
   unfolding secondReply leaves
-  second-unread side challenges room z = record { replied = order-refused text _ f e; left = record { opening = refl; answers = refl }; cleared = z }
+  second-unread side challenges room {w = w} z =
+      subst (λ (q : Reply). SecondCalled text x side challenges room q (secondRoom (room .opening) (room .answers) w)) (sym (z .0 ∙ ap refusal e))
+      (record { replied = order-refused text _ f e; left = record { opening = refl; answers = refl }; cleared = z .1 ∙ ap (λ (q : Reading). zeroized (refusal q) (room .scratch)) e })
 
 -- ---- with the reply packed into an answer
 

@@ -1,6 +1,5 @@
 -- Parts of an opening and of the head of a first message, lent on: what they are, and that a test of them is the test of the places they stand at. Assumes nothing.
 use mathlib.Core.Path.{_≡_, refl, sym, ap, ap₂, _∙_}
-use mathlib.Core.Logic.{_≢_}
 use mathlib.Core.Bool.{Bool, not, _&&_}
 use mathlib.Core.List.{List, [], _∷_, _++_}
 use Prim.Native.Nat.{ℕ, zero, suc, _+_, _-_, _*_, _≤_, _<_}
@@ -25,7 +24,7 @@ use Rattle.commitment.specs.Commitment.{Keys, keysOf, threeOf, row, opens, pair
 use Rattle.commitment.specs.Loaded.{aOf, keyBytes}
 use Rattle.commitment.proofs.Additive.{second-alike}
 use Rattle.round.specs.Layout.{Opening, each, uAt, vAt, shareAt, claimAt, keyAt, pairAt, openingOf}
-use Rattle.round.specs.Round.{ofSide, splits, opensKey, opensPairs, votesTests}
+use Rattle.round.specs.Round.{splits, opensKey, opensPairs, votesTests}
 use Rattle.commitment.specs.Parameters.{parameters}
 use Rattle.commitment.proofs.Cut.{a-cut, b-cut, keys-cut}
 use Rattle.round.proofs.Many.{stretch}
@@ -131,16 +130,6 @@ module _ (k : Numbers) (s : Bytes) where
     both-lent e is =
         pairs-lent n q (keysOf n (keyBytes k s)) head (16 * n + 16 * n * side) opening o (e ∙ ap₂ (λ (i : ℕ) (x : Bytes). both-pairs i (keysOf n x)) is (keys-cut k s))
         ∙ pairs-at n q side (keysOf n (keyBytes k s)) head (openingOf n opening)
-
--- ---- the shares of a side
-
-module _ (x y : Bytes) where
-  pub first-side : (side : ℕ) → side ≡ 0 → ofSide side x y ≡ x
-  first-side side e = ap (λ (i : ℕ). ofSide i x y) e
-
-  pub second-side : (side : ℕ) → side ≢ 0 → ofSide side x y ≡ y
-  second-side zero d = absurd (d refl)
-  second-side (suc i) d = refl
 
 -- ---- the ballots
 

@@ -13,7 +13,7 @@ ghost use Rattle.scratch.specs.Internal.{Judged};
 ghost use Rattle.commitment.specs.Internal.{Loaded};
 ghost use Rattle.round.specs.Layout.{openingOf};
 ghost use Rattle.round.specs.Round as round;
-ghost use Rattle.round.specs.Round.{opensKey, opensPairs, halfTests, votesTests};
+ghost use Rattle.round.specs.Round.{ofSide, opensKey, opensPairs, halfTests, votesTests};
 ghost use Rattle.codec.specs.Slices.{given, left};
 ghost use Rattle.commitment.specs.Parameters.{parameters};
 ghost use Rattle.round.specs.Internal.{Batch, Shares};
@@ -116,23 +116,24 @@ pub fn test_opening(
     Reply::Taken
 }
 
-// Every ballot by the opened half of the secret: 12, then 13. `opened` is the opened side's shares.
-pub fn test_votes(
+// Every ballot by the opened half of the secret and the shares of its side: 12, then 13; and scratch zeroed.
+pub fn test_votes<'a>(
     work: &mut [u8],
     k: Numbers,
     opening: &[u8],
     ballots: &[u8],
     claims: &[u8],
-    shares0: &[u8],
-    shares1: &[u8],
-    opened: &[u8],
+    side: u64,
+    shares0: &'a [u8],
+    shares1: &'a [u8],
     count: usize,
 ) -> Reply
     requires { ⌜ Usable k × Opened (k .modulus) (k .ring) (now opening) × (length (now work) ≡ scratchLength) × (count ≤ 4096)
-        × Batch (k .modulus) (k .ring) count (now ballots) (now claims) × Shares (k .modulus) (k .ring) count (now shares0)
-        × Shares (k .modulus) (k .ring) count (now shares1) × Shares (k .modulus) (k .ring) count (now opened) ⌝ }
+        × (side < 2) × Batch (k .modulus) (k .ring) count (now ballots) (now claims) × Shares (k .modulus) (k .ring) count (now shares0)
+        × Shares (k .modulus) (k .ring) count (now shares1) ⌝ }
     ensures { λ reply. ⌜ Judged (votesTests (k .modulus) (k .ring) (plain k) (maskOf k) count (slot (given opening) 0)
-        (given ballots) (given claims) (given shares0) (given shares1) (given opened)) reply (given work) (left work) ⌝ }
+        (given ballots) (given claims) (given shares0) (given shares1) (ofSide side (given shares0) (given shares1))) reply (given work)
+        (left work) ⌝ }
 {
     let n = k.ring as usize;
     round_tests::ballots::test_ballots(
@@ -141,9 +142,9 @@ pub fn test_votes(
         &opening[0..8 * n],
         ballots,
         claims,
+        side,
         shares0,
         shares1,
-        opened,
         count,
     )
 }

@@ -60,13 +60,13 @@ fn openings_ranged(
 }
 
 // 6, both sides, then the answers, of what is in range; and scratch zeroed.
-fn test_ranged(
+fn test_ranged<'a>(
     work: &mut [u8],
     k: Numbers,
     public: &[u8],
     head: &[u8],
-    shares0: &[u8],
-    shares1: &[u8],
+    shares0: &'a [u8],
+    shares1: &'a [u8],
     ballots: &[u8],
     claims: &[u8],
     opening0: &[u8],
@@ -94,10 +94,9 @@ fn test_ranged(
         head,
         ballots,
         claims,
-        shares0,
-        shares1,
         0,
         shares0,
+        shares1,
         opening0,
         count,
     );
@@ -111,9 +110,8 @@ fn test_ranged(
         head,
         ballots,
         claims,
-        shares0,
-        shares1,
         1,
+        shares0,
         shares1,
         opening1,
         count,
@@ -125,13 +123,13 @@ fn test_ranged(
 }
 
 // All tests of the extractor, for lengths that are right; and scratch zeroed.
-pub fn check_openings(
+pub fn check_openings<'a>(
     work: &mut [u8],
     k: Numbers,
     public: &[u8],
     head: &[u8],
-    shares0: &[u8],
-    shares1: &[u8],
+    shares0: &'a [u8],
+    shares1: &'a [u8],
     ballots: &[u8],
     claims: &[u8],
     opening0: &[u8],

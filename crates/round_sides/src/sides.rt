@@ -10,35 +10,35 @@ ghost use Rattle.scratch.specs.Call.{scratchLength};
 ghost use Rattle.scratch.specs.Internal.{Judged};
 ghost use Rattle.commitment.specs.Internal.{Loaded};
 ghost use Rattle.round.specs.Layout.{openingOf};
+ghost use Rattle.round.specs.Round.{ofSide};
 ghost use Rattle.round.specs.Extractor.{sideTests};
 ghost use Rattle.codec.specs.Slices.{given, left};
 ghost use Rattle.commitment.specs.Parameters.{parameters};
 ghost use Rattle.round.specs.Internal.{Batch, Shares};
 ghost use Rattle.round_side.specs.Internal.{Opened};
 
-// All that a side's opening is tested by, and scratch zeroed. `opened` is the side's shares.
-pub fn test_side(
+// All that a side's opening is tested by, and scratch zeroed.
+pub fn test_side<'a>(
     work: &mut [u8],
     k: Numbers,
     public: &[u8],
     head: &[u8],
     ballots: &[u8],
     claims: &[u8],
-    shares0: &[u8],
-    shares1: &[u8],
-    side: usize,
-    opened: &[u8],
+    side: u64,
+    shares0: &'a [u8],
+    shares1: &'a [u8],
     opening: &[u8],
     count: usize,
 ) -> Reply
     requires { ⌜ Loaded k (now public) × Opened (k .modulus) (k .ring) (now opening) × (length (now work) ≡ scratchLength)
         × (80 * k .ring ≤ length (now head)) × (side < 2) × (count ≤ 4096) × Batch (k .modulus) (k .ring) count (now ballots) (now claims)
-        × Shares (k .modulus) (k .ring) count (now shares0) × Shares (k .modulus) (k .ring) count (now shares1)
-        × Shares (k .modulus) (k .ring) count (now opened) ⌝ }
+        × Shares (k .modulus) (k .ring) count (now shares0) × Shares (k .modulus) (k .ring) count (now shares1) ⌝ }
     ensures { λ reply. ⌜ Judged (sideTests (parameters k (given public)) count (given head) (given ballots) (given claims)
-        (given shares0) (given shares1) side (given opened) (openingOf (k .ring) (given opening))) reply (given work) (left work) ⌝ }
+        (given shares0) (given shares1) side (ofSide side (given shares0) (given shares1)) (openingOf (k .ring) (given opening))) reply
+        (given work) (left work) ⌝ }
 {
-    let reply = test_opening(work, k, public, head, side, opening);
+    let reply = test_opening(work, k, public, head, side as usize, opening);
     let Reply::Taken = reply else {
         return reply;
     };
@@ -48,9 +48,9 @@ pub fn test_side(
         opening,
         ballots,
         claims,
+        side,
         shares0,
         shares1,
-        opened,
         count,
     )
 }

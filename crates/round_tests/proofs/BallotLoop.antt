@@ -1,8 +1,8 @@
 -- The loop over ballots: where ballot j, its claim and its shares stand, and what its reply adds. Assumes nothing.
-use mathlib.Core.Path.{_≡_, sym, ap, ap₂, _∙_}
-use mathlib.Core.Bool.{Bool, not}
+use mathlib.Core.Path.{_≡_, refl, sym, ap, ap₂, _∙_}
+use mathlib.Core.Bool.{Bool, true, not}
 use mathlib.Core.List.{List, [], _∷_}
-use Prim.Native.Nat.{ℕ, _+_, _-_, _*_, _≤_, _<_}
+use Prim.Native.Nat.{ℕ, zero, suc, _+_, _-_, _*_, _≤_, _<_}
 use native.Mathlib.Nat.{mul-zero, mul-add, mul-one, mul-le-mul}
 use native.Mathlib.Omega.{arith}
 use lib.ListN.{length, take, drop}
@@ -12,13 +12,24 @@ use Rattle.codec.specs.declared.Reply.{Reply}
 use Rattle.codec.specs.declared.Reply.the-variants.{Taken, Refused}
 use Rattle.ring.specs.Poly.{Poly, Alike}
 use Rattle.ring.specs.Slots.{poly, slot}
+use Rattle.sheet_numbers.specs.Bounds.{power}
 use Rattle.round.specs.Layout.{each, ballotLength}
+use Rattle.round.specs.Round.{ofSide}
 use Rattle.round.specs.Internal.{Batch, Shares}
 use Rattle.round_tests.specs.Internal.{voteTests, BallotAt}
 use Rattle.round.proofs.Compared.{within-alike, vote-alike, lent-alike}
+use Rattle.round_tests.proofs.OpenedPlaces.{share-of}
 use Rattle.round.proofs.Many.{each-more, each-refused, each-taken, stretch}
 
-module _ (q n p bound : ℕ) (s ballots claims shares0 shares1 opened : Bytes) where
+-- the shares of a side
+of-side : (q n count side : ℕ) {shares0 shares1 : Bytes} → Shares q n count shares0 → Shares q n count shares1 → Shares q n count (ofSide side shares0 shares1)
+of-side q n count zero s0 s1 = s0
+of-side q n count (suc i) s0 s1 = s1
+
+module _ (q n p bound : ℕ) (s ballots claims : Bytes) (side : ℕ) (shares0 shares1 : Bytes) where
+  abbrev opened : Bytes
+  opened = ofSide side shares0 shares1
+
   -- the tests of the ballot, claim and shares at places
   abbrev at-places : (at claim share place : ℕ) → List Test
   at-places at claim share place =
@@ -44,13 +55,17 @@ module _ (q n p bound : ℕ) (s ballots claims shares0 shares1 opened : Bytes) w
     alike-v : Alike q n lent-v (slot ballots (at + 4 + 8 * n))
     alike-v = lent-alike n q ballots (at + 4 + 8 * n) (at + 4 + 16 * n - (at + 4 + 8 * n)) (omega arith) (omega arith)
 
-    pub lent-tests : {r : Reply}
-        → r ≡ first (voteTests q n p bound place (poly s) lent-u (lent opened) (take (claim + n - claim) (drop claim claims)) lent-v (lent shares0) (lent shares1))
+    -- the opened share, handed back as that part
+    alike-opened : {t : Bytes} → t ≡ part opened share (8 * n) → Alike q n (poly t) (slot opened share)
+    alike-opened e = rw e (lent-alike n q opened share (8 * n) refl lo)
+
+    pub lent-tests : {t : Bytes} → t ≡ part opened share (8 * n) → {r : Reply}
+        → r ≡ first (voteTests q n p bound place (poly s) lent-u (poly t) (take (claim + n - claim) (drop claim claims)) lent-v (lent shares0) (lent shares1))
         → r ≡ first (at-places at claim share place)
-    lent-tests e =
+    lent-tests o e =
         let m : claim + n - claim ≡ n = omega arith in
         e
-        ∙ ap₂ (λ (y z : Bool). first (test 12 place (not y) ∷ test 13 place (not z) ∷ [])) (within-alike q n p bound (poly s) alike-u (alike-at opened lo))
+        ∙ ap₂ (λ (y z : Bool). first (test 12 place (not y) ∷ test 13 place (not z) ∷ [])) (within-alike q n p bound (poly s) alike-u (alike-opened o))
         (ap₂ same (ap (λ (k : ℕ). take k (drop claim claims)) m) (vote-alike q n p alike-v (alike-at shares0 l0) (alike-at shares1 l1)))
 
   -- of ballot j
@@ -96,9 +111,9 @@ module _ (q n p bound : ℕ) (s ballots claims shares0 shares1 opened : Bytes) w
       omega (arith, r .sent, stretch (8 * n) j count h, mul-le-mul {n₁ = 8 * n} {m₁ = count} {n₂ = 16384} {m₂ = 4096} (omega arith) few),
     )
 
-    module _ (b : Batch q n count ballots claims) (s0 : Shares q n count shares0) (s1 : Shares q n count shares1) (so : Shares q n count opened) where
-      pub ballot-stands : BallotAt q n ballots at claims claim shares0 shares1 opened share
-      ballot-stands = record {
+    module _ (one : side < 2) (low : 4 ≤ n) (high : n ≤ 2048) (size : power 12 n ≡ true) (b : Batch q n count ballots claims) (s0 : Shares q n count shares0) (s1 : Shares q n count shares1) where
+      pub ballot-stands : BallotAt q n ballots at claims claim side shares0 shares1 share j
+      ballot-stands = let so = of-side q n count side s0 s1 in record {
         ballot-ends = omega (arith, r .ballot, b .ballots-sized, stretch (ballotLength n) j count h);
         claim-ends = omega (arith, r .vote, b .claims-sized, stretch n j count h);
         ends0 = omega (arith, r .sent, s0 .sized, stretch (8 * n) j count h);
@@ -108,6 +123,7 @@ module _ (q n p bound : ℕ) (s ballots claims shares0 shares1 opened : Bytes) w
         below0 = rw (r .sent) (s0 .below j h);
         below1 = rw (r .sent) (s1 .below j h);
         below-opened = rw (r .sent) (so .below j h);
+        opened = rw (r .sent) (share-of side n shares0 shares1 j count one low high size (s0 .sized) (s1 .sized) h);
       }
 
   pub reached-all : (count j at claim share : ℕ) (w : Bytes) → Reached count j at claim share w → count ≤ j → Taken ≡ first (each count ballotTests)

@@ -1,2 +1,3 @@
 pub mod BallotLoop
+pub mod OpenedPlaces
 pub mod RepetitionLoop

@@ -1,9 +1,10 @@
 // The tests of the ballots in a check: 12, then 13, the lowest ballot first.
+use crate::opened::opened_share;
 use crate::votes::test_ballot;
 use codec::Reply;
 use sheet_numbers::Numbers;
 ghost use mathlib.Core.Path.{_≡_};
-ghost use Prim.Native.Nat.{_+_, _*_, _≤_};
+ghost use Prim.Native.Nat.{_+_, _*_, _≤_, _<_};
 ghost use lib.ListN.{length};
 ghost use Rattle.codec.specs.Bytes.{part};
 ghost use Rattle.codec.specs.Slices.{given, left};
@@ -12,12 +13,12 @@ ghost use Rattle.sheet_numbers.specs.Plain.{plain, maskOf};
 ghost use Rattle.sheet_numbers.specs.Internal.{Usable};
 ghost use Rattle.scratch.specs.Call.{scratchLength};
 ghost use Rattle.scratch.specs.Internal.{Polynomial, Judged, Tried};
-ghost use Rattle.round.specs.Round.{votesTests};
+ghost use Rattle.round.specs.Round.{ofSide, votesTests};
 ghost use Rattle.round.specs.Internal.{Batch, Shares};
 ghost use Rattle.round_tests.specs.Internal.{voteTests, BallotAt};
 
-// One ballot where it stands: the ballot, its claim and its shares at places of their slices. `opened` is the opened side's shares.
-fn test_at(
+// One ballot where it stands: the ballot, its claim and its shares at places of their slices, and its share of the opened side.
+fn test_at<'a>(
     work: &mut [u8],
     k: Numbers,
     s: &[u8],
@@ -25,21 +26,22 @@ fn test_at(
     at: usize,
     claims: &[u8],
     claim: usize,
-    shares0: &[u8],
-    shares1: &[u8],
-    opened: &[u8],
+    side: u64,
+    shares0: &'a [u8],
+    shares1: &'a [u8],
     share: usize,
     place: u32,
 ) -> Reply
     requires { ⌜ Polynomial (k .ring) (k .modulus) (now s) × Usable k × (length (now work) ≡ scratchLength)
-        × BallotAt (k .modulus) (k .ring) (now ballots) at (now claims) claim (now shares0) (now shares1) (now opened) share ⌝ }
+        × BallotAt (k .modulus) (k .ring) (now ballots) at (now claims) claim side (now shares0) (now shares1) share place ⌝ }
     ensures { λ reply. ⌜ Tried (voteTests (k .modulus) (k .ring) (plain k) (maskOf k) place (poly (given s))
-        (slot (given ballots) (at + 4)) (slot (given opened) share) (part (given claims) claim (k .ring))
+        (slot (given ballots) (at + 4)) (slot (ofSide side (given shares0) (given shares1)) share) (part (given claims) claim (k .ring))
         (slot (given ballots) (at + 4 + 8 * k .ring)) (slot (given shares0) share) (slot (given shares1) share)) reply (given work)
         (left work) ⌝ }
 {
     let n = k.ring as usize;
     let end = share + 8 * n;
+    let opened = opened_share(side, n, shares0, shares1, place as usize);
     test_ballot(
         work,
         k,
@@ -49,28 +51,28 @@ fn test_at(
         &claims[claim..claim + n],
         &shares0[share..end],
         &shares1[share..end],
-        &opened[share..end],
+        opened,
         place,
     )
 }
 
-// Every ballot, in order, and scratch zeroed: `opened` is the opened side's shares.
-pub fn test_ballots(
+// Every ballot, in order, with the shares of the opened side; and scratch zeroed.
+pub fn test_ballots<'a>(
     work: &mut [u8],
     k: Numbers,
     s: &[u8],
     ballots: &[u8],
     claims: &[u8],
-    shares0: &[u8],
-    shares1: &[u8],
-    opened: &[u8],
+    side: u64,
+    shares0: &'a [u8],
+    shares1: &'a [u8],
     count: usize,
 ) -> Reply
     requires { ⌜ Polynomial (k .ring) (k .modulus) (now s) × Usable k × (length (now work) ≡ scratchLength) × (count ≤ 4096)
-        × Batch (k .modulus) (k .ring) count (now ballots) (now claims) × Shares (k .modulus) (k .ring) count (now shares0)
-        × Shares (k .modulus) (k .ring) count (now shares1) × Shares (k .modulus) (k .ring) count (now opened) ⌝ }
+        × (side < 2) × Batch (k .modulus) (k .ring) count (now ballots) (now claims) × Shares (k .modulus) (k .ring) count (now shares0)
+        × Shares (k .modulus) (k .ring) count (now shares1) ⌝ }
     ensures { λ reply. ⌜ Judged (votesTests (k .modulus) (k .ring) (plain k) (maskOf k) count (poly (given s)) (given ballots)
-        (given claims) (given shares0) (given shares1) (given opened)) reply (given work) (left work) ⌝ }
+        (given claims) (given shares0) (given shares1) (ofSide side (given shares0) (given shares1))) reply (given work) (left work) ⌝ }
 {
     let n = k.ring as usize;
     let mut j = 0;
@@ -86,9 +88,9 @@ pub fn test_ballots(
             at,
             claims,
             claim,
+            side,
             shares0,
             shares1,
-            opened,
             share,
             j as u32,
         );

@@ -47,15 +47,15 @@ impl Session {
     }
 
     // Checks the next round.
-    pub fn check(
+    pub fn check<'a>(
         self,
         sheet: &[u8],
         ballots: &[u8],
         claims: &[u8],
         round: u64,
         head: &[u8],
-        shares0: &[u8],
-        shares1: &[u8],
+        shares0: &'a [u8],
+        shares1: &'a [u8],
         opening: &[u8],
         answers: &[u8],
         scratch: &mut [u8],

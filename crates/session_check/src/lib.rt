@@ -28,14 +28,14 @@ pub fn reply_of(verdict: Verdict) -> Reply
 }
 
 // Checks a round against what the session holds.
-pub fn check(
+pub fn check<'a>(
     held: Stored,
     sheet: &[u8],
     ballots: &[u8],
     claims: &[u8],
     head: &[u8],
-    shares0: &[u8],
-    shares1: &[u8],
+    shares0: &'a [u8],
+    shares1: &'a [u8],
     opening: &[u8],
     answers: &[u8],
     scratch: &mut [u8],

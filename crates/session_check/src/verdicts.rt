@@ -38,7 +38,7 @@ fn verdict_of(late: Reply) -> Verdict
 }
 
 // The check with the side and the challenges that were drawn.
-fn check_drawn(
+fn check_drawn<'a>(
     k: Numbers,
     public: &[u8],
     held: Stored,
@@ -48,8 +48,8 @@ fn check_drawn(
     ballots: &[u8],
     claims: &[u8],
     head: &[u8],
-    shares0: &[u8],
-    shares1: &[u8],
+    shares0: &'a [u8],
+    shares1: &'a [u8],
     opening: &[u8],
     answers: &[u8],
     scratch: &mut [u8],
@@ -98,7 +98,7 @@ fn check_drawn(
 }
 
 // The check with the sheet's polynomials at hand: draws the side and the challenges.
-pub fn check_taken(
+pub fn check_taken<'a>(
     k: Numbers,
     public: &[u8],
     held: Stored,
@@ -106,8 +106,8 @@ pub fn check_taken(
     ballots: &[u8],
     claims: &[u8],
     head: &[u8],
-    shares0: &[u8],
-    shares1: &[u8],
+    shares0: &'a [u8],
+    shares1: &'a [u8],
     opening: &[u8],
     answers: &[u8],
     scratch: &mut [u8],

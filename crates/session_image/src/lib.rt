@@ -1,9 +1,7 @@
 // The byte image of a session (document 01, "Register and session"): 4,297 bytes, the fields one after the other, little-endian.
-pub mod calls;
-pub mod checks;
-
 use session::Session;
 use session::Stepped;
+use session::Turnout;
 use session_progress::Progress;
 use sheet_numbers::Numbers;
 ghost use mathlib.Core.Path.{_≡_};
@@ -14,6 +12,7 @@ ghost use Rattle.codec.specs.Slices.{given, left};
 ghost use Rattle.codec.specs.Bytes.{part, put};
 ghost use Rattle.session_digests.specs.Digests.{concatenated};
 ghost use Rattle.session_image.specs.Image.{imageLength, size, values, encode, decode, head, batch, rounds};
+ghost use Rattle.session_image.specs.Images.{countedAnswer};
 
 // Where each field begins: behind the one before it. The length of an image is where the last one ends.
 const PHASE: usize = 0;
@@ -164,7 +163,7 @@ pub fn store(session: Session, image: &mut [u8])
 }
 
 // Stores the session that a step leaves, and answers for the step.
-fn keep(stepped: Stepped, image: &mut [u8]) -> u64
+pub fn keep(stepped: Stepped, image: &mut [u8]) -> u64
     requires { ⌜ length (now image) ≡ imageLength ⌝ }
     ensures { λ answer. ⌜ (answer ≡ packed (stepped .reply)) × (left image ≡ encode (stepped .session)) ⌝ }
 {
@@ -172,4 +171,14 @@ fn keep(stepped: Stepped, image: &mut [u8]) -> u64
     let session = stepped.session;
     store(session, image);
     codec::pack(reply)
+}
+
+// The answer of a turnout as the one number that the C host is given.
+pub fn pack_turnout(answer: Turnout) -> u64
+    ensures { λ r. ⌜ r ≡ countedAnswer answer ⌝ }
+{
+    match answer {
+        Turnout::Counted(thousandths) => 256 * (thousandths as u64),
+        Turnout::Refused { number } => number as u64,
+    }
 }

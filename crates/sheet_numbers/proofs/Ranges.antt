@@ -46,6 +46,7 @@ divides n low high = go (eqb (2048 % n) 0) (power 12 n) (rw (le-ltb n 4 low) at 
 pub record RangesMet (k : Numbers) : Type 0 where
   pub ring-low : 4 ≤ k .ring
   pub ring-high : k .ring ≤ 2048
+  pub ring-power : power 12 (k .ring) ≡ true
   pub modulus-low : 3 ≤ k .modulus
   pub modulus-high : k .modulus < 2 ^ 56
   pub drown-high : k .drown ≤ 40
@@ -67,6 +68,7 @@ unfolding outside plain
 in-range k e = record {
   ring-low = ltb-false _ _ (none-at (ranges k) 0 e);
   ring-high = ltb-false _ _ (none-at (ranges k) 1 e);
+  ring-power = not-false _ (none-at (ranges k) 2 e);
   modulus-low = ltb-false _ _ (none-at (ranges k) 3 e);
   modulus-high = leb-false _ _ (none-at (ranges k) 4 e);
   drown-high = ltb-false _ _ (none-at (ranges k) 5 e);
@@ -113,6 +115,7 @@ module _ (k : Numbers) (i : RangesMet k) (s : ConditionsMet k) where
   usable = record {
     ring-low = i .ring-low;
     ring-high = i .ring-high;
+    ring-power = i .ring-power;
     modulus-low = i .modulus-low;
     modulus-high = i .modulus-high;
     odd = odd;

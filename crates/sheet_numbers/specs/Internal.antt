@@ -1,7 +1,9 @@
 -- What the contracts of inner functions and the proofs go by: no exported contract and no claim cites this file. Assumes nothing.
 use mathlib.Core.Path.{_≡_}
+use mathlib.Core.Bool.{true}
 use Prim.Native.Nat.{_%_, _^_, _≤_, _<_}
 use Rattle.modular.specs.Internal.{Coprime}
+use Rattle.sheet_numbers.specs.Bounds.{power}
 use Rattle.sheet_numbers.specs.Plain.{plain}
 use Rattle.sheet_numbers.specs.declared.Numbers.{Numbers}
 
@@ -10,6 +12,7 @@ use Rattle.sheet_numbers.specs.declared.Numbers.{Numbers}
 pub record Usable (k : Numbers) : Type 0 where
   pub ring-low : 4 ≤ k .ring
   pub ring-high : k .ring ≤ 2048
+  pub ring-power : power 12 (k .ring) ≡ true
   pub modulus-low : 3 ≤ k .modulus
   pub modulus-high : k .modulus < 2 ^ 56
   pub odd : k .modulus % 2 ≡ 1

@@ -3,8 +3,9 @@
 use mathlib.Core.Path.{_≡_}
 use mathlib.Core.Bool.{_&&_}
 use mathlib.Core.List.{List, _∷_, _++_}
+use Prim.Native.Nat.{ℕ}
 use Rattle.codec.specs.Bytes.{Bytes}
-use Rattle.codec.specs.Reply.{Test, first}
+use Rattle.codec.specs.Reply.{Test, first, packed}
 use Rattle.codec.specs.declared.Reply.{Reply}
 use Rattle.sheet.specs.Sheet.{order}
 use Rattle.scratch.specs.Call.{zeroized}
@@ -23,6 +24,6 @@ roundCheckTests P r scratch =
 unfoldable pub checkReply : (text : Bytes) → Round → (scratch : Bytes) → Reply
 checkReply text r scratch = first (order text ++ roundCheckTests (parametersOf text) r scratch)
 
-pub record RoundCheckCalled (text : Bytes) (r : Round) (scratch : Bytes) (reply : Reply) (scratch' : Bytes) : Type 0 where
-  pub replied : reply ≡ checkReply text r scratch
-  pub cleared : scratch' ≡ zeroized reply scratch
+pub record RoundCheckCalled (text : Bytes) (r : Round) (scratch : Bytes) (answer : ℕ) (scratch' : Bytes) : Type 0 where
+  pub replied : answer ≡ packed (checkReply text r scratch)
+  pub cleared : scratch' ≡ zeroized (checkReply text r scratch) scratch

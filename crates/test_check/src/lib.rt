@@ -3,76 +3,37 @@
 // In C a slice is `uint8_t *, size_t`, and `const` where it is lent to be read.
 mod taken;
 
-use codec::Reply;
-ghost use mathlib.Core.Path.{_≡_};
 ghost use Rattle.codec.specs.Slices.{given, left};
-ghost use Rattle.codec.specs.Reply.{packed};
 ghost use Rattle.round.specs.Internal.{roundIn};
-ghost use Rattle.test_check.specs.Replies.{checkReply, RoundCheckCalled};
+ghost use Rattle.test_check.specs.Replies.{RoundCheckCalled};
 
-// Checks one round with the side and the challenges that are lent.
-fn check(
-    sheet: &[u8],
-    side: u64,
-    challenges: &[u8],
-    ballots: &[u8],
-    claims: &[u8],
-    head: &[u8],
-    shares0: &[u8],
-    shares1: &[u8],
-    opening: &[u8],
-    answers: &[u8],
-    scratch: &mut [u8],
-) -> Reply
-    ensures { λ reply. let x = roundIn side challenges ballots claims head shares0 shares1 opening answers in
-        ⌜ RoundCheckCalled (given sheet) x (given scratch) reply (left scratch) ⌝ }
-{
-    let mut public = [0u8; 81920];
-    let reading = sheet::load(sheet, &mut public);
-    match reading {
-        sheet::Reading::Taken(k) => taken::check(
-            k,
-            &public,
-            side,
-            challenges,
-            ballots,
-            claims,
-            head,
-            shares0,
-            shares1,
-            opening,
-            answers,
-            scratch,
-        ),
-        sheet::Reading::Refused { number } => {
-            let reply = Reply::Refused { number, place: 0 };
-            scratch::zeroize(reply, scratch);
-            reply
-        }
-    }
-}
-
-// Answers 0 where the round is accepted, and else document 01's number, with the place above the low byte.
+// Checks one round with the side and the challenges that are lent. Answers 0 where the round is accepted, and else document 01's number,
+// with the place above the low byte.
 #[no_mangle]
-pub extern "C" fn test_check_round(
+pub extern "C" fn test_check_round<'a>(
     sheet: &[u8],
     side: u64,
     challenges: &[u8],
     ballots: &[u8],
     claims: &[u8],
     head: &[u8],
-    shares0: &[u8],
-    shares1: &[u8],
+    shares0: &'a [u8],
+    shares1: &'a [u8],
     opening: &[u8],
     answers: &[u8],
     scratch: &mut [u8],
 ) -> u64
     ensures { λ answer. let x = roundIn side challenges ballots claims head shares0 shares1 opening answers in
-        let reply = checkReply (given sheet) x (given scratch) in
-        ⌜ (answer ≡ packed reply) × RoundCheckCalled (given sheet) x (given scratch) reply (left scratch) ⌝ }
+        ⌜ RoundCheckCalled (given sheet) x (given scratch) answer (left scratch) ⌝ }
 {
-    codec::pack(check(
-        sheet,
+    let mut public = [0u8; 81920];
+    let reading = sheet::load(sheet, &mut public);
+    let sheet::Reading::Taken(k) = reading else {
+        return codec::pack(scratch::refuse(reading, scratch));
+    };
+    codec::pack(taken::check(
+        k,
+        &public,
         side,
         challenges,
         ballots,

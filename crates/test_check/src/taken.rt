@@ -15,7 +15,7 @@ ghost use Rattle.commitment.specs.Parameters.{parameters};
 ghost use Rattle.test_check.specs.Replies.{roundCheckTests};
 
 // The check of one round.
-pub fn check(
+pub fn check<'a>(
     k: Numbers,
     public: &[u8],
     side: u64,
@@ -23,8 +23,8 @@ pub fn check(
     ballots: &[u8],
     claims: &[u8],
     head: &[u8],
-    shares0: &[u8],
-    shares1: &[u8],
+    shares0: &'a [u8],
+    shares1: &'a [u8],
     opening: &[u8],
     answers: &[u8],
     scratch: &mut [u8],

@@ -26,7 +26,7 @@ test-side-requires : tie.Need-test-side-requires
 test-side-requires c κs =
     let p = c .before .before .before .before .before .before .before .before .before .before .before .before .before .before .before .before .before .before .pre in
     let r = p .3 in
-    (p .0, r .opening0, still (c .before .before .before .before .splits .ensures .1) ∙ p .1, omega (arith, r .head .sized), omega arith, p .2, r .batch, r .shares0, r .shares1, r .shares0)
+    (p .0, r .opening0, still (c .before .before .before .before .splits .ensures .1) ∙ p .1, omega (arith, r .head .sized), omega arith, p .2, r .batch, r .shares0, r .shares1)
 
 returns-2 : tie.Need-returns-2
 returns-2 c =
@@ -41,7 +41,7 @@ test-side-requires-2 : tie.Need-test-side-requires-2
 test-side-requires-2 c κs =
     let p = c .before .before .before .before .before .before .before .before .before .before .before .before .before .before .before .before .before .before .before .before .before .before .before .before .pre in
     let r = p .3 in
-    (p .0, r .opening1, still (c .before .before .before .before .before .test-side .ensures .cleared) ∙ still (c .before .before .before .before .before .before .before .before .before .before .splits .ensures .1) ∙ p .1, omega (arith, r .head .sized), omega arith, p .2, r .batch, r .shares0, r .shares1, r .shares1)
+    (p .0, r .opening1, still (c .before .before .before .before .before .test-side .ensures .cleared) ∙ still (c .before .before .before .before .before .before .before .before .before .before .splits .ensures .1) ∙ p .1, omega (arith, r .head .sized), omega arith, p .2, r .batch, r .shares0, r .shares1)
 
 returns-3 : tie.Need-returns-3
 returns-3 c =

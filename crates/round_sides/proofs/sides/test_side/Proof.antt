@@ -16,7 +16,7 @@ returns c =
     }
 
 test-votes-requires : tie.Need-test-votes-requires
-test-votes-requires c κs = let p = c .before .before .before .before .before .before .before .before .before .before .before .before .before .before .before .before .pre in (p .0 .numbers, p .1, still (c .before .before .before .before .before .test-opening .ensures .cleared) ∙ p .2, p .5, p .6, p .7, p .8, p .9)
+test-votes-requires c κs = let p = c .before .before .before .before .before .before .before .before .before .before .before .before .before .before .before .pre in (p .0 .numbers, p .1, still (c .before .before .before .before .before .test-opening .ensures .cleared) ∙ p .2, p .5, p .4, p .6, p .7, p .8)
 
 returns-2 : tie.Need-returns-2
 returns-2 c =
@@ -24,7 +24,7 @@ returns-2 c =
     let v = c .before .before .test-votes in
     record {
       replied = continued _ _ (o .ensures .replied) (c .before .before .before .before .enum-told .given .1) (v .ensures .replied);
-      cleared = again (length (c .before .before .before .before .before .before .before .before .before .before .before .before .before .before .before .before .before .before .before .args .work .now)) (o .ensures .cleared) (v .ensures .cleared);
+      cleared = again (length (c .before .before .before .before .before .before .before .before .before .before .before .before .before .before .before .before .before .before .args .work .now)) (o .ensures .cleared) (v .ensures .cleared);
     }
 
 pub test-side-spec : {M : Type 1} → statement M
