@@ -78,26 +78,6 @@ pub fn centred(x: u64, q: u64) -> i64
     }
 }
 
-// The size of the centred form.
-pub fn size(x: u64, q: u64) -> u64
-    requires { ⌜ x < q ⌝ }
-    ensures { λ r. ⌜ r ≡ natAbs (centre q x) ⌝ }
-{
-    if x <= (q - 1) / 2 { x } else { q - x }
-}
-
-// The remainder by p of the centred form, never negative.
-pub fn residue(x: u64, p: u64, q: u64) -> u64
-    requires { ⌜ (x < q) × (0 < p) ⌝ }
-    ensures { λ r. ⌜ r ≡ remainder p (centre q x) ⌝ }
-{
-    if x <= (q - 1) / 2 {
-        x % p
-    } else {
-        (p - (q - x) % p) % p
-    }
-}
-
 // The largest k below p for which 1 + q k is a multiple of p, or 0: by it `divide` finds the multiple of q to add.
 pub fn multiplier(p: u64, q: u64) -> u64
     requires { ⌜ (0 < p) × (p ≤ 251) × (q < 2 ^ 56) ⌝ }
@@ -140,4 +120,20 @@ pub fn reduce(e: i64, q: u64) -> u64
 {
     let m = magnitude(e) % q;
     if e >= 0 { m } else { (q - m) % q }
+}
+
+// The size of the centred form.
+pub fn size(x: u64, q: u64) -> u64
+    requires { ⌜ (x < q) × (q < 2 ^ 56) ⌝ }
+    ensures { λ r. ⌜ r ≡ natAbs (centre q x) ⌝ }
+{
+    magnitude(centred(x, q))
+}
+
+// The remainder by p of the centred form, never negative.
+pub fn residue(x: u64, p: u64, q: u64) -> u64
+    requires { ⌜ (x < q) × (q < 2 ^ 56) × (0 < p) ⌝ }
+    ensures { λ r. ⌜ r ≡ remainder p (centre q x) ⌝ }
+{
+    reduce(centred(x, q), p)
 }
