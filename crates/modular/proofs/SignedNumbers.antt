@@ -90,22 +90,11 @@ reduce-down q e f t = go e (sym (ap (leZ (pos 0)) (toZ-ofZ w64 e f)) ∙ t)
 -- ---- the centred form of a number below q
 
 module _ (q x : ℕ) (l : x < q) where
-  pub low-is : x ≤ (q - 1) / 2 → centre q x ≡ pos x
+  low-is : x ≤ (q - 1) / 2 → centre q x ≡ pos x
   low-is h = centre-low q x (omega arith) (rw (mod-eq-of-lt l) h) ∙ ap pos (mod-eq-of-lt l)
 
-  pub high-is : (q - 1) / 2 < x → centre q x ≡ negsuc (q - 1 - x)
+  high-is : (q - 1) / 2 < x → centre q x ≡ negsuc (q - 1 - x)
   high-is h = centre-high q x (omega arith) (rw (mod-eq-of-lt l) h) ∙ ap (λ (n : ℕ). negsuc (q - 1 - n)) (mod-eq-of-lt l)
-
-  pub size-high : (q - 1) / 2 < x → natAbs (centre q x) ≡ q - x
-  size-high h = ap natAbs (high-is h) ∙ omega arith
-
-  pub remainder-low : (p : ℕ) → x ≤ (q - 1) / 2 → remainder p (centre q x) ≡ x % p
-  unfolding remainder
-  remainder-low p h = ap (remainder p) (low-is h)
-
-  pub remainder-high : (p : ℕ) → (q - 1) / 2 < x → remainder p (centre q x) ≡ (p - (q - x) % p) % p
-  unfolding remainder
-  remainder-high p h = ap (remainder p) (high-is h) ∙ ap (λ (n : ℕ). (p - n % p) % p) (omega arith)
 
   module _ (bound : q < 2 ^ 56) where
     minus : toZ w64 x -ℤ toZ w64 q ≡ negsuc (q - 1 - x)

@@ -20,7 +20,7 @@ ghost use Rattle.sheet_numbers.specs.Internal.{Usable};
 
 // Whether the centred coefficients at the head of scratch are at most a bound in size.
 fn head_within(work: &[u8], bound: u64, n: usize, q: u64) -> bool
-    requires { ⌜ (8 * n ≤ length (now work)) × Below q n (poly (now work)) ⌝ }
+    requires { ⌜ (8 * n ≤ length (now work)) × Below q n (poly (now work)) × (q < 2 ^ 56) ⌝ }
     ensures { λ r. ⌜ r ≡ within bound n (centred q (poly (given work))) ⌝ }
 {
     let mut i = 0;

@@ -23,7 +23,7 @@ unfolding poly
 residue-requires c κs =
     let p = c .before .before .before .before .before .pre in
     let i = c .before .before .loop .i in
-    (omega (arith, c .read64 .ensures, p .3 .at i (omega arith)), omega arith)
+    (omega (arith, c .read64 .ensures, p .3 .at i (omega arith)), p .6, omega arith)
 
 cast-write8 : tie.Need-cast-write8 Inv-loop μ-loop
 cast-write8 c =

@@ -34,8 +34,7 @@ divide-requires c κs =
     (omega (arith, c .read64 .ensures, p .1 .at (c .before .before .loop .i) (omega arith)), p .2, p .3, p .5, p .4, m .0, m .1)
 
 size-requires : tie.Need-size-requires Inv-loop μ-loop
-size-requires c κs =
-    c .divide .ensures .1
+size-requires c κs = (c .divide .ensures .1, c .before .before .before .before .before .before .pre .5)
 
 returns : tie.Need-returns Inv-loop μ-loop
 unfolding within poly

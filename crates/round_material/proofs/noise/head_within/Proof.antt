@@ -23,7 +23,9 @@ loop-holds c = (omega arith, below-none _)
 
 size-requires : tie.Need-size-requires Inv-loop μ-loop
 unfolding poly
-size-requires c κs = rw (c .read64 .ensures) (c .before .before .before .before .pre .1 .at (c .before .before .loop .i) (omega arith))
+size-requires c κs =
+    let p = c .before .before .before .before .pre in
+    (rw (c .read64 .ensures) (p .1 .at (c .before .before .loop .i) (omega arith)), p .2)
 
 returns : tie.Need-returns Inv-loop μ-loop
 unfolding within poly

@@ -12,7 +12,7 @@ head-within-requires c κs =
     let a = c .before .before .before .before .before .before .before .before .before .args in
     let p = c .before .before .before .before .before .before .before .before .before .pre in
     let e = c .before .before .before .opened .ensures in
-    (omega (arith, e .sized, p .2, p .0 .ring-high), stands-below (a .q) (a .n) _ _ _ e (omega (arith, p .0 .modulus-low)) (p .0 .modulus-high))
+    (omega (arith, e .sized, p .2, p .0 .ring-high), stands-below (a .q) (a .n) _ _ _ e (omega (arith, p .0 .modulus-low)) (p .0 .modulus-high), p .0 .modulus-high)
 
 returns : tie.Need-returns
 returns c =

@@ -33,7 +33,7 @@ plain-requires c κs =
     let high = p .0 .ring-high in
     let z : 0 < a .q = omega arith in
     let s = opened-stands (a .q) (a .n) (p .0 .ring-high) (p .0 .modulus-low) (p .0 .modulus-high) (a .work .now) (p .1) (poly (a .v .now)) (c .before .before .before .before .before .before .before .before .scale-slot .last .0) (c .before .before .before .before .before .before .before .before .scale-slot .ensures) (c .before .before .before .before .add .last .0) (c .before .before .before .before .add .ensures) in
-    (omega (arith, s .sized, p .1), lent-length (a .claims .now) (a .at) (a .at + a .n - a .at) (a .n) (omega arith) (p .3), z, stands-below (a .q) (a .n) _ _ _ s z (p .0 .modulus-high), p .4, omega (arith, p .5))
+    (omega (arith, s .sized, p .1), lent-length (a .claims .now) (a .at) (a .at + a .n - a .at) (a .n) (omega arith) (p .3), z, stands-below (a .q) (a .n) _ _ _ s z (p .0 .modulus-high), p .4, omega (arith, p .5), p .0 .modulus-high)
 
 returns : tie.Need-returns
 returns c =

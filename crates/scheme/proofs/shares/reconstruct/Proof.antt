@@ -47,7 +47,7 @@ plain-requires-2 c κs =
     let u = c .before .before .before .before .before .before .before .before .before .before .before .before .before .before .before .before .pre in
     let o = c .before .before .before .before .rebuilt .ensures in
     let e = c .before .before .before .before .before .before .plain .ensures in
-    (omega (arith, o .sized, u .ring-high, length-asked _ _ 4 (c .before .before .before .before .before .before .before .before .before .before .sized .ensures) (c .before .before .before .before .before .before .before .before .before .if1 .left)), length-asked _ _ 3 (c .before .before .before .before .before .before .before .before .before .before .sized .ensures) (c .before .before .before .before .before .before .before .before .before .if1 .left), omega (arith, u .modulus-low), stands-below (a .k .modulus) (a .k .ring) _ _ _ o (omega (arith, u .modulus-low)) (u .modulus-high), omega (arith, e, u .plain-low), omega (arith, e, u .plain-high))
+    (omega (arith, o .sized, u .ring-high, length-asked _ _ 4 (c .before .before .before .before .before .before .before .before .before .before .sized .ensures) (c .before .before .before .before .before .before .before .before .before .if1 .left)), length-asked _ _ 3 (c .before .before .before .before .before .before .before .before .before .before .sized .ensures) (c .before .before .before .before .before .before .before .before .before .if1 .left), omega (arith, u .modulus-low), stands-below (a .k .modulus) (a .k .ring) _ _ _ o (omega (arith, u .modulus-low)) (u .modulus-high), omega (arith, e, u .plain-low), omega (arith, e, u .plain-high), u .modulus-high)
 
 returns-3 : tie.Need-returns-3
 unfolding same reconstructWrites
