@@ -4,17 +4,16 @@
 ghost use mathlib.Core.Path.{_≡_};
 ghost use Prim.Native.Nat.{_+_, _*_, _≤_, _<_, _^_};
 ghost use lib.ListN.{length};
-ghost use Rattle.codec.specs.Slices.{given, left};
-ghost use Rattle.codec.specs.Bytes.{put};
-ghost use Rattle.codec.specs.Lists.{list, allBelow};
+ghost use Rattle.scratch.specs.Vocabulary.{given, left, put, allBelow, plus, minus, Below, poly, slot, scratchLength, Polynomial, Free};
+ghost use Rattle.codec.specs.Lists.{list};
 ghost use Rattle.modular.specs.Modulo.{centre};
 ghost use Rattle.modular.specs.Division.{divide};
 ghost use Rattle.modular.specs.Internal.{Coprime};
-ghost use Rattle.ring.specs.Poly.{plus, minus, mul, Below};
-ghost use Rattle.ring.specs.Slots.{coefficientBytes, poly, slot, encode};
+ghost use Rattle.ring.specs.Poly.{mul};
+ghost use Rattle.ring.specs.Slots.{coefficientBytes, encode};
 ghost use Rattle.ring.specs.Ternary.{ternary};
-ghost use Rattle.scratch.specs.Call.{scratchLength, coefficients};
-ghost use Rattle.scratch.specs.Internal.{Polynomial, InSlot, Free};
+ghost use Rattle.scratch.specs.Call.{coefficients};
+ghost use Rattle.scratch.specs.Internal.{InSlot};
 ghost use Rattle.bgv.specs.Scheme as scheme;
 ghost use Rattle.bgv.specs.Scheme.{lentMask, within};
 

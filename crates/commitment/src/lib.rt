@@ -4,12 +4,8 @@
 ghost use mathlib.Core.Path.{_≡_};
 ghost use Prim.Native.Nat.{_+_, _*_, _≤_};
 ghost use lib.ListN.{length};
-ghost use Rattle.codec.specs.Slices.{given, left};
-ghost use Rattle.ring.specs.Poly.{Below};
-ghost use Rattle.ring.specs.Slots.{poly, slot};
+ghost use Rattle.scratch.specs.Vocabulary.{given, left, Below, poly, slot, scratchLength, Polynomial, Free};
 ghost use Rattle.ring.specs.Internal.{Slots};
-ghost use Rattle.scratch.specs.Call.{scratchLength};
-ghost use Rattle.scratch.specs.Internal.{Polynomial, Free};
 ghost use Rattle.commitment.specs.Commitment.{keysOf, threeOf, committed, opens};
 ghost use Rattle.commitment.specs.Internal.{threeAt, PublicKeys, PairInSlots, withProduct, withThree};
 

@@ -10,3 +10,4 @@ pub mod OpeningsAccepted
 pub mod Refuses
 pub mod RoundSlices
 pub mod Internal
+pub mod Vocabulary

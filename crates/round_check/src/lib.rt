@@ -13,17 +13,10 @@ ghost use mathlib.Core.Path.{_≡_};
 ghost use mathlib.Core.List.{_++_};
 ghost use Prim.Native.Nat.{_*_, _≤_};
 ghost use lib.ListN.{length};
-ghost use Rattle.codec.specs.Bytes.{Bytes};
-ghost use Rattle.codec.specs.Slices.{given, left};
-ghost use Rattle.ring.specs.Slots.{slot};
-ghost use Rattle.sheet_numbers.specs.Plain.{plain, maskOf};
-ghost use Rattle.scratch.specs.Call.{scratchLength};
-ghost use Rattle.scratch.specs.Internal.{Judged};
-ghost use Rattle.commitment.specs.Internal.{Loaded};
-ghost use Rattle.round.specs.Layout.{ballotLength, answersLength};
-ghost use Rattle.round.specs.Round.{ofSide, ranged, answersTests, votesTests, roundLater, roundTests};
-ghost use Rattle.round.specs.Internal.{roundOf, roundIn, Lengths};
-ghost use Rattle.commitment.specs.Parameters.{parameters};
+ghost use Rattle.round.specs.Vocabulary.{Bytes, given, left, slot, plain, maskOf, scratchLength, Judged, Loaded, ballotLength};
+ghost use Rattle.round.specs.Vocabulary.{answersLength, ofSide, answersTests, votesTests, roundIn, parameters};
+ghost use Rattle.round.specs.Round.{ranged, roundLater, roundTests};
+ghost use Rattle.round.specs.Internal.{roundOf, Lengths};
 ghost use Rattle.round_side.specs.Internal.{RoundInRange};
 
 // 5: whether all that is lent is in range. The polynomials of the sheet, whatever they are, do not enter.

@@ -5,10 +5,8 @@ use crate::openings::openings_tests;
 use codec::Reply;
 use sheet_numbers::Numbers;
 ghost use mathlib.Core.Path.{_≡_};
-ghost use Rattle.codec.specs.Slices.{given};
-ghost use Rattle.commitment.specs.Internal.{Loaded};
-ghost use Rattle.round.specs.RoundSlices.{openingsIn, extractIn, extractOut};
-ghost use Rattle.commitment.specs.Parameters.{parameters};
+ghost use Rattle.round.specs.Vocabulary.{given, Loaded, openingsIn, extractIn, parameters};
+ghost use Rattle.round.specs.RoundSlices.{extractOut};
 ghost use Rattle.round_extract.specs.Extraction.{answered};
 ghost use Rattle.round_extract.specs.Internal.{ExtractWritten};
 

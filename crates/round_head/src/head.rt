@@ -6,17 +6,10 @@ ghost use mathlib.Core.Path.{_≡_};
 ghost use mathlib.Core.List.{_++_};
 ghost use Prim.Native.Nat.{_*_, _≤_};
 ghost use lib.ListN.{length};
-ghost use Rattle.codec.specs.Bytes.{put, zeros};
-ghost use Rattle.ring.specs.Slots.{poly};
-ghost use Rattle.sheet_numbers.specs.Plain.{plain};
-ghost use Rattle.scratch.specs.Call.{scratchLength};
-ghost use Rattle.scratch.specs.Internal.{Polynomial, Free};
+ghost use Rattle.round.specs.Vocabulary.{put, zeros, poly, plain, scratchLength, Polynomial, Free, Loaded, headLength, given, left};
+ghost use Rattle.round.specs.Vocabulary.{parameters};
 ghost use Rattle.commitment.specs.Loaded.{aOf};
-ghost use Rattle.commitment.specs.Internal.{Loaded};
-ghost use Rattle.round.specs.Layout.{headLength};
-ghost use Rattle.codec.specs.Slices.{given, left};
 ghost use Rattle.round.specs.Producer.{keyBytesOf, headBytes};
-ghost use Rattle.commitment.specs.Parameters.{parameters};
 ghost use Rattle.round_head.specs.Internal.{Drawings};
 
 // The keys b0 and b1 of the halves.

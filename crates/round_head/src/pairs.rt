@@ -4,16 +4,10 @@ ghost use mathlib.Core.Path.{_≡_};
 ghost use mathlib.Core.List.{_++_};
 ghost use Prim.Native.Nat.{_+_, _*_, _≤_};
 ghost use lib.ListN.{length};
-ghost use Rattle.codec.specs.Bytes.{part, put};
-ghost use Rattle.ring.specs.Slots.{poly};
-ghost use Rattle.ring.specs.Ternary.{ternary};
-ghost use Rattle.scratch.specs.Call.{scratchLength};
-ghost use Rattle.scratch.specs.Internal.{Polynomial, Free};
-ghost use Rattle.bgv.specs.Scheme.{other};
-ghost use Rattle.commitment.specs.Commitment.{keysOf, threeOf, committed};
-ghost use Rattle.commitment.specs.Internal.{PublicKeys, PairInSlots, Loaded};
-ghost use Rattle.commitment.specs.Loaded.{keyBytes};
-ghost use Rattle.codec.specs.Slices.{given, left};
+ghost use Rattle.round.specs.Vocabulary.{part, put, poly, ternary, scratchLength, Polynomial, Free, other, keysOf, threeOf, PublicKeys};
+ghost use Rattle.round.specs.Vocabulary.{Loaded, keyBytes, given, left};
+ghost use Rattle.commitment.specs.Commitment.{committed};
+ghost use Rattle.commitment.specs.Internal.{PairInSlots};
 ghost use Rattle.round.specs.Producer.{committedPair, pairsBytes};
 
 // Writes the pair that stands in scratch out: its first half at the head, its second where the message stood.

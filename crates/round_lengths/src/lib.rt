@@ -5,10 +5,7 @@ use sheet_numbers::Numbers;
 ghost use mathlib.Core.Path.{_≡_};
 ghost use Prim.Native.Nat.{_+_, _*_, _/_, _≤_};
 ghost use lib.ListN.{length};
-ghost use Rattle.round.specs.Layout.{answersLength};
-ghost use Rattle.codec.specs.Slices.{given};
-ghost use Rattle.round.specs.Lent.{materialIn, firstIn};
-ghost use Rattle.sheet_numbers.specs.Internal.{Usable};
+ghost use Rattle.round.specs.Vocabulary.{answersLength, given, materialIn, firstIn, Usable};
 ghost use Rattle.round_lengths.specs.Calls.{countOf, materialSized, firstSized, secondSized, messageSized, openingsSized};
 
 // The product of two small numbers.

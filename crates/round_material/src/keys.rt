@@ -3,12 +3,8 @@ use sheet_numbers::Numbers;
 ghost use mathlib.Core.Path.{_≡_};
 ghost use Prim.Native.Nat.{_*_};
 ghost use lib.ListN.{length};
-ghost use Rattle.scratch.specs.Call.{scratchLength};
-ghost use Rattle.scratch.specs.Internal.{Free};
-ghost use Rattle.commitment.specs.Internal.{Loaded};
-ghost use Rattle.codec.specs.Slices.{given, left};
+ghost use Rattle.round.specs.Vocabulary.{scratchLength, Free, Loaded, given, left, parameters};
 ghost use Rattle.round.specs.Producer.{keyMatches};
-ghost use Rattle.commitment.specs.Parameters.{parameters};
 
 // Whether the sheet's b is a s + p e, for the secrets, which begin with s and e, in ternary bytes.
 pub fn matches(work: &mut [u8], k: Numbers, public: &[u8], secrets: &[u8]) -> bool

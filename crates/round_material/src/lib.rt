@@ -12,19 +12,10 @@ ghost use mathlib.Core.Path.{_≡_};
 ghost use mathlib.Core.List.{_++_};
 ghost use Prim.Native.Nat.{_*_, _≤_};
 ghost use lib.ListN.{length};
-ghost use Rattle.codec.specs.Bytes.{zeros};
-ghost use Rattle.codec.specs.Reply.{first, leaves};
-ghost use Rattle.sheet_numbers.specs.Plain.{noiseOf, maskOf};
-ghost use Rattle.scratch.specs.Call.{scratchLength};
-ghost use Rattle.scratch.specs.Internal.{Free};
-ghost use Rattle.commitment.specs.Internal.{Loaded};
-ghost use Rattle.round.specs.Layout.{ballotLength};
-ghost use Rattle.codec.specs.Slices.{given, left};
-ghost use Rattle.round.specs.Lent.{materialIn};
-ghost use Rattle.round.specs.Internal.{materialNow};
-ghost use Rattle.round.specs.Producer.{MaterialSized, secretTests, maskTests, permutationTests, noiseTests};
-ghost use Rattle.commitment.specs.Parameters.{parameters};
-ghost use Rattle.sheet_numbers.specs.Internal.{Usable};
+ghost use Rattle.round.specs.Vocabulary.{zeros, first, noiseOf, maskOf, scratchLength, Free, Loaded, ballotLength, given, left};
+ghost use Rattle.round.specs.Vocabulary.{materialIn, materialNow, maskTests, permutationTests, noiseTests, parameters, Usable};
+ghost use Rattle.codec.specs.Reply.{leaves};
+ghost use Rattle.round.specs.Producer.{MaterialSized, secretTests};
 ghost use Rattle.round_material.specs.Internal.{EachReady, MaterialTested};
 
 // 5, then 14.

@@ -5,12 +5,8 @@ ghost use mathlib.Core.Path.{_≡_};
 ghost use mathlib.Core.Bool.{_&&_};
 ghost use Prim.Native.Nat.{_*_, _≤_};
 ghost use lib.ListN.{length};
-ghost use Rattle.codec.specs.Reply.{first};
-ghost use Rattle.sheet_numbers.specs.Plain.{maskOf};
-ghost use Rattle.bgv.specs.Scheme.{lentMask, within};
-ghost use Rattle.codec.specs.Slices.{given};
-ghost use Rattle.round.specs.Producer.{maskTests};
-ghost use Rattle.sheet_numbers.specs.Internal.{Usable};
+ghost use Rattle.round.specs.Vocabulary.{first, maskOf, within, given, maskTests, Usable};
+ghost use Rattle.bgv.specs.Scheme.{lentMask};
 
 // Whether every number of two lent masks is at most a bound in size.
 fn both_bounded(mask0: &[u8], mask1: &[u8], bound: u64, n: usize) -> bool

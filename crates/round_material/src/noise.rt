@@ -5,18 +5,10 @@ ghost use mathlib.Core.Path.{_≡_};
 ghost use mathlib.Core.Bool.{true};
 ghost use Prim.Native.Nat.{_+_, _*_, _≤_, _<_, _^_};
 ghost use lib.ListN.{length};
-ghost use Rattle.codec.specs.Reply.{first};
-ghost use Rattle.ring.specs.Poly.{Below};
-ghost use Rattle.ring.specs.Slots.{poly, slot};
-ghost use Rattle.ring.specs.Ternary.{ternary};
-ghost use Rattle.sheet_numbers.specs.Plain.{noiseOf};
-ghost use Rattle.scratch.specs.Call.{scratchLength};
-ghost use Rattle.scratch.specs.Internal.{Polynomial, Free};
-ghost use Rattle.bgv.specs.Scheme.{centred, opened, within};
-ghost use Rattle.round.specs.Layout.{ballotLength, ballotsBelow};
-ghost use Rattle.codec.specs.Slices.{given, left};
-ghost use Rattle.round.specs.Producer.{sIn, noiseTests};
-ghost use Rattle.sheet_numbers.specs.Internal.{Usable};
+ghost use Rattle.round.specs.Vocabulary.{first, Below, poly, slot, ternary, noiseOf, scratchLength, Polynomial, Free, within};
+ghost use Rattle.round.specs.Vocabulary.{ballotLength, given, left, sIn, noiseTests, Usable};
+ghost use Rattle.bgv.specs.Scheme.{centred, opened};
+ghost use Rattle.round.specs.Layout.{ballotsBelow};
 
 // Whether the centred coefficients at the head of scratch are at most a bound in size.
 fn head_within(work: &[u8], bound: u64, n: usize, q: u64) -> bool

@@ -4,12 +4,7 @@ use sheet_numbers::Numbers;
 ghost use mathlib.Core.Path.{_≡_};
 ghost use Prim.Native.Nat.{_*_};
 ghost use lib.ListN.{length};
-ghost use Rattle.codec.specs.Reply.{first};
-ghost use Rattle.scratch.specs.Call.{scratchLength};
-ghost use Rattle.scratch.specs.Internal.{Free};
-ghost use Rattle.codec.specs.Slices.{given, left};
-ghost use Rattle.round.specs.Producer.{permutationTests};
-ghost use Rattle.sheet_numbers.specs.Internal.{Usable};
+ghost use Rattle.round.specs.Vocabulary.{first, scratchLength, Free, given, left, permutationTests, Usable};
 
 // The permutation of every repetition, in order.
 pub fn test_permutations(work: &mut [u8], k: Numbers, permutations: &[u8]) -> Reply

@@ -3,8 +3,7 @@ use sheet_numbers::Numbers;
 ghost use mathlib.Core.Path.{_≡_};
 ghost use Prim.Native.Nat.{_*_, _≤_};
 ghost use lib.ListN.{length};
-ghost use Rattle.round.specs.Layout.{ballotLength};
-ghost use Rattle.codec.specs.Slices.{given};
+ghost use Rattle.round.specs.Vocabulary.{ballotLength, given};
 ghost use Rattle.round.specs.Producer.{materialRanged};
 
 // Whether all that the producer is lent is in range; masks and permutations have tests of their own.

@@ -3,8 +3,7 @@ ghost use mathlib.Core.Path.{_≡_};
 ghost use mathlib.Core.Bool.{_&&_};
 ghost use lib.Dec.{ltb};
 ghost use lib.ListN.{length, getD};
-ghost use Rattle.codec.specs.Lists.{all};
-ghost use Rattle.round.specs.Round.{isChallenge};
+ghost use Rattle.round.specs.Vocabulary.{all, isChallenge};
 
 // A challenge is 1, 2 or 3.
 fn is_challenge(c: u8) -> bool

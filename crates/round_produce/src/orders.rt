@@ -5,11 +5,8 @@ use round_lengths::material_sized;
 use sheet_numbers::Numbers;
 ghost use mathlib.Core.Path.{_≡_};
 ghost use Prim.Native.Nat.{_≤_};
-ghost use Rattle.codec.specs.Slices.{given, left};
-ghost use Rattle.commitment.specs.Internal.{Loaded};
-ghost use Rattle.commitment.specs.Parameters.{parameters};
+ghost use Rattle.round.specs.Vocabulary.{given, left, Loaded, parameters, materialIn};
 ghost use Rattle.round_lengths.specs.Calls.{countOf};
-ghost use Rattle.round.specs.Lent.{materialIn};
 ghost use Rattle.round_produce.specs.Internal.{callTests, Room, Tested};
 
 // The order of both calls, for so many ballots: 1, and then what the material is refused for. `fits` says whether what a call is lent

@@ -7,10 +7,7 @@ use round_lengths::count_of;
 use round_lengths::first_sized;
 use round_lengths::second_sized;
 use sheet_numbers::Numbers;
-ghost use Rattle.codec.specs.Slices.{given};
-ghost use Rattle.commitment.specs.Internal.{Loaded};
-ghost use Rattle.commitment.specs.Parameters.{parameters};
-ghost use Rattle.round.specs.Lent.{materialIn, firstIn, firstOut, secondIn, secondOut};
+ghost use Rattle.round.specs.Vocabulary.{given, Loaded, parameters, materialIn, firstIn, firstOut, secondIn, secondOut};
 ghost use Rattle.round_produce.specs.Internal.{FirstWritten, SecondWritten};
 
 // The first call: the first message and the claims.

@@ -9,14 +9,7 @@ ghost use mathlib.Core.Path.{_≡_};
 ghost use mathlib.Core.Bool.{true};
 ghost use Prim.Native.Nat.{_*_, _≤_};
 ghost use lib.ListN.{length};
-ghost use Rattle.codec.specs.Bytes.{zeros};
-ghost use Rattle.codec.specs.Slices.{given, left};
-ghost use Rattle.codec.specs.Lists.{allBelow};
-ghost use Rattle.scratch.specs.Call.{scratchLength};
-ghost use Rattle.commitment.specs.Internal.{Loaded};
-ghost use Rattle.vector.specs.Vector.{vector};
-ghost use Rattle.round.specs.Layout.{pairsOf};
-ghost use Rattle.commitment.specs.Parameters.{parameters};
+ghost use Rattle.round.specs.Vocabulary.{zeros, given, left, allBelow, scratchLength, Loaded, vector, pairsOf, parameters};
 ghost use Rattle.round_collision.specs.Internal.{ThreeAnswers};
 ghost use Rattle.round_search.specs.Internal.{Finds};
 

@@ -4,14 +4,7 @@ use sheet_numbers::Numbers;
 ghost use mathlib.Core.Path.{_≡_};
 ghost use Prim.Native.Nat.{_+_, _*_, _≤_};
 ghost use lib.ListN.{length};
-ghost use Rattle.codec.specs.Bytes.{part};
-ghost use Rattle.ring.specs.Slots.{poly, slot};
-ghost use Rattle.ring.specs.Ternary.{ternary};
-ghost use Rattle.scratch.specs.Call.{scratchLength};
-ghost use Rattle.scratch.specs.Internal.{Polynomial};
-ghost use Rattle.codec.specs.Slices.{given};
-ghost use Rattle.round.specs.Producer.{sIn};
-ghost use Rattle.sheet_numbers.specs.Internal.{Usable};
+ghost use Rattle.round.specs.Vocabulary.{part, poly, slot, ternary, scratchLength, Polynomial, given, sIn, Usable};
 ghost use Rattle.round_shares.specs.Internal.{Masked, BallotPlaces, roomNow, roomIn, roomOut, Fits, BallotWritten, BallotsWritten};
 
 // One ballot where it stands, with its masks at the place of its shares.

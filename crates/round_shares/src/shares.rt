@@ -4,16 +4,10 @@ use sheet_numbers::Numbers;
 ghost use mathlib.Core.Path.{_≡_};
 ghost use Prim.Native.Nat.{_+_, _*_, _≤_, _<_, _^_};
 ghost use lib.ListN.{length};
-ghost use Rattle.codec.specs.Bytes.{part, put};
-ghost use Rattle.codec.specs.Lists.{list};
-ghost use Rattle.ring.specs.Poly.{minus, mul, Below};
-ghost use Rattle.ring.specs.Slots.{coefficientBytes, poly, slot};
-ghost use Rattle.ring.specs.Ternary.{ternary};
-ghost use Rattle.scratch.specs.Call.{scratchLength};
-ghost use Rattle.scratch.specs.Internal.{Polynomial, Free};
+ghost use Rattle.round.specs.Vocabulary.{part, put, list, Below, coefficientBytes, poly, slot, ternary, scratchLength, Polynomial, Free};
+ghost use Rattle.round.specs.Vocabulary.{given, left, Usable};
+ghost use Rattle.ring.specs.Poly.{minus, mul};
 ghost use Rattle.bgv.specs.Scheme.{plain};
-ghost use Rattle.codec.specs.Slices.{given, left};
-ghost use Rattle.sheet_numbers.specs.Internal.{Usable};
 ghost use Rattle.round_shares.specs.Internal.{roomNow, roomIn, roomOut, Fits, BallotWritten, maskedProduct, TwoStand};
 
 // Where s0 u stands, and then t0.

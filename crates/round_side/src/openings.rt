@@ -4,19 +4,10 @@ use sheet_numbers::Numbers;
 ghost use mathlib.Core.Path.{_≡_};
 ghost use Prim.Native.Nat.{ℕ, _+_, _*_, _≤_, _<_};
 ghost use lib.ListN.{length};
-ghost use Rattle.codec.specs.Bytes.{zeros};
-ghost use Rattle.ring.specs.Slots.{slot};
-ghost use Rattle.sheet_numbers.specs.Plain.{plain, maskOf};
-ghost use Rattle.sheet_numbers.specs.Internal.{Usable};
-ghost use Rattle.scratch.specs.Call.{scratchLength};
-ghost use Rattle.scratch.specs.Internal.{Judged};
-ghost use Rattle.commitment.specs.Internal.{Loaded};
-ghost use Rattle.round.specs.Layout.{openingOf};
+ghost use Rattle.round.specs.Vocabulary.{zeros, slot, plain, maskOf, Usable, scratchLength, Judged, Loaded, openingOf, ofSide};
+ghost use Rattle.round.specs.Vocabulary.{votesTests, given, left, parameters, Batch, Shares};
 ghost use Rattle.round.specs.Round as round;
-ghost use Rattle.round.specs.Round.{ofSide, opensKey, opensPairs, halfTests, votesTests};
-ghost use Rattle.codec.specs.Slices.{given, left};
-ghost use Rattle.commitment.specs.Parameters.{parameters};
-ghost use Rattle.round.specs.Internal.{Batch, Shares};
+ghost use Rattle.round.specs.Round.{opensKey, opensPairs, halfTests};
 ghost use Rattle.round_side.specs.Internal.{Opened, Head};
 
 // Whether b0 and b1 of a first message add to b.

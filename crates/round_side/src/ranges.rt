@@ -4,11 +4,8 @@ ghost use mathlib.Core.Path.{_≡_};
 ghost use mathlib.Core.Bool.{_&&_};
 ghost use Prim.Native.Nat.{_*_, _≤_};
 ghost use lib.ListN.{length};
-ghost use Rattle.sheet_numbers.specs.Plain.{plain};
-ghost use Rattle.stern.specs.Shortness.{answerLength, inRange};
-ghost use Rattle.round.specs.Layout.{ballotLength, answersLength};
-ghost use Rattle.round.specs.Round.{isChallenge, openingRanged, headRanged, answersRanged};
-ghost use Rattle.codec.specs.Slices.{given};
+ghost use Rattle.round.specs.Vocabulary.{plain, answerLength, inRange, ballotLength, answersLength, isChallenge, given};
+ghost use Rattle.round.specs.Round.{openingRanged, headRanged, answersRanged};
 ghost use Rattle.round_side.specs.Internal.{messageRanged};
 
 // Whether b0, b1 and the committed pairs, with which the head of a first message begins, are below q.

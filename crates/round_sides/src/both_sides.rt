@@ -12,14 +12,8 @@ use sheet_numbers::Numbers;
 ghost use mathlib.Core.Path.{_≡_};
 ghost use Prim.Native.Nat.{_≤_};
 ghost use lib.ListN.{length};
-ghost use Rattle.codec.specs.Bytes.{Bytes};
-ghost use Rattle.scratch.specs.Call.{scratchLength};
-ghost use Rattle.scratch.specs.Internal.{Judged};
-ghost use Rattle.commitment.specs.Internal.{Loaded};
+ghost use Rattle.round.specs.Vocabulary.{Bytes, scratchLength, Judged, Loaded, given, left, openingsIn, parameters};
 ghost use Rattle.round.specs.Extractor.{Lent, openingsOf, lentRanged, extractLater, extractTests};
-ghost use Rattle.codec.specs.Slices.{given, left};
-ghost use Rattle.round.specs.RoundSlices.{openingsIn};
-ghost use Rattle.commitment.specs.Parameters.{parameters};
 ghost use Rattle.round_sides.specs.Internal.{OpeningsInRange, OpeningsSized};
 
 // 5: whether all that is lent is in range. The polynomials of the sheet, whatever they are, do not enter.

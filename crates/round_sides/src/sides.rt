@@ -6,15 +6,8 @@ use sheet_numbers::Numbers;
 ghost use mathlib.Core.Path.{_≡_};
 ghost use Prim.Native.Nat.{_*_, _≤_, _<_};
 ghost use lib.ListN.{length};
-ghost use Rattle.scratch.specs.Call.{scratchLength};
-ghost use Rattle.scratch.specs.Internal.{Judged};
-ghost use Rattle.commitment.specs.Internal.{Loaded};
-ghost use Rattle.round.specs.Layout.{openingOf};
-ghost use Rattle.round.specs.Round.{ofSide};
+ghost use Rattle.round.specs.Vocabulary.{scratchLength, Judged, Loaded, openingOf, ofSide, given, left, parameters, Batch, Shares};
 ghost use Rattle.round.specs.Extractor.{sideTests};
-ghost use Rattle.codec.specs.Slices.{given, left};
-ghost use Rattle.commitment.specs.Parameters.{parameters};
-ghost use Rattle.round.specs.Internal.{Batch, Shares};
 ghost use Rattle.round_side.specs.Internal.{Opened};
 
 // All that a side's opening is tested by, and scratch zeroed.

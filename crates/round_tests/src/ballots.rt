@@ -6,15 +6,8 @@ use sheet_numbers::Numbers;
 ghost use mathlib.Core.Path.{_≡_};
 ghost use Prim.Native.Nat.{_+_, _*_, _≤_, _<_};
 ghost use lib.ListN.{length};
-ghost use Rattle.codec.specs.Bytes.{part};
-ghost use Rattle.codec.specs.Slices.{given, left};
-ghost use Rattle.ring.specs.Slots.{poly, slot};
-ghost use Rattle.sheet_numbers.specs.Plain.{plain, maskOf};
-ghost use Rattle.sheet_numbers.specs.Internal.{Usable};
-ghost use Rattle.scratch.specs.Call.{scratchLength};
-ghost use Rattle.scratch.specs.Internal.{Polynomial, Judged, Tried};
-ghost use Rattle.round.specs.Round.{ofSide, votesTests};
-ghost use Rattle.round.specs.Internal.{Batch, Shares};
+ghost use Rattle.round.specs.Vocabulary.{part, given, left, poly, slot, plain, maskOf, Usable, scratchLength, Polynomial, Judged, Tried};
+ghost use Rattle.round.specs.Vocabulary.{ofSide, votesTests, Batch, Shares};
 ghost use Rattle.round_tests.specs.Internal.{voteTests, BallotAt};
 
 // One ballot where it stands: the ballot, its claim and its shares at places of their slices, and its share of the opened side.

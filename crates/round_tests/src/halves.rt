@@ -4,17 +4,11 @@ ghost use mathlib.Core.Path.{_≡_};
 ghost use mathlib.Core.Bool.{_&&_};
 ghost use Prim.Native.Nat.{_*_};
 ghost use lib.ListN.{length};
-ghost use Rattle.codec.specs.Bytes.{same, zeros};
-ghost use Rattle.codec.specs.Slices.{given, left};
-ghost use Rattle.ring.specs.Poly.{plus, modulo};
-ghost use Rattle.ring.specs.Slots.{poly, encode};
-ghost use Rattle.sheet_numbers.specs.Plain.{plain};
-ghost use Rattle.sheet_numbers.specs.Internal.{Usable};
-ghost use Rattle.scratch.specs.Call.{scratchLength};
-ghost use Rattle.scratch.specs.Internal.{Polynomial};
+ghost use Rattle.round.specs.Vocabulary.{same, zeros, given, left, modulo, poly, encode, plain, Usable, scratchLength, Polynomial};
+ghost use Rattle.round.specs.Vocabulary.{keysOf, threeOf, PublicKeys};
+ghost use Rattle.ring.specs.Poly.{plus};
 ghost use Rattle.bgv.specs.Scheme.{key};
-ghost use Rattle.commitment.specs.Commitment.{keysOf, threeOf, opens};
-ghost use Rattle.commitment.specs.Internal.{PublicKeys};
+ghost use Rattle.commitment.specs.Commitment.{opens};
 
 // Whether two lent halves of the key add to b.
 pub fn adds(work: &mut [u8], b0: &[u8], b1: &[u8], b: &[u8], n: usize, q: u64) -> bool

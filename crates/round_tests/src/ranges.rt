@@ -2,8 +2,8 @@
 ghost use mathlib.Core.Path.{_≡_};
 ghost use Prim.Native.Nat.{_*_, _≤_};
 ghost use lib.ListN.{length};
-ghost use Rattle.codec.specs.Lists.{list, allBelow, all};
-ghost use Rattle.round.specs.Layout.{ballotLength, uAt};
+ghost use Rattle.round.specs.Vocabulary.{list, allBelow, all, ballotLength};
+ghost use Rattle.round.specs.Layout.{uAt};
 
 // Whether they are.
 pub fn ballots_in_range(ballots: &[u8], count: usize, n: usize, q: u64) -> bool

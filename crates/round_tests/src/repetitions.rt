@@ -5,19 +5,8 @@ ghost use mathlib.Core.Path.{_≡_};
 ghost use mathlib.Core.Bool.{true};
 ghost use Prim.Native.Nat.{_+_, _*_, _≤_};
 ghost use lib.ListN.{length};
-ghost use Rattle.codec.specs.Bytes.{part};
-ghost use Rattle.codec.specs.Lists.{allBelow};
-ghost use Rattle.scratch.specs.Call.{scratchLength};
-ghost use Rattle.scratch.specs.Internal.{Judged};
-ghost use Rattle.commitment.specs.Commitment.{keysOf};
-ghost use Rattle.commitment.specs.Loaded.{keyBytes};
-ghost use Rattle.commitment.specs.Internal.{Loaded};
-ghost use Rattle.vector.specs.Vector.{vector};
-ghost use Rattle.stern.specs.Shortness.{answerLength, inRange, answerTests};
-ghost use Rattle.round.specs.Layout.{headLength, pairsOf};
-ghost use Rattle.round.specs.Round.{answersTests};
-ghost use Rattle.codec.specs.Slices.{given, left};
-ghost use Rattle.commitment.specs.Parameters.{parameters};
+ghost use Rattle.round.specs.Vocabulary.{part, allBelow, scratchLength, Judged, keysOf, keyBytes, Loaded, vector, answerLength, inRange};
+ghost use Rattle.round.specs.Vocabulary.{answerTests, headLength, pairsOf, answersTests, given, left, parameters};
 ghost use Rattle.round.specs.Internal.{Answers};
 
 // One repetition where its digests and its answer stand, and scratch zeroed.

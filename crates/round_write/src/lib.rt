@@ -4,11 +4,8 @@ mod opening;
 mod repetitions;
 
 use sheet_numbers::Numbers;
-ghost use Rattle.codec.specs.Slices.{given};
-ghost use Rattle.commitment.specs.Internal.{Loaded};
-ghost use Rattle.round.specs.Lent.{materialIn, firstIn, firstOut, secondIn, secondOut};
-ghost use Rattle.round.specs.Internal.{materialNow, firstNow, secondNow, FirstProduced, SecondProduced};
-ghost use Rattle.commitment.specs.Parameters.{parameters};
+ghost use Rattle.round.specs.Vocabulary.{given, Loaded, materialIn, firstIn, firstOut, secondIn, secondOut, materialNow, parameters};
+ghost use Rattle.round.specs.Internal.{firstNow, secondNow, FirstProduced, SecondProduced};
 ghost use Rattle.round_lengths.specs.Calls.{countOf};
 ghost use Rattle.round_write.specs.Internal.{FirstReady, SecondReady};
 

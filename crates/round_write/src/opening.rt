@@ -4,14 +4,9 @@ ghost use mathlib.Core.Path.{_≡_};
 ghost use mathlib.Core.List.{_++_};
 ghost use Prim.Native.Nat.{_+_, _*_, _≤_, _<_};
 ghost use lib.ListN.{length};
-ghost use Rattle.codec.specs.Bytes.{part, put};
-ghost use Rattle.codec.specs.Slices.{given, left};
-ghost use Rattle.ring.specs.Slots.{coefficientBytes, poly};
-ghost use Rattle.ring.specs.Ternary.{ternary};
-ghost use Rattle.scratch.specs.Call.{scratchLength};
-ghost use Rattle.scratch.specs.Internal.{Polynomial, Free};
-ghost use Rattle.bgv.specs.Scheme.{other};
-ghost use Rattle.round.specs.Producer.{sIn, eIn, openingBytes};
+ghost use Rattle.round.specs.Vocabulary.{part, put, given, left, coefficientBytes, poly, ternary, scratchLength, Polynomial, Free, other};
+ghost use Rattle.round.specs.Vocabulary.{sIn};
+ghost use Rattle.round.specs.Producer.{eIn, openingBytes};
 
 // The halves that were lent.
 fn lent_halves(opening: &mut [u8], s0: &[u8], e0: &[u8], n: usize, q: u64)

@@ -3,12 +3,8 @@ use sheet_numbers::Numbers;
 ghost use mathlib.Core.Path.{_≡_};
 ghost use Prim.Native.Nat.{_+_, _*_, _≤_, _<_, _^_};
 ghost use lib.ListN.{length};
-ghost use Rattle.codec.specs.Bytes.{part, put};
-ghost use Rattle.codec.specs.Slices.{given, left};
-ghost use Rattle.sheet_numbers.specs.Internal.{Usable};
-ghost use Rattle.stern.specs.Shortness.{drawnOf, answerLength, honestAnswer};
-ghost use Rattle.stern.specs.Internal.{RepetitionMaterial};
-ghost use Rattle.round.specs.Layout.{answersLength};
+ghost use Rattle.round.specs.Vocabulary.{part, put, given, left, Usable, drawnOf, answerLength, RepetitionMaterial, answersLength};
+ghost use Rattle.stern.specs.Shortness.{honestAnswer};
 ghost use Rattle.round.specs.Producer.{answersBytes};
 ghost use Rattle.round_head.specs.Internal.{Drawings};
 

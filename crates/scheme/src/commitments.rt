@@ -2,8 +2,7 @@
 // given back zeroed, or as it was where the call is refused.
 use codec::Reply;
 use sheet_numbers::Numbers;
-ghost use Rattle.codec.specs.Slices.{given, left};
-ghost use Rattle.scratch.specs.Internal.{Computed};
+ghost use Rattle.scratch.specs.Vocabulary.{given, left, Computed};
 ghost use Rattle.commitment.specs.Internal.{Loaded};
 ghost use Rattle.commitment.specs.Parameters.{parameters};
 ghost use Rattle.scheme.specs.Calls.{commitmentTests, commitmentWrites};

@@ -6,8 +6,7 @@ mod shares;
 
 ghost use Prim.Native.Nat.{_+_, _*_, _≤_};
 ghost use lib.ListN.{length};
-ghost use Rattle.codec.specs.Bytes.{part};
-ghost use Rattle.codec.specs.Slices.{given, left};
+ghost use Rattle.scratch.specs.Vocabulary.{part, given, left};
 ghost use Rattle.scheme.specs.Internal.{WrittenAt};
 pub use shares::reconstruct;
 pub use shares::share;

@@ -7,10 +7,7 @@ ghost use mathlib.Core.Path.{_≡_};
 ghost use mathlib.Core.List.{[], _∷_};
 ghost use Prim.Native.Nat.{_*_};
 ghost use lib.ListN.{length};
-ghost use Rattle.codec.specs.Slices.{given, left};
-ghost use Rattle.sheet_numbers.specs.Internal.{Usable};
-ghost use Rattle.scratch.specs.Call.{coefficientsBelow};
-ghost use Rattle.scratch.specs.Internal.{Computed};
+ghost use Rattle.scratch.specs.Vocabulary.{given, left, Usable, coefficientsBelow, Computed};
 ghost use Rattle.scheme.specs.Calls.{shareTests, shareWrites, reconstructTests, reconstructWrites};
 
 // The decryption share t. A lent mask is bounded as it is lent.

@@ -1,2 +1,3 @@
 pub mod Call
 pub mod Internal
+pub mod Vocabulary

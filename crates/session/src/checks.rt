@@ -7,7 +7,7 @@ use session_check::Verdict;
 use session_check::stored::Stored;
 ghost use mathlib.Core.Path.{_≡_};
 ghost use Prim.Native.Nat.{_<_};
-ghost use Rattle.codec.specs.Slices.{given, left};
+ghost use Rattle.round.specs.Vocabulary.{given, left};
 ghost use Rattle.register.specs.Internal.{Wrote};
 ghost use Rattle.session_check.specs.Check.{inputsIn};
 ghost use Rattle.session_check.specs.Internal.{replyOfVerdict};

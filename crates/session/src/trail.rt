@@ -1,7 +1,7 @@
 // The trail of a session: the digests of the rounds' first messages, 32 bytes each, in order.
 ghost use mathlib.Core.Path.{_≡_};
 ghost use Prim.Native.Nat.{_*_, _<_};
-ghost use Rattle.codec.specs.Bytes.{part, put};
+ghost use Rattle.round.specs.Vocabulary.{part, put};
 
 // Puts a round's digest in its place.
 pub fn write(trail: &mut [u8; 4096], round: usize, digest: &[u8; 32])

@@ -5,7 +5,7 @@ mod verdicts;
 use crate::stored::Stored;
 use codec::Reply;
 ghost use mathlib.Core.Path.{_≡_};
-ghost use Rattle.codec.specs.Slices.{left};
+ghost use Rattle.round.specs.Vocabulary.{left};
 ghost use Rattle.session_check.specs.Check.{inputsIn};
 ghost use Rattle.session_check.specs.Internal.{replyOfVerdict, CheckMade, Within};
 

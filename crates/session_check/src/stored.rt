@@ -8,9 +8,8 @@ ghost use mathlib.Core.Path.{_≡_};
 ghost use mathlib.Core.List.{[]};
 ghost use Prim.Native.Nat.{_*_};
 ghost use lib.ListN.{length};
-ghost use Rattle.codec.specs.Reply.{first};
+ghost use Rattle.round.specs.Vocabulary.{first, ballotLength};
 ghost use Rattle.sheet.specs.Reader.{sheetOf};
-ghost use Rattle.round.specs.Layout.{ballotLength};
 ghost use Rattle.session_check.specs.Stored.{challengesOf, inputsOf, sameNumbers, inputsSized, storedTests, lentTests};
 ghost use Rattle.session_check.specs.Internal.{Within};
 

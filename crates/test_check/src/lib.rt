@@ -3,8 +3,7 @@
 // In C a slice is `uint8_t *, size_t`, and `const` where it is lent to be read.
 mod taken;
 
-ghost use Rattle.codec.specs.Slices.{given, left};
-ghost use Rattle.round.specs.Internal.{roundIn};
+ghost use Rattle.round.specs.Vocabulary.{given, left, roundIn};
 ghost use Rattle.test_check.specs.Replies.{RoundCheckCalled};
 
 // Checks one round with the side and the challenges that are lent. Answers 0 where the round is accepted, and else document 01's number,

@@ -6,12 +6,7 @@ use round_lengths::message_sized;
 use round_lengths::second_sized;
 use sheet_numbers::Numbers;
 ghost use mathlib.Core.Path.{_≡_};
-ghost use Rattle.codec.specs.Slices.{given, left};
-ghost use Rattle.codec.specs.Reply.{first};
-ghost use Rattle.scratch.specs.Call.{zeroized};
-ghost use Rattle.commitment.specs.Internal.{Loaded};
-ghost use Rattle.round.specs.Internal.{roundIn};
-ghost use Rattle.commitment.specs.Parameters.{parameters};
+ghost use Rattle.round.specs.Vocabulary.{given, left, first, zeroized, Loaded, roundIn, parameters};
 ghost use Rattle.test_check.specs.Replies.{roundCheckTests};
 
 // The check of one round.

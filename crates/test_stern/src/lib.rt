@@ -8,7 +8,7 @@ mod lent;
 mod orders;
 
 use codec::Reply;
-ghost use Rattle.codec.specs.Slices.{given, left};
+ghost use Rattle.scratch.specs.Vocabulary.{given, left};
 ghost use Rattle.commitment.specs.Commitment.{keysOf};
 ghost use Rattle.stern.specs.Shortness.{drawnOf, honestDigests, honestAnswer};
 ghost use Rattle.test_stern.specs.Calls.{digestsReply, answerReply, testReply, CallAnswered, CallTold};

@@ -7,7 +7,7 @@ use crate::lent::test_sized;
 use codec::Reply;
 use codec::refused;
 use stern_answers::layout::answer_length;
-ghost use Rattle.codec.specs.Slices.{given, left};
+ghost use Rattle.scratch.specs.Vocabulary.{given, left};
 ghost use Rattle.test_stern.specs.Calls.{digestsReply, answerReply, testReply, Sifted};
 
 // What the call for digests refuses.
