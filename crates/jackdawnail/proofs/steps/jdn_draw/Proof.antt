@@ -4,11 +4,5 @@ use Rattle.session_image.proofs.Over.{wrong, over}
 use Rattle.jackdawnail.proofs.steps.jdn_draw.Statement.{statement}
 use Rattle.jackdawnail.proofs.steps.jdn_draw.Tie as tie
 
-returns : tie.Need-returns
-returns c = λ register. wrong _ _ (c .if1 .taken)
-
-returns-2 : tie.Need-returns-2
-returns-2 c = λ register. over _ _ (c .before .before .before .before .before .before .before .if1 .left) (c .before .before .before .before .before .load .ensures) (c .before .before .before .before .draw .ensures register) (c .before .before .keep .ensures)
-
 pub jdn-draw-spec : {M : Type 1} → statement M
-jdn-draw-spec = tie.close (tie.spec returns (λ c κs. search needs) (λ c κs. search needs) (λ c κs. search needs) (λ c. search needs) returns-2)
+jdn-draw-spec = tie.close (tie.spec (λ c. λ register. wrong _ _ (c .if1 .taken)) (λ c κs. search needs) (λ c κs. search needs) (λ c κs. search needs) (λ c. search needs) (λ c. λ register. over _ _ (c .before .before .before .before .before .before .before .if1 .left) (c .before .before .before .before .before .load .ensures) (c .before .before .before .before .draw .ensures register) (c .before .before .keep .ensures)))
