@@ -176,6 +176,6 @@ pub extern "C" fn jdn_commitment(
     let sheet::Reading::Taken(k) = reading else {
         return codec::pack(scratch::refuse(reading, scratch));
     };
-    let reply = scheme::commitments::commitment(k, &public, m, r, pair, scratch);
+    let reply = scheme::commitment(k, &public, m, r, pair, scratch);
     codec::pack(scratch::finish(reply, scratch))
 }

@@ -38,7 +38,7 @@ pub extern "C" fn jdn_produce_first(
     let sheet::Reading::Taken(k) = reading else {
         return codec::pack(scratch::refuse(reading, scratch));
     };
-    codec::pack(round_produce::producing::produce_first(
+    codec::pack(round_produce::produce_first(
         k,
         &public,
         secrets,
@@ -87,7 +87,7 @@ pub extern "C" fn jdn_produce_second(
     let sheet::Reading::Taken(k) = reading else {
         return codec::pack(scratch::refuse(reading, scratch));
     };
-    codec::pack(round_produce::producing::produce_second(
+    codec::pack(round_produce::produce_second(
         k,
         &public,
         secrets,

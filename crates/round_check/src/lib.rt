@@ -1,12 +1,12 @@
 // The check of a round: 5, 6, 7, 8; by repetition 9, 10, 11; by ballot 12, 13.
 use codec::Reply;
 use codec::refused;
-use round_side::openings::splits;
-use round_side::openings::test_opening;
-use round_side::openings::test_votes;
-use round_side::ranges::answers_ranged;
-use round_side::ranges::message_ranged;
-use round_side::ranges::opening_ranged;
+use round_side::answers_ranged;
+use round_side::message_ranged;
+use round_side::opening_ranged;
+use round_side::splits;
+use round_side::test_opening;
+use round_side::test_votes;
 use round_tests::repetitions::test_repetitions;
 use sheet_numbers::Numbers;
 ghost use mathlib.Core.Path.{_≡_};
