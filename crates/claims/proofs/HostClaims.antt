@@ -13,7 +13,7 @@ use Rattle.session_histories.specs.Runs.{History, emptyHistory, Call, call}
 use Rattle.session_histories.specs.Internal.{Begins, StepChecked, initial, ownInitial, run, ownTrace, extend, trace, calls}
 use Rattle.session_histories.specs.Conditions.{ValidSession, Checks}
 use Rattle.session_histories.specs.Claims.{Undue}
-use Rattle.session_histories.specs.Bound.{Bound, Hashed}
+use Rattle.session_histories.specs.Bound.{Bound, BoundBytes}
 use Rattle.session_histories.proofs.Withdrawn.{withdrawn-stays-out}
 use Rattle.session_histories.proofs.Reach.{clear-taken, reachable-valid, only-phase-or-round}
 use Rattle.session_histories.proofs.Honest.{honest-accepted}
@@ -133,7 +133,7 @@ pub host-bound : HostBound
 host-bound start b cs s register k x e =
     let same = sym (lodged start b s cs) in (
       subst (λ (h : History). Bound h k x) same (checks-bound b cs (readable start b s) register k x (sym (answered start b s cs (check k x) register) ∙ e)),
-      λ octets all lent. subst (λ (h : History). Hashed h k x) same (checks-hashed b cs octets all k x lent),
+      λ octets all lent. subst (λ (h : History). BoundBytes h k x) same (checks-hashed b cs octets all k x lent),
     )
 
 pub host-stays-valid : HostStaysValid

@@ -19,7 +19,7 @@ use Rattle.session.specs.Machine.{Step, clear, withdraw, close, check}
 use Rattle.session_histories.specs.Runs.{emptyHistory, Call, call}
 use Rattle.session_histories.specs.Conditions.{ValidSession, Checks}
 use Rattle.session_histories.specs.Claims.{ClosedWithout, Turn, Undue}
-use Rattle.session_histories.specs.Bound.{Bound, Hashed, LodgesAll, LentBytes}
+use Rattle.session_histories.specs.Bound.{Bound, BoundBytes, LodgesAll, LentBytes}
 use Rattle.session_image.specs.Images.{Host, host, hostReply, hostAfter}
 use Rattle.claims.specs.HostSteps.{hostTrace, hostHistory, HostNoClear, hostRun, hostCalls, HostUncleared, hostRoll, Starts, FromClear}
 
@@ -78,7 +78,7 @@ HostEndedAccepted = FromClear (λ b cs first last h. decode last .progress .phas
 -- a check that is taken was lent what was lodged, or what it was lent and what was lodged collide, in strings of bytes where what is lent is bytes
 abbrev pub HostBound : Type 0
 HostBound = FromClear (λ b cs first last h. (register : Bytes) (k : ℕ) (x : Inputs) → hostReply (check k x) (host last register) ≡ Taken
-    → Bound h k x × (Octets (b .sheet) → LodgesAll cs → LentBytes x → Hashed h k x))
+    → Bound h k x × (Octets (b .sheet) → LodgesAll cs → LentBytes x → BoundBytes h k x))
 
 -- a round of the producer's that is lodged is accepted at its turn
 abbrev pub HostHonestAccepted : Type 0

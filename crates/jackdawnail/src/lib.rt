@@ -6,7 +6,7 @@ pub mod steps;
 ghost use Rattle.codec.specs.Slices.{given, left};
 ghost use Rattle.scheme.specs.Orders.{keygenOrder, encryptOrder, decryptOrder, splitOrder, shareOrder, reconstructOrder};
 ghost use Rattle.scheme.specs.Orders.{commitmentOrder};
-ghost use Rattle.scheme.specs.Orders.{keyOf, ciphertextOf, voteOf, splitOf, shareOf, voteOfShares, pairOf};
+ghost use Rattle.scheme.specs.Orders.{keyOf, ciphertextOf, voteOf, splitOf, shareOf, voteOfShares, commitmentOf};
 ghost use Rattle.jackdawnail.specs.Answers.{CallReplied, Digested, Described};
 
 // SHA3-256 of a message into 32 lent bytes.
@@ -169,7 +169,7 @@ pub extern "C" fn jdn_commitment(
     scratch: &mut [u8],
 ) -> u64
     ensures { λ answer. ⌜ CallReplied (commitmentOrder (given sheet) (given m) (given r) (given pair) (given scratch))
-        (pairOf (given sheet) (given m) (given r)) answer (given pair) (left pair) (given scratch) (left scratch) ⌝ }
+        (commitmentOf (given sheet) (given m) (given r)) answer (given pair) (left pair) (given scratch) (left scratch) ⌝ }
 {
     let mut public = [0u8; 81920];
     let reading = sheet::load(sheet, &mut public);

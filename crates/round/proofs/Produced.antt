@@ -15,7 +15,7 @@ use Rattle.ring.specs.Slots.{coefficientBytes, encode}
 use Rattle.ring.proofs.Bridge.{length-encode}
 use Rattle.bgv.specs.Scheme.{key, decrypted, share, lentMask}
 use Rattle.commitment.specs.Commitment.{Pair, pairBytes}
-use Rattle.stern.specs.Argument.{First, first}
+use Rattle.stern.specs.Argument.{First, firstMessage}
 use Rattle.stern.specs.Shortness.{setting, firstBytes, answerLength, honestDigests, honestAnswer}
 use Rattle.stern.proofs.Layouts.{four-read}
 use Rattle.stern.proofs.Honest.{length-pairBytes, slot-alike}
@@ -43,7 +43,7 @@ module _ (P : Parameters) (m : ℕ) (x : Material) where
   digests i = honestDigests q N k (x .secrets) (drawnAt P m x i)
 
   digests-sized : (i : ℕ) → length (digests i) ≡ 96
-  digests-sized i = length-digests (first (setting q N k []) (x .secrets) (drawnAt P m x i)) (length-sha3 _) (length-sha3 _) (length-sha3 _)
+  digests-sized i = length-digests (firstMessage (setting q N k []) (x .secrets) (drawnAt P m x i)) (length-sha3 _) (length-sha3 _) (length-sha3 _)
 
   abbrev pair-s : ℕ → Bytes
   pair-s side = pairBytesOf P m x (hides-s P m x side) (half-s P m x side)
@@ -122,7 +122,7 @@ module _ (P : Parameters) (m : ℕ) (x : Material) where
       octets-append (coefficientBytes q N (keyOf 0)) (coefficientBytes q N (keyOf 1) ++ (producedPairs P m x ++ joined repeats (λ i. digests i))) (octets-encode N _)
       (octets-append (coefficientBytes q N (keyOf 1)) (producedPairs P m x ++ joined repeats (λ i. digests i)) (octets-encode N _)
       (octets-append (producedPairs P m x) (joined repeats (λ i. digests i)) octets-pairs
-      (octets-joined repeats (λ i. digests i) (λ i h. octets-digests (first (setting q N k []) (x .secrets) (drawnAt P m x i)) (octets-sha3 _) (octets-sha3 _) (octets-sha3 _)))))
+      (octets-joined repeats (λ i. digests i) (λ i h. octets-digests (firstMessage (setting q N k []) (x .secrets) (drawnAt P m x i)) (octets-sha3 _) (octets-sha3 _) (octets-sha3 _)))))
 
   -- ---- shares and claims
 

@@ -12,7 +12,7 @@ use Rattle.codec.specs.Lists.{allBelow}
 use Rattle.sha3.proofs.Squeezing.{length-sha3}
 use Rattle.commitment.specs.Commitment.{Keys}
 use Rattle.vector.specs.Vector.{vector}
-use Rattle.stern.specs.Argument.{Drawn, first}
+use Rattle.stern.specs.Argument.{Drawn, firstMessage}
 use Rattle.stern.specs.Shortness.{setting, drawnOf, honestDigests}
 use Rattle.stern.specs.Internal.{RepetitionMaterial}
 use Rattle.round.specs.Layout.{joined, headLength}
@@ -98,7 +98,7 @@ module _ (q n repeats : ℕ) (k : Keys) (secrets vectors permutations salts : By
   digestsOf i = honestDigests q n k secrets (drawnIn n vectors permutations salts i)
 
   digests-sized : (i : ℕ) → length (digestsOf i) ≡ 96
-  digests-sized i = length-digests (first (setting q n k []) secrets (drawnIn n vectors permutations salts i)) (length-sha3 _) (length-sha3 _) (length-sha3 _)
+  digests-sized i = length-digests (firstMessage (setting q n k []) secrets (drawnIn n vectors permutations salts i)) (length-sha3 _) (length-sha3 _) (length-sha3 _)
 
   pub length-digestsOf : (i : ℕ) → length (joined i digestsOf) ≡ 96 * i
   length-digestsOf i = length-joined 96 digestsOf i (λ j l. digests-sized j)

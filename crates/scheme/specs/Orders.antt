@@ -49,5 +49,5 @@ module _ (text : Bytes) where
   abbrev pub voteOfShares : (v t0 t1 : Bytes) → Bytes
   voteOfShares v t0 t1 = reconstructWrites (sheetOf text .numbers) v t0 t1
 
-  abbrev pub pairOf : (m r : Bytes) → Bytes
-  pairOf m r = commitmentWrites (parametersOf text) m r
+  abbrev pub commitmentOf : (m r : Bytes) → Bytes
+  commitmentOf m r = commitmentWrites (parametersOf text) m r

@@ -17,7 +17,7 @@ use Rattle.session.specs.Steps.{Beginning}
 use Rattle.session.specs.Machine.{Step, clear, admit, withdraw, close, claim, commit, draw, check, State, reply}
 use Rattle.session_histories.specs.Runs.{Message, message, History, Call, emptyHistory, historyAfter}
 use Rattle.session_histories.specs.Internal.{lent, Trace, extend, trace, initial, ChecksHashed}
-use Rattle.session_histories.specs.Bound.{lentMessage, lentBatch, batchString, claimsString, Hashed, Lodges, LodgesAll, LentBytes}
+use Rattle.session_histories.specs.Bound.{lentMessage, lentBatch, batchString, claimsString, BoundBytes, Lodges, LodgesAll, LentBytes}
 use Rattle.session_histories.proofs.Replies.{left}
 
 octets-none : Octets []
@@ -84,7 +84,7 @@ octets-message k m o =
     octets-append (bytes 2 k) (m .head ++ (m .shares0 ++ m .shares1)) (bytes-octets 2 k)
     (octets-append (m .head) (m .shares0 ++ m .shares1) (o .head) (octets-append (m .shares0) (m .shares1) (o .shares0) (o .shares1)))
 
-hashed : (h : History) (k : ℕ) (x : Inputs) → Lodged h → LentBytes x → Hashed h k x
+hashed : (h : History) (k : ℕ) (x : Inputs) → Lodged h → LentBytes x → BoundBytes h k x
 hashed h k x l o =
     let batch = batchString h (h .batch) in
     let claims = claimsString h (h .claims) in

@@ -53,7 +53,7 @@ module _ (h : History) where
     pub first-message : Agrees (messageString k) (lentMessage x) (h .firsts k)
 
   -- a collision among these is one of byte strings
-  pub record Hashed (k : ℕ) (x : Inputs) : Type 0 where
+  pub record BoundBytes (k : ℕ) (x : Inputs) : Type 0 where
     pub sheet : Hashes (λ (text : Bytes). text) (x .sheet) (h .sheet)
     pub batch : Hashes batchString (lentBatch x) (h .batch)
     pub claims : Hashes claimsString (x .claims) (h .claims)

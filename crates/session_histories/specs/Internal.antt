@@ -18,7 +18,7 @@ use Rattle.session.specs.Steps.{Beginning, cleared, storedFor}
 use Rattle.session.specs.Machine.{Step, check, State, state, reply, after}
 use Rattle.session_histories.specs.Runs.{History, emptyHistory, historyAfter, rollAfter, clears, Call, call}
 use Rattle.session_histories.specs.Conditions.{Checks}
-use Rattle.session_histories.specs.Bound.{Bound, Hashed, LodgesAll, LentBytes}
+use Rattle.session_histories.specs.Bound.{Bound, BoundBytes, LodgesAll, LentBytes}
 
 -- a session, and what was taken
 pub record Trace : Type 0 where
@@ -125,4 +125,4 @@ ChecksBound = (b : Beginning) (cs : List Call) → Begins b
 
 -- by strings of bytes, where what is lent is bytes
 abbrev pub ChecksHashed : Type 0
-ChecksHashed = (b : Beginning) (cs : List Call) → Octets (b .sheet) → LodgesAll cs → (k : ℕ) (x : Inputs) → LentBytes x → Hashed (trace cs (initial b) .history) k x
+ChecksHashed = (b : Beginning) (cs : List Call) → Octets (b .sheet) → LodgesAll cs → (k : ℕ) (x : Inputs) → LentBytes x → BoundBytes (trace cs (initial b) .history) k x

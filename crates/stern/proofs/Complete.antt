@@ -12,7 +12,7 @@ use Rattle.vector.specs.Internal.{Vector}
 use Rattle.vector.specs.Permutation.{entries, apply, extend}
 use Rattle.vector.proofs.Vectors.{each-length, take-each, add-vector, add-subtract, commute, add-take, apply-add, apply-each, length-apply, vector-words, ternaries-vector, ternaries-apply, take-extend}
 use Rattle.vector.proofs.Balance.{length-extend, extend-balanced, balanced-apply}
-use Rattle.stern.specs.Argument.{Setting, Drawn, masked, first, answer1, answer2, answer3}
+use Rattle.stern.specs.Argument.{Setting, Drawn, masked, firstMessage, answer1, answer2, answer3}
 use Rattle.stern.specs.Internal.{Valid, Fit, Passes1, Passes2, Passes3}
 
 module _ (s : Setting) (ok : Valid s) (x : Bytes) (size : length x ≡ s .L) (ternary : allBelow 3 x ≡ true) (equation : s .A (ternaries (s .q) x) ≡ s .y)
@@ -39,7 +39,7 @@ module _ (s : Setting) (ok : Valid s) (x : Bytes) (size : length x ≡ s .L) (te
       let within : Each (λ i. i < length (extend L x)) (3 * L) (entries (c .p)) = rw (length-extend L x size ternary) (fit .permutes .indices) in
       rw (read-t, ternaries-apply q (extend L x) within) (sym (apply-add (entries (c .p)) extended (fit .below)))
 
-  pub passes1 : Passes1 s (first s x c) (answer1 L x c)
+  pub passes1 : Passes1 s (firstMessage s x c) (answer1 L x c)
   passes1 = record {
     balanced = balanced-apply L (entries (c .p)) (extend L x) (fit .permutes) (extend-balanced L x size ternary);
     sized = length-words (apply (entries (c .p)) (vector (c .r))) ∙ ap (λ (n : ℕ). 8 * n) (length-apply (entries (c .p)) (vector (c .r)) ∙ each-length (fit .permutes .indices));
@@ -57,7 +57,7 @@ module _ (s : Setting) (ok : Valid s) (x : Bytes) (size : length x ≡ s .L) (te
       let e : Vector q L (take L (ternaries q (extend L x))) = take-each L (2 * L) (omega arith) extended in
       rw (read-u, add-take, ok .linear .sum e r, take-extend q L x size, equation, commute) (add-subtract (ok .linear .vector r) (ok .right))
 
-  pub passes2 : Passes2 s (first s x c) (answer2 q L x c)
+  pub passes2 : Passes2 s (firstMessage s x c) (answer2 q L x c)
   passes2 = record {
     permutes = fit .permutes;
     sized = fit .size-p;
@@ -68,5 +68,5 @@ module _ (s : Setting) (ok : Valid s) (x : Bytes) (size : length x ≡ s .L) (te
     opens = rw read-u refl;
   }
 
-  pub passes3 : Passes3 s (first s x c) (answer3 c)
+  pub passes3 : Passes3 s (firstMessage s x c) (answer3 c)
   passes3 = record { permutes = fit .permutes; sized = fit .size-p; below = fit .below; size1 = fit .size1; size = fit .size2; opens1 = refl; opens = refl }

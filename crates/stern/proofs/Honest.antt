@@ -26,7 +26,7 @@ use Rattle.vector.proofs.Balance.{balanced-sound, balanced-ternary}
 use Rattle.commitment.specs.Commitment.{Keys, Three, Pair, Alike3, threeOf, plus3, row, second, committed, pairBytes, Opens}
 use Rattle.commitment.proofs.Additive.{row-alike, second-alike, opens-add}
 use Rattle.commitment.proofs.Opening.{poly-modulo}
-use Rattle.stern.specs.Argument.{Setting, Drawn, First, Answer1, Answer2, Answer3, masked, first, answer1, answer2, answer3}
+use Rattle.stern.specs.Argument.{Setting, Drawn, First, Answer1, Answer2, Answer3, masked, firstMessage, answer1, answer2, answer3}
 use Rattle.stern.specs.Internal.{Valid, Fit, Passes1, Passes2, Passes3}
 use Rattle.stern.specs.Shortness.{polynomial, threeFrom, equations, rightHandSides, setting, drawnOf, firstOf, firstBytes, answerLength, honestAnswer, inRange, answer1Of, answer2Of, answer3Of, answer1Bytes, answer2Bytes, answer3Bytes, tests1, tests2, tests3, answerTests}
 use Rattle.stern.specs.Claims.{Split}
@@ -173,13 +173,13 @@ module _ (q N : ℕ) (k : Keys) (x c : Bytes) (s0 s1 e0 e1 : Poly) (split : Spli
       size3 = length-part salts 64 32 (omega arith);
     }
 
-    pass1 : Passes1 s (first s x drawn) (answer1 (14 * N) x drawn)
+    pass1 : Passes1 s (firstMessage s x drawn) (answer1 (14 * N) x drawn)
     pass1 = Complete.passes1 s valid x (split .sized) (split .below) honest-equations drawn fit
 
-    pass2 : Passes2 s (first s x drawn) (answer2 q (14 * N) x drawn)
+    pass2 : Passes2 s (firstMessage s x drawn) (answer2 q (14 * N) x drawn)
     pass2 = Complete.passes2 s valid x (split .sized) (split .below) honest-equations drawn fit
 
-    pass3 : Passes3 s (first s x drawn) (answer3 drawn)
+    pass3 : Passes3 s (firstMessage s x drawn) (answer3 drawn)
     pass3 = Complete.passes3 s valid x (split .sized) (split .below) honest-equations drawn fit
 
     -- the fields have the lengths that the layouts give them
@@ -202,11 +202,11 @@ module _ (q N : ℕ) (k : Keys) (x c : Bytes) (s0 s1 e0 e1 : Poly) (split : Spli
     read3 : answer3Of N (answer3Bytes (answer3 drawn)) ≡ answer3 drawn
     read3 = answer3Of-answer3Bytes N (answer3 drawn) size-p size-r (fit .size1) (fit .size2)
 
-    read-pass2 : Passes2 s (first s x drawn) (answer2Of N (answer2Bytes (answer2 q (14 * N) x drawn)))
-    read-pass2 = subst (λ (a : Answer2). Passes2 s (first s x drawn) a) (sym read2) pass2
+    read-pass2 : Passes2 s (firstMessage s x drawn) (answer2Of N (answer2Bytes (answer2 q (14 * N) x drawn)))
+    read-pass2 = subst (λ (a : Answer2). Passes2 s (firstMessage s x drawn) a) (sym read2) pass2
 
-    read-pass3 : Passes3 s (first s x drawn) (answer3Of N (answer3Bytes (answer3 drawn)))
-    read-pass3 = subst (λ (a : Answer3). Passes3 s (first s x drawn) a) (sym read3) pass3
+    read-pass3 : Passes3 s (firstMessage s x drawn) (answer3Of N (answer3Bytes (answer3 drawn)))
+    read-pass3 = subst (λ (a : Answer3). Passes3 s (firstMessage s x drawn) a) (sym read3) pass3
 
     pub honest-length : (challenge : ℕ) → length (honestAnswer q N x (drawnOf P R salts) challenge) ≡ answerLength N challenge
     honest-length challenge = go (eqb challenge 1) (eqb challenge 2)
@@ -219,7 +219,7 @@ module _ (q N : ℕ) (k : Keys) (x c : Bytes) (s0 s1 e0 e1 : Poly) (split : Spli
     pub honest-range : (challenge : ℕ) → inRange q N challenge (honestAnswer q N x (drawnOf P R salts) challenge) ≡ true
     honest-range challenge = go (eqb challenge 1) (eqb challenge 2)
       where
-        range1 : (a : Answer1) → Passes1 s (first s x drawn) a → (allBelow 3 (a .w) && allBelow q (vector (a .t))) ≡ true
+        range1 : (a : Answer1) → Passes1 s (firstMessage s x drawn) a → (allBelow 3 (a .w) && allBelow q (vector (a .t))) ≡ true
         range1 a h = rw (balanced-ternary (14 * N) (a .w) (h .balanced), each-allBelow (h .below))
 
         go : (one two : Bool)
@@ -230,12 +230,12 @@ module _ (q N : ℕ) (k : Keys) (x c : Bytes) (s0 s1 e0 e1 : Poly) (split : Spli
         go false false = each-allBelow (read-pass3 .below)
 
     -- no test of an honest answer holds
-    pub honest-none : (d : Bytes) → d ≡ firstBytes (first (setting q N k c) x (drawnOf P R salts)) → (place challenge : ℕ)
+    pub honest-none : (d : Bytes) → d ≡ firstBytes (firstMessage (setting q N k c) x (drawnOf P R salts)) → (place challenge : ℕ)
         → None (answerTests q N k c d place challenge (honestAnswer q N x (drawnOf P R salts) challenge))
     honest-none d e place challenge = go (eqb challenge 1) (eqb challenge 2)
       where
-        digests : firstOf d ≡ first s x drawn
-        digests = rw e (firstOf-firstBytes (first s x drawn) (length-sha3 _) (length-sha3 _) (length-sha3 _))
+        digests : firstOf d ≡ firstMessage s x drawn
+        digests = rw e (firstOf-firstBytes (firstMessage s x drawn) (length-sha3 _) (length-sha3 _) (length-sha3 _))
 
         go : (one two : Bool)
             → None (let answer = cond one (answer1Bytes (answer1 (14 * N) x drawn)) (cond two (answer2Bytes (answer2 q (14 * N) x drawn)) (answer3Bytes (answer3 drawn))) in

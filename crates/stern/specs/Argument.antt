@@ -84,8 +84,8 @@ module _ (s : Setting) where
 
   -- ---- the prover, for L ternary bytes x
 
-  abbrev pub first : Bytes → Drawn → First
-  first x c = record {
+  abbrev pub firstMessage : Bytes → Drawn → First
+  firstMessage x c = record {
     d1 = H (string1 (c .salt1) (c .p) (A (take L (vector (c .r)))));
     d2 = H (string2 (c .salt2) (words (apply (entries (c .p)) (vector (c .r)))));
     d3 = H (string3 (c .salt3) (apply (entries (c .p)) (masked q L x c)));
@@ -115,7 +115,7 @@ module _ (s : Setting) where
   -- ---- what three answers give
 
   -- two different strings with one hash
-  pub record Collision (a b : Bytes) : Type 0 where
+  pub record HashCollision (a b : Bytes) : Type 0 where
     pub differ : a ≢ b
     pub collide : H a ≡ H b
 

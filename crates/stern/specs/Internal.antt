@@ -13,7 +13,7 @@ use Rattle.codec.specs.Lists.{allBelow}
 use Rattle.vector.specs.Vector.{Each, vector}
 use Rattle.vector.specs.Internal.{Vector, Linear}
 use Rattle.vector.specs.Permutation.{Permutes, entries, permutes, balanced}
-use Rattle.stern.specs.Argument.{Setting, Drawn, First, Answer1, Answer2, Answer3, Collision, solution, one-by2, one-by3, two-by1, two-by3, three-by1, three-by2}
+use Rattle.stern.specs.Argument.{Setting, Drawn, First, Answer1, Answer2, Answer3, HashCollision, solution, one-by2, one-by3, two-by1, two-by3, three-by1, three-by2}
 
 -- ---- the four equations (document 01, "One round") two at a time, as pairs of polynomials: what the functions that work them out in scratch promise
 
@@ -111,7 +111,7 @@ module _ (s : Setting) where
 
   -- a collision at the lowest digest whose two strings differ, or a solution
   pub data Extracted (a : Answer1) (b : Answer2) (c : Answer3) : Type 0 where
-    broken1 : Collision s (one-by2 s b) (one-by3 s c) → Extracted a b c
-    broken2 : one-by2 s b ≡ one-by3 s c → Collision s (two-by1 s a) (two-by3 s c) → Extracted a b c
-    broken3 : one-by2 s b ≡ one-by3 s c → two-by1 s a ≡ two-by3 s c → Collision s (three-by1 s a) (three-by2 s b) → Extracted a b c
+    broken1 : HashCollision s (one-by2 s b) (one-by3 s c) → Extracted a b c
+    broken2 : one-by2 s b ≡ one-by3 s c → HashCollision s (two-by1 s a) (two-by3 s c) → Extracted a b c
+    broken3 : one-by2 s b ≡ one-by3 s c → two-by1 s a ≡ two-by3 s c → HashCollision s (three-by1 s a) (three-by2 s b) → Extracted a b c
     found : one-by2 s b ≡ one-by3 s c → two-by1 s a ≡ two-by3 s c → three-by1 s a ≡ three-by2 s b → Solves (solution s b c) → Extracted a b c

@@ -14,7 +14,7 @@ use Rattle.ring.specs.Slots.{slot}
 use Rattle.commitment.specs.Commitment.{Keys, Three, plus3, row, second}
 use Rattle.vector.specs.Vector.{vector}
 use Rattle.vector.specs.Permutation.{entries, permutes, balanced}
-use Rattle.stern.specs.Argument.{Setting, Drawn, First, Answer1, Answer2, Answer3, first, answer1, answer2, answer3, one-by2, one-by3, two-by1, two-by3, three-by1, three-by2}
+use Rattle.stern.specs.Argument.{Setting, Drawn, First, Answer1, Answer2, Answer3, firstMessage, answer1, answer2, answer3, one-by2, one-by3, two-by1, two-by3, three-by1, three-by2}
 
 -- ---- the equations
 
@@ -92,7 +92,7 @@ answer3Bytes c = c .p ++ (c .r ++ (c .salt1 ++ c .salt2))
 
 -- the digests of a repetition; the committed pairs do not enter
 abbrev pub honestDigests : (q N : ℕ) → Keys → Bytes → Drawn → Bytes
-honestDigests q N k x drawn = firstBytes (first (setting q N k []) x drawn)
+honestDigests q N k x drawn = firstBytes (firstMessage (setting q N k []) x drawn)
 
 -- the bytes of the answer to a challenge; one out of range counts as 3
 abbrev pub honestAnswer : (q N : ℕ) → Bytes → Drawn → (challenge : ℕ) → Bytes
