@@ -1,11 +1,9 @@
 // Little-endian numbers in byte slices, parts, copies, and the reply of a call (document 01, "Layouts" and "Refused").
 ghost use mathlib.Core.Path.{_≡_};
-ghost use mathlib.Core.Bool.{not};
 ghost use Prim.Native.Nat.{_+_, _≤_, _<_};
-ghost use mathlib.Core.List.{[], _∷_};
 ghost use lib.ListN.{length};
 ghost use Rattle.codec.specs.Bytes.{bytes, number, signed, part, put, zeros, same};
-ghost use Rattle.codec.specs.Reply.{packed, test, first};
+ghost use Rattle.codec.specs.Reply.{packed};
 ghost use Rattle.codec.specs.declared.Reply.the-variants as replies;
 
 // What a call answers: taken, or refused with document 01's number and place.
@@ -19,13 +17,6 @@ pub fn refused(number: u8) -> Reply
     ensures { λ reply. ⌜ reply ≡ replies.Refused number 0 ⌝ }
 {
     Reply::Refused { number, place: 0 }
-}
-
-// What the last test of an order comes to: taken where what it asks holds, else refused.
-pub fn tested(holds: bool, number: u8) -> Reply
-    ensures { λ reply. ⌜ reply ≡ first (test number 0 (not holds) ∷ []) ⌝ }
-{
-    if holds { Reply::Taken } else { refused(number) }
 }
 
 // The reply as the one number that the C host is answered.

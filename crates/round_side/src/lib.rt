@@ -87,7 +87,7 @@ pub fn message_ranged(
         (given shares1) ⌝ }
 {
     let q = k.modulus;
-    if !round_tests::ballots_in_range(ballots, count, k.ring as usize, q) {
+    if !round_tests::ranges::ballots_in_range(ballots, count, k.ring as usize, q) {
         return false;
     }
     if !bgv::is_message(claims, sheet_numbers::plain(k)) {

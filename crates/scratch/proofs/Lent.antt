@@ -19,9 +19,8 @@ use Rattle.sheet.specs.declared.Reading.the-variants.{Taken, Refused}
 use Rattle.sheet_numbers.specs.Internal.{Usable}
 use Rattle.sheet_numbers.proofs.Ranges.{usable}
 use Rattle.sheet.proofs.Taken.{onwards, order-first, taken}
-use Rattle.scratch.specs.Call.{coefficients, zeroized}
-use Rattle.scratch.specs.Internal.{Polynomial, Called, refusal}
-use Rattle.scratch.proofs.Zeroizing.{leaves-refused}
+use Rattle.scratch.specs.Call.{coefficients}
+use Rattle.scratch.specs.Internal.{Polynomial}
 use Rattle.scratch.proofs.Sheets.{put-room, lent-public, lent-alike}
 
 -- what holds where the sheet was taken with the numbers k, and its polynomials were put into lent bytes: polynomial i is the part of them from 8N i on
@@ -72,9 +71,3 @@ order-taken text ts said e = e ∙ sym (order-first text ts ∙ ap (λ (s : Read
 -- it is refused, and the call with it
 pub order-refused : (text : Bytes) {s : Reading} {n : ℕ} (ts : List Test) → s ≡ reading text → s ≡ Refused n → reply.Refused n 0 ≡ first (order text ++ ts)
 order-refused text ts f e = sym (order-first text ts ∙ ap (λ (z : Reading). onwards z (first ts)) (sym f ∙ e))
-
-pub call-refused : (text : Bytes) {ts : List Test} {x w out w' : Bytes} {s : Reading} {n : ℕ} {r : Reply} → s ≡ reading text → s ≡ Refused n → (r ≡ refusal s) × (w' ≡ zeroized (refusal s) w)
-    → Called (order text ++ ts) x r out out w w'
-call-refused text {ts} {x} {w} {n = n} {r = r} f e ended =
-    let is : r ≡ reply.Refused n 0 = ended .0 ∙ ap refusal e in
-    record { replied = is ∙ order-refused text ts f e; written = leaves-refused r n 0 x is; cleared = ended .1 ∙ ap (λ (a : Reply). zeroized a w) (sym (ended .0)) }

@@ -25,7 +25,7 @@ length-asked {x} xs ys i e h = length-at xs ys i (sym e ∙ not-false x h)
 pub passed : (xs ys : List ℕ) (b : Bool) (ts : List Test) → first (lengthTest xs ys ∷ test 5 0 (not b) ∷ ts) ≡ Taken → (same xs ys ≡ true) × (b ≡ true)
 passed xs ys b ts e = let n = taken-exactly (lengthTest xs ys ∷ test 5 0 (not b) ∷ ts) .0 e in (not-false (same xs ys) (n .0), not-false b (n .1 .0))
 
--- code asks x, which is b: it refuses where x does not hold, and goes on to the tests after where it does; the last test is what `tested` answers
+-- code asks x, which is b: it refuses where x does not hold, and goes on to the tests after where it does
 module _ (n : ℕ) {b x : Bool} (e : x ≡ b) {r : Reply} where
   pub stops : (ts : List Test) → not x ≡ true → r ≡ Refused n 0 → r ≡ first (test n 0 (not b) ∷ ts)
   unfolding first
@@ -34,9 +34,6 @@ module _ (n : ℕ) {b x : Bool} (e : x ≡ b) {r : Reply} where
   pub follows : (ts : List Test) → not x ≡ false → r ≡ first ts → r ≡ first (test n 0 (not b) ∷ ts)
   unfolding first
   follows ts h k = rw (sym e, h) k
-
-  pub ends : r ≡ first (test n 0 (not x) ∷ []) → r ≡ first (test n 0 (not b) ∷ [])
-  ends k = rw (sym e) k
 
 -- a test that holds, and one that does not
 pub refuses : (n p : ℕ) (b : Bool) (ts : List Test) → b ≡ true → Refused n p ≡ first (test n p b ∷ ts)

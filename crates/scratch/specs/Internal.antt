@@ -9,7 +9,6 @@ use Rattle.codec.specs.declared.Reply.{Reply}
 use Rattle.codec.specs.declared.Reply.the-variants.{Taken, Refused}
 use Rattle.ring.specs.Poly.{Poly, Below}
 use Rattle.ring.specs.Slots.{coefficientBytes, poly}
-use Rattle.scratch.specs.Call.{zeroized}
 use Rattle.sheet.specs.declared.Reading.{Reading}
 use Rattle.sheet.specs.declared.Reading.the-variants as sheets
 
@@ -22,12 +21,6 @@ pub record Computed (tests : List Test) (writes : Bytes) (reply : Reply) (out ou
   pub replied : reply ≡ first tests
   pub written : out' ≡ leaves reply writes out
   pub cleared : scratch' ≡ leaves reply (zeros (length scratch)) scratch
-
--- what it comes to over the sheet: scratch is zeroed unless the call is refused 1 or 31
-pub record Called (tests : List Test) (writes : Bytes) (reply : Reply) (out out' scratch scratch' : Bytes) : Type 0 where
-  pub replied : reply ≡ first tests
-  pub written : out' ≡ leaves reply writes out
-  pub cleared : scratch' ≡ zeroized reply scratch
 
 -- the reply is that of the tests, and scratch is given back zeroed
 pub record Judged (tests : List Test) (reply : Reply) (scratch scratch' : Bytes) : Type 0 where
