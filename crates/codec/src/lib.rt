@@ -1,6 +1,7 @@
 // Little-endian numbers in byte slices, parts, copies, and the reply of a call (document 01, "Layouts" and "Refused").
 ghost use mathlib.Core.Path.{_≡_};
 ghost use Prim.Native.Nat.{_+_, _≤_, _<_};
+ghost use mathlib.Core.List.{[], _∷_};
 ghost use lib.ListN.{length};
 ghost use Rattle.codec.specs.Bytes.{bytes, number, signed, part, put, zeros, same};
 ghost use Rattle.codec.specs.Reply.{packed};
