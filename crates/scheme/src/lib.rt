@@ -24,8 +24,7 @@ pub fn hand_out(out: &mut [u8], at: usize, scratch: &mut [u8], n: usize)
 }
 
 // ---- Decryption shares and the vote of two once the sheet is taken: the tests of the lent slices, and then the work. Scratch is given
-// back
-// zeroed, or as it was where the call is refused.
+// back zeroed, or as it was where the call is refused.
 
 // The decryption share t. A lent mask is bounded as it is lent.
 pub fn share(
