@@ -12,6 +12,22 @@ ghost use Rattle.round_extract.specs.Extraction.{answered};
 ghost use Rattle.round_extract.specs.Internal.{ExtractWritten};
 ghost use Rattle.round_lengths.specs.Calls.{openingsTests};
 
+// What the extractor's call answers: the kind of what it found, or refused with document 01's number and place.
+pub enum Extraction {
+    Found { kind: u8 },
+    Refused { number: u8, place: u32 },
+}
+
+// The answer as the one number that the C host is answered.
+pub fn pack_extraction(answer: Extraction) -> u64
+    ensures { λ r. ⌜ r ≡ answered answer ⌝ }
+{
+    match answer {
+        Extraction::Found { kind } => 256 * (kind as u64),
+        Extraction::Refused { number, place } => (number as u64) + 256 * (place as u64),
+    }
+}
+
 // ---- What the extractor's call refuses, before anything is looked for.
 
 // 1, and then both openings and the three answers in the extractor's order.
@@ -75,22 +91,6 @@ fn openings_tests<'a>(
         answer3,
         count,
     )
-}
-
-// What the extractor's call answers: the kind of what it found, or refused with document 01's number and place.
-pub enum Extraction {
-    Found { kind: u8 },
-    Refused { number: u8, place: u32 },
-}
-
-// The answer as the one number that the C host is answered.
-pub fn pack_extraction(answer: Extraction) -> u64
-    ensures { λ r. ⌜ r ≡ answered answer ⌝ }
-{
-    match answer {
-        Extraction::Found { kind } => 256 * (kind as u64),
-        Extraction::Refused { number, place } => (number as u64) + 256 * (place as u64),
-    }
 }
 
 // The extractor: where its tests take what is lent, what openings and answers give away, in the output.

@@ -15,6 +15,24 @@ ghost use Rattle.sheet.specs.Reader.{sheetOf};
 ghost use Rattle.session_digests.specs.Draw.{drawnChallenges};
 ghost use Rattle.session_check.specs.Stored.{sideOf, challengesOf};
 
+// What a check comes to: stopped before the round was looked at, failed by the round itself, or passed.
+pub enum Verdict {
+    Stopped { number: u8, place: u32 },
+    Failed { number: u8, place: u32 },
+    Passed,
+}
+
+// The reply that a verdict stands for.
+pub fn reply_of(verdict: Verdict) -> Reply
+    ensures { λ reply. ⌜ reply ≡ replyOfVerdict verdict ⌝ }
+{
+    match verdict {
+        Verdict::Stopped { number, place } => Reply::Refused { number, place },
+        Verdict::Failed { number, place } => Reply::Refused { number, place },
+        Verdict::Passed => Reply::Taken,
+    }
+}
+
 // ---- What a check comes to once the sheet is taken, with its numbers k: stopped before the round was looked at, failed by the round
 // itself, or passed.
 
@@ -136,24 +154,6 @@ fn check_taken<'a>(
         answers,
         scratch,
     )
-}
-
-// What a check comes to: stopped before the round was looked at, failed by the round itself, or passed.
-pub enum Verdict {
-    Stopped { number: u8, place: u32 },
-    Failed { number: u8, place: u32 },
-    Passed,
-}
-
-// The reply that a verdict stands for.
-pub fn reply_of(verdict: Verdict) -> Reply
-    ensures { λ reply. ⌜ reply ≡ replyOfVerdict verdict ⌝ }
-{
-    match verdict {
-        Verdict::Stopped { number, place } => Reply::Refused { number, place },
-        Verdict::Failed { number, place } => Reply::Refused { number, place },
-        Verdict::Passed => Reply::Taken,
-    }
 }
 
 // Checks a round against what the session holds.
