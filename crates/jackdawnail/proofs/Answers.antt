@@ -13,8 +13,8 @@ use Rattle.sheet.specs.Internal.{loaded}
 use Rattle.sheet.specs.declared.Reading.{Reading}
 use Rattle.sheet.specs.declared.Reading.the-variants.{Taken, Refused}
 use Rattle.sheet_numbers.specs.declared.Numbers.{Numbers}
-use Rattle.scratch.specs.Call.{zeroized, refusal}
-use Rattle.scratch.specs.Internal.{Computed}
+use Rattle.scratch.specs.Call.{zeroized}
+use Rattle.scratch.specs.Internal.{Computed, refusal}
 use Rattle.scratch.proofs.Lent.{lent, order-taken, order-refused}
 use Rattle.scratch.proofs.Zeroizing.{leaves-refused, zeroized-worked}
 use Rattle.commitment.specs.Parameters.{Parameters, parameters, parametersOf}

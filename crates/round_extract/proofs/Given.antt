@@ -10,7 +10,8 @@ use Rattle.sheet.specs.Internal.{loaded}
 use Rattle.sheet_numbers.specs.declared.Numbers.{Numbers}
 use Rattle.sheet.specs.declared.Reading.{Reading}
 use Rattle.sheet.specs.declared.Reading.the-variants.{Taken, Refused}
-use Rattle.scratch.specs.Call.{zeroized, refusal}
+use Rattle.scratch.specs.Call.{zeroized}
+use Rattle.scratch.specs.Internal.{refusal}
 use Rattle.scratch.proofs.Lent.{lent, order-taken, order-refused}
 use Rattle.commitment.specs.Parameters.{Parameters, parameters, parametersOf}
 use Rattle.commitment.proofs.Sheets.{parameters-are}
