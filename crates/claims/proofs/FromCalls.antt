@@ -1,6 +1,6 @@
 -- From the producer's calls to the turn (specs/FromCalls.antt). Assumes nothing.
 use mathlib.Core.Path.{_≡_, refl, sym, ap, subst, _∙_}
-use mathlib.Core.List.{List}
+use mathlib.Core.List.{List, flatten}
 use Prim.Native.Nat.{ℕ, _*_, _%_}
 use native.Mathlib.Nat.{div-eq-of-eq-mul-right}
 use native.Mathlib.Omega.{arith}
@@ -16,7 +16,6 @@ use Rattle.round.specs.Producer.{Material, producedClaims, producedOpening, pro
 use Rattle.round.specs.Writes.{FirstRoom, SecondRoom}
 use Rattle.round.proofs.Produced.{length-producedClaims}
 use Rattle.round_lengths.specs.Sheets.{ballotsIn}
-use Rattle.session_digests.specs.Digests.{concatenated}
 use Rattle.session_digests.specs.Draw.{drawnSide, drawnChallenges}
 use Rattle.round_produce.specs.Replies.{FirstCalled, SecondCalled}
 use Rattle.session_check.specs.Stored.{Inputs, inputsOf}
@@ -176,7 +175,7 @@ module _ (sheet : Bytes) (start : Host) (before between later last : List Step) 
       answers = second .left .answers ∙ ap (producedAnswers P m material) challenges-are;
     }
 
-    accepted : material .ballots ≡ concatenated (t1 .roll) → length scratch ≡ scratchLength → hostReply (check round x) h4 ≡ Taken
+    accepted : material .ballots ≡ flatten (t1 .roll) → length scratch ≡ scratchLength → hostReply (check round x) h4 ≡ Taken
     accepted ballots size =
         over-step (check round x) h4 (t4 .now) k4 .0
         ∙ own-turn (on sheet) (hosts.readable start (on sheet) (c .starts)) before between later last claims (wrote .head) (wrote .shares0) (wrote .shares1) seed round lodges material x
@@ -186,4 +185,4 @@ module _ (sheet : Bytes) (start : Host) (before between later last : List Step) 
 pub from-calls : FromCalls
 from-calls sheet start before between later last round seed material room wrote out told second-room second-wrote scratch first ballots c answered second size =
     accepted sheet start before between later last round seed wrote c material room out told second-room second-wrote scratch first answered second
-    (ballots ∙ ap concatenated (unfold ownInitial in roll-over before (hostAfter (clear (on sheet)) start) (ownInitial (on sheet)) (hosts.keeps-initial start (on sheet) (c .starts)))) size
+    (ballots ∙ ap flatten (unfold ownInitial in roll-over before (hostAfter (clear (on sheet)) start) (ownInitial (on sheet)) (hosts.keeps-initial start (on sheet) (c .starts)))) size

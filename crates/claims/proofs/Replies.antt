@@ -21,7 +21,7 @@ use Rattle.register.specs.Register as entries
 use Rattle.ring.specs.Poly.{Poly}
 use Rattle.commitment.specs.Commitment.{Keys}
 use Rattle.stern.specs.Shortness.{answer1Of, answer2Of, answer3Of, tests1, tests2, tests3, answerTests}
-use Rattle.round.specs.Layout.{Opening, each, pairsOf, digestsAt, answerAt}
+use Rattle.round.specs.Layout.{Opening, joined, pairsOf, digestsAt, answerAt}
 use Rattle.round.specs.Round.{Round, challengeAt, votesTests, answersTests, roundTests}
 use Rattle.round.specs.Producer.{Material, maskTests, permutationTests, noiseTests, producerTests}
 use Rattle.round.specs.Extractor.{Openings, open0, open1, sideTests, extractTests}
@@ -57,10 +57,10 @@ append (r ∷ rs) ts a b =
     let k = both (ltb (r .number) 256) (numbered rs) (h .1) in
     ap₂ _&&_ (h .0) (ap₂ _&&_ (k .0) (append rs ts (k .1) b))
 
-of-each : (n : ℕ) (f : ℕ → List Test) → ((i : ℕ) → Numbered (f i)) → Numbered (each n f)
-unfolding each
+of-each : (n : ℕ) (f : ℕ → List Test) → ((i : ℕ) → Numbered (f i)) → Numbered (joined n f)
+unfolding joined
 of-each zero f h = refl
-of-each (suc n) f h = append (each n f) (f n) (of-each n f h) (h n)
+of-each (suc n) f h = append (joined n f) (f n) (of-each n f h) (h n)
 
 told-taken : (v : ℕ) → Told Taken (256 * v)
 told-taken v = record { taken = (λ e. refl, λ e. omega arith); refused = λ n p e. not-taken n p (sym e) }

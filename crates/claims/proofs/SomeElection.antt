@@ -2,7 +2,7 @@
 -- Assumes nothing.
 use mathlib.Core.Path.{_≡_, refl}
 use mathlib.Core.Bool.{true}
-use mathlib.Core.List.{List, [], _∷_, _++_, flatMap}
+use mathlib.Core.List.{List, [], _∷_, _++_, flatMap, flatten}
 use Prim.Native.Nat.{ℕ}
 use native.Mathlib.Omega.{arith}
 use lib.ListN.{length, drop, length-replicate}
@@ -29,11 +29,10 @@ use Rattle.sheet.specs.Sheet.{order, unfit, polynomials}
 use Rattle.bgv.specs.Scheme as scheme
 use Rattle.bgv.specs.Scheme.{noisy, opened, within}
 use Rattle.commitment.specs.Parameters.{Parameters, parametersOf}
-use Rattle.round.specs.Layout.{each, joined}
+use Rattle.round.specs.Layout.{joined}
 use Rattle.round.specs.Producer.{Material, MaterialSized, producerTests, producedClaims}
 use Rattle.round.proofs.Passed.{producer-exactly}
 use Rattle.round.proofs.Ranged.{each-exactly}
-use Rattle.session_digests.specs.Digests.{concatenated}
 use Rattle.session.specs.Steps.{on}
 use Rattle.session.specs.Machine.{clear, state, reply}
 use Rattle.session_image.specs.Image.{imageLength}
@@ -83,7 +82,7 @@ P = parametersOf sheet
 
 -- none of the producer's tests refuses it
 passes : first (producerTests P 1 material true) ≡ Taken
-unfolding written lines listed decimal formed sheetOf rows line values step digit any plain polynomials first producerTests each all allBelow list vector poly slot number words bytes encode modulo same noisy opened mul coefficient turn sum plus scale ternary meaning remainder centre within signed entries permutes count flatMap
+unfolding written lines listed decimal formed sheetOf rows line values step digit any plain polynomials first producerTests joined all allBelow list vector poly slot number words bytes encode modulo same noisy opened mul coefficient turn sum plus scale ternary meaning remainder centre within signed entries permutes count flatMap
 passes = refl
 
 -- the ring, the modulus, one round and two repetitions, as the text says
@@ -112,8 +111,8 @@ in-range : allBelow 97 (vector (drop 4 ballot)) ≡ true
 unfolding allBelow vector list poly number words bytes
 in-range = refl
 
-one-ballot : ballot ≡ concatenated (list 1 (λ i. ballot))
-unfolding concatenated list words bytes
+one-ballot : ballot ≡ flatten (list 1 (λ i. ballot))
+unfolding flatten list words bytes
 one-ballot = refl
 
 size : length ballot ≡ 68

@@ -1,13 +1,12 @@
 -- From the producer's calls to the turn (document 01, the paragraph on demand 3's last sentence), in one statement over what the exported calls answer and leave, where the host
 -- writes no register: each call is lent the image and the register that the last one left. Assumes nothing.
 use mathlib.Core.Path.{_≡_}
-use mathlib.Core.List.{List, []}
+use mathlib.Core.List.{List, [], flatten}
 use Prim.Native.Nat.{ℕ}
 use lib.ListN.{length, getD, drop}
 use Rattle.codec.specs.Bytes.{Bytes}
 use Rattle.codec.specs.declared.Reply.the-variants.{Taken}
 use Rattle.scratch.specs.Call.{scratchLength}
-use Rattle.session_digests.specs.Digests.{concatenated}
 use Rattle.round.specs.Producer.{Material}
 use Rattle.round.specs.Writes.{FirstRoom, SecondRoom}
 use Rattle.round_produce.specs.Replies.{FirstCalled, SecondCalled}
@@ -54,7 +53,7 @@ FromCalls = (sheet : Bytes) (start : Host) (before between later last : List Ste
     (room wrote : FirstRoom) (out told : Bytes) (second-room second-wrote : SecondRoom) (scratch : Bytes)
     -- jdn_produce_first is taken for the ballots that were admitted and not withdrawn at the claim, and leaves `wrote`, which is lodged
     → FirstCalled sheet material room Taken wrote
-    → material .ballots ≡ concatenated (hostRoll before (hostAfter (clear (on sheet)) start) [])
+    → material .ballots ≡ flatten (hostRoll before (hostAfter (clear (on sheet)) start) [])
     → Conducted sheet start before between later last round seed wrote
     → let h = at-end sheet start before between later last round seed wrote in
     -- jdn_challenges answers 0 and leaves `told`, and jdn_produce_second is taken with the side and the challenges in it

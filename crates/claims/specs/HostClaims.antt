@@ -1,7 +1,7 @@
 -- The claims about lists of the exported calls over images, from a call of clear that is taken (the second and the third demand; document 01, the paragraph on demand 3's last
 -- sentence). Assumes nothing.
 use mathlib.Core.Path.{_≡_}
-use mathlib.Core.List.{List, [], _∷_, _++_, List·Memᴰ, map}
+use mathlib.Core.List.{List, [], _∷_, _++_, List·Memᴰ, map, flatten}
 use Prim.Native.Nat.{ℕ, _<_}
 use lib.ListN.{length}
 use Rattle.codec.specs.Bytes.{Bytes, Octets}
@@ -10,7 +10,7 @@ use Rattle.sha3.specs.Sponge.{sha3}
 use Rattle.sheet.specs.Reader.{sheetOf}
 use Rattle.round.specs.Layout.{ballotLength}
 use Rattle.round.specs.Producer.{Material}
-use Rattle.session_digests.specs.Digests.{concatenated, ballotDigests}
+use Rattle.session_digests.specs.Digests.{ballotDigests}
 use Rattle.session_check.specs.Stored.{Inputs}
 use Rattle.session_progress.specs.Progress.{ended-accepted}
 use Rattle.session_image.specs.Image.{decode}
@@ -45,7 +45,7 @@ HostRollIsBatch = (start : Host) (b : Beginning) (steps : List Step) → Starts 
     let roll = hostRoll steps h [] in
     0 < s .progress .phase
     → (batch ≡ map sha3 roll) × ((y : Bytes) → List·Memᴰ y roll → length y ≡ ballotLength (s .numbers .ring))
-    × (ballotDigests (ballotLength (s .numbers .ring)) (length batch) (concatenated roll) ≡ batch)
+    × (ballotDigests (ballotLength (s .numbers .ring)) (length batch) (flatten roll) ≡ batch)
 
 -- and such a list is one of those below, so that a turn's batch can be that roll
 abbrev pub HostOwnRegister : Type 0

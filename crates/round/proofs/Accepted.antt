@@ -12,7 +12,7 @@ use Rattle.codec.specs.Reply.{None, first}
 use Rattle.codec.specs.declared.Reply.the-variants.{Taken}
 use Rattle.codec.proofs.Replies.{taken-exactly}
 use Rattle.bgv.specs.Internal.{Sound}
-use Rattle.round.specs.Layout.{Opening, each, headLength, pairsOf, digestsAt, openingOf, answerAt}
+use Rattle.round.specs.Layout.{Opening, joined, headLength, pairsOf, digestsAt, openingOf, answerAt}
 use Rattle.round.specs.Round.{Round, challengeAt, sharesOf, ranged, roundTests}
 use Rattle.round.specs.Accepted.{Answered, InRange, SideOpened, Accepted}
 use Rattle.round.specs.Extractor.{sideTests}
@@ -55,7 +55,7 @@ module _ (P : Parameters) (m : ℕ) (positive : 0 < P .q) (fits : P .q ≤ 2 ^ 6
     unfolding roundTests
     accepted none =
         let in-range = ranged-exactly P m r .0 (not-false (ranged P m r) (none .0)) in
-        let rest = append-none (each repeats (answer-tests P m r)) (each m (ballot-tests P m r)) (none .1 .1 .1 .1) in
+        let rest = append-none (joined repeats (answer-tests P m r)) (joined m (ballot-tests P m r)) (none .1 .1 .1 .1) in
         record {
           in-range = in-range;
           key-splits = splits-exactly P m positive fits head .0 (not-false _ (none .1 .0));
@@ -74,7 +74,7 @@ module _ (P : Parameters) (m : ℕ) (positive : 0 < P .q) (fits : P .q ≤ 2 ^ 6
               side .0,
               (
                 side .1 .0,
-                none-append (each repeats (answer-tests P m r)) (each m (ballot-tests P m r)) (each-none repeats (answer-tests P m r) (λ i l. answer-means (c .in-range) i l .1 (c .answered i l)))
+                none-append (joined repeats (answer-tests P m r)) (joined m (ballot-tests P m r)) (each-none repeats (answer-tests P m r) (λ i l. answer-means (c .in-range) i l .1 (c .answered i l)))
                     (side .1 .1),
               ),
             ),

@@ -30,7 +30,7 @@ use Rattle.vector.proofs.Counts.{permutes-complete}
 use Rattle.stern.specs.Shortness.{inRange, honestAnswer, answerTests}
 use Rattle.stern.specs.Claims.{Split}
 use Rattle.stern.proofs.Honest.{honest-range, honest-none}
-use Rattle.round.specs.Layout.{Opening, each, uAt, vAt, shareAt, claimAt, pairsOf, pairAt, digestsAt, openingOf, answerAt}
+use Rattle.round.specs.Layout.{Opening, joined, uAt, vAt, shareAt, claimAt, pairsOf, pairAt, digestsAt, openingOf, answerAt}
 use Rattle.round.specs.Round.{Round, challengeAt, sharesOf, openingRanged, headRanged, answersRanged, ranged, splits, opensKey, opensPairs, maskTest, claimTest, roundTests}
 use Rattle.round.specs.Producer.{Material, MaterialSized, secret-s, secret-e, maskAt, permutationAt, producerTests, pairsBytes, producedHead, producedShares, producedClaims, producedOpening, producedAnswers, producedRound}
 use Rattle.round.specs.Internal.{half-s, half-e, hides-s, hides-e, drawnAt, pairBytesOf, producedPairs}
@@ -279,7 +279,7 @@ module _ (P : Parameters) (m : ℕ) (x : Material) where
                 ap not key-opens,
                 (
                   ap not pairs-open,
-                  none-append (each repeats (λ i. answerTests q N k (pairsOf N head) (digestsAt N head i) i (challengeAt round i) (answerAt N challenges (producedAnswers P m x challenges) i))) _
+                  none-append (joined repeats (λ i. answerTests q N k (pairsOf N head) (digestsAt N head i) i (challengeAt round i) (answerAt N challenges (producedAnswers P m x challenges) i))) _
                       (each-none repeats _ answers-none) (each-none m _ ballot-none),
                 ),
               ),

@@ -1,4 +1,4 @@
--- What holds for each of n: laws of `each` and `joined`, and of orders of tests. Assumes nothing.
+-- What holds for each of n: laws of `joined`, and of orders of tests. Assumes nothing.
 use mathlib.Core.Path.{_≡_, sym, ap, _∙_}
 use mathlib.Core.Logic.{_⊎_, inl, inr}
 use mathlib.Core.Bool.{Bool, true, false, cond}
@@ -15,7 +15,7 @@ use Rattle.codec.specs.Reply.{Test, first, None}
 use Rattle.codec.specs.declared.Reply.{Reply}
 use Rattle.codec.specs.declared.Reply.the-variants.{Taken, Refused}
 use Rattle.codec.proofs.Replies.{not-taken, taken-exactly, first-append}
-use Rattle.round.specs.Layout.{each, joined}
+use Rattle.round.specs.Layout.{joined}
 
 -- below n + 1: below n, or n
 pub last : (n j : ℕ) → j < suc n → (j < n) ⊎ (j ≡ n)
@@ -48,18 +48,18 @@ pub append-none : (rs ts : List Test) → None (rs ++ ts) → None rs × None ts
 append-none [] ts h = (tt, h)
 append-none (t ∷ rs) ts h = let r = append-none rs ts (h .1) in ((h .0, r .0), r .1)
 
-pub each-none : (n : ℕ) (f : ℕ → List Test) → ((j : ℕ) → j < n → None (f j)) → None (each n f)
-unfolding each
+pub each-none : (n : ℕ) (f : ℕ → List Test) → ((j : ℕ) → j < n → None (f j)) → None (joined n f)
+unfolding joined
 each-none zero f h = tt
-each-none (suc n) f h = none-append (each n f) (f n) (each-none n f (λ j l. h j (omega arith))) (h n (omega arith))
+each-none (suc n) f h = none-append (joined n f) (f n) (each-none n f (λ j l. h j (omega arith))) (h n (omega arith))
 
-pub none-each : (n : ℕ) (f : ℕ → List Test) → None (each n f) → (j : ℕ) → j < n → None (f j)
-unfolding each
+pub none-each : (n : ℕ) (f : ℕ → List Test) → None (joined n f) → (j : ℕ) → j < n → None (f j)
+unfolding joined
 none-each zero f h j l = absurd (omega arith)
 none-each (suc n) f h j l = go (λ m. none-each n f (r .0) j m) (last n j l)
   where
-    r : None (each n f) × None (f n)
-    r = append-none (each n f) (f n) h
+    r : None (joined n f) × None (f n)
+    r = append-none (joined n f) (f n) h
 
     go : (j < n → None (f j)) → (j < n) ⊎ (j ≡ n) → None (f j)
     go before (inl m) = before m
@@ -117,19 +117,19 @@ module _ (rs ts : List Test) {z : Reply} (e : z ≡ first rs) where
   pub continued : {y : Reply} → z ≡ Taken → y ≡ first ts → y ≡ first (rs ++ ts)
   continued t f = f ∙ sym (first-append rs ts (taken-exactly rs .0 (sym e ∙ t)))
 
-pub each-refused : (n : ℕ) (f : ℕ → List Test) (j number place : ℕ) → j < n → None (each j f) → first (f j) ≡ Refused number place → first (each n f) ≡ Refused number place
-unfolding each
+pub each-refused : (n : ℕ) (f : ℕ → List Test) (j number place : ℕ) → j < n → None (joined j f) → first (f j) ≡ Refused number place → first (joined n f) ≡ Refused number place
+unfolding joined
 each-refused zero f j number place h none e = absurd (omega arith)
 each-refused (suc n) f j number place h none e = go (λ l. each-refused n f j number place l none e) (last n j h)
   where
-    go : (j < n → first (each n f) ≡ Refused number place) → (j < n) ⊎ (j ≡ n) → first (each n f ++ f n) ≡ Refused number place
-    go before (inl l) = first-refused (each n f) (f n) number place (before l)
-    go before (inr i) = first-append (each n f) (f n) (rw (sym i) none) ∙ ap (λ (k : ℕ). first (f k)) (sym i) ∙ e
+    go : (j < n → first (joined n f) ≡ Refused number place) → (j < n) ⊎ (j ≡ n) → first (joined n f ++ f n) ≡ Refused number place
+    go before (inl l) = first-refused (joined n f) (f n) number place (before l)
+    go before (inr i) = first-append (joined n f) (f n) (rw (sym i) none) ∙ ap (λ (k : ℕ). first (f k)) (sym i) ∙ e
 
 -- one more that refuses nothing
-pub each-more : (f : ℕ → List Test) (j : ℕ) → None (each j f) → first (f j) ≡ Taken → None (each (j + 1) f)
-unfolding each
-each-more f j none e = rw (add-one j) (none-append (each j f) (f j) none (taken-exactly (f j) .0 e))
+pub each-more : (f : ℕ → List Test) (j : ℕ) → None (joined j f) → first (f j) ≡ Taken → None (joined (j + 1) f)
+unfolding joined
+each-more f j none e = rw (add-one j) (none-append (joined j f) (f j) none (taken-exactly (f j) .0 e))
 
-pub each-taken : (n : ℕ) (f : ℕ → List Test) → None (each n f) → first (each n f) ≡ Taken
-each-taken n f none = taken-exactly (each n f) .1 none
+pub each-taken : (n : ℕ) (f : ℕ → List Test) → None (joined n f) → first (joined n f) ≡ Taken
+each-taken n f none = taken-exactly (joined n f) .1 none

@@ -22,7 +22,7 @@ use Rattle.commitment.proofs.Opening.{encode-decides}
 use Rattle.vector.specs.Vector.{vector}
 use Rattle.vector.specs.Permutation.{entries, permutes}
 use Rattle.vector.proofs.Counts.{permutes-sound, permutes-complete}
-use Rattle.round.specs.Layout.{each, uAt, vAt}
+use Rattle.round.specs.Layout.{joined, uAt, vAt}
 use Rattle.round.specs.Round.{isChallenge, ballotsRanged}
 use Rattle.round.specs.Accepted.{EachBelow, BallotsRanged}
 use Rattle.round.specs.Producer.{Material, secret-s, maskAt, permutationAt, materialRanged, askedRanged, producerTests}
@@ -90,8 +90,8 @@ module _ (P : Parameters) (m : ℕ) (x : Material) where
     suits : None (producerTests P m x true) → Suitable P m x
     unfolding producerTests
     suits none =
-        let r = append-none (each m mask-test) _ (none .1 .1) in
-        let s = append-none (each repeats permutation-test) (each m noise-test) (r .1) in
+        let r = append-none (joined m mask-test) _ (none .1 .1) in
+        let s = append-none (joined repeats permutation-test) (joined m noise-test) (r .1) in
         let range = ranges-say (not-false in-range (none .0)) in
         record {
           ternary = range .0;
@@ -111,8 +111,8 @@ module _ (P : Parameters) (m : ℕ) (x : Material) where
       ap not (ranges-hold f),
       (
         ap not (equal-same (encode-alike (f .matches))),
-        none-append (each m mask-test) _ (each-none m mask-test (λ j l. (ap not (ap₂ _&&_ (within-complete B N (mask 0 j) (f .masked 0 j (omega arith) l)) (within-complete B N (mask 1 j) (f .masked 1 j (omega arith) l))), tt)))
-            (none-append (each repeats permutation-test) (each m noise-test) (each-none repeats permutation-test (λ i l. (ap not (permutes-complete (f .permuting i l)), tt)))
+        none-append (joined m mask-test) _ (each-none m mask-test (λ j l. (ap not (ap₂ _&&_ (within-complete B N (mask 0 j) (f .masked 0 j (omega arith) l)) (within-complete B N (mask 1 j) (f .masked 1 j (omega arith) l))), tt)))
+            (none-append (joined repeats permutation-test) (joined m noise-test) (each-none repeats permutation-test (λ i l. (ap not (permutes-complete (f .permuting i l)), tt)))
             (each-none m noise-test (λ j l. (ap not (within-complete D N (noise j) (f .quiet j l)), tt)))),
       ),
     )

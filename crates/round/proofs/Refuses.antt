@@ -14,7 +14,7 @@ use Rattle.codec.specs.declared.Reply.the-variants.{Refused}
 use Rattle.codec.proofs.Laws.{both}
 use Rattle.codec.proofs.Lists.{all-sound, all-complete}
 use Rattle.stern.specs.Shortness.{answerLength, inRange, answerTests}
-use Rattle.round.specs.Layout.{each, answerAt}
+use Rattle.round.specs.Layout.{joined, answerAt}
 use Rattle.round.specs.Round.{Round, challengeAt, isChallenge, openingRanged, answersRanged, ranged, splits, roundTests}
 use Rattle.round.specs.Extractor.{Openings, Lent, pairs, digests, open0, open1, lentRanged, sideTests, extractTests}
 use Rattle.round.specs.Refuses.{openedRanged, openingTests, repetitionTests, openingBy, answerBy, OfLent, OpensLent, AnswersLent, lentRound, Lending, ChecksTake, ChecksRefuse, no-repetition, opening, answer}
@@ -41,7 +41,7 @@ module _ (P : Parameters) (m : ℕ) (r : Round) where
   unfolding roundTests openingTests repetitionTests answersRanged
   parted none =
       let range = both (answersRanged (P .q) (P .N) (P .repeats) (r .challenges) (r .answers)) (openedRanged P m r) (sym ranged-parts ∙ not-false (ranged P m r) (none .0)) in
-      let rest = append-none (each repeats (answer-tests P m r)) (each m (ballot-tests P m r)) (none .1 .1 .1 .1) in (
+      let rest = append-none (joined repeats (answer-tests P m r)) (joined m (ballot-tests P m r)) (none .1 .1 .1 .1) in (
         (ap not (range .1), (none .1 .0, (none .1 .1 .0, (none .1 .1 .1 .0, rest .1)))),
         λ i l. (ap not (all-sound repeats (λ j. in-range j) (range .0) i l), none-each repeats (answer-tests P m r) (rest .0) i l),
       )
@@ -56,7 +56,7 @@ module _ (P : Parameters) (m : ℕ) (r : Round) where
           o .1 .0,
           (
             o .1 .1 .0,
-            (o .1 .1 .1 .0, none-append (each repeats (answer-tests P m r)) (each m (ballot-tests P m r)) (each-none repeats (answer-tests P m r) (λ i l. parts .1 i l .1)) (o .1 .1 .1 .1)),
+            (o .1 .1 .1 .0, none-append (joined repeats (answer-tests P m r)) (joined m (ballot-tests P m r)) (each-none repeats (answer-tests P m r) (λ i l. parts .1 i l .1)) (o .1 .1 .1 .1)),
           ),
         ),
       )

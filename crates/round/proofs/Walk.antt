@@ -11,7 +11,7 @@ use Rattle.codec.specs.declared.Reply.the-variants.{Taken, Refused}
 use Rattle.codec.specs.Lists.{all}
 use Rattle.codec.proofs.Lists.{all-sound, all-complete}
 use Rattle.scratch.proofs.Order.{refuses}
-use Rattle.round.specs.Layout.{each}
+use Rattle.round.specs.Layout.{joined}
 use Rattle.round.proofs.Many.{each-none, each-refused, each-taken, stretch}
 
 -- number i must pass f; the loop stands before number j, whose bytes begin at a place
@@ -52,9 +52,9 @@ module _ {f : ℕ → Bool} {step count : ℕ} where
       abbrev tests : ℕ → List Test
       tests i = test number i (not (f i)) ∷ []
 
-      pub walked-refused : j < count → f j ≡ false → Refused number j ≡ first (each count tests)
+      pub walked-refused : j < count → f j ≡ false → Refused number j ≡ first (joined count tests)
       walked-refused h e =
           sym (each-refused count tests j number j h (each-none j tests (λ i l. (ap not (w .held i l), tt))) (sym (refuses number j (not (f j)) [] (ap not e))))
 
-      pub walked-taken : count ≤ j → Taken ≡ first (each count tests)
+      pub walked-taken : count ≤ j → Taken ≡ first (joined count tests)
       walked-taken h = sym (each-taken count tests (each-none count tests (λ i l. (ap not (w .held i (omega arith)), tt))))

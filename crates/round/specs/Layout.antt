@@ -4,21 +4,13 @@ use mathlib.Core.List.{List, [], _∷_, _++_}
 use Prim.Native.Nat.{ℕ, zero, suc, _+_, _*_}
 use lib.ListN.{getD, take}
 use Rattle.codec.specs.Bytes.{Bytes, part}
-use Rattle.codec.specs.Reply.{Test}
 use Rattle.codec.specs.Lists.{list, allBelow, all}
 use Rattle.ring.specs.Poly.{Poly}
 use Rattle.ring.specs.Slots.{slot}
 use Rattle.stern.specs.Shortness.{answerLength}
 
--- ---- for each of n
-
--- the tests of each, in order
-unfoldable pub each : ℕ → (ℕ → List Test) → List Test
-each zero f = []
-each (suc n) f = each n f ++ f n
-
--- the bytes of each, side by side
-unfoldable pub joined : ℕ → (ℕ → Bytes) → Bytes
+-- f 0, f 1, .., f (n - 1), end to end: the tests of each of n in order, or the bytes of each
+unfoldable pub joined : {A : Type 0} → ℕ → (ℕ → List A) → List A
 joined zero f = []
 joined (suc n) f = joined n f ++ f n
 

@@ -18,7 +18,7 @@ use Rattle.vector.specs.Vector.{vector}
 use Rattle.vector.specs.Permutation.{entries, permutes}
 use Rattle.stern.specs.Argument.{Drawn}
 use Rattle.stern.specs.Shortness.{drawnOf, honestDigests, honestAnswer}
-use Rattle.round.specs.Layout.{each, joined, ballotLength, uAt, vAt, ballotsBelow}
+use Rattle.round.specs.Layout.{joined, ballotLength, uAt, vAt, ballotsBelow}
 use Rattle.round.specs.Round.{Round, isChallenge}
 use Rattle.commitment.specs.Parameters.{Parameters}
 
@@ -104,16 +104,16 @@ secretTests P m asked secrets s0 e0 vectors ballots =
 
 -- 12: every E is at most B in size, by ballot
 abbrev pub maskTests : (N B m : ℕ) (masks0 masks1 : Bytes) → List Test
-maskTests N B m masks0 masks1 = each m (λ j. test 12 j (not (within B N (lentMask (maskIn N masks0 j)) && within B N (lentMask (maskIn N masks1 j)))) ∷ [])
+maskTests N B m masks0 masks1 = joined m (λ j. test 12 j (not (within B N (lentMask (maskIn N masks0 j)) && within B N (lentMask (maskIn N masks1 j)))) ∷ [])
 
 -- 9: every P is a permutation, by repetition
 abbrev pub permutationTests : (N repeats : ℕ) (permutations : Bytes) → List Test
-permutationTests N repeats permutations = each repeats (λ i. test 9 i (not (permutes (42 * N) (entries (permutationIn N permutations i)))) ∷ [])
+permutationTests N repeats permutations = joined repeats (λ i. test 9 i (not (permutes (42 * N) (entries (permutationIn N permutations i)))) ∷ [])
 
 -- 15: the noise, v - s u centred, is at most D in size, by ballot
 abbrev pub noiseTests : (q N D m : ℕ) (secrets ballots : Bytes) → List Test
 noiseTests q N D m secrets ballots =
-    each m (λ j. test 15 j (not (within D N (centred q (opened q N (ternary q (sIn N secrets)) (uAt N ballots j) (vAt N ballots j))))) ∷ [])
+    joined m (λ j. test 15 j (not (within D N (centred q (opened q N (ternary q (sIn N secrets)) (uAt N ballots j) (vAt N ballots j))))) ∷ [])
 
 -- ---- what is written, each part over the slices that it is made from
 

@@ -16,7 +16,7 @@ use Rattle.commitment.specs.Commitment.{threeOf, opens}
 use Rattle.vector.specs.Vector.{vector}
 use Rattle.stern.specs.Shortness.{inRange, answerTests}
 use Rattle.commitment.specs.Parameters.{Parameters}
-use Rattle.round.specs.Layout.{Opening, each, ballotLength, uAt, vAt, ballotsBelow, shareAt, claimAt, headLength, keyAt, pairsOf, pairAt, digestsAt, openingOf, answersLength, answerAt}
+use Rattle.round.specs.Layout.{Opening, joined, ballotLength, uAt, vAt, ballotsBelow, shareAt, claimAt, headLength, keyAt, pairsOf, pairAt, digestsAt, openingOf, answersLength, answerAt}
 
 -- what is lent to a check of one round
 pub record Round : Type 0 where
@@ -73,7 +73,7 @@ claimTest q N p ballots claims shares0 shares1 j =
 -- by ballot 12, 13, with the opened half s of the secret and the shares of its side
 abbrev pub votesTests : (q N p B m : ℕ) (s : Poly) (ballots claims shares0 shares1 shares : Bytes) → List Test
 votesTests q N p B m s ballots claims shares0 shares1 shares =
-    each m (λ j. maskTest q N p B s ballots shares j ∷ claimTest q N p ballots claims shares0 shares1 j ∷ [])
+    joined m (λ j. maskTest q N p B s ballots shares j ∷ claimTest q N p ballots claims shares0 shares1 j ∷ [])
 
 -- for the parameters of a sheet
 module _ (P : Parameters) where
@@ -106,7 +106,7 @@ module _ (P : Parameters) where
   -- by repetition 9, 10, 11
   abbrev pub answersTests : (head challenges answers : Bytes) → List Test
   answersTests head challenges answers =
-      each repeats (λ i. answerTests q N k (pairsOf N head) (digestsAt N head i) i (getD challenges i 0) (answerAt N challenges answers i))
+      joined repeats (λ i. answerTests q N k (pairsOf N head) (digestsAt N head i) i (getD challenges i 0) (answerAt N challenges answers i))
 
 -- and m ballots
 module _ (P : Parameters) (m : ℕ) where

@@ -15,7 +15,7 @@ use Rattle.scratch.specs.Call.{zeroized}
 use Rattle.scratch.proofs.Zeroizing.{zeroized-taken, zeroized-refused, kept-length}
 use Rattle.commitment.specs.Commitment.{Keys}
 use Rattle.stern.specs.Shortness.{answer1Of, answer2Of, answer3Of, tests1, tests2, tests3, answerTests}
-use Rattle.round.specs.Layout.{Opening, each, pairsOf, digestsAt, answerAt, openingOf}
+use Rattle.round.specs.Layout.{Opening, joined, pairsOf, digestsAt, answerAt, openingOf}
 use Rattle.round.specs.Round.{Round, challengeAt, sharesOf, votesTests, roundTests}
 use Rattle.round.specs.Producer.{Material, producerTests}
 use Rattle.round.specs.Extractor.{Openings, pairs, digests, open0, open1, extractTests, sideTests}
@@ -39,13 +39,13 @@ unfolding Later
 later-append [] us h g = g
 later-append (t ∷ ts) us h g = (h .0, later-append ts us (h .1) g)
 
-later-each : (n : ℕ) (f : ℕ → List Test) → ((i : ℕ) → Later (f i)) → Later (each n f)
-unfolding each
+later-each : (n : ℕ) (f : ℕ → List Test) → ((i : ℕ) → Later (f i)) → Later (joined n f)
+unfolding joined
 later-each zero f h = later-none
-later-each (suc n) f h = later-append (each n f) (f n) (later-each n f h) (h n)
+later-each (suc n) f h = later-append (joined n f) (f n) (later-each n f h) (h n)
 
 -- one test of each
-later-one : (n k : ℕ) (b : ℕ → Bool) → k ≢ 1 → k ≢ 31 → Later (each n (λ j. test k j (b j) ∷ []))
+later-one : (n k : ℕ) (b : ℕ → Bool) → k ≢ 1 → k ≢ 31 → Later (joined n (λ j. test k j (b j) ∷ []))
 later-one n k b f g = later-each n (λ j. test k j (b j) ∷ []) (λ j. later-test k j (b j) [] f g later-none)
 
 -- ---- the three lists

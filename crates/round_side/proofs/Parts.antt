@@ -23,7 +23,7 @@ use Rattle.bgv.proofs.Form.{noisy-alike}
 use Rattle.commitment.specs.Commitment.{Keys, keysOf, threeOf, row, opens, pairBytes}
 use Rattle.commitment.specs.Loaded.{aOf, keyBytes}
 use Rattle.commitment.proofs.Additive.{second-alike}
-use Rattle.round.specs.Layout.{Opening, each, uAt, vAt, shareAt, claimAt, keyAt, pairAt, openingOf}
+use Rattle.round.specs.Layout.{Opening, joined, uAt, vAt, shareAt, claimAt, keyAt, pairAt, openingOf}
 use Rattle.round.specs.Round.{splits, opensKey, opensPairs, votesTests}
 use Rattle.commitment.specs.Parameters.{parameters}
 use Rattle.commitment.proofs.Cut.{a-cut, b-cut, keys-cut}
@@ -134,8 +134,8 @@ module _ (k : Numbers) (s : Bytes) where
 -- ---- the ballots
 
 -- the tests of each, one by one
-each-cong : (n : ℕ) {f g : ℕ → List Test} → ((j : ℕ) → j < n → f j ≡ g j) → each n f ≡ each n g
-unfolding each
+each-cong : (n : ℕ) {f g : ℕ → List Test} → ((j : ℕ) → j < n → f j ≡ g j) → joined n f ≡ joined n g
+unfolding joined
 each-cong zero h = refl
 each-cong (suc n) h = ap₂ (λ (x y : List Test). x ++ y) (each-cong n (λ j l. h j (omega arith))) (h n (omega arith))
 

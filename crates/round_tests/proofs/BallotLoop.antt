@@ -13,7 +13,7 @@ use Rattle.codec.specs.declared.Reply.the-variants.{Taken, Refused}
 use Rattle.ring.specs.Poly.{Poly, Alike}
 use Rattle.ring.specs.Slots.{poly, slot}
 use Rattle.sheet_numbers.specs.Bounds.{power}
-use Rattle.round.specs.Layout.{each, ballotLength}
+use Rattle.round.specs.Layout.{joined, ballotLength}
 use Rattle.round.specs.Round.{ofSide}
 use Rattle.round.specs.Internal.{Batch, Shares}
 use Rattle.round_tests.specs.Internal.{voteTests, BallotAt}
@@ -79,10 +79,10 @@ module _ (q n p bound : ℕ) (s ballots claims : Bytes) (side : ℕ) (shares0 sh
     pub ballot : at ≡ ballotLength n * j
     pub vote : claim ≡ n * j
     pub sent : share ≡ 8 * n * j
-    pub none : None (each j ballotTests)
+    pub none : None (joined j ballotTests)
 
   pub reached-first : (count : ℕ) (w : Bytes) → length w ≡ 1048576 → Reached count 0 0 0 0 w
-  unfolding each
+  unfolding joined
   reached-first count w l = record { long = l; within = omega arith; ballot = sym (mul-zero (ballotLength n)); vote = sym (mul-zero n); sent = sym (mul-zero (8 * n)); none = tt }
 
   module _ (count j at claim share : ℕ) (w : Bytes) (r : Reached count j at claim share w) (h : j < count) where
@@ -100,7 +100,7 @@ module _ (q n p bound : ℕ) (s ballots claims : Bytes) (side : ℕ) (shares0 sh
       none = each-more ballotTests j (r .none) (sym (reply-is z e) ∙ t);
     }
 
-    pub reached-refused : (z : Reply) (number place : ℕ) → z ≡ first (at-places at claim share j) → z ≡ Refused number place → Refused number place ≡ first (each count ballotTests)
+    pub reached-refused : (z : Reply) (number place : ℕ) → z ≡ first (at-places at claim share j) → z ≡ Refused number place → Refused number place ≡ first (joined count ballotTests)
     reached-refused z number place e t = sym (each-refused count ballotTests j number place h (r .none) (sym (reply-is z e) ∙ t))
 
     -- the places are far below 2^64
@@ -126,7 +126,7 @@ module _ (q n p bound : ℕ) (s ballots claims : Bytes) (side : ℕ) (shares0 sh
         opened = rw (r .sent) (share-of side n shares0 shares1 j count one low high size (s0 .sized) (s1 .sized) h);
       }
 
-  pub reached-all : (count j at claim share : ℕ) (w : Bytes) → Reached count j at claim share w → count ≤ j → Taken ≡ first (each count ballotTests)
+  pub reached-all : (count j at claim share : ℕ) (w : Bytes) → Reached count j at claim share w → count ≤ j → Taken ≡ first (joined count ballotTests)
   reached-all count j at claim share w r h =
       let i : j ≡ count = omega (arith, r .within) in
-      sym (ap (λ (k : ℕ). first (each k ballotTests)) (sym i) ∙ each-taken j ballotTests (r .none))
+      sym (ap (λ (k : ℕ). first (joined k ballotTests)) (sym i) ∙ each-taken j ballotTests (r .none))

@@ -15,7 +15,7 @@ use Rattle.sheet_numbers.specs.declared.Numbers.{Numbers}
 use Rattle.commitment.specs.Commitment.{Keys, keysOf}
 use Rattle.commitment.specs.Loaded.{keyBytes}
 use Rattle.stern.specs.Shortness.{answerLength, inRange, answerTests}
-use Rattle.round.specs.Layout.{each, pairsOf, digestsAt, answersLength, answerAt}
+use Rattle.round.specs.Layout.{joined, pairsOf, digestsAt, answersLength, answerAt}
 use Rattle.round.specs.Internal.{Answers}
 use Rattle.commitment.proofs.Cut.{keys-cut}
 use Rattle.round.proofs.Many.{each-more, each-refused, each-taken}
@@ -46,10 +46,10 @@ module _ (q n : ℕ) (k : Keys) (head challenges answers : Bytes) where
     pub long : length w ≡ 1048576
     pub within : i ≤ repeats
     pub place : at ≡ answersLength n (take i challenges)
-    pub none : None (each i repetitionTests)
+    pub none : None (joined i repetitionTests)
 
   pub came-first : (repeats : ℕ) (w : Bytes) → length w ≡ 1048576 → Came repeats 0 0 w
-  unfolding each answersLength
+  unfolding joined answersLength
   came-first repeats w l = record { long = l; within = omega arith; place = refl; none = tt }
 
   module _ (repeats i at : ℕ) (w : Bytes) (r : Came repeats i at w) (h : i < repeats) (a : Answers q n repeats challenges answers) where
@@ -80,10 +80,10 @@ module _ (q n : ℕ) (k : Keys) (head challenges answers : Bytes) where
         none = each-more repetitionTests i (r .none) (sym reply-is ∙ t);
       }
 
-      pub came-refused : (number place : ℕ) → z ≡ Refused number place → Refused number place ≡ first (each repeats repetitionTests)
+      pub came-refused : (number place : ℕ) → z ≡ Refused number place → Refused number place ≡ first (joined repeats repetitionTests)
       came-refused number place t = sym (each-refused repeats repetitionTests i number place h (r .none) (sym reply-is ∙ t))
 
-  pub came-all : (repeats i at : ℕ) (w : Bytes) → Came repeats i at w → repeats ≤ i → Taken ≡ first (each repeats repetitionTests)
+  pub came-all : (repeats i at : ℕ) (w : Bytes) → Came repeats i at w → repeats ≤ i → Taken ≡ first (joined repeats repetitionTests)
   came-all repeats i at w r h =
       let e : i ≡ repeats = omega (arith, r .within) in
-      sym (ap (λ (m : ℕ). first (each m repetitionTests)) (sym e) ∙ each-taken i repetitionTests (r .none))
+      sym (ap (λ (m : ℕ). first (joined m repetitionTests)) (sym e) ∙ each-taken i repetitionTests (r .none))

@@ -1,13 +1,8 @@
 -- The digests by which a session holds what it was lent (document 01, "Register and session"). Assumes nothing.
-use mathlib.Core.List.{List, [], _∷_, _++_}
+use mathlib.Core.List.{List, [], _∷_, _++_, flatten}
 use Prim.Native.Nat.{ℕ, zero, suc, _*_}
 use Rattle.codec.specs.Bytes.{Bytes, bytes, part}
 use Rattle.sha3.specs.Sponge.{sha3}
-
--- strings one after the other
-unfoldable pub concatenated : List Bytes → Bytes
-concatenated [] = []
-concatenated (s ∷ ss) = s ++ concatenated ss
 
 -- the digests of m ballots of one length, in order
 unfoldable pub ballotDigests : (size m : ℕ) (ballots : Bytes) → List Bytes
@@ -16,7 +11,7 @@ ballotDigests size (suc m) ballots = ballotDigests size m ballots ++ (sha3 (part
 
 -- covers the sheet's digest and the digests of the ballots that are closed, in order of admission
 unfoldable pub closingDigest : (sheet : Bytes) → List Bytes → Bytes
-closingDigest sheet ds = sha3 (sheet ++ concatenated ds)
+closingDigest sheet ds = sha3 (sheet ++ flatten ds)
 
 -- covers the closing digest and the claims
 unfoldable pub claimDigest : (closing claims : Bytes) → Bytes

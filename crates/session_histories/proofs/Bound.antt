@@ -2,7 +2,7 @@
 use mathlib.Core.Path.{_≡_, refl, sym, ap, ap₂, _∙_}
 use mathlib.Core.Logic.{inl, inr}
 use mathlib.Core.Bool.{Bool, true, false}
-use mathlib.Core.List.{List, [], _∷_, _++_, append-cancel-left}
+use mathlib.Core.List.{List, [], _∷_, _++_, append-cancel-left, flatten}
 use Prim.Native.Nat.{ℕ, zero, suc, _*_, _<_}
 use native.Mathlib.Omega.{arith}
 use lib.ListN.{length}
@@ -13,7 +13,7 @@ use Rattle.sha3.specs.Sponge.{sha3}
 use Rattle.sha3.proofs.Squeezing.{length-sha3}
 use Rattle.stern.proofs.Sound.{parts}
 use Rattle.round.proofs.Tests.{differ}
-use Rattle.session_digests.specs.Digests.{concatenated, ballotDigests, closingDigest, claimDigest, roundDigest}
+use Rattle.session_digests.specs.Digests.{ballotDigests, closingDigest, claimDigest, roundDigest}
 use Rattle.session_digests.proofs.Laws.{Long, length-ballotDigests}
 use Rattle.session_check.specs.Stored.{Inputs}
 use Rattle.session.specs.declared.Session.{Session}
@@ -42,8 +42,8 @@ agrees string a b back e = go (same (string a) (string b)) refl
 -- ---- what strings hold
 
 -- as many strings of one length
-apart : (size : ℕ) (ss ts : List Bytes) → Long size ss → Long size ts → length ss ≡ length ts → concatenated ss ≡ concatenated ts → ss ≡ ts
-unfolding concatenated
+apart : (size : ℕ) (ss ts : List Bytes) → Long size ss → Long size ts → length ss ≡ length ts → flatten ss ≡ flatten ts → ss ≡ ts
+unfolding flatten
 apart size [] [] hs ht l e = refl
 apart size [] (t ∷ ts) hs ht l e = absurd (omega arith)
 apart size (s ∷ ss) [] hs ht l e = absurd (omega arith)
@@ -77,7 +77,7 @@ module _ (s : Session) (h : History) (k : Kept s h) (m : Measured s h) (round : 
 
   closing-is : s .closing ≡ sha3 (batchString h (h .batch))
   unfolding closingDigest
-  closing-is = k .digests .closing (let l = late in omega arith) ∙ ap (λ (d : Bytes). sha3 (d ++ concatenated (h .batch))) sheet-is
+  closing-is = k .digests .closing (let l = late in omega arith) ∙ ap (λ (d : Bytes). sha3 (d ++ flatten (h .batch))) sheet-is
 
   claim-is : s .claim ≡ sha3 (claimsString h (h .claims))
   unfolding claimDigest

@@ -1,6 +1,6 @@
 -- The ballots of an election (specs/Elections.antt) are admitted and the batch is closed. Assumes nothing.
 use mathlib.Core.Path.{_≡_, refl, sym, ap, subst, _∙_}
-use mathlib.Core.List.{List, [], _∷_, _++_, map, List·Memᴰ}
+use mathlib.Core.List.{List, [], _∷_, _++_, map, List·Memᴰ, flatten}
 use Prim.Native.Nat.{ℕ, suc, _≤_, _<_}
 use native.Mathlib.Omega.{arith}
 use lib.ListN.{length, length-map, length-replicate}
@@ -12,7 +12,7 @@ use Rattle.sha3.specs.Sponge.{sha3}
 use Rattle.round.specs.Producer.{Material}
 use Rattle.register.specs.Register.{registerLength, markAt, stateAt, markOf, admitted}
 use Rattle.register.proofs.Entries.{admitted-length, admitted-marks, admitted-states, admitted-mark, admitted-state}
-use Rattle.session_digests.specs.Digests.{concatenated, ballotDigests}
+use Rattle.session_digests.specs.Digests.{ballotDigests}
 use Rattle.round.specs.Layout.{ballotLength}
 use Rattle.session.specs.Steps.{on, cleared, admittedBy, closedBy}
 use Rattle.session.specs.Machine.{Step, admit, close, reply}
@@ -136,12 +136,12 @@ module _ (sheet : Bytes) (m : ℕ) (ballot : ℕ → Bytes) (material : ℕ → 
       let one = shut-phase in
       let of : OwnTrace → Type 0 = λ t. 0 < t .now .session .progress .phase
       → (t .history .batch ≡ map sha3 (t .roll)) × ((y : Bytes) → List·Memᴰ y (t .roll) → length y ≡ ballotLength (t .now .session .numbers .ring))
-      × (ballotDigests (ballotLength (t .now .session .numbers .ring)) (length (t .history .batch)) (concatenated (t .roll)) ≡ t .history .batch) in
+      × (ballotDigests (ballotLength (t .now .session .numbers .ring)) (length (t .history .batch)) (flatten (t .roll)) ≡ t .history .batch) in
       let r = subst of (sym shut-is) (roll-is-batch (on sheet) (list m admitting ++ (close ∷ []))) (omega arith) in
       let count : length (shut .history .batch) ≡ m = ap length (r .0) ∙ length-map (shut .roll) sha3 ∙ ap length shut-roll ∙ length-list m ballot in
       record {
         on-sheet = shut-on;
-        batched = (λ i. ballotDigests (ballotLength (sym (numbers sheet shut shut-on) i .ring)) (length (shut .history .batch)) (concatenated (sym shut-roll i))) ∙ r .2;
+        batched = (λ i. ballotDigests (ballotLength (sym (numbers sheet shut shut-on) i .ring)) (length (shut .history .batch)) (flatten (sym shut-roll i))) ∙ r .2;
         count = count;
         closed = shut-on .kept .digests .closed (omega arith) ∙ count;
       }

@@ -1,6 +1,6 @@
 -- Where what is lent is bytes, the strings that bind a session are bytes: `ChecksHashed` of specs/Bound.antt. Assumes nothing.
 use mathlib.Core.Bool.{Bool, true, false, cond}
-use mathlib.Core.List.{List, [], _∷_, _++_, map}
+use mathlib.Core.List.{List, [], _∷_, _++_, map, flatten}
 use Prim.Native.Nat.{ℕ, zero, suc, _+_, _*_}
 use native.Mathlib.Omega.{arith}
 use lib.Dec.{eqb}
@@ -10,8 +10,8 @@ use Rattle.codec.proofs.Numbers.{bytes-octets}
 use Rattle.sha3.specs.Sponge.{sha3}
 use Rattle.sha3.proofs.Squeezing.{octets-sha3}
 use Rattle.register.specs.Register.{digestAt, standing, standingDigests}
-use Rattle.session_digests.specs.Digests.{concatenated, ballotDigests}
-use Rattle.session_digests.proofs.Laws.{concatenated-more}
+use Rattle.session_digests.specs.Digests.{ballotDigests}
+use Rattle.session_digests.proofs.Laws.{flatten-more}
 use Rattle.session_check.specs.Stored.{Inputs}
 use Rattle.session.specs.Steps.{Beginning}
 use Rattle.session.specs.Machine.{Step, clear, admit, withdraw, close, claim, commit, draw, check, State, reply}
@@ -32,17 +32,17 @@ record MessageBytes (m : Message) : Type 0 where
 
 record Lodged (h : History) : Type 0 where
   sheet : Octets (h .sheet)
-  batch : Octets (concatenated (h .batch))
+  batch : Octets (flatten (h .batch))
   claims : Octets (h .claims)
   firsts : (j : ℕ) → MessageBytes (h .firsts j)
 
-octets-digests : (reg : Bytes) (is : List ℕ) → Octets reg → Octets (concatenated (map (digestAt reg) is))
-unfolding concatenated digestAt
+octets-digests : (reg : Bytes) (is : List ℕ) → Octets reg → Octets (flatten (map (digestAt reg) is))
+unfolding flatten digestAt
 octets-digests reg [] o = octets-none
-octets-digests reg (i ∷ is) o = octets-append (digestAt reg i) (concatenated (map (digestAt reg) is)) (octets-part reg (40 * i + 8) 32 o) (octets-digests reg is o)
+octets-digests reg (i ∷ is) o = octets-append (digestAt reg i) (flatten (map (digestAt reg) is)) (octets-part reg (40 * i + 8) 32 o) (octets-digests reg is o)
 
 lodged-first : (b : Beginning) → Octets (b .sheet) → Lodged (emptyHistory b)
-unfolding concatenated
+unfolding flatten
 lodged-first b o = record { sheet = o; batch = octets-none; claims = octets-none; firsts = λ j. record { head = octets-none; shares0 = octets-none; shares1 = octets-none } }
 
 lodged-next : (x : Step) (st : State) (h : History) → Lodges x (st .register) → Lodged h → Lodged (historyAfter x st h)
@@ -68,12 +68,12 @@ lodged-trace (c ∷ cs) l o h =
 
 -- ---- the strings
 
-octets-ballotDigests : (size m : ℕ) (ballots : Bytes) → Octets (concatenated (ballotDigests size m ballots))
-unfolding ballotDigests concatenated
+octets-ballotDigests : (size m : ℕ) (ballots : Bytes) → Octets (flatten (ballotDigests size m ballots))
+unfolding ballotDigests flatten
 octets-ballotDigests size zero ballots = octets-none
 octets-ballotDigests size (suc m) ballots =
-    rw (concatenated-more (ballotDigests size m ballots) (sha3 (part ballots (size * m) size)))
-    (octets-append (concatenated (ballotDigests size m ballots)) (sha3 (part ballots (size * m) size)) (octets-ballotDigests size m ballots) (octets-sha3 (part ballots (size * m) size)))
+    rw (flatten-more (ballotDigests size m ballots) (sha3 (part ballots (size * m) size)))
+    (octets-append (flatten (ballotDigests size m ballots)) (sha3 (part ballots (size * m) size)) (octets-ballotDigests size m ballots) (octets-sha3 (part ballots (size * m) size)))
 
 -- behind a digest
 behind : (t u : Bytes) → Octets u → Octets (sha3 t ++ u)
@@ -91,7 +91,7 @@ hashed h k x l o =
     let sent : MessageBytes (lentMessage x) = record { head = o .head; shares0 = o .shares0; shares1 = o .shares1 } in
     record {
       sheet = (o .sheet, l .sheet);
-      batch = (behind (h .sheet) (concatenated (lentBatch h x)) (octets-ballotDigests _ _ (x .ballots)), behind (h .sheet) (concatenated (h .batch)) (l .batch));
+      batch = (behind (h .sheet) (flatten (lentBatch h x)) (octets-ballotDigests _ _ (x .ballots)), behind (h .sheet) (flatten (h .batch)) (l .batch));
       claims = (behind batch (x .claims) (o .claims), behind batch (h .claims) (l .claims));
       first-message = (behind claims _ (octets-message k (lentMessage x) sent), behind claims _ (octets-message k (h .firsts k) (l .firsts k)));
     }

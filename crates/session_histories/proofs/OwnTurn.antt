@@ -2,7 +2,7 @@
 -- first message of the round. Assumes nothing.
 use mathlib.Core.Path.{_≡_, refl, sym, ap, subst, _∙_}
 use mathlib.Core.Bool.{false}
-use mathlib.Core.List.{List, [], _∷_}
+use mathlib.Core.List.{List, [], _∷_, flatten}
 use Prim.Native.Nat.{ℕ, _*_, _<_}
 use native.Mathlib.Omega.{arith}
 use lib.ListN.{length}
@@ -16,7 +16,6 @@ use Rattle.sheet_numbers.specs.declared.Numbers.{Numbers}
 use Rattle.scratch.specs.Call.{scratchLength}
 use Rattle.round.specs.Producer.{Material}
 use Rattle.commitment.specs.Parameters.{parametersOf}
-use Rattle.session_digests.specs.Digests.{concatenated}
 use Rattle.session_check.specs.Stored.{Inputs}
 use Rattle.session_progress.specs.Progress.{drawn}
 use Rattle.session.specs.Steps.{Beginning, claimedBy, committedBy}
@@ -175,7 +174,7 @@ module _ (b : Beginning) (readable : Begins b) (before between later last : List
     -- ---- the turn
 
     module _ (material : Material) (x : Inputs) (phase : with-seed .now .session .progress .phase ≡ drawn) (due : round ≡ with-seed .now .session .progress .checked)
-        (sheet : x .sheet ≡ b .sheet) (ballots : x .ballots ≡ concatenated (gathered .roll)) (claimed : x .claims ≡ claims) (first : message (x .head) (x .shares0) (x .shares1) ≡ message head shares0 shares1)
+        (sheet : x .sheet ≡ b .sheet) (ballots : x .ballots ≡ flatten (gathered .roll)) (claimed : x .claims ≡ claims) (first : message (x .head) (x .shares0) (x .shares1) ≡ message head shares0 shares1)
         (made : Produced (parametersOf (x .sheet)) (gathered .now .session .progress .closed) material (with-seed .now .session .seed) round x) (scratch : length (x .scratch) ≡ scratchLength) where
       ring : sheetOf (x .sheet) .numbers .ring ≡ gathered .now .session .numbers .ring
       ring = ap (λ (t : Bytes). sheetOf t .numbers .ring) (sheet ∙ sym same-sheet) ∙ sym (ap (λ (n : Numbers). n .ring) (k .origin .numbers))

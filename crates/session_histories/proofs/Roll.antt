@@ -17,7 +17,7 @@ use Rattle.sha3.specs.Sponge.{sha3}
 use Rattle.round.specs.Layout.{ballotLength}
 use Rattle.register.specs.Register.{markAt, stateAt, digestAt, find, standing, standingDigests, markOf, admitted, withdrawn}
 use Rattle.register.proofs.Entries.{admitted-marks, admitted-states, admitted-digests, admitted-mark, admitted-state, admitted-digest, withdrawn-marks, withdrawn-digests, withdrawn-state, withdrawn-states}
-use Rattle.session_digests.proofs.Laws.{Long, ballotDigests-concatenated}
+use Rattle.session_digests.proofs.Laws.{Long, ballotDigests-flatten}
 use Rattle.session.specs.declared.Session.{Session}
 use Rattle.session.specs.Steps.{cleared, admittedBy, closedBy, claimedBy, committedBy, drawnBy, acceptedBy, refusedBy}
 use Rattle.session.specs.Machine.{Step, clear, admit, withdraw, close, claim, commit, draw, check, State, state, next, reply, after}
@@ -212,7 +212,7 @@ unfolding ownInitial cleared
 roll-is-batch b steps l =
     let t = ownTrace steps (ownInitial b) in
     let o = own-ownTrace steps (ownInitial b) (single-none _) (record { rows = start; long = tt; noted = λ q. absurd (omega arith) }) in
-    (o .noted l, each-long _ (t .roll) (o .long), rw (o .noted l, length-map (t .roll) sha3) (ballotDigests-concatenated _ (t .roll) (o .long)))
+    (o .noted l, each-long _ (t .roll) (o .long), rw (o .noted l, length-map (t .roll) sha3) (ballotDigests-flatten _ (t .roll) (o .long)))
 
 -- ---- such a list is one of those in which each step is lent any register
 

@@ -3,7 +3,7 @@
 -- Assumes nothing.
 use mathlib.Core.Path.{_≡_}
 use mathlib.Core.Logic.{_⊎_}
-use mathlib.Core.List.{List, [], _∷_, _++_}
+use mathlib.Core.List.{List, [], _∷_, _++_, flatten}
 use Prim.Native.Nat.{ℕ}
 use lib.ListN.{length}
 use Rattle.codec.specs.Bytes.{Bytes, Octets, bytes}
@@ -11,7 +11,7 @@ use Rattle.sha3.specs.Sponge.{sha3}
 use Rattle.sheet.specs.Reader.{sheetOf}
 use Rattle.round.specs.Extractor.{Collision}
 use Rattle.round.specs.Layout.{ballotLength}
-use Rattle.session_digests.specs.Digests.{concatenated, ballotDigests}
+use Rattle.session_digests.specs.Digests.{ballotDigests}
 use Rattle.session_check.specs.Stored.{Inputs}
 use Rattle.session.specs.Machine.{Step, clear, admit, withdraw, close, claim, commit, draw, check}
 use Rattle.session_histories.specs.Runs.{Message, message, History, Call}
@@ -31,7 +31,7 @@ lentMessage x = message (x .head) (x .shares0) (x .shares1)
 module _ (h : History) where
   -- the digests of ballots, behind the digest of the sheet that was lodged
   abbrev pub batchString : List Bytes → Bytes
-  batchString ds = sha3 (h .sheet) ++ concatenated ds
+  batchString ds = sha3 (h .sheet) ++ flatten ds
 
   -- claims, behind the digest of that sheet and batch
   abbrev pub claimsString : Bytes → Bytes

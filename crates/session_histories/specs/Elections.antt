@@ -1,7 +1,7 @@
 -- Turns come: a whole count, from a newly cleared session to its last check, so that what is claimed of rounds at their turn (specs/Claims.antt) is not empty. Assumes nothing.
 use mathlib.Core.Path.{_≡_}
 use mathlib.Core.Logic.{_≢_}
-use mathlib.Core.List.{List, _∷_, _++_}
+use mathlib.Core.List.{List, _∷_, _++_, flatten}
 use Prim.Native.Nat.{ℕ, _≤_, _<_}
 use lib.ListN.{length, drop}
 use Rattle.codec.specs.Bytes.{Bytes, zeros}
@@ -16,7 +16,6 @@ use Rattle.round.specs.Producer.{Material, MaterialSized, producedHead, produce
 use Rattle.round.specs.Suitable.{Suitable}
 use Rattle.session_check.specs.Stored.{Inputs, inputsOf}
 use Rattle.register.specs.Register.{markOf}
-use Rattle.session_digests.specs.Digests.{concatenated}
 use Rattle.session_digests.specs.Draw.{drawnSide, drawnChallenges}
 use Rattle.session.specs.Machine.{Step, admit, close, claim, commit, draw, check}
 
@@ -30,7 +29,7 @@ module _ (sheet : Bytes) (m : ℕ) (ballot : ℕ → Bytes) (material : ℕ → 
 
   -- the batch
   abbrev pub batch : Bytes
-  batch = concatenated (list m ballot)
+  batch = flatten (list m ballot)
 
   -- ballots that can be admitted, with different marks, and material over them from which the producer writes a round, all with the same votes
   pub record Countable : Type 0 where

@@ -1,7 +1,7 @@
 -- Lists of a session's steps: what the proofs about lists of the exported calls go by. No claim cites this file. Assumes nothing.
 use mathlib.Core.Path.{_≡_}
 use mathlib.Core.Bool.{false}
-use mathlib.Core.List.{List, [], _∷_, _++_, List·Memᴰ, map}
+use mathlib.Core.List.{List, [], _∷_, _++_, List·Memᴰ, map, flatten}
 use Prim.Native.Nat.{ℕ, _<_}
 use lib.ListN.{length}
 use Rattle.codec.specs.Bytes.{Bytes, Octets, zeros}
@@ -11,7 +11,7 @@ use Rattle.sha3.specs.Sponge.{sha3}
 use Rattle.sheet.specs.Sheet.{order}
 use Rattle.round.specs.Layout.{ballotLength}
 use Rattle.register.specs.Register.{registerLength}
-use Rattle.session_digests.specs.Digests.{concatenated, ballotDigests}
+use Rattle.session_digests.specs.Digests.{ballotDigests}
 use Rattle.session_check.specs.Stored.{Inputs}
 use Rattle.session.specs.declared.Session.{Session}
 use Rattle.session.specs.Steps.{Beginning, cleared, storedFor}
@@ -108,7 +108,7 @@ RollIsBatch = (b : Beginning) (steps : List Step)
     → let t = ownTrace steps (ownInitial b) in
     0 < t .now .session .progress .phase
     → (t .history .batch ≡ map sha3 (t .roll)) × ((y : Bytes) → List·Memᴰ y (t .roll) → length y ≡ ballotLength (t .now .session .numbers .ring))
-    × (ballotDigests (ballotLength (t .now .session .numbers .ring)) (length (t .history .batch)) (concatenated (t .roll)) ≡ t .history .batch)
+    × (ballotDigests (ballotLength (t .now .session .numbers .ring)) (length (t .history .batch)) (flatten (t .roll)) ≡ t .history .batch)
 
 -- and a list in which each step is lent the register that the last one left is one of those above, so that a turn's batch can be that roll
 abbrev pub OwnRegister : Type 0

@@ -1,6 +1,6 @@
 -- The image of a session, read back, is the session; and the session of an image, written, is the image. Assumes nothing.
 use mathlib.Core.Path.{_≡_, refl, sym, ap, _∙_}
-use mathlib.Core.List.{[], _∷_, _++_, append-assoc}
+use mathlib.Core.List.{[], _∷_, _++_, append-assoc, flatten}
 use Prim.Native.Nat.{ℕ, _+_, _≤_, _<_, _^_}
 use Prim.Native.String.{String}
 use native.Mathlib.Omega.{arith}
@@ -9,8 +9,7 @@ use lib.Seq.{take-suc}
 use Rattle.codec.specs.Bytes.{Bytes, Octets, bytes, number, part, put}
 use Rattle.codec.proofs.Laws.{length-part, octets-part, part-whole, put-whole, written-behind}
 use Rattle.codec.proofs.Numbers.{length-bytes, number-bytes, bytes-number}
-use Rattle.session_digests.specs.Digests.{concatenated}
-use Rattle.session_digests.proofs.Laws.{concatenated-append}
+use Rattle.session_digests.proofs.Laws.{flatten-append}
 use Rattle.session.specs.declared.Session.{Session}
 use Rattle.session_image.specs.Image.{imageLength, size, values, start, head, batch, rounds, fields, at, encode, decode}
 use Rattle.session_image.specs.Internal.{Typed}
@@ -48,12 +47,12 @@ module _ (s : Session) (t : Typed s) where
 
   -- the three groups of fields, written one behind the other
   pub written : (d : Bytes) → length d ≡ imageLength
-      → put (put (put d 0 (concatenated (values head s))) (size head) (concatenated (values batch s))) (size head + size batch) (concatenated (values rounds s)) ≡ encode s
+      → put (put (put d 0 (flatten (values head s))) (size head) (flatten (values batch s))) (size head + size batch) (flatten (values rounds s)) ≡ encode s
   unfolding encode
   written d l =
-      let first = concatenated (values head s) in
-      let second = concatenated (values batch s) in
-      let third = concatenated (values rounds s) in
+      let first = flatten (values head s) in
+      let second = flatten (values batch s) in
+      let third = flatten (values rounds s) in
       let i = length-values head s h in
       let j = length-values batch s m in
       let k = length-values rounds s r in
@@ -62,16 +61,16 @@ module _ (s : Session) (t : Typed s) where
       let v = written-behind d _ _ (first ++ second) third 0 (size head + size batch) (omega arith) (omega arith) w refl in
       v ∙ put-whole d ((first ++ second) ++ third) (length-append (first ++ second) third ∙ omega arith)
       ∙ append-assoc first second third
-      ∙ ap (λ (u : Bytes). first ++ u) (sym (concatenated-append (values batch s) (values rounds s)))
-      ∙ sym (concatenated-append (values head s) (values batch s ++ values rounds s))
+      ∙ ap (λ (u : Bytes). first ++ u) (sym (flatten-append (values batch s) (values rounds s)))
+      ∙ sym (flatten-append (values head s) (values batch s ++ values rounds s))
 
   -- a number that stands in a field of eight bytes
-  word : (name : String) (v : ℕ) → named fields name s ≡ bytes 8 v → v < 2 ^ 64 → number (at (concatenated (values fields s)) name) ≡ v
+  word : (name : String) (v : ℕ) → named fields name s ≡ bytes 8 v → v < 2 ^ 64 → number (at (flatten (values fields s)) name) ≡ v
   word name v e h = ap number (taken-out fields s name fits ∙ e) ∙ number-bytes 8 v h
 
   -- the phase stands first
-  first : getD (concatenated (values fields s)) 0 0 ≡ s .progress .phase
-  unfolding concatenated
+  first : getD (flatten (values fields s)) 0 0 ≡ s .progress .phase
+  unfolding flatten
   first = refl
 
   -- written, then read
@@ -127,4 +126,4 @@ module _ (b : Bytes) (l : length b ≡ imageLength) (o : Octets b) where
   -- read, then written
   pub store-load : encode (decode b) ≡ b
   unfolding encode
-  store-load = ap concatenated cuts ∙ concatenated-cut b 0 fields ∙ ap (λ (n : ℕ). part b 0 n) (sym l) ∙ part-whole b
+  store-load = ap flatten cuts ∙ concatenated-cut b 0 fields ∙ ap (λ (n : ℕ). part b 0 n) (sym l) ∙ part-whole b

@@ -1,12 +1,11 @@
 -- The byte image of a session (document 01, "Register and session"): its fields one after the other, little-endian. Assumes nothing.
 use mathlib.Core.Bool.{cond}
-use mathlib.Core.List.{List, [], _∷_, _++_}
+use mathlib.Core.List.{List, [], _∷_, _++_, flatten}
 use Prim.Native.Nat.{ℕ, _+_}
 use Prim.Native.String.{String}
 use lib.Text.{eqt}
 use lib.ListN.{getD}
 use Rattle.codec.specs.Bytes.{Bytes, bytes, number, part}
-use Rattle.session_digests.specs.Digests.{concatenated}
 use Rattle.session.specs.declared.Session.{Session}
 
 -- ---- the fields in order: their names, their widths in bytes and what stands in them. All else follows from these lists
@@ -89,7 +88,7 @@ at b name = part b (start fields name) (width fields name)
 
 -- the image of a session
 unfoldable pub encode : Session → Bytes
-encode s = concatenated (values fields s)
+encode s = flatten (values fields s)
 
 -- the session that an image holds
 unfoldable pub decode : Bytes → Session

@@ -4,12 +4,12 @@ use session::Stepped;
 use session::Turnout;
 use session_progress::Progress;
 use sheet_numbers::Numbers;
+ghost use mathlib.Core.List.{flatten};
 ghost use mathlib.Core.Path.{_≡_};
 ghost use Prim.Native.Nat.{_+_, _≤_};
 ghost use lib.ListN.{length};
 ghost use Rattle.codec.specs.Reply.{packed};
 ghost use Rattle.scratch.specs.Vocabulary.{given, left, part, put};
-ghost use Rattle.session_digests.specs.Digests.{concatenated};
 ghost use Rattle.session_image.specs.Image.{imageLength, size, values, encode, decode, head, batch, rounds};
 ghost use Rattle.session_image.specs.Images.{countedAnswer};
 
@@ -117,7 +117,7 @@ pub fn load(image: &[u8]) -> Session
 // Writes the phase, the sheet's numbers and the sheet's digest.
 fn store_head(session: Session, image: &mut [u8])
     requires { ⌜ length (now image) ≡ imageLength ⌝ }
-    ensures { λ _. ⌜ left image ≡ put (given image) 0 (concatenated (values head session)) ⌝ }
+    ensures { λ _. ⌜ left image ≡ put (given image) 0 (flatten (values head session)) ⌝ }
 {
     let numbers = session.numbers;
     codec::write8(image, PHASE, session.progress.phase);
@@ -132,7 +132,7 @@ fn store_head(session: Session, image: &mut [u8])
 // Writes the counts and the digests of the batch.
 fn store_batch(session: Session, image: &mut [u8])
     requires { ⌜ length (now image) ≡ imageLength ⌝ }
-    ensures { λ _. ⌜ left image ≡ put (given image) (size head) (concatenated (values batch session)) ⌝ }
+    ensures { λ _. ⌜ left image ≡ put (given image) (size head) (flatten (values batch session)) ⌝ }
 {
     codec::write64(image, USED, session.progress.used);
     codec::write64(image, CLOSED, session.progress.closed);
@@ -143,7 +143,7 @@ fn store_batch(session: Session, image: &mut [u8])
 // Writes the counts of rounds, the seed, and the digests of the first messages.
 fn store_rounds(session: Session, image: &mut [u8])
     requires { ⌜ length (now image) ≡ imageLength ⌝ }
-    ensures { λ _. ⌜ left image ≡ put (given image) (size head + size batch) (concatenated (values rounds session)) ⌝ }
+    ensures { λ _. ⌜ left image ≡ put (given image) (size head + size batch) (flatten (values rounds session)) ⌝ }
 {
     codec::write64(image, COMMITTED, session.progress.committed);
     codec::copy(image, SEED, &session.seed);

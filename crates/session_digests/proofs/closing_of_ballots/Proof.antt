@@ -1,6 +1,6 @@
 -- `closing_of_ballots` meets its contract. The loop's invariant: the sheet's digest and the digests of the ballots passed are taken in. Assumes nothing.
 use mathlib.Core.Path.{_≡_, ap, _∙_}
-use mathlib.Core.List.{_++_}
+use mathlib.Core.List.{_++_, flatten}
 use Prim.Native.Nat.{ℕ, suc, _+_, _*_, _-_, _≤_, _<_}
 use native.Mathlib.Nat.{mul-suc, mul-le-mul-left}
 use native.Mathlib.Omega.{arith}
@@ -8,13 +8,13 @@ use borrow.Author.Needs.{needs}
 use Rattle.codec.specs.Bytes.{Bytes, part}
 use Rattle.sha3.specs.Sponge.{sha3}
 use Rattle.hasher.specs.Internal.{holding, updated}
-use Rattle.session_digests.specs.Digests.{concatenated, ballotDigests, closingDigest}
+use Rattle.session_digests.specs.Digests.{ballotDigests, closingDigest}
 use Rattle.session_digests.proofs.Parts.{none, next, closing-done, ballots-more}
 use Rattle.session_digests.proofs.closing_of_ballots.Statement.{statement}
 use Rattle.session_digests.proofs.closing_of_ballots.Tie as tie
 
 abbrev Inv-loop : tie.InvT-loop
-Inv-loop sheet ballots size m h₀ j₀ h j = (j ≤ m) × (h ≡ holding (sheet ++ concatenated (ballotDigests size j ballots)))
+Inv-loop sheet ballots size m h₀ j₀ h j = (j ≤ m) × (h ≡ holding (sheet ++ flatten (ballotDigests size j ballots)))
 
 abbrev μ-loop : tie.MeasureT-loop
 μ-loop sheet ballots size m h₀ j₀ h j = m - j

@@ -1,7 +1,7 @@
 -- `closing_of_register` meets its contract. The loop's invariant: the sheet's digest and the digests of the standing entries passed are taken in. Assumes nothing.
 use mathlib.Core.Path.{_≡_, sym, ap, _∙_}
 use mathlib.Core.Bool.{true, false}
-use mathlib.Core.List.{_++_, append-nil}
+use mathlib.Core.List.{_++_, append-nil, flatten}
 use mathlib.Core.Logic.{⊎-elim}
 use Prim.Native.Nat.{ℕ, _+_, _*_, _-_, _≤_}
 use native.Mathlib.Omega.{arith}
@@ -9,13 +9,13 @@ use borrow.Author.Needs.{needs}
 use Rattle.codec.specs.Bytes.{part}
 use Rattle.hasher.specs.Internal.{holding, updated}
 use Rattle.register.specs.Register.{standing, standingDigests, digestAt}
-use Rattle.session_digests.specs.Digests.{concatenated, closingDigest}
+use Rattle.session_digests.specs.Digests.{closingDigest}
 use Rattle.session_digests.proofs.Parts.{none, next, closing-done, standing-more}
 use Rattle.session_digests.proofs.closing_of_register.Statement.{statement}
 use Rattle.session_digests.proofs.closing_of_register.Tie as tie
 
 abbrev Inv-loop : tie.InvT-loop
-Inv-loop sheet reg n h₀ i₀ h i = (i ≤ n) × (h ≡ holding (sheet ++ concatenated (standingDigests reg i)))
+Inv-loop sheet reg n h₀ i₀ h i = (i ≤ n) × (h ≡ holding (sheet ++ flatten (standingDigests reg i)))
 
 abbrev μ-loop : tie.MeasureT-loop
 μ-loop sheet reg n h₀ i₀ h i = n - i
