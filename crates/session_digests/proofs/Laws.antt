@@ -50,20 +50,20 @@ Long size [] = Unit
 Long size (s ∷ ss) = (length s ≡ size) × Long size ss
 
 -- the k-th stands at its place
-part-concatenated : (size : ℕ) (bs : List Bytes) (k : ℕ) → Long size bs → k < length bs → part (flatten bs) (size * k) size ≡ getD bs k []
+part-flatten : (size : ℕ) (bs : List Bytes) (k : ℕ) → Long size bs → k < length bs → part (flatten bs) (size * k) size ≡ getD bs k []
 unfolding flatten
-part-concatenated size [] k h l = absurd (omega arith)
-part-concatenated size (b ∷ bs) zero h l = rw (mul-zero size) (take-at b (flatten bs) size (h .0))
-part-concatenated size (b ∷ bs) (suc k) h l =
+part-flatten size [] k h l = absurd (omega arith)
+part-flatten size (b ∷ bs) zero h l = rw (mul-zero size) (take-at b (flatten bs) size (h .0))
+part-flatten size (b ∷ bs) (suc k) h l =
     let e : size * suc k ≡ length b + size * k = omega (arith, mul-suc size k, h .0) in
     ap (take size) (ap (λ (n : ℕ). drop n (b ++ flatten bs)) e ∙ drop-append-add b (flatten bs) (size * k))
-    ∙ part-concatenated size bs k (h .1) (omega arith)
+    ∙ part-flatten size bs k (h .1) (omega arith)
 
 first-digests : (size : ℕ) (bs : List Bytes) (k : ℕ) → Long size bs → k ≤ length bs → ballotDigests size k (flatten bs) ≡ map sha3 (take k bs)
 unfolding ballotDigests
 first-digests size bs zero h l = refl
 first-digests size bs (suc k) h l =
-    ap₂ (λ (ds : List Bytes) (b : Bytes). ds ++ (sha3 b ∷ [])) (first-digests size bs k h (omega arith)) (part-concatenated size bs k h (omega arith))
+    ap₂ (λ (ds : List Bytes) (b : Bytes). ds ++ (sha3 b ∷ [])) (first-digests size bs k h (omega arith)) (part-flatten size bs k h (omega arith))
     ∙ sym (map-append sha3 (take k bs) (getD bs k [] ∷ []))
     ∙ ap (map sha3) (sym (take-suc bs k [] (omega arith)))
 
