@@ -13,7 +13,7 @@ use Rattle.session_digests.proofs.Laws.{flatten-append}
 use Rattle.session.specs.declared.Session.{Session}
 use Rattle.session_image.specs.Image.{imageLength, size, values, start, head, batch, rounds, fields, at, encode, decode}
 use Rattle.session_image.specs.Internal.{Typed}
-use Rattle.session_image.proofs.Pieces.{Fits, fits-append, length-values, named, taken-out, cut, concatenated-cut}
+use Rattle.session_image.proofs.Pieces.{Fits, fits-append, length-values, named, taken-out, cut, flatten-cut}
 
 -- ---- of a session
 
@@ -126,4 +126,4 @@ module _ (b : Bytes) (l : length b ≡ imageLength) (o : Octets b) where
   -- read, then written
   pub store-load : encode (decode b) ≡ b
   unfolding encode
-  store-load = ap flatten cuts ∙ concatenated-cut b 0 fields ∙ ap (λ (n : ℕ). part b 0 n) (sym l) ∙ part-whole b
+  store-load = ap flatten cuts ∙ flatten-cut b 0 fields ∙ ap (λ (n : ℕ). part b 0 n) (sym l) ∙ part-whole b

@@ -55,10 +55,10 @@ abbrev pub cut : Bytes → ℕ → List Field → List Bytes
 cut b at [] = []
 cut b at (f ∷ fs) = part b at (f .width) ∷ cut b (at + f .width) fs
 
-pub concatenated-cut : (b : Bytes) (at : ℕ) (fs : List Field) → flatten (cut b at fs) ≡ part b at (size fs)
+pub flatten-cut : (b : Bytes) (at : ℕ) (fs : List Field) → flatten (cut b at fs) ≡ part b at (size fs)
 unfolding flatten
-concatenated-cut b at [] = refl
-concatenated-cut b at (f ∷ fs) = ap (λ (t : Bytes). part b at (f .width) ++ t) (concatenated-cut b (at + f .width) fs) ∙ sym (part-append b at (f .width) (size fs))
+flatten-cut b at [] = refl
+flatten-cut b at (f ∷ fs) = ap (λ (t : Bytes). part b at (f .width) ++ t) (flatten-cut b (at + f .width) fs) ∙ sym (part-append b at (f .width) (size fs))
 
 -- ---- written in order
 
