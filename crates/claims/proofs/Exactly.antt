@@ -17,7 +17,7 @@ use Rattle.session.specs.Steps.{challengesTests, turnoutTests}
 use Rattle.session_image.specs.Image.{decode}
 use Rattle.session_image.specs.Images.{challengesReply, turnoutReply}
 use Rattle.round_tests.specs.Opened.{isOpened, openedPlace, openedReply}
-use Rattle.session_histories.proofs.Sheets.{power-of, power-found, low-power}
+use Rattle.sheet_numbers.proofs.Ranges.{power-of, power-found, low-power}
 use Rattle.session_histories.proofs.Valid.{numbers-match, numbers-pass, ready, is-ready, valid-says, valid-holds, neither, sheet-exactly}
 use Rattle.claims.specs.Exactly.{TellsChallenges, Counts, ShareThere, CallsExactly}
 use Rattle.claims.proofs.Images.{over-image}

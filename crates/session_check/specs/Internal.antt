@@ -1,10 +1,9 @@
 -- What the contracts of inner functions and the proofs go by: no exported contract and no claim cites this file. Assumes nothing.
 use mathlib.Core.Path.{_≡_}
-use mathlib.Core.Bool.{false}
 use Prim.Native.Nat.{_≤_}
 use Rattle.codec.specs.Bytes.{Bytes}
 use Rattle.codec.specs.Reply.{first}
-use Rattle.sheet_numbers.specs.Rules.{outside}
+use Rattle.sheet_numbers.specs.Ranges.{NumbersInRange}
 use Rattle.scratch.specs.Call.{zeroized}
 use Rattle.round.specs.Round.{roundTests}
 use Rattle.session_check.specs.declared.stored.Stored.{Stored}
@@ -48,4 +47,4 @@ TakenChecked P s x v scratch = (v ≡ takenOutcome P s x) × (scratch ≡ zeroiz
 
 -- numbers and a count as a valid session has them
 abbrev pub Within : Stored → Type 0
-Within s = (outside (s .numbers) ≡ false) × (s .closed ≤ 4096)
+Within s = NumbersInRange (s .numbers) × (s .closed ≤ 4096)

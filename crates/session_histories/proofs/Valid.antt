@@ -6,7 +6,7 @@ use Prim.Native.Nat.{ℕ, _≤_, _<_}
 use native.Mathlib.Omega.{arith}
 use lib.Dec.{eqb, ltb}
 use lib.ListN.{length}
-use borrow.Author.Tests.{leb-true, le-leb, le-ltb, ltb-true, ltb-false, lt-ltb, eqb-true, eqb-false, eq-eqb, ne-eqb, not-true, not-false}
+use borrow.Author.Tests.{le-leb, le-ltb, ltb-true, ltb-false, lt-ltb, eqb-true, eqb-false, eq-eqb, ne-eqb, not-false}
 use Rattle.codec.specs.Bytes.{Bytes, same}
 use Rattle.codec.specs.Reply.{None}
 use Rattle.codec.proofs.Laws.{both}
@@ -15,10 +15,12 @@ use Rattle.sheet.specs.Sheet.{order}
 use Rattle.sheet.proofs.Form.{form-exactly}
 use Rattle.round.proofs.Tests.{equal-same}
 use Rattle.session.specs.declared.Session.{Session}
+use Rattle.sheet_numbers.proofs.Ranges.{range-exactly, sound-exactly}
 use Rattle.session_progress.specs.Progress.{inLimits}
+use Rattle.session_progress.proofs.Limits.{within}
 use Rattle.session.specs.Session.{valid}
 use Rattle.session_histories.specs.Conditions.{SheetTaken, ValidSession}
-use Rattle.session_histories.proofs.Sheets.{range-exactly, sound-exactly, lists-exactly}
+use Rattle.session_histories.proofs.Sheets.{lists-exactly}
 
 -- ---- tests that something is not as it must be
 
@@ -39,23 +41,7 @@ neither false b e = (refl, e)
 -- ---- a session
 
 pub valid-says : (s : Session) → valid s ≡ true → ValidSession s
-unfolding inLimits
-valid-says s e =
-    let a = both _ _ e in
-    let b = both _ _ (a .1) in
-    let c = both _ _ (b .1) in
-    let d = both _ _ (c .1) in
-    let f = both _ _ (d .1) in
-    let g = both _ _ (f .1) in
-    record {
-      phase = leb-true _ _ (a .0);
-      inside = range-exactly (s .numbers) .0 (not-true _ (b .0));
-      sound = sound-exactly (s .numbers) .0 (not-true _ (c .0));
-      used = leb-true _ _ (d .0);
-      closed = leb-true _ _ (f .0);
-      committed = leb-true _ _ (g .0);
-      checked = leb-true _ _ (g .1);
-    }
+valid-says s e = within (s .numbers) (s .progress) e
 
 pub valid-holds : (s : Session) → ValidSession s → valid s ≡ true
 unfolding inLimits

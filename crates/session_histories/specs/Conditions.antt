@@ -17,10 +17,12 @@ use Rattle.register.specs.Register.{markAt, stateAt, markOf}
 use Rattle.session_check.specs.Stored.{Inputs, drawnRound}
 use Rattle.session_check.specs.Equations.{InputsSized, Held}
 use Rattle.session.specs.declared.Session.{Session}
+use Rattle.sheet_numbers.specs.Ranges.{NumbersInRange, NumbersSound}
 use Rattle.session_progress.specs.Progress.{gathering, closed, claimed, drawn}
+use Rattle.session_progress.specs.Limits.{WithinLimits}
 use Rattle.session.specs.Steps.{Beginning, storedFor}
 use Rattle.session.specs.Machine.{Step, clear, admit, withdraw, close, claim, commit, draw, check, State}
-use Rattle.session_histories.specs.Sheets.{NumbersInRange, NumbersSound, ListsFit}
+use Rattle.session_histories.specs.Sheets.{ListsFit}
 
 -- a sheet that is taken
 pub record SheetTaken (text : Bytes) : Type 0 where
@@ -33,14 +35,8 @@ pub record SheetTaken (text : Bytes) : Type 0 where
   pub fit : ListsFit (sheetOf text)  -- 5
 
 -- a session with a known phase, counts within their limits, and numbers that 3 and 4 take
-pub record ValidSession (s : Session) : Type 0 where
-  pub phase : s .progress .phase ≤ 5
-  pub inside : NumbersInRange (s .numbers)
-  pub sound : NumbersSound (s .numbers)
-  pub used : s .progress .used ≤ 4096
-  pub closed : s .progress .closed ≤ 4096
-  pub committed : s .progress .committed ≤ s .numbers .rounds
-  pub checked : s .progress .checked ≤ s .numbers .rounds
+abbrev pub ValidSession : Session → Type 0
+ValidSession s = WithinLimits (s .numbers) (s .progress)
 
 pub record Clears (reg : Bytes) (b : Beginning) : Type 0 where
   pub register-size : length reg ≡ 163840  -- 1

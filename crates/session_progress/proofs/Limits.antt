@@ -8,21 +8,14 @@ use borrow.Author.Tests.{eq-eqb, ne-eqb, eqb-true, leb-true, ltb-true, not-true}
 use Rattle.codec.proofs.Laws.{both}
 use Rattle.sheet_numbers.specs.Rules.{outside, unsound}
 use Rattle.sheet_numbers.specs.declared.Numbers.{Numbers}
-use Rattle.sheet_numbers.proofs.Ranges.{RangesMet, in-range}
+use Rattle.sheet_numbers.specs.Ranges.{NumbersInRange}
+use Rattle.sheet_numbers.proofs.Ranges.{range-exactly, sound-exactly}
 use Rattle.session_progress.specs.Progress.{inLimits}
+use Rattle.session_progress.specs.Limits.{WithinLimits}
 use Rattle.session_progress.specs.declared.Progress.{Progress}
 
-pub record Within (k : Numbers) (g : Progress) : Type 0 where
-  pub phase : g .phase ≤ 5
-  pub ranged : outside k ≡ false
-  pub sound : unsound k ≡ false
-  pub used : g .used ≤ 4096
-  pub closed : g .closed ≤ 4096
-  pub committed : g .committed ≤ k .rounds
-  pub checked : g .checked ≤ k .rounds
-
 module _ (k : Numbers) (g : Progress) where
-  pub within : inLimits k g ≡ true → Within k g
+  pub within : inLimits k g ≡ true → WithinLimits k g
   unfolding inLimits
   within e =
       let a = both (leb (g .phase) 5) _ e in
@@ -33,15 +26,15 @@ module _ (k : Numbers) (g : Progress) where
       let h = both (leb (g .committed) (k .rounds)) _ (f .1) in
       record {
         phase = leb-true _ _ (a .0);
-        ranged = not-true _ (b .0);
-        sound = not-true _ (c .0);
+        inside = range-exactly k .0 (not-true _ (b .0));
+        sound = sound-exactly k .0 (not-true _ (c .0));
         used = leb-true _ _ (d .0);
         closed = leb-true _ _ (f .0);
         committed = leb-true _ _ (h .0);
         checked = leb-true _ _ (h .1);
       }
 
-  pub beyond : (Within k g → ⊥) → inLimits k g ≡ false
+  pub beyond : (WithinLimits k g → ⊥) → inLimits k g ≡ false
   beyond h = go (inLimits k g) refl
     where
       go : (b : Bool) → inLimits k g ≡ b → b ≡ false
@@ -49,12 +42,12 @@ module _ (k : Numbers) (g : Progress) where
       go false e = refl
 
   -- within the limits, and one thing more
-  pub within-due : (more : Bool) → (inLimits k g && more) ≡ true → Within k g
+  pub within-due : (more : Bool) → (inLimits k g && more) ≡ true → WithinLimits k g
   within-due more e = within (both (inLimits k g) more e .0)
 
 -- the numbers
-pub bounds : {k : Numbers} {g : Progress} → Within k g → RangesMet k
-bounds {k} w = in-range k (w .ranged)
+pub bounds : {k : Numbers} {g : Progress} → WithinLimits k g → NumbersInRange k
+bounds w = w .inside
 
 -- ---- the test of 31: within the limits, in the phase, and one thing more
 

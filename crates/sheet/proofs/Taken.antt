@@ -23,7 +23,8 @@ use Rattle.codec.proofs.Laws.{both}
 use Rattle.codec.proofs.Lists.{allBelow-at}
 use Rattle.codec.specs.Lists.{every, allBelow}
 use Rattle.sheet.proofs.Form.{written-is}
-use Rattle.sheet_numbers.proofs.Ranges.{RangesMet, in-range, ConditionsMet, is-sound}
+use Rattle.sheet_numbers.specs.Ranges.{NumbersInRange, NumbersSound}
+use Rattle.sheet_numbers.proofs.Ranges.{in-range, sound-exactly}
 use Rattle.sheet.proofs.Filling.{all-size}
 
 -- ---- the order of a call that is lent the sheet
@@ -70,8 +71,8 @@ pub record Taking (text : Bytes) (k : Numbers) : Type 0 where
   pub form : formed text ≡ true
   pub numbers : sheetOf text .numbers ≡ k
   pub inside : outside k ≡ false
-  pub ranged : RangesMet k
-  pub sound : ConditionsMet k
+  pub ranged : NumbersInRange k
+  pub sound : NumbersSound k
   pub fit : unfit (sheetOf text) ≡ false
 
 not-refused : {A : Type 0} {n : ℕ} {k : Numbers} → Refused n ≡ Taken k → A
@@ -95,7 +96,7 @@ taken text {k} e = by (first (order text)) refl e
           numbers = q;
           inside = rw q at (n .1 .1 .0);
           ranged = rw q at (in-range (sheetOf text .numbers) (n .1 .1 .0));
-          sound = rw q at (is-sound (sheetOf text .numbers) (n .1 .1 .1 .0));
+          sound = rw q at (sound-exactly (sheetOf text .numbers) .0 (n .1 .1 .1 .0));
           fit = n .1 .1 .1 .1 .0;
         }
 

@@ -1,4 +1,5 @@
 pub mod Bounds
 pub mod Plain
 pub mod Rules
+pub mod Ranges
 pub mod Internal

@@ -4,13 +4,12 @@ use Prim.Native.Nat.{ℕ, _-_, min}
 use native.Mathlib.Omega.{arith}
 use borrow.Author.Needs.{needs}
 use lib.ListN.{length, take, length-take}
-use Rattle.sheet_numbers.proofs.Ranges.{in-range}
 use Rattle.session_digests.proofs.Range.{length-challenges}
 use Rattle.session_check.proofs.check_taken.Statement.{statement}
 use Rattle.session_check.proofs.check_taken.Tie as tie
 
 challenges-of-requires : tie.Need-challenges-of-requires
-challenges-of-requires c κs = in-range _ (c .before .before .before .before .before .before .before .before .before .before .before .before .pre .0 .0) .repeats-high
+challenges-of-requires c κs = c .before .before .before .before .before .before .before .before .before .before .before .before .pre .0 .0 .repeats-high
 
 part-check-drawn-end : tie.Need-part-check-drawn-end
 part-check-drawn-end c =

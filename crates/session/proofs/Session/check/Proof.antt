@@ -20,7 +20,7 @@ cast-t27 : tie.Need-cast-t27
 cast-t27 c = let d = sym (c .before .before .before .before .before .before .before .before .may-check .ensures) ∙ not-false _ (c .before .before .before .before .before .before .before .if1 .left) in omega (arith, round-known (c .before .before .before .before .before .before .before .before .before .before .before .before .before .before .before .before .before .before .before .before .args .t1 .numbers) (c .before .before .before .before .before .before .before .before .before .before .before .before .before .before .before .before .before .before .before .before .args .t1 .progress) 3 (c .before .before .before .before .before .before .before .before .before .before .before .before .before .before .before .before .before .before .before .before .args .t1 .progress .checked) (c .before .before .before .before .before .before .before .before .before .before .before .before .before .before .before .before .before .before .before .before .args .round) d .1 .1, bounds (within-due _ _ _ d) .rounds-high)
 
 check-requires : tie.Need-check-requires
-check-requires c κs = let w = within-due _ _ _ (sym (c .before .before .before .before .before .before .before .before .before .may-check .ensures) ∙ not-false _ (c .before .before .before .before .before .before .before .before .if1 .left)) in (w .ranged, w .closed)
+check-requires c κs = let w = within-due _ _ _ (sym (c .before .before .before .before .before .before .before .before .before .may-check .ensures) ∙ not-false _ (c .before .before .before .before .before .before .before .before .if1 .left)) in (w .inside, w .closed)
 
 judged-requires : tie.Need-judged-requires
 judged-requires c κs = let k = round-known (c .before .before .before .before .before .before .before .before .before .before .before .before .before .before .before .before .before .before .before .before .before .before .before .before .args .t1 .numbers) (c .before .before .before .before .before .before .before .before .before .before .before .before .before .before .before .before .before .before .before .before .before .before .before .before .args .t1 .progress) 3 (c .before .before .before .before .before .before .before .before .before .before .before .before .before .before .before .before .before .before .before .before .before .before .before .before .args .t1 .progress .checked) (c .before .before .before .before .before .before .before .before .before .before .before .before .before .before .before .before .before .before .before .before .before .before .before .before .args .round) (sym (c .before .before .before .before .before .before .before .before .before .before .before .before .may-check .ensures) ∙ not-false _ (c .before .before .before .before .before .before .before .before .before .before .before .if1 .left)) in (k .0, omega (arith, k .1 .0, k .1 .1))

@@ -2,7 +2,6 @@
 use mathlib.Core.Path.{ap, _∙_}
 use borrow.Author.Tests.{not-true, not-false}
 use Rattle.codec.specs.Bytes.{Bytes}
-use Rattle.sheet_numbers.proofs.Ranges.{in-range}
 use Rattle.scratch.proofs.Order.{fails, goes-on}
 use Rattle.round_lengths.specs.Calls.{secondSized}
 use Rattle.session_check.specs.Stored.{inputsSized}
@@ -10,14 +9,14 @@ use Rattle.session_check.proofs.stored.inputs_sized.Statement.{statemen
 use Rattle.session_check.proofs.stored.inputs_sized.Tie as tie
 
 message-sized-requires : tie.Need-message-sized-requires
-message-sized-requires c κs = let w = c .before .before .before .before .before .before .before .before .before .pre .0 in let r = in-range _ (w .0) in (r .ring-high, w .1, r .repeats-high)
+message-sized-requires c κs = let w = c .before .before .before .before .before .before .before .before .before .pre .0 in let r = w .0 in (r .ring-high, w .1, r .repeats-high)
 
 returns : tie.Need-returns
 unfolding inputsSized
 returns c = fails _ _ (c .before .message-sized .ensures) (not-true (c .before .message-sized .result) (c .if1 .taken))
 
 second-sized-requires : tie.Need-second-sized-requires
-second-sized-requires c κs = let r = in-range _ (c .before .before .before .before .before .before .before .before .before .before .before .pre .0 .0) in (r .ring-high, r .repeats-high)
+second-sized-requires c κs = let r = c .before .before .before .before .before .before .before .before .before .before .before .pre .0 .0 in (r .ring-high, r .repeats-high)
 
 returns-2 : tie.Need-returns-2
 unfolding inputsSized

@@ -5,6 +5,7 @@ use native.Mathlib.Omega.{arith}
 use borrow.Author.Needs.{needs}
 use borrow.Author.Tests.{le-leb}
 use Rattle.session_progress.specs.Progress.{inLimits}
+use Rattle.sheet_numbers.proofs.Ranges.{range-exactly, sound-exactly}
 use Rattle.session_progress.proofs.Limits.{beyond}
 use Rattle.session_progress.proofs.Progress.is_valid.Statement.{statement}
 use Rattle.session_progress.proofs.Progress.is_valid.Tie as tie
@@ -13,13 +14,13 @@ returns : tie.Need-returns
 returns c = sym (beyond _ _ (λ w. omega (arith, w .phase)))
 
 returns-2 : tie.Need-returns-2
-returns-2 c = sym (beyond _ _ (λ w. true≢false (sym (c .if2 .taken) ∙ c .before .outside .ensures ∙ w .ranged)))
+returns-2 c = sym (beyond _ _ (λ w. true≢false (sym (c .if2 .taken) ∙ c .before .outside .ensures ∙ range-exactly _ .1 (w .inside))))
 
 unsound-requires : tie.Need-unsound-requires
 unsound-requires c κs = sym (c .before .outside .ensures) ∙ c .if2 .left
 
 returns-3 : tie.Need-returns-3
-returns-3 c = sym (beyond _ _ (λ w. true≢false (sym (c .if3 .taken) ∙ c .before .unsound .ensures ∙ w .sound)))
+returns-3 c = sym (beyond _ _ (λ w. true≢false (sym (c .if3 .taken) ∙ c .before .unsound .ensures ∙ sound-exactly _ .1 (w .sound))))
 
 returns-4 : tie.Need-returns-4
 returns-4 c = sym (beyond _ _ (λ w. omega (arith, w .used)))
