@@ -15,4 +15,4 @@ pub sheet-sound : (text : Bytes) (k : Numbers) → reading text ≡ Taken k → 
 sheet-sound text k e =
     let t = taken text e in
     let u = usable k (t .ranged) (t .sound) in
-    sound (k .modulus) (plain k) (noiseOf k) (k .drown) (u .odd) (omega (arith, u .plain-low)) (u .apart) (t .sound .noise-fits)
+    sound (k .modulus) (plain k) (noiseOf k) (k .drown) (u .odd) (omega (arith, t .ranged .plain-low)) (u .apart) (t .sound .noise-fits)

@@ -13,72 +13,48 @@ use Rattle.bgv.proofs.Ballot.{honest-noise, honest-decrypts}
 use Rattle.round.specs.Round.{Round, roundTests}
 use Rattle.round.specs.Accepted.{Accepted}
 use Rattle.round.specs.Extractor.{Openings}
-use Rattle.round.specs.Refuses.{OfLent}
+use Rattle.round.specs.Lending.{OfLent}
 use Rattle.round.proofs.Passed.{producer-exactly}
 use Rattle.round.proofs.Accepted.{none-exactly, honest-accepted}
 use Rattle.round.proofs.OpeningsAccepted.{openings-exactly}
 use Rattle.round.proofs.Extraction.{extraction}
 use Rattle.round.proofs.ExtractionHashed.{hashed}
 use Rattle.round.proofs.ExtractionOutput.{output, lowest}
-use Rattle.round.proofs.Refuses.{parts-exactly, refuses-exactly, takes-accepted, refuses-alike, lending}
+use Rattle.round.proofs.Refuses.{takes-accepted, lending}
 use Rattle.round_lengths.specs.Sheets.{ballotsIn}
-use Rattle.session.specs.Machine.{state, reply}
-use Rattle.session_image.specs.Image.{decode}
-use Rattle.session_image.specs.Images.{hostReply}
 use Rattle.session_histories.specs.Examples.{all-examples}
 use Rattle.session_histories.proofs.Valid.{sheet-exactly}
-use Rattle.session_histories.proofs.Checked.{step-exactly}
 use Rattle.claims.proofs.HostClaims.{host-stays-out, host-roll-is-batch, host-own-register, host-rounds-checked, host-ended-accepted, host-bound, host-honest-accepted, host-stays-valid, host-only-phase-or-round}
 use Rattle.claims.proofs.Papers.{sound, distributed, digest-of-bits, tables}
 use Rattle.claims.proofs.Together.{decrypts-together}
-use Rattle.claims.proofs.Replies.{replies-told}
 use Rattle.claims.proofs.AnySession.{any-session}
 use Rattle.claims.proofs.Endings.{refusal-ends, begun, scratch-zeroed}
-use Rattle.claims.proofs.Decided.{first-decides, orders-as-written}
+use Rattle.claims.proofs.Orders.{orders-as-written}
 use Rattle.claims.proofs.FromCalls.{from-calls, turns-come}
 use Rattle.claims.proofs.SomeElection.{some-election}
-use Rattle.claims.proofs.Images.{over-image}
-use Rattle.claims.proofs.Exactly.{calls-exactly}
+use Rattle.claims.proofs.Calls.{every-call}
 use Rattle.claims.proofs.Yields.{extractor-takes}
-use Rattle.claims.proofs.Produces.{positive, fits, first-exactly, second-call-exactly}
+use Rattle.claims.proofs.Produces.{positive, fits}
 use Rattle.claims.proofs.Extracts.{extractor-exactly, lent-takes}
-use Rattle.claims.specs.Demands.{SheetExactly, StepExactly, HonestBallots, Demand2, ExtractorExactly, Extracts, Yields, ExtractorTakes, AcceptedYields, RoundsYield, RefusesAsChecks, ProducerWrites, HonestRounds, Demand3}
+use Rattle.claims.specs.Demands.{HonestBallots, Demand2, Extracts, Yields, ExtractorTakes, AcceptedYields, RoundsYield, HonestRounds, Demand3}
 use Rattle.commitment.specs.Parameters.{parametersOf}
 
--- ---- over an image
-
-steps : StepExactly
-unfolding hostReply
-steps x image register lent = over-image image (λ s. reply x (state s register)) (step-exactly x (state (decode image) register) lent)
-
 -- ---- over a sheet that is taken
-
-sheets : SheetExactly
-sheets text =
-    let t = taken-exactly (order text) in
-    let s = sheet-exactly text in
-    (λ e. s .0 (t .0 e), λ h. t .1 (s .1 h))
 
 honest-ballots : HonestBallots
 honest-ballots text sheet s e r e1 e2 m ss se sr s1 s2 message matches =
     let P = parametersOf text in
-    let ok = sound text sheet in (
+    let ok = sound text (taken-exactly (order text) .1 (sheet-exactly text .1 sheet)) in (
       honest-noise ok (omega arith) (P .a) (P .b) s e r e1 e2 m ss se sr s1 s2 message matches,
       honest-decrypts ok (omega arith) (P .a) (P .b) s e r e1 e2 m ss se sr s1 s2 message matches,
     )
 
 honest-rounds : HonestRounds
 honest-rounds text sheet m x sized suitable side low challenges size valid =
-    let r = sheet-exactly text .0 (taken-exactly (order text) .0 sheet) .inside in
+    let r = sheet .inside in
     let none = producer-exactly (parametersOf text) m x (omega (arith, r .modulus-low)) (omega (arith, r .modulus-high)) .1 suitable in
-    honest-accepted (parametersOf text) m x (sound text sheet) (omega (arith, r .modulus-low)) (omega (arith, r .modulus-high)) sized none side low
+    honest-accepted (parametersOf text) m x (sound text (taken-exactly (order text) .1 (sheet-exactly text .1 sheet))) (omega (arith, r .modulus-low)) (omega (arith, r .modulus-high)) sized none side low
     challenges size valid
-
-producer-writes : ProducerWrites
-producer-writes text x = (first-exactly text x, second-call-exactly text x)
-
-extractor : ExtractorExactly
-extractor text x out scratch octets = extractor-exactly text x out scratch octets
 
 extracts : Extracts
 extracts text x out scratch octets o1 o2 o3 e =
@@ -115,16 +91,11 @@ rounds-yield text x opens answers sheet o1 o2 o3 few lent lending within opened 
     let taken : ExtractorTakes text x = λ out scratch o s. lent-takes text x out scratch sheet few lent o s none in
     found text x (lent .octets) o1 o2 o3 taken
 
-refuses-as-checks : RefusesAsChecks
-refuses-as-checks P m x opens answers lending = (refuses-exactly P m x opens answers lending, refuses-alike P m x opens answers lending)
-
 -- ---- the demands
 
 pub demand2 : Demand2
 demand2 = record {
-  sheet-exactly = sheets;
-  step-exactly = steps;
-  calls-exactly = calls-exactly;
+  every-call = every-call;
   rounds-checked = host-rounds-checked;
   ended-accepted = host-ended-accepted;
   bound = host-bound;
@@ -132,7 +103,6 @@ demand2 = record {
   refusal-ends = refusal-ends;
   clear-begins = begun;
   scratch-zeroed = scratch-zeroed;
-  first-decides = first-decides;
   orders-as-written = orders-as-written;
   honest-ballots = honest-ballots;
   distributed = distributed;
@@ -140,16 +110,12 @@ demand2 = record {
   digest-of-bits = digest-of-bits;
   tables-by-rule = tables;
   examples = all-examples;
-  replies-told = replies-told;
 }
 
 pub demand3 : Demand3
 demand3 = record {
   accepted-yields = accepted-yields;
   extracts = extracts;
-  extractor-exactly = extractor;
-  refuses-as-checks = refuses-as-checks;
-  check-parts = parts-exactly;
   lent-rounds = lending;
   rounds-yield = rounds-yield;
   honest-accepted = host-honest-accepted;
@@ -158,7 +124,6 @@ demand3 = record {
   some-election = some-election;
   honest-rounds = honest-rounds;
   any-session = any-session;
-  producer-writes = producer-writes;
   stays-valid = host-stays-valid;
   only-phase-or-round = host-only-phase-or-round;
   roll-is-batch = host-roll-is-batch;

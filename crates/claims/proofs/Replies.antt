@@ -2,21 +2,18 @@
 use mathlib.Core.Path.{_≡_, refl, sym, ap₂}
 use mathlib.Core.Bool.{Bool, true, false, cond, not, _&&_, _||_}
 use mathlib.Core.List.{List, [], _∷_, _++_}
-use Prim.Native.Nat.{ℕ, zero, suc, _*_, _/_, _%_, _^_, _<_}
+use Prim.Native.Nat.{ℕ, zero, suc, _*_, _/_, _%_, _<_}
 use native.Mathlib.Omega.{arith}
 use borrow.Author.Tests.{ltb-true}
 use lib.Dec.{eqb, ltb}
 use lib.ListN.{length}
 use Rattle.codec.specs.Bytes.{Bytes}
-use Rattle.codec.specs.Reply.{Test, first}
+use Rattle.codec.specs.Reply.{Test, first, packed}
 use Rattle.codec.proofs.Laws.{both}
 use Rattle.codec.specs.declared.Reply.{Reply}
 use Rattle.codec.specs.declared.Reply.the-variants.{Taken, Refused}
 use Rattle.codec.proofs.Replies.{not-taken}
 use Rattle.sheet.specs.Sheet.{order}
-use Rattle.round_tests.specs.Opened.{openedPlace}
-use Rattle.sha3.specs.Digest.{digestReply}
-use Rattle.sheet.specs.Calls.{describeReply}
 use Rattle.register.specs.Register as entries
 use Rattle.ring.specs.Poly.{Poly}
 use Rattle.commitment.specs.Commitment.{Keys}
@@ -25,29 +22,29 @@ use Rattle.round.specs.Layout.{Opening, joined, pairsOf, digestsAt, answerAt}
 use Rattle.round.specs.Round.{Round, challengeAt, votesTests, answersTests, roundTests}
 use Rattle.round.specs.Producer.{Material, maskTests, permutationTests, noiseTests, producerTests}
 use Rattle.round.specs.Extractor.{Openings, open0, open1, sideTests, extractTests}
-use Rattle.round_lengths.specs.Calls.{firstTests, secondTests, openingsTests}
 use Rattle.commitment.specs.Parameters.{Parameters, parametersOf}
 use Rattle.round_extract.specs.Extraction.{answered, extraction}
-use Rattle.round_produce.specs.Replies.{firstReply, secondReply}
-use Rattle.round_extract.specs.Replies.{extractReply}
 use Rattle.session_check.specs.Check.{storedTests, earlyTests, lateTests}
 use Rattle.session.specs.declared.Session.{Session}
 use Rattle.session.specs.Session.{valid}
-use Rattle.session.specs.Steps.{clearTests, admitTests, withdrawTests, closeTests, claimTests, commitTests, drawTests, checkEarly, checkLate, checkTests, challengesTests, turnoutTests, turnoutBy}
+use Rattle.session.specs.Steps.{clearTests, admitTests, withdrawTests, closeTests, claimTests, commitTests, drawTests, checkEarly, checkLate, checkTests, turnoutTests, turnoutBy}
 use Rattle.session_image.specs.Image.{imageLength, decode}
-use Rattle.session_image.specs.Images.{Host, lentReply, hostReply, challengesReply, turnoutReply, turnoutAnswer, countedAnswer}
+use Rattle.session_image.specs.Images.{Host, lentReply, hostReply, turnoutReply, turnoutAnswer, countedAnswer}
 use Rattle.session.specs.Machine.{Step, clear, admit, withdraw, close, claim, commit, draw, check, State, state, reply}
-use Rattle.claims.specs.Replies.{Told, Packed, RepliesTold}
+use Rattle.claims.specs.Calls.{Told}
 use Rattle.session_check.specs.Stored.{Inputs}
+
+abbrev pub Packed : Reply → Type 0
+Packed reply = Told reply (packed reply)
 
 -- ---- orders
 
 -- whether the number of each test is one of 1 to 255
-abbrev numbered : List Test → Bool
+abbrev pub numbered : List Test → Bool
 numbered [] = true
 numbered (t ∷ ts) = ltb 0 (t .number) && (ltb (t .number) 256 && numbered ts)
 
-abbrev Numbered : List Test → Type 0
+abbrev pub Numbered : List Test → Type 0
 Numbered ts = numbered ts ≡ true
 
 append : (rs ts : List Test) → Numbered rs → Numbered ts → Numbered (rs ++ ts)
@@ -74,7 +71,7 @@ told-refused n p low high = record {
       (omega arith, omega arith);
 }
 
-told : (ts : List Test) → Numbered ts → Packed (first ts)
+pub told : (ts : List Test) → Numbered ts → Packed (first ts)
 unfolding first
 told [] h = told-taken 0
 told (t ∷ ts) h =
@@ -88,14 +85,14 @@ told (t ∷ ts) h =
 
 -- ---- the calls that are lent the sheet
 
-in-order : (text : Bytes) → Numbered (order text)
+pub in-order : (text : Bytes) → Numbered (order text)
 in-order text = refl
 
 -- a call's own order after the sheet's
-behind : (text : Bytes) (ts : List Test) → Numbered ts → Packed (first (order text ++ ts))
+pub behind : (text : Bytes) (ts : List Test) → Numbered ts → Packed (first (order text ++ ts))
 behind text ts h = told (order text ++ ts) (append (order text) ts (in-order text) h)
 
-in-producer : (P : Parameters) (m : ℕ) (x : Material) (asked : Bool) → Numbered (producerTests P m x asked)
+pub in-producer : (P : Parameters) (m : ℕ) (x : Material) (asked : Bool) → Numbered (producerTests P m x asked)
 unfolding producerTests
 in-producer P m x asked =
     append (maskTests (P .N) (P .B) m (x .masks0) (x .masks1)) _ (of-each m _ (λ j. refl))
@@ -115,26 +112,26 @@ in-answer q N k c d place challenge answer = go (eqb challenge 1) (eqb challenge
     go false true = refl
     go false false = refl
 
-in-extract : (P : Parameters) (m : ℕ) (x : Openings) → Numbered (extractTests P m x)
+pub in-extract : (P : Parameters) (m : ℕ) (x : Openings) → Numbered (extractTests P m x)
 unfolding extractTests
 in-extract P m x =
     append (sideTests P m (x .head) (x .ballots) (x .claims) (x .shares0) (x .shares1) 0 (x .shares0) (open0 P m x)) _ (in-side P m (x .head) (x .ballots) (x .claims) (x .shares0) (x .shares1) 0 (x .shares0) (open0 P m x))
     (append (sideTests P m (x .head) (x .ballots) (x .claims) (x .shares0) (x .shares1) 1 (x .shares1) (open1 P m x)) _ (in-side P m (x .head) (x .ballots) (x .claims) (x .shares0) (x .shares1) 1 (x .shares1) (open1 P m x))
     refl)
 
-extract-told : (reply : Reply) (kind : ℕ) → Packed reply → Told reply (answered (extraction reply kind))
+pub extract-told : (reply : Reply) (kind : ℕ) → Packed reply → Told reply (answered (extraction reply kind))
 unfolding extraction
 extract-told Taken kind p = told-taken kind
 extract-told (Refused number place) kind p = p
 
-extract-value : (reply : Reply) (kind : ℕ) → reply ≡ Taken → answered (extraction reply kind) / 256 ≡ kind
+pub extract-value : (reply : Reply) (kind : ℕ) → reply ≡ Taken → answered (extraction reply kind) / 256 ≡ kind
 unfolding extraction
 extract-value Taken kind e = omega arith
 extract-value (Refused number place) kind e = not-taken number place e
 
 -- ---- the calls that are lent an image
 
-lent : (image : Bytes) (R : Session → Reply) → ((s : Session) → Packed (R s)) → Packed (lentReply image R)
+pub lent : (image : Bytes) (R : Session → Reply) → ((s : Session) → Packed (R s)) → Packed (lentReply image R)
 lent image R h = go (eqb (length image) imageLength)
   where
     go : (b : Bool) → Packed (cond b (R (decode image)) (Refused 1 0))
@@ -162,12 +159,12 @@ step-told (commit k head shares0 shares1) st = told (commitTests (st .session) k
 step-told (draw seed) st = told (drawTests (st .session) seed) refl
 step-told (check k x) st = told (checkTests (st .session) k x) (in-check (st .session) k x)
 
-host-told : (x : Step) (h : Host) → Packed (hostReply x h)
+pub host-told : (x : Step) (h : Host) → Packed (hostReply x h)
 unfolding hostReply
 host-told x h = lent (h .image) (λ s. reply x (state s (h .register))) (λ s. step-told x (state s (h .register)))
 
 -- a count that is refused names no place, and none of its tests has one
-turnout-told : (image reg : Bytes) (enrolled : ℕ) → Told (turnoutReply image reg enrolled) (turnoutAnswer image reg enrolled)
+pub turnout-told : (image reg : Bytes) (enrolled : ℕ) → Told (turnoutReply image reg enrolled) (turnoutAnswer image reg enrolled)
 unfolding turnoutReply turnoutAnswer turnoutTests first
 turnout-told image reg enrolled =
     go (eqb (length image) imageLength) (not (valid (decode image))) (not (eqb (length reg) entries.registerLength)) (ltb enrolled 1 || ltb 1000000 enrolled)
@@ -185,34 +182,11 @@ counted-value : (reply : Reply) (thousandths : ℕ) → reply ≡ Taken → coun
 counted-value Taken thousandths e = omega arith
 counted-value (Refused number place) thousandths e = not-taken number place e
 
-turnout-value : (image reg : Bytes) (enrolled : ℕ) → turnoutReply image reg enrolled ≡ Taken
+pub turnout-value : (image reg : Bytes) (enrolled : ℕ) → turnoutReply image reg enrolled ≡ Taken
     → turnoutAnswer image reg enrolled / 256 ≡ entries.turnout reg (decode image .progress .used) enrolled
 unfolding turnoutAnswer
 turnout-value image reg enrolled taken = counted-value (turnoutReply image reg enrolled) (entries.turnout reg (decode image .progress .used) enrolled) taken
 
-value-or-none : (b : Bool) (v : ℕ) → cond b (256 * v) 0 % 256 ≡ 0
+pub value-or-none : (b : Bool) (v : ℕ) → cond b (256 * v) 0 % 256 ≡ 0
 value-or-none true v = omega arith
 value-or-none false v = refl
-
-pub replies-told : RepliesTold
-unfolding digestReply describeReply firstReply secondReply firstTests secondTests extractReply openingsTests challengesReply challengesTests
-replies-told = record {
-  digest = λ out. told _ refl;
-  sheet = λ text out. told _ refl;
-  keygen = λ text s e b scratch. behind text _ refl;
-  encrypt = λ text r e1 e2 m ciphertext scratch. behind text _ refl;
-  decrypt = λ text s ciphertext vote scratch. behind text _ refl;
-  split = λ text s e s0 e0 out scratch. behind text _ refl;
-  share = λ text half u mask t scratch. behind text _ refl;
-  reconstruct = λ text v t0 t1 vote scratch. behind text _ refl;
-  commitment = λ text m r pair scratch. behind text _ refl;
-  produce-first = λ text x room. behind text _ (in-producer (parametersOf text) _ x true);
-  produce-second = λ text x side challenges room. behind text _ (in-producer (parametersOf text) _ x _);
-  extract = λ text x room. extract-told _ _ (behind text _ (in-extract (parametersOf text) _ x));
-  extract-value = λ text x room. extract-value _ _;
-  opened-share = λ side N length0 length1 j. value-or-none (ltb (openedPlace side N length0 length1 j) (2 ^ 56)) (openedPlace side N length0 length1 j);
-  step = host-told;
-  challenges = λ image round out. lent image (λ s. first (challengesTests s round out)) (λ s. told (challengesTests s round out) refl);
-  turnout = turnout-told;
-  turnout-value = turnout-value;
-}

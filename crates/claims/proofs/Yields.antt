@@ -20,7 +20,7 @@ use Rattle.round.specs.Layout.{answersLength}
 use Rattle.round.specs.Round.{Round, challengeAt, roundTests}
 use Rattle.round.specs.Internal.{Lengths}
 use Rattle.round.specs.Extractor.{Openings, extractRoom, Lent, extractTests}
-use Rattle.round.specs.Refuses.{openingBy, answerBy, OfLent, OpensLent, AnswersLent}
+use Rattle.round.specs.Lending.{openingBy, answerBy, OfLent, OpensLent, AnswersLent}
 use Rattle.round.proofs.Answers.{answersLength-more, prefix-le}
 use Rattle.round.proofs.Many.{for-sides, for-challenges, append-none}
 use Rattle.round.proofs.Refuses.{takes-accepted}

@@ -3,63 +3,45 @@
 -- 1. Any bytes, numbers or session lent to any entry point get an outcome and no fault. No exported call has a `requires`, and each contract gives the reply and every lent byte:
 --    that every contract is proved is this demand.
 use mathlib.Core.Path.{_≡_}
-use mathlib.Core.Logic.{_↔_}
 use mathlib.Core.List.{map}
 use Prim.Native.Nat.{ℕ, _*_, _≤_, _<_}
 use lib.ListN.{length, getD}
 use Rattle.codec.specs.Bytes.{Bytes, Octets}
-use Rattle.codec.specs.Reply.{None, first}
-use Rattle.codec.specs.declared.Reply.the-variants.{Taken, Refused}
+use Rattle.codec.specs.declared.Reply.the-variants.{Taken}
 use Rattle.ring.specs.Poly.{Poly, Alike}
-use Rattle.sheet.specs.Sheet.{order}
 use Rattle.scratch.specs.Call.{scratchLength}
 use Rattle.bgv.specs.Scheme.{Small, key, cipher-u, cipher-v, opened, decrypted}
 use Rattle.bgv.specs.Examples.{Example}
-use Rattle.round.specs.Round.{Round, roundTests}
+use Rattle.round.specs.Round.{Round}
 use Rattle.round.specs.Accepted.{Accepted}
 use Rattle.round.specs.Producer.{Material, MaterialSized, producedRound}
 use Rattle.round.specs.Suitable.{Suitable}
 use Rattle.round.specs.Extractor as extractor
-use Rattle.round.specs.Extractor.{Openings, extractRoom, extractTests, kind, extracted, Found, Hashed, Lowest, Output}
-use Rattle.round.specs.Refuses.{openingTests, repetitionTests, OpensLent, AnswersLent, lentRound, Lending, ChecksTake, ChecksRefuse}
+use Rattle.round.specs.Extractor.{Openings, extractRoom, kind, extracted, Found, Hashed, Lowest, Output}
+use Rattle.round.specs.Lending.{OpensLent, AnswersLent, lentRound, Lending}
 use Rattle.round_lengths.specs.Sheets.{ballotsIn}
-use Rattle.round.specs.Writes.{firstRoom, secondRoom}
-use Rattle.round_produce.specs.Replies.{firstReply, secondReply}
 use Rattle.round_extract.specs.Replies.{extractReply}
 use Rattle.commitment.specs.Parameters.{Parameters, parametersOf}
 use Rattle.session.specs.Steps.{storedFor}
-use Rattle.session.specs.Machine.{Step, check, state}
-use Rattle.session_image.specs.Image.{imageLength, decode}
+use Rattle.session.specs.Machine.{check}
+use Rattle.session_image.specs.Image.{decode}
 use Rattle.session_image.specs.Images.{host, hostReply}
-use Rattle.session_histories.specs.Conditions.{SheetTaken, HeadIsBytes, Takes}
+use Rattle.session_histories.specs.Conditions.{SheetTaken}
 use Rattle.session_histories.specs.Examples.{all-rows}
 use Rattle.claims.specs.Papers.{Distributed, DecryptsTogether, DigestOfBits, TablesByRule}
-use Rattle.claims.specs.Produces.{WritesFirst, WritesSecond}
-use Rattle.claims.specs.Extracts.{TakesOpenings}
-use Rattle.claims.specs.Exactly.{CallsExactly}
+use Rattle.claims.specs.Calls.{EveryCall}
 use Rattle.claims.specs.HostClaims.{HostStaysOut, HostRollIsBatch, HostOwnRegister, HostRoundsChecked, HostEndedAccepted, HostBound, HostHonestAccepted, HostStaysValid, HostOnlyPhaseOrRound}
-use Rattle.claims.specs.Replies.{RepliesTold}
 use Rattle.claims.specs.AnySession.{AnySession}
 use Rattle.claims.specs.Endings.{RefusalEnds, ClearBegins, ScratchZeroed}
-use Rattle.claims.specs.Decided.{FirstDecides, OrdersAsWritten}
+use Rattle.claims.specs.Orders.{OrdersAsWritten}
 use Rattle.claims.specs.FromCalls.{FromCalls, TurnsCome, SomeElection}
 use Rattle.session_check.specs.Stored.{Inputs, drawnRound}
 
 -- ---- 2. Everything equals the papers, a round is accepted exactly if every listed check holds, and a withdrawn mark is in no closed batch.
 
--- a sheet is taken exactly if all of `SheetTaken` holds
-abbrev pub SheetExactly : Type 0
-SheetExactly = (text : Bytes) → (first (order text) ≡ Taken) ↔ SheetTaken text
-
--- a step is taken exactly if the image has its length and its conditions hold of the session in it: a check in every round if all of `Checks` holds, a ballot is admitted if all of
--- `Admits` does, where "full" means 4,096 entries, and so on; the head of a first message that a check is lent is bytes
-abbrev pub StepExactly : Type 0
-StepExactly = (x : Step) (image register : Bytes) → HeadIsBytes x
-    → (hostReply x (host image register) ≡ Taken) ↔ ((length image ≡ imageLength) × Takes x (state (decode image) register))
-
 -- a ballot made with short r, e' and e'' under a key that matches the sheet's b has noise within D, and decrypts to its message
 abbrev pub HonestBallots : Type 0
-HonestBallots = (text : Bytes) → first (order text) ≡ Taken
+HonestBallots = (text : Bytes) → SheetTaken text
     → let P = parametersOf text in
     (s e r e1 e2 m : Poly) → Small (P .q) (P .N) 1 s → Small (P .q) (P .N) 1 e → Small (P .q) (P .N) 1 r → Small (P .q) (P .N) 1 e1 → Small (P .q) (P .N) 1 e2
     → ((i : ℕ) → i < P .N → m i < P .p) → Alike (P .q) (P .N) (key (P .q) (P .N) (P .p) (P .a) s e) (P .b)
@@ -72,10 +54,8 @@ abbrev pub Examples : Type 0
 Examples = map (λ (x : Example). x .got) all-rows ≡ map (λ (x : Example). x .said) all-rows
 
 pub record Demand2 : Type 0 where
-  pub sheet-exactly : SheetExactly
-  pub step-exactly : StepExactly
-  -- and each of the other calls that Demand3 does not speak of: keygen, encrypt, decrypt, split, share, reconstruct, commitment, challenges, turnout, those of a digest and a sheet, and that of the opened share, which refuses nothing
-  pub calls-exactly : CallsExactly
+  -- each call is taken exactly under its conditions, the first case that holds in its order decides number and place, no refusal comes otherwise, and the number that C is answered tells so
+  pub every-call : EveryCall
   -- over every list of calls from a clear that is taken: a round that a session counts as checked has had its check, and of a session that ended accepted every round has
   pub rounds-checked : HostRoundsChecked
   pub ended-accepted : HostEndedAccepted
@@ -87,8 +67,6 @@ pub record Demand2 : Type 0 where
   -- where a session starts, and what becomes of scratch
   pub clear-begins : ClearBegins
   pub scratch-zeroed : ScratchZeroed
-  -- of every call the first case that holds in its order decides number and place, and no refusal comes otherwise
-  pub first-decides : FirstDecides
   pub orders-as-written : OrdersAsWritten
   pub honest-ballots : HonestBallots
   -- split keys add up, a mask worked out is the mask, reconstruction of two shares equals decryption; and SHA3-256 is FIPS 202's over bits
@@ -97,8 +75,6 @@ pub record Demand2 : Type 0 where
   pub digest-of-bits : DigestOfBits
   pub tables-by-rule : TablesByRule
   pub examples : Examples
-  -- of every reply that a call gives, the remainder by 256 is 0 exactly if the call is taken, and else the number of the refusal; the quotient is its place, or the value of a call that has one
-  pub replies-told : RepliesTold
 
 -- ---- 3. Two accepted openings and three accepted answers yield a hash collision, a short commitment vector or the key, and every honest round is accepted whatever is drawn.
 
@@ -112,10 +88,6 @@ Yields text x =
 -- the extractor takes it, lent room and scratch of the right lengths
 abbrev pub ExtractorTakes : (text : Bytes) → Openings → Type 0
 ExtractorTakes text x = (out scratch : Bytes) → length out ≡ 24 * parametersOf text .N → length scratch ≡ scratchLength → extractReply text x (extractRoom out scratch) ≡ Taken
-
--- the extractor takes what it is lent exactly if all of `TakesOpenings` holds
-abbrev pub ExtractorExactly : Type 0
-ExtractorExactly = (text : Bytes) (x : Openings) (out scratch : Bytes) → Octets (x .head) → (extractReply text x (extractRoom out scratch) ≡ Taken) ↔ TakesOpenings text x out scratch
 
 -- where the extractor does not refuse, it finds one of the three
 abbrev pub Extracts : Type 0
@@ -150,17 +122,7 @@ AcceptedYields = (text : Bytes) (x : Openings) → Octets (x .head) → Octets (
     → AcceptedOpening text x 0 → AcceptedOpening text x 1 → AcceptedAnswer text x 1 → AcceptedAnswer text x 2 → AcceptedAnswer text x 3
     → Yields text x × ExtractorTakes text x
 
--- the extractor refuses exactly where the checks of those openings and answers would, and then as one of them does
-abbrev pub RefusesAsChecks : Type 0
-RefusesAsChecks = (P : Parameters) (m : ℕ) (x : Openings) (opens answers : ℕ → Round) → Lending P m x opens answers
-    → (None (extractTests P m x) ↔ ChecksTake P m x opens answers)
-    × ((number place : ℕ) → first (extractTests P m x) ≡ Refused number place → ChecksRefuse P m x opens answers number place)
-
--- those tests of openings and answers are the parts of a check: it refuses nothing exactly if it refuses nothing of the opening and nothing of any repetition's answer
-abbrev pub CheckParts : Type 0
-CheckParts = (P : Parameters) (m : ℕ) (r : Round) → None (roundTests P m r) ↔ (None (openingTests P m r) × ((i : ℕ) → i < P .repeats → None (repetitionTests P m r i)))
-
--- there are such checks, of whatever is lent in the right lengths
+-- there are rounds that open each side and answer each challenge as lent, of whatever is lent in the right lengths
 abbrev pub LentRounds : Type 0
 LentRounds = (P : Parameters) (m : ℕ) (x : Openings) → extractor.Lent P m x → x .repetition < P .repeats → Lending P m x (λ i. lentRound P x i 1) (λ c. lentRound P x 0 c)
 
@@ -173,26 +135,17 @@ RoundsYield = (text : Bytes) (x : Openings) (opens answers : ℕ → Round) → 
     → ((i : ℕ) → i < 2 → Accepted P m (opens i)) → ((c : ℕ) → 1 ≤ c → c ≤ 3 → Accepted P m (answers c))
     → Yields text x × ExtractorTakes text x
 
--- the producer writes a round from all material that meets none of its refusals: its first message, and what answers a side and challenges
-abbrev pub ProducerWrites : Type 0
-ProducerWrites = (text : Bytes) (x : Material)
-    → ((head shares0 shares1 claims scratch : Bytes) → (firstReply text x (firstRoom head shares0 shares1 claims scratch) ≡ Taken) ↔ WritesFirst text x head shares0 shares1 claims scratch)
-    × ((side : ℕ) (challenges opening answers scratch : Bytes)
-    → (secondReply text x side challenges (secondRoom opening answers scratch) ≡ Taken) ↔ WritesSecond text x side challenges opening answers scratch)
-
--- its round is accepted, that is, meets none of 5 to 13, with any side and challenges in range
+-- the producer's round is accepted, that is, meets none of 5 to 13, with any side and challenges in range
 abbrev pub HonestRounds : Type 0
-HonestRounds = (text : Bytes) → first (order text) ≡ Taken
+HonestRounds = (text : Bytes) → SheetTaken text
     → let P = parametersOf text in
     (m : ℕ) (x : Material) → MaterialSized P m x → Suitable P m x → (side : ℕ) → side < 2 → (challenges : Bytes) → length challenges ≡ P .repeats
     → ((i : ℕ) → i < P .repeats → (1 ≤ getD challenges i 0) × (getD challenges i 0 ≤ 3)) → Accepted P m (producedRound P m x side challenges)
 
+-- when the extractor takes, and when the producer writes, is said with the other calls: `extract`, `produce-first` and `produce-second` of `EveryCall`
 pub record Demand3 : Type 0 where
   pub accepted-yields : AcceptedYields
   pub extracts : Extracts
-  pub extractor-exactly : ExtractorExactly
-  pub refuses-as-checks : RefusesAsChecks
-  pub check-parts : CheckParts
   pub lent-rounds : LentRounds
   pub rounds-yield : RoundsYield
   -- over every list of calls from a clear that is taken, each lent any register: a round of the producer's that is lodged is accepted at its turn
@@ -205,7 +158,6 @@ pub record Demand3 : Type 0 where
   pub honest-rounds : HonestRounds
   -- and the check refuses it for none of those in any session, whatever bytes the image is
   pub any-session : AnySession
-  pub producer-writes : ProducerWrites
   -- no call of such a list meets 31 but for wrong phase or round
   pub stays-valid : HostStaysValid
   pub only-phase-or-round : HostOnlyPhaseOrRound

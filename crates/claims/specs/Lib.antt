@@ -2,12 +2,12 @@ pub mod Papers
 pub mod Produces
 pub mod Extracts
 pub mod Scheme
-pub mod Exactly
+pub mod Queries
+pub mod Calls
 pub mod HostSteps
 pub mod HostClaims
 pub mod AnySession
 pub mod Endings
-pub mod Decided
+pub mod Orders
 pub mod FromCalls
-pub mod Replies
 pub mod Demands

@@ -33,7 +33,7 @@ module _ {text public : Bytes} {k : Numbers} (h : Lent text public k) (from long
 
   pub lent-keys : PublicKeys n (k .modulus) keys
   lent-keys = record {
-    sized = length-part public from long (omega (arith, h .sized, h .ranged .ring-high)) ∙ ends;
+    sized = length-part public from long (omega (arith, h .sized, h .ranged .in-range .ring-high)) ∙ ends;
     one = subst (Polynomial n (k .modulus)) (sym (third 0 (omega arith))) (h .polynomial 2 (from + 0) (8 * n) (omega arith) (omega arith) refl);
     two = subst (Polynomial n (k .modulus)) (sym (third (8 * n) (omega arith))) (h .polynomial 3 (from + 8 * n) (8 * n) (omega arith) (omega arith) refl);
     three = subst (Polynomial n (k .modulus)) (sym (third (16 * n) (omega arith))) (h .polynomial 4 (from + 16 * n) (8 * n) (omega arith) (omega arith) refl);
@@ -48,7 +48,7 @@ sheet-loaded {text} {public} {k} h =
       a = h .polynomial 0 0 (8 * n) (omega arith) (omega arith) refl;
       b = h .polynomial 1 (8 * n) (8 * n) (omega arith) (omega arith) refl;
       keys = lent-keys h (16 * n) (24 * n) refl refl;
-      sized = omega (arith, h .sized, h .ranged .ring-high);
+      sized = omega (arith, h .sized, h .ranged .in-range .ring-high);
     }
 
 -- ---- the parameters

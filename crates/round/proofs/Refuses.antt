@@ -17,7 +17,8 @@ use Rattle.stern.specs.Shortness.{answerLength, inRange, answerTests}
 use Rattle.round.specs.Layout.{joined, answerAt}
 use Rattle.round.specs.Round.{Round, challengeAt, isChallenge, openingRanged, answersRanged, ranged, splits, roundTests}
 use Rattle.round.specs.Extractor.{Openings, Lent, pairs, digests, open0, open1, lentRanged, sideTests, extractTests}
-use Rattle.round.specs.Refuses.{openedRanged, openingTests, repetitionTests, openingBy, answerBy, OfLent, OpensLent, AnswersLent, lentRound, Lending, ChecksTake, ChecksRefuse, no-repetition, opening, answer}
+use Rattle.round.specs.Lending.{openingBy, answerBy, OfLent, OpensLent, AnswersLent, lentRound, Lending}
+use Rattle.round.specs.Internal.{openedRanged, openingTests, repetitionTests, ChecksTake, ChecksRefuse, no-repetition, opening, answer}
 use Rattle.round.proofs.Answers.{answers-at}
 use Rattle.round.proofs.Ranged.{message, message-and}
 use Rattle.round.proofs.Orders.{swap, opening-order, answer-order, one-order, order-parts, parts-order, order-first}

@@ -1,19 +1,26 @@
 -- What the contracts of inner functions and the proofs go by: no exported contract and no claim cites this file. Assumes nothing.
 use mathlib.Core.Path.{_≡_}
-use Prim.Native.Nat.{ℕ, _*_, _<_}
-use mathlib.Core.Bool.{true}
+use Prim.Native.Nat.{ℕ, _*_, _≤_, _<_}
+use lib.Dec.{ltb}
+use mathlib.Core.Bool.{Bool, true, not, _&&_}
+use mathlib.Core.List.{List, _∷_}
 use lib.ListN.{length, getD}
 use Rattle.codec.specs.Bytes.{Bytes, zeros}
+use Rattle.codec.specs.Reply.{Test, test, first, None}
+use Rattle.codec.specs.declared.Reply.the-variants.{Refused}
+use Rattle.codec.specs.Lists.{allBelow}
+use Rattle.vector.specs.Vector.{vector}
 use Rattle.ring.specs.Poly.{Poly, Below}
 use Rattle.stern.specs.Argument.{Drawn}
-use Rattle.stern.specs.Shortness.{inRange}
-use Rattle.round.specs.Layout.{ballotLength, uAt, headLength, shareAt, answersLength, answerAt}
+use Rattle.stern.specs.Shortness.{inRange, answerTests}
+use Rattle.round.specs.Layout.{ballotLength, uAt, headLength, shareAt, answersLength, pairsOf, digestsAt, openingOf, answerAt}
 use denote.Ref.{RefT}
 use Rattle.codec.specs.Slices.{Slice, given}
 use Rattle.round.specs.Producer.{Material, materialOf, halfOf, sIn, eIn, hidesSIn, hidesEIn, drawnIn, committedPair, pairsBytes, openingBytes, answersBytes, producedHead, producedShares, producedClaims}
 use Rattle.round.specs.Writes.{FirstRoom, firstRoom, SecondRoom, secondRoom}
 use Rattle.commitment.specs.Parameters.{Parameters}
-use Rattle.round.specs.Round.{Round}
+use Rattle.round.specs.Round.{Round, challengeAt, isChallenge, sharesOf, ballotsRanged, openingRanged, headRanged, splitTest}
+use Rattle.round.specs.Extractor.{Openings, sideTests}
 use Rattle.sheet_numbers.specs.declared.Numbers.{Numbers}
 
 -- ---- what inner functions are given: ballots, claims, shares, challenges and answers that passed the tests of lengths and ranges
@@ -121,3 +128,48 @@ module _ (P : Parameters) (m : ℕ) where
     pub shares1 : length (r .shares1) ≡ 8 * N * m
     pub opening : length (r .opening) ≡ 22 * N
     pub answers : length (r .answers) ≡ answersLength N (r .challenges)
+
+-- ---- the tests of a check in two parts, in its order: of the opening, and of the answer in each repetition
+
+module _ (P : Parameters) (m : ℕ) (r : Round) where
+  open Parameters P using (q, N, p, k)
+
+  -- 5 but for challenges and answers
+  unfoldable pub openedRanged : Bool
+  openedRanged =
+      ltb (r .side) 2
+      && (ballotsRanged P m (r .ballots)
+      && (allBelow p (r .claims)
+      && (headRanged q N (r .head)
+      && (allBelow q (vector (r .shares0))
+      && (allBelow q (vector (r .shares1))
+      && openingRanged q N (r .opening))))))
+
+  -- of the opening: 5, 6, 7, 8; by ballot 12, 13
+  unfoldable pub openingTests : List Test
+  openingTests =
+      test 5 0 (not openedRanged)
+      ∷ splitTest P (r .head)
+      ∷ sideTests P m (r .head) (r .ballots) (r .claims) (r .shares0) (r .shares1) (r .side) (sharesOf r (r .side)) (openingOf N (r .opening))
+
+  -- of the answer in repetition i: 5, 9, 10, 11
+  unfoldable pub repetitionTests : ℕ → List Test
+  repetitionTests i =
+      let answer = answerAt N (r .challenges) (r .answers) i in
+      test 5 0 (not (isChallenge (challengeAt r i) && inRange q N (challengeAt r i) answer))
+      ∷ answerTests q N k (pairsOf N (r .head)) (digestsAt N (r .head) i) i (challengeAt r i) answer
+
+-- ---- checks of what the extractor is lent, by rounds that open each side and rounds that answer each challenge
+
+module _ (P : Parameters) (m : ℕ) (x : Openings) (opened answered : ℕ → Round) where
+  -- their checks refuse none of those openings and answers
+  pub record ChecksTake : Type 0 where
+    pub repetition : x .repetition < P .repeats
+    pub openings : (i : ℕ) → i < 2 → None (openingTests P m (opened i))
+    pub answers : (c : ℕ) → 1 ≤ c → c ≤ 3 → None (repetitionTests P m (answered c) (x .repetition))
+
+  -- one of them is refused so, or the repetition is out of range
+  pub data ChecksRefuse (number place : ℕ) : Type 0 where
+    no-repetition : P .repeats ≤ x .repetition → Refused 5 0 ≡ Refused number place → ChecksRefuse number place
+    opening : (i : ℕ) → i < 2 → first (openingTests P m (opened i)) ≡ Refused number place → ChecksRefuse number place
+    answer : (c : ℕ) → 1 ≤ c → c ≤ 3 → first (repetitionTests P m (answered c) (x .repetition)) ≡ Refused number place → ChecksRefuse number place

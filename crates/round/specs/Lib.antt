@@ -7,7 +7,7 @@ pub mod Lent
 pub mod Suitable
 pub mod Extractor
 pub mod OpeningsAccepted
-pub mod Refuses
+pub mod Lending
 pub mod RoundSlices
 pub mod Internal
 pub mod Vocabulary

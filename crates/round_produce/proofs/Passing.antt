@@ -48,7 +48,7 @@ module _ (k : Numbers) (s : Bytes) (x : Material) (public : Loaded k s) where
     sizes = material-sizes P count x e
 
     fit : Passed P count x
-    fit = let u = public .numbers in passed P count x asked t (u .ring-low) (u .ring-high) (u .modulus-low) (u .modulus-high) sizes
+    fit = let u = public .numbers in passed P count x asked t (u .in-range .ring-low) (u .in-range .ring-high) (u .in-range .modulus-low) (u .in-range .modulus-high) sizes
 
     drawings : Drawings q n (k .repeats) (x .secrets) (x .vectors) (x .permutations) (x .salts)
     drawings = record {

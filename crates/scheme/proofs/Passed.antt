@@ -41,10 +41,10 @@ module _ (k : Numbers) (u : Usable k) where
   q = k .modulus
 
   pub both-ranged : (x y : Bytes) → length x ≡ 8 * n → length y ≡ 8 * n → coefficientsBelow q n (x ∷ y ∷ []) ≡ true → Polynomial n q x × Polynomial n q y
-  both-ranged = two-ranged n q (u .ring-low) (u .ring-high) (u .modulus-low) (u .modulus-high)
+  both-ranged = two-ranged n q (u .in-range .ring-low) (u .in-range .ring-high) (u .in-range .modulus-low) (u .in-range .modulus-high)
 
   one-ranged : (x : Bytes) → length x ≡ 8 * n → allBelow q (list n (poly x)) ≡ true → Polynomial n q x
-  one-ranged = ranged n q (u .ring-low) (u .ring-high) (u .modulus-low) (u .modulus-high)
+  one-ranged = ranged n q (u .in-range .ring-low) (u .in-range .ring-high) (u .in-range .modulus-low) (u .in-range .modulus-high)
 
   pub share-passed : (x v m d w : Bytes) → Taken ≡ first (shareTests k x v m d w)
       → (Polynomial n q x × Polynomial n q v) × (length m ≡ 8 * n) × (length w ≡ 1048576) × (length d ≡ 8 * n)

@@ -198,18 +198,9 @@ module _ (k : Numbers) (i : NumbersInRange k) (s : NumbersSound k) where
 
   pub usable : Usable k
   usable = record {
-    ring-low = i .ring-low;
-    ring-high = i .ring-high;
-    ring-power = power-found 12 (k .ring) (i .ring-power .0) (low-power (k .ring) (i .ring-power .0) (i .ring-high) (i .ring-power .1)) (i .ring-power .1);
-    modulus-low = i .modulus-low;
-    modulus-high = i .modulus-high;
+    in-range = i;
+    ring-found = power-found 12 (k .ring) (i .ring-power .0) (low-power (k .ring) (i .ring-power .0) (i .ring-high) (i .ring-power .1)) (i .ring-power .1);
     odd = odd;
-    drown-high = i .drown-high;
-    rounds-low = i .rounds-low;
-    rounds-high = i .rounds-high;
-    repeats-high = i .repeats-high;
-    plain-low = i .plain-low;
-    plain-high = i .plain-high;
     plain-below = plain-below;
     apart = apart;
   }

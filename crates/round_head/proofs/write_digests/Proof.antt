@@ -56,7 +56,7 @@ add-at c =
     let p = c .before .before .before .before .before .before .before .before .before .before .before .before .before .before .before .before .before .pre in
     let l = c .before .before .before .before .before .before .before .before .loop in
     let k = a .k in
-    omega (arith, digests-end (k .modulus) (k .ring) (k .repeats) (lent k (a .public .now)) (a .secrets .now) (a .vectors .now) (a .permutations .now) (a .salts .now) (a .head .now) (p .2) (l .i) (l .at) (l .vector) (l .permutation) (l .salt) (l .head) (l .work) (l .inv) (omega arith) .1, p .0 .a .ring-high, p .0 .numbers .repeats-high)
+    omega (arith, digests-end (k .modulus) (k .ring) (k .repeats) (lent k (a .public .now)) (a .secrets .now) (a .vectors .now) (a .permutations .now) (a .salts .now) (a .head .now) (p .2) (l .i) (l .at) (l .vector) (l .permutation) (l .salt) (l .head) (l .work) (l .inv) (omega arith) .1, p .0 .a .ring-high, p .0 .numbers .in-range .repeats-high)
 
 mul-vector : tie.Need-mul-vector Inv-loop μ-loop
 mul-vector c = omega (arith, c .before .before .before .before .before .before .before .before .before .before .before .before .before .before .before .before .before .pre .0 .a .ring-high)
@@ -65,13 +65,13 @@ mul-permutation : tie.Need-mul-permutation Inv-loop μ-loop
 mul-permutation c = omega (arith, c .before .before .before .before .before .before .before .before .before .before .before .before .before .before .before .before .before .pre .0 .a .ring-high)
 
 add-vector : tie.Need-add-vector Inv-loop μ-loop
-add-vector c = let k = c .before .before .before .before .before .before .before .before .before .before .before .before .before .before .before .before .before .args .k in let p = c .before .before .before .before .before .before .before .before .before .before .before .before .before .before .before .before .before .pre .0 in let l = c .before .before .before .before .before .before .before .before .loop in omega (arith, placed-fit (k .ring) (k .repeats) (l .i) (l .vector) (l .permutation) (l .salt) (l .inv .placed) (omega arith) (p .a .ring-high) (p .numbers .repeats-high) .0)
+add-vector c = let k = c .before .before .before .before .before .before .before .before .before .before .before .before .before .before .before .before .before .args .k in let p = c .before .before .before .before .before .before .before .before .before .before .before .before .before .before .before .before .before .pre .0 in let l = c .before .before .before .before .before .before .before .before .loop in omega (arith, placed-fit (k .ring) (k .repeats) (l .i) (l .vector) (l .permutation) (l .salt) (l .inv .placed) (omega arith) (p .a .ring-high) (p .numbers .in-range .repeats-high) .0)
 
 add-permutation : tie.Need-add-permutation Inv-loop μ-loop
-add-permutation c = let k = c .before .before .before .before .before .before .before .before .before .before .before .before .before .before .before .before .before .args .k in let p = c .before .before .before .before .before .before .before .before .before .before .before .before .before .before .before .before .before .pre .0 in let l = c .before .before .before .before .before .before .before .before .loop in omega (arith, placed-fit (k .ring) (k .repeats) (l .i) (l .vector) (l .permutation) (l .salt) (l .inv .placed) (omega arith) (p .a .ring-high) (p .numbers .repeats-high) .1)
+add-permutation c = let k = c .before .before .before .before .before .before .before .before .before .before .before .before .before .before .before .before .before .args .k in let p = c .before .before .before .before .before .before .before .before .before .before .before .before .before .before .before .before .before .pre .0 in let l = c .before .before .before .before .before .before .before .before .loop in omega (arith, placed-fit (k .ring) (k .repeats) (l .i) (l .vector) (l .permutation) (l .salt) (l .inv .placed) (omega arith) (p .a .ring-high) (p .numbers .in-range .repeats-high) .1)
 
 add-salt : tie.Need-add-salt Inv-loop μ-loop
-add-salt c = let k = c .before .before .before .before .before .before .before .before .before .before .before .before .before .before .before .before .before .args .k in let p = c .before .before .before .before .before .before .before .before .before .before .before .before .before .before .before .before .before .pre .0 in let l = c .before .before .before .before .before .before .before .before .loop in omega (arith, placed-fit (k .ring) (k .repeats) (l .i) (l .vector) (l .permutation) (l .salt) (l .inv .placed) (omega arith) (p .a .ring-high) (p .numbers .repeats-high) .2)
+add-salt c = let k = c .before .before .before .before .before .before .before .before .before .before .before .before .before .before .before .before .before .args .k in let p = c .before .before .before .before .before .before .before .before .before .before .before .before .before .before .before .before .before .pre .0 in let l = c .before .before .before .before .before .before .before .before .loop in omega (arith, placed-fit (k .ring) (k .repeats) (l .i) (l .vector) (l .permutation) (l .salt) (l .inv .placed) (omega arith) (p .a .ring-high) (p .numbers .in-range .repeats-high) .2)
 
 loop-again : tie.Need-loop-again Inv-loop μ-loop
 loop-again c =

@@ -41,9 +41,9 @@ solve-requires c κs =
     let e = c .before .before .before .before .before .before .before .before .before .collision .ensures in
     let l : 504 * n - 168 * n ≡ 336 * n = omega arith in
     let k = p .0 .numbers in (
-      k .ring-high,
-      k .modulus-low,
-      k .modulus-high,
+      k .in-range .ring-high,
+      k .in-range .modulus-low,
+      k .in-range .modulus-high,
       still (e .cleared-work) ∙ p .1,
       still (e .cleared-room) ∙ p .2,
       p .4,

@@ -24,19 +24,19 @@ write-shares-requires c κs =
     let p = c .before .before .before .before .before .before .before .before .before .before .before .before .before .before .before .before .before .before .pre in
     let q = a .k .modulus in
     let n = a .k .ring in
-    let some = p .0 .modulus-low in
+    let some = p .0 .in-range .modulus-low in
     let z : 0 < q = omega arith in
     let m = c .before .before .before .before .before .products in
     let s = mul q n (ternary q (a .s .now)) (poly (a .u .now)) in
     let t = mul q n (poly (a .s0 .now)) (poly (a .u .now)) in (
-      p .0 .ring-high,
+      p .0 .in-range .ring-high,
       some,
-      p .0 .modulus-high,
+      p .0 .in-range .modulus-high,
       p .5,
       p .6,
       m .ensures .sized ∙ p .7 .scratch,
-      encoded-below q n (p .0 .ring-high) z (p .0 .modulus-high) (m .last .0) 0 s (m .ensures .one),
-      encoded-below q n (p .0 .ring-high) z (p .0 .modulus-high) (m .last .0) 16384 t (m .ensures .two),
+      encoded-below q n (p .0 .in-range .ring-high) z (p .0 .in-range .modulus-high) (m .last .0) 0 s (m .ensures .one),
+      encoded-below q n (p .0 .in-range .ring-high) z (p .0 .in-range .modulus-high) (m .last .0) 16384 t (m .ensures .two),
       p .7 .shares0,
       p .7 .shares1,
       omega (arith, c .before .before .before .before .before .before .before .plain .ensures, p .0 .plain-below),
@@ -48,8 +48,8 @@ write-claim-requires c κs =
     let p = c .before .before .before .before .before .before .before .before .before .before .before .before .before .before .before .before .before .before .before .before .before .before .before .before .before .before .before .pre in
     let q = a .k .modulus in
     let n = a .k .ring in
-    let some = p .0 .modulus-low in
-    let high = p .0 .ring-high in
+    let some = p .0 .in-range .modulus-low in
+    let high = p .0 .in-range .ring-high in
     let z : 0 < q = omega arith in
     let m = c .before .before .before .before .before .before .before .before .before .before .before .before .before .before .products in
     let w = c .before .before .before .before .before .before .before .before .write-shares in
@@ -57,10 +57,10 @@ write-claim-requires c κs =
     let k = kept-head (m .last .0) (w .last .1 .1 .1 .0) 16384 (8 * n) (omega arith) (w .ensures .3) in (
       p .3,
       w .ensures .2 ∙ m .ensures .sized ∙ p .7 .scratch,
-      encoded-below q n high z (p .0 .modulus-high) (w .last .1 .1 .1 .0) 0 s (k ∙ m .ensures .one),
+      encoded-below q n high z (p .0 .in-range .modulus-high) (w .last .1 .1 .1 .0) 0 s (k ∙ m .ensures .one),
       p .7 .claims,
-      omega (arith, c .before .before .before .before .before .before .before .before .before .before .before .before .before .before .before .before .plain .ensures, p .0 .plain-low),
-      omega (arith, c .before .before .before .before .before .before .before .before .before .before .before .before .before .before .before .before .plain .ensures, p .0 .plain-high),
+      omega (arith, c .before .before .before .before .before .before .before .before .before .before .before .before .before .before .before .before .plain .ensures, p .0 .in-range .plain-low),
+      omega (arith, c .before .before .before .before .before .before .before .before .before .before .before .before .before .before .before .before .plain .ensures, p .0 .in-range .plain-high),
     )
 
 returns : tie.Need-returns
@@ -69,8 +69,8 @@ returns c =
     let p = c .before .before .before .before .before .before .before .before .before .before .before .before .before .before .before .before .before .before .before .before .before .before .before .before .before .before .before .before .before .before .before .before .pre in
     let q = a .k .modulus in
     let n = a .k .ring in
-    let some = p .0 .modulus-low in
-    let high = p .0 .ring-high in
+    let some = p .0 .in-range .modulus-low in
+    let high = p .0 .in-range .ring-high in
     let z : 0 < q = omega arith in
     let i = c .before .before .before .before .before .before .before .before .before .before .before .before .before .before .before .before .before .before .before .before .before .plain .result in
     let is = c .before .before .before .before .before .before .before .before .before .before .before .before .before .before .before .before .before .before .before .before .before .plain .ensures in
@@ -81,9 +81,9 @@ returns c =
     let s0 = poly (a .s0 .now) in
     let u = poly (a .u .now) in
     let k = kept-head (m .last .0) (w .last .1 .1 .1 .0) 16384 (8 * n) (omega arith) (w .ensures .3) in
-    let one = encoded-alike q n high z (p .0 .modulus-high) (m .last .0) 0 (mul q n s u) (m .ensures .one) in
-    let two = encoded-alike q n high z (p .0 .modulus-high) (m .last .0) 16384 (mul q n s0 u) (m .ensures .two) in
-    let last = encoded-alike q n high z (p .0 .modulus-high) (w .last .1 .1 .1 .0) 0 (mul q n s u) (k ∙ m .ensures .one) in
+    let one = encoded-alike q n high z (p .0 .in-range .modulus-high) (m .last .0) 0 (mul q n s u) (m .ensures .one) in
+    let two = encoded-alike q n high z (p .0 .in-range .modulus-high) (m .last .0) 16384 (mul q n s0 u) (m .ensures .two) in
+    let last = encoded-alike q n high z (p .0 .in-range .modulus-high) (w .last .1 .1 .1 .0) 0 (mul q n s u) (k ∙ m .ensures .one) in
     record {
       shares0 =
           w .ensures .0 ∙ ap (put (a .shares0 .now) (a .at)) (lent-share q n i s s0 u (lentMask (a .mask0 .now)) two

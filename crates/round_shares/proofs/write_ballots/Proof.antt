@@ -32,22 +32,22 @@ ballot-at-requires c κs =
 
 -- the places of the next ballot
 add-at-2 : tie.Need-add-at-2 Inv-loop μ-loop
-add-at-2 c = let a = c .before .before .before .before .before .before .before .before .before .before .before .before .before .before .before .before .before .before .before .before .before .before .before .before .args in let p = c .before .before .before .before .before .before .before .before .before .before .before .before .before .before .before .before .before .before .before .before .before .before .before .before .pre in let l = c .before .before .before .before .before .before .before .before .before .before .before .before .before .before .loop in omega (arith, places-fit (a .k .modulus) (a .k .ring) (plain (a .k)) (a .count) (a .secrets .now) (a .s0 .now) (a .masks0 .now) (a .masks1 .now) (a .ballots .now) (a .shares0 .now) (a .shares1 .now) (a .claims .now) (p .4) (p .5) (p .6) (p .7) (l .j) (l .at) (l .claim) (l .sent) (l .shares0) (l .shares1) (l .claims) (l .work) (l .inv) (omega arith) (p .0 .ring-high) (p .3) .0)
+add-at-2 c = let a = c .before .before .before .before .before .before .before .before .before .before .before .before .before .before .before .before .before .before .before .before .before .before .before .before .args in let p = c .before .before .before .before .before .before .before .before .before .before .before .before .before .before .before .before .before .before .before .before .before .before .before .before .pre in let l = c .before .before .before .before .before .before .before .before .before .before .before .before .before .before .loop in omega (arith, places-fit (a .k .modulus) (a .k .ring) (plain (a .k)) (a .count) (a .secrets .now) (a .s0 .now) (a .masks0 .now) (a .masks1 .now) (a .ballots .now) (a .shares0 .now) (a .shares1 .now) (a .claims .now) (p .4) (p .5) (p .6) (p .7) (l .j) (l .at) (l .claim) (l .sent) (l .shares0) (l .shares1) (l .claims) (l .work) (l .inv) (omega arith) (p .0 .in-range .ring-high) (p .3) .0)
 
 add-claim : tie.Need-add-claim Inv-loop μ-loop
-add-claim c = let a = c .before .before .before .before .before .before .before .before .before .before .before .before .before .before .before .before .before .before .before .before .before .before .before .before .args in let p = c .before .before .before .before .before .before .before .before .before .before .before .before .before .before .before .before .before .before .before .before .before .before .before .before .pre in let l = c .before .before .before .before .before .before .before .before .before .before .before .before .before .before .loop in omega (arith, places-fit (a .k .modulus) (a .k .ring) (plain (a .k)) (a .count) (a .secrets .now) (a .s0 .now) (a .masks0 .now) (a .masks1 .now) (a .ballots .now) (a .shares0 .now) (a .shares1 .now) (a .claims .now) (p .4) (p .5) (p .6) (p .7) (l .j) (l .at) (l .claim) (l .sent) (l .shares0) (l .shares1) (l .claims) (l .work) (l .inv) (omega arith) (p .0 .ring-high) (p .3) .1)
+add-claim c = let a = c .before .before .before .before .before .before .before .before .before .before .before .before .before .before .before .before .before .before .before .before .before .before .before .before .args in let p = c .before .before .before .before .before .before .before .before .before .before .before .before .before .before .before .before .before .before .before .before .before .before .before .before .pre in let l = c .before .before .before .before .before .before .before .before .before .before .before .before .before .before .loop in omega (arith, places-fit (a .k .modulus) (a .k .ring) (plain (a .k)) (a .count) (a .secrets .now) (a .s0 .now) (a .masks0 .now) (a .masks1 .now) (a .ballots .now) (a .shares0 .now) (a .shares1 .now) (a .claims .now) (p .4) (p .5) (p .6) (p .7) (l .j) (l .at) (l .claim) (l .sent) (l .shares0) (l .shares1) (l .claims) (l .work) (l .inv) (omega arith) (p .0 .in-range .ring-high) (p .3) .1)
 
 add-sent : tie.Need-add-sent Inv-loop μ-loop
-add-sent c = let a = c .before .before .before .before .before .before .before .before .before .before .before .before .before .before .before .before .before .before .before .before .before .before .before .before .args in let p = c .before .before .before .before .before .before .before .before .before .before .before .before .before .before .before .before .before .before .before .before .before .before .before .before .pre in let l = c .before .before .before .before .before .before .before .before .before .before .before .before .before .before .loop in omega (arith, places-fit (a .k .modulus) (a .k .ring) (plain (a .k)) (a .count) (a .secrets .now) (a .s0 .now) (a .masks0 .now) (a .masks1 .now) (a .ballots .now) (a .shares0 .now) (a .shares1 .now) (a .claims .now) (p .4) (p .5) (p .6) (p .7) (l .j) (l .at) (l .claim) (l .sent) (l .shares0) (l .shares1) (l .claims) (l .work) (l .inv) (omega arith) (p .0 .ring-high) (p .3) .2)
+add-sent c = let a = c .before .before .before .before .before .before .before .before .before .before .before .before .before .before .before .before .before .before .before .before .before .before .before .before .args in let p = c .before .before .before .before .before .before .before .before .before .before .before .before .before .before .before .before .before .before .before .before .before .before .before .before .pre in let l = c .before .before .before .before .before .before .before .before .before .before .before .before .before .before .loop in omega (arith, places-fit (a .k .modulus) (a .k .ring) (plain (a .k)) (a .count) (a .secrets .now) (a .s0 .now) (a .masks0 .now) (a .masks1 .now) (a .ballots .now) (a .shares0 .now) (a .shares1 .now) (a .claims .now) (p .4) (p .5) (p .6) (p .7) (l .j) (l .at) (l .claim) (l .sent) (l .shares0) (l .shares1) (l .claims) (l .work) (l .inv) (omega arith) (p .0 .in-range .ring-high) (p .3) .2)
 
 mul-at : tie.Need-mul-at Inv-loop μ-loop
-mul-at c = omega (arith, c .before .before .before .before .before .before .before .before .before .before .before .before .before .before .before .before .before .before .before .before .before .before .before .before .pre .0 .ring-high)
+mul-at c = omega (arith, c .before .before .before .before .before .before .before .before .before .before .before .before .before .before .before .before .before .before .before .before .before .before .before .before .pre .0 .in-range .ring-high)
 
 add-at : tie.Need-add-at Inv-loop μ-loop
-add-at c = omega (arith, c .before .before .before .before .before .before .before .before .before .before .before .before .before .before .before .before .before .before .before .before .before .before .before .before .pre .0 .ring-high)
+add-at c = omega (arith, c .before .before .before .before .before .before .before .before .before .before .before .before .before .before .before .before .before .before .before .before .before .before .before .before .pre .0 .in-range .ring-high)
 
 mul-sent : tie.Need-mul-sent Inv-loop μ-loop
-mul-sent c = omega (arith, c .before .before .before .before .before .before .before .before .before .before .before .before .before .before .before .before .before .before .before .before .before .before .before .before .pre .0 .ring-high)
+mul-sent c = omega (arith, c .before .before .before .before .before .before .before .before .before .before .before .before .before .before .before .before .before .before .before .before .before .before .before .before .pre .0 .in-range .ring-high)
 
 loop-again : tie.Need-loop-again Inv-loop μ-loop
 loop-again c =

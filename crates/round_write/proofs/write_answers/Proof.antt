@@ -23,7 +23,7 @@ shared-slice-read-challenge : tie.Need-shared-slice-read-challenge Inv-loop μ-l
 shared-slice-read-challenge c = omega (arith, c .before .before .before .before .before .before .before .before .before .pre .2)
 
 answer-length-requires : tie.Need-answer-length-requires Inv-loop μ-loop
-answer-length-requires c κs = c .before .before .before .before .before .before .before .before .before .pre .0 .ring-high
+answer-length-requires c κs = c .before .before .before .before .before .before .before .before .before .pre .0 .in-range .ring-high
 
 answer-at-requires : tie.Need-answer-at-requires Inv-loop μ-loop
 answer-at-requires c κs =
@@ -33,9 +33,9 @@ answer-at-requires c κs =
     let s = c .before .answer-length .ensures in
     let e = drawn-ends (a .k .ring) (a .k .repeats) (l .i) (l .vector) (l .permutation) (l .salt) (l .inv .placed) (omega arith) (a .k .modulus) (a .secrets .now) (a .vectors .now) (a .permutations .now) (a .salts .now) (p .1) in
     let y = answer-ends (a .k .modulus) (a .k .ring) (a .k .repeats) (a .secrets .now) (a .vectors .now) (a .permutations .now) (a .salts .now) (a .challenges .now) (a .answers .now) (p .1) (p .2) (p .3) (l .i) (l .at) (l .vector) (l .permutation) (l .salt) (l .answers) (l .inv) (omega arith) in (
-      p .0 .ring-high,
-      p .0 .modulus-low,
-      p .0 .modulus-high,
+      p .0 .in-range .ring-high,
+      p .0 .in-range .modulus-low,
+      p .0 .in-range .modulus-high,
       s,
       omega (arith, s, y),
       e .0,
@@ -53,19 +53,19 @@ add-at c =
     omega (arith, c .before .before .before .before .answer-length .ensures, c .before .before .answer-at .kept .0)
 
 mul-vector : tie.Need-mul-vector Inv-loop μ-loop
-mul-vector c = omega (arith, c .before .before .before .before .before .before .before .before .before .before .before .before .before .before .pre .0 .ring-high)
+mul-vector c = omega (arith, c .before .before .before .before .before .before .before .before .before .before .before .before .before .before .pre .0 .in-range .ring-high)
 
 mul-permutation : tie.Need-mul-permutation Inv-loop μ-loop
-mul-permutation c = omega (arith, c .before .before .before .before .before .before .before .before .before .before .before .before .before .before .pre .0 .ring-high)
+mul-permutation c = omega (arith, c .before .before .before .before .before .before .before .before .before .before .before .before .before .before .pre .0 .in-range .ring-high)
 
 add-vector : tie.Need-add-vector Inv-loop μ-loop
-add-vector c = let a = c .before .before .before .before .before .before .before .before .before .before .before .before .before .before .args in let l = c .before .before .before .before .before .before .before .loop in omega (arith, placed-fit (a .k .ring) (a .k .repeats) (l .i) (l .vector) (l .permutation) (l .salt) (l .inv .placed) (omega arith) (c .before .before .before .before .before .before .before .before .before .before .before .before .before .before .pre .0 .ring-high) (c .before .before .before .before .before .before .before .before .before .before .before .before .before .before .pre .0 .repeats-high) .0)
+add-vector c = let a = c .before .before .before .before .before .before .before .before .before .before .before .before .before .before .args in let l = c .before .before .before .before .before .before .before .loop in omega (arith, placed-fit (a .k .ring) (a .k .repeats) (l .i) (l .vector) (l .permutation) (l .salt) (l .inv .placed) (omega arith) (c .before .before .before .before .before .before .before .before .before .before .before .before .before .before .pre .0 .in-range .ring-high) (c .before .before .before .before .before .before .before .before .before .before .before .before .before .before .pre .0 .in-range .repeats-high) .0)
 
 add-permutation : tie.Need-add-permutation Inv-loop μ-loop
-add-permutation c = let a = c .before .before .before .before .before .before .before .before .before .before .before .before .before .before .args in let l = c .before .before .before .before .before .before .before .loop in omega (arith, placed-fit (a .k .ring) (a .k .repeats) (l .i) (l .vector) (l .permutation) (l .salt) (l .inv .placed) (omega arith) (c .before .before .before .before .before .before .before .before .before .before .before .before .before .before .pre .0 .ring-high) (c .before .before .before .before .before .before .before .before .before .before .before .before .before .before .pre .0 .repeats-high) .1)
+add-permutation c = let a = c .before .before .before .before .before .before .before .before .before .before .before .before .before .before .args in let l = c .before .before .before .before .before .before .before .loop in omega (arith, placed-fit (a .k .ring) (a .k .repeats) (l .i) (l .vector) (l .permutation) (l .salt) (l .inv .placed) (omega arith) (c .before .before .before .before .before .before .before .before .before .before .before .before .before .before .pre .0 .in-range .ring-high) (c .before .before .before .before .before .before .before .before .before .before .before .before .before .before .pre .0 .in-range .repeats-high) .1)
 
 add-salt : tie.Need-add-salt Inv-loop μ-loop
-add-salt c = let a = c .before .before .before .before .before .before .before .before .before .before .before .before .before .before .args in let l = c .before .before .before .before .before .before .before .loop in omega (arith, placed-fit (a .k .ring) (a .k .repeats) (l .i) (l .vector) (l .permutation) (l .salt) (l .inv .placed) (omega arith) (c .before .before .before .before .before .before .before .before .before .before .before .before .before .before .pre .0 .ring-high) (c .before .before .before .before .before .before .before .before .before .before .before .before .before .before .pre .0 .repeats-high) .2)
+add-salt c = let a = c .before .before .before .before .before .before .before .before .before .before .before .before .before .before .args in let l = c .before .before .before .before .before .before .before .loop in omega (arith, placed-fit (a .k .ring) (a .k .repeats) (l .i) (l .vector) (l .permutation) (l .salt) (l .inv .placed) (omega arith) (c .before .before .before .before .before .before .before .before .before .before .before .before .before .before .pre .0 .in-range .ring-high) (c .before .before .before .before .before .before .before .before .before .before .before .before .before .before .pre .0 .in-range .repeats-high) .2)
 
 loop-again : tie.Need-loop-again Inv-loop μ-loop
 loop-again c =

@@ -47,7 +47,7 @@ plain-requires-2 c κs =
     let u = c .before .before .before .before .before .before .before .before .before .before .before .before .before .before .before .before .pre in
     let o = c .before .before .before .before .rebuilt .ensures in
     let e = c .before .before .before .before .before .before .plain .ensures in
-    (omega (arith, o .sized, u .ring-high, length-asked _ _ 4 (c .before .before .before .before .before .before .before .before .before .before .sized .ensures) (c .before .before .before .before .before .before .before .before .before .if1 .left)), length-asked _ _ 3 (c .before .before .before .before .before .before .before .before .before .before .sized .ensures) (c .before .before .before .before .before .before .before .before .before .if1 .left), omega (arith, u .modulus-low), stands-below (a .k .modulus) (a .k .ring) _ _ _ o (omega (arith, u .modulus-low)) (u .modulus-high), omega (arith, e, u .plain-low), omega (arith, e, u .plain-high), u .modulus-high)
+    (omega (arith, o .sized, u .in-range .ring-high, length-asked _ _ 4 (c .before .before .before .before .before .before .before .before .before .before .sized .ensures) (c .before .before .before .before .before .before .before .before .before .if1 .left)), length-asked _ _ 3 (c .before .before .before .before .before .before .before .before .before .before .sized .ensures) (c .before .before .before .before .before .before .before .before .before .if1 .left), omega (arith, u .in-range .modulus-low), stands-below (a .k .modulus) (a .k .ring) _ _ _ o (omega (arith, u .in-range .modulus-low)) (u .in-range .modulus-high), omega (arith, e, u .in-range .plain-low), omega (arith, e, u .in-range .plain-high), u .in-range .modulus-high)
 
 returns-3 : tie.Need-returns-3
 unfolding same reconstructWrites
@@ -57,7 +57,7 @@ returns-3 c =
     let o = c .before .before .before .before .before .before .before .before .before .before .before .rebuilt .ensures in
     let went : Taken ≡ first (tests (c .before .before .before .before .before .before .before .before .before .before .before .before .before .before .before .before .before .before .before .before .before .before .before)) = follows 1 (c .before .before .before .before .before .before .before .before .before .before .before .before .before .before .before .before .before .sized .ensures) _ (c .before .before .before .before .before .before .before .before .before .before .before .before .before .before .before .before .if1 .left) (follows 5 (c .before .before .before .before .before .before .before .before .before .before .before .before .before .before .before .reconstruct-ranged .ensures) _ (c .before .before .before .before .before .before .before .before .before .before .before .before .before .before .if2 .left) done) in
     let voted = ap (λ (i : ℕ). list (a .k .ring) (plain (a .k .modulus) i (rebuilt (a .k .modulus) (poly (a .v .now)) (poly (a .t0 .now)) (poly (a .t1 .now))))) (c .before .before .before .before .before .before .before .before .before .before .before .before .before .plain .ensures) in
-    worked-taken went refl (c .before .before .before .before .before .before .plain2 .ensures ∙ plain-stands (a .k .modulus) _ (a .k .ring) _ _ _ (omega (arith, u .modulus-low)) (u .modulus-high) o ∙ voted) (c .before .before .wipe .ensures ∙ ap zeros (o .sized))
+    worked-taken went refl (c .before .before .before .before .before .before .plain2 .ensures ∙ plain-stands (a .k .modulus) _ (a .k .ring) _ _ _ (omega (arith, u .in-range .modulus-low)) (u .in-range .modulus-high) o ∙ voted) (c .before .before .wipe .ensures ∙ ap zeros (o .sized))
 
 pub reconstruct-spec : {M : Type 1} → statement M
 reconstruct-spec = tie.close (tie.spec (λ c. search needs) (λ c. search needs) (λ c. search needs) (λ c κs. search needs) (λ c κs. search needs) returns reconstruct-ranged-requires (λ c κs. search needs) returns-2 (λ c κs. search needs) rebuilt-requires plain-requires-2 (λ c κs. search needs) (λ c. search needs) (λ c. search needs) returns-3)

@@ -51,8 +51,8 @@ opened-requires c κs =
     let u = c .before .before .before .before .before .before .before .before .before .before .before .before .pre in
     let went : Taken ≡ first (tests (c .before .before .before .before .before .before .before .before .before .before .before .before)) = follows 1 (c .before .before .before .before .before .before .before .sized .ensures) _ (c .before .before .before .before .before .before .if1 .left) (follows 5 (c .before .before .before .before .before .ternary-and-in-range .ensures) _ (c .before .before .before .before .if2 .left) done) in
     let p = decrypt-passed (a .k) (a .s .now) (a .ciphertext .now) (a .vote .now) (a .scratch .now) went in (
-      half-public n (a .k .modulus) (u .ring-low) (u .ring-high) (u .modulus-low) (u .modulus-high) (a .ciphertext .now) (p .1) (p .2) 0 0 (8 * n - 0) (omega arith) (omega arith) (omega arith),
-      half-public n (a .k .modulus) (u .ring-low) (u .ring-high) (u .modulus-low) (u .modulus-high) (a .ciphertext .now) (p .1) (p .2) n (8 * n) (16 * n - 8 * n) (omega arith) (omega arith) (omega arith),
+      half-public n (a .k .modulus) (u .in-range .ring-low) (u .in-range .ring-high) (u .in-range .modulus-low) (u .in-range .modulus-high) (a .ciphertext .now) (p .1) (p .2) 0 0 (8 * n - 0) (omega arith) (omega arith) (omega arith),
+      half-public n (a .k .modulus) (u .in-range .ring-low) (u .in-range .ring-high) (u .in-range .modulus-low) (u .in-range .modulus-high) (a .ciphertext .now) (p .1) (p .2) n (8 * n) (16 * n - 8 * n) (omega arith) (omega arith) (omega arith),
       p .4,
       p .0,
     )
@@ -63,7 +63,7 @@ plain-requires-2 c κs =
     let u = c .before .before .before .before .before .before .before .before .before .before .before .before .before .before .before .before .before .pre in
     let o = c .before .before .before .before .opened .ensures in
     let e = c .before .before .before .before .before .before .before .before .plain .ensures in
-    (omega (arith, o .sized, length-asked _ _ 3 (c .before .before .before .before .before .before .before .before .before .before .before .before .sized .ensures) (c .before .before .before .before .before .before .before .before .before .before .before .if1 .left), u .ring-high), length-asked _ _ 2 (c .before .before .before .before .before .before .before .before .before .before .before .before .sized .ensures) (c .before .before .before .before .before .before .before .before .before .before .before .if1 .left), omega (arith, u .modulus-low), stands-below (a .k .modulus) (a .k .ring) _ _ _ o (omega (arith, u .modulus-low)) (u .modulus-high), omega (arith, e, u .plain-low), omega (arith, e, u .plain-high), u .modulus-high)
+    (omega (arith, o .sized, length-asked _ _ 3 (c .before .before .before .before .before .before .before .before .before .before .before .before .sized .ensures) (c .before .before .before .before .before .before .before .before .before .before .before .if1 .left), u .in-range .ring-high), length-asked _ _ 2 (c .before .before .before .before .before .before .before .before .before .before .before .before .sized .ensures) (c .before .before .before .before .before .before .before .before .before .before .before .if1 .left), omega (arith, u .in-range .modulus-low), stands-below (a .k .modulus) (a .k .ring) _ _ _ o (omega (arith, u .in-range .modulus-low)) (u .in-range .modulus-high), omega (arith, e, u .in-range .plain-low), omega (arith, e, u .in-range .plain-high), u .in-range .modulus-high)
 
 returns-3 : tie.Need-returns-3
 unfolding same decryptWrites
@@ -74,11 +74,11 @@ returns-3 c =
     let l = c .before .before .before .before .before .before .before .before .before .before .before .before .before .before .before .before .before .before .before .before .before .before .before .before .pre in
     let went : Taken ≡ first (tests (c .before .before .before .before .before .before .before .before .before .before .before .before .before .before .before .before .before .before .before .before .before .before .before .before)) = follows 1 (c .before .before .before .before .before .before .before .before .before .before .before .before .before .before .before .before .before .before .before .sized .ensures) _ (c .before .before .before .before .before .before .before .before .before .before .before .before .before .before .before .before .before .before .if1 .left) (follows 5 (c .before .before .before .before .before .before .before .before .before .before .before .before .before .before .before .before .before .ternary-and-in-range .ensures) _ (c .before .before .before .before .before .before .before .before .before .before .before .before .before .before .before .before .if2 .left) done) in
     let p = decrypt-passed (a .k) (a .s .now) (a .ciphertext .now) (a .vote .now) (a .scratch .now) went in
-    let u = half-alike n q (l .ring-low) (l .ring-high) (l .modulus-low) (l .modulus-high) (a .ciphertext .now) (p .1) (p .2) 0 0 (8 * n - 0) (omega arith) (omega arith) (omega arith) in
-    let v = half-alike n q (l .ring-low) (l .ring-high) (l .modulus-low) (l .modulus-high) (a .ciphertext .now) (p .1) (p .2) n (8 * n) (16 * n - 8 * n) (omega arith) (omega arith) (omega arith) in
+    let u = half-alike n q (l .in-range .ring-low) (l .in-range .ring-high) (l .in-range .modulus-low) (l .in-range .modulus-high) (a .ciphertext .now) (p .1) (p .2) 0 0 (8 * n - 0) (omega arith) (omega arith) (omega arith) in
+    let v = half-alike n q (l .in-range .ring-low) (l .in-range .ring-high) (l .in-range .modulus-low) (l .in-range .modulus-high) (a .ciphertext .now) (p .1) (p .2) n (8 * n) (16 * n - 8 * n) (omega arith) (omega arith) (omega arith) in
     let o = stands-alike (c .before .before .before .before .before .before .before .before .before .before .before .opened .ensures) (opened-alike q n (ternary q (a .s .now)) u v) in
     let voted = ap (λ (i : ℕ). list n (plain q i (opened q n (ternary q (a .s .now)) (slot (a .ciphertext .now) 0) (slot (a .ciphertext .now) (8 * n))))) (c .before .before .before .before .before .before .before .before .before .before .before .before .before .before .before .plain .ensures) in
-    worked-taken went refl (c .before .before .before .before .before .before .plain2 .ensures ∙ plain-stands q _ n _ _ _ (omega (arith, l .modulus-low)) (l .modulus-high) o ∙ voted) (c .before .before .wipe .ensures ∙ ap zeros (o .sized))
+    worked-taken went refl (c .before .before .before .before .before .before .plain2 .ensures ∙ plain-stands q _ n _ _ _ (omega (arith, l .in-range .modulus-low)) (l .in-range .modulus-high) o ∙ voted) (c .before .before .wipe .ensures ∙ ap zeros (o .sized))
 
 pub decrypt-spec : {M : Type 1} → statement M
 decrypt-spec = tie.close (tie.spec (λ c. search needs) (λ c κs. search needs) (λ c κs. search needs) returns (λ c. search needs) ternary-and-in-range-requires (λ c κs. search needs) returns-2 (λ c κs. search needs) (λ c. search needs) (λ c. search needs) (λ c. search needs) part-opened-end (λ c. search needs) (λ c. search needs) (λ c. search needs) (λ c. search needs) part-opened-end-2 opened-requires plain-requires-2 (λ c κs. search needs) (λ c. search needs) (λ c. search needs) returns-3)

@@ -72,8 +72,8 @@ add-message-requires c κs =
     let u = c .before .before .before .before .before .before .before .before .before .before .before .before .before .before .before .before .before .before .before .before .before .before .before .before .before .before .before .before .before .before .pre .numbers in
     let ranged = c .before .before .before .before .before .before .before .before .before .before .before .before .before .before .before .before .before .before .before .encrypt-ranged .ensures ∙ ap (λ (p : ℕ). bytesBelow 3 (a .r .now ∷ a .e1 .now ∷ a .e2 .now ∷ []) && bytesBelow p (a .m .now ∷ [])) (c .before .before .before .before .before .before .before .before .before .before .before .before .before .before .before .before .before .before .before .before .plain .ensures) in
     let h = encrypt-passed (a .k) (a .r .now) (a .e1 .now) (a .e2 .now) (a .m .now) (a .ciphertext .now) (a .scratch .now) (u .plain-below) (follows 1 (c .before .before .before .before .before .before .before .before .before .before .before .before .before .before .before .before .before .before .before .before .before .before .sized .ensures) _ (c .before .before .before .before .before .before .before .before .before .before .before .before .before .before .before .before .before .before .before .before .before .if1 .left) (follows 5 ranged _ (c .before .before .before .before .before .before .before .before .before .before .before .before .before .before .before .before .before .before .if2 .left) done)) in
-    let some = u .modulus-low in
-    (u .ring-high, u .modulus-low, u .modulus-high, omega (arith, h .6, c .before .before .before .before .before .before .before .before .before .before .before .before .before .before .before .noisy .kept .0, c .before .before .before .before .before .before .before .before .before .before .hand-out .kept .1, c .before .before .before .noisy2 .kept .0), h .3, h .4, holds-below (omega arith) (stands-holds (omega arith) (u .modulus-high) (c .before .before .before .noisy2 .ensures)))
+    let some = u .in-range .modulus-low in
+    (u .in-range .ring-high, u .in-range .modulus-low, u .in-range .modulus-high, omega (arith, h .6, c .before .before .before .before .before .before .before .before .before .before .before .before .before .before .before .noisy .kept .0, c .before .before .before .before .before .before .before .before .before .before .hand-out .kept .1, c .before .before .before .noisy2 .kept .0), h .3, h .4, holds-below (omega arith) (stands-holds (omega arith) (u .in-range .modulus-high) (c .before .before .before .noisy2 .ensures)))
 
 mul-hand-out : tie.Need-mul-hand-out
 mul-hand-out c = let h = c .before .before .before .before .before .before .before .pre .a .ring-high in search needs
@@ -92,8 +92,8 @@ returns-3 c =
     let k = a .k in
     let q = k .modulus in
     let n = k .ring in
-    let few = c .before .before .before .before .before .before .before .before .before .before .before .before .before .before .before .before .before .before .before .before .before .before .before .before .before .before .before .before .before .before .before .before .before .before .before .before .before .before .before .before .pre .numbers .modulus-high in
-    let some = c .before .before .before .before .before .before .before .before .before .before .before .before .before .before .before .before .before .before .before .before .before .before .before .before .before .before .before .before .before .before .before .before .before .before .before .before .before .before .before .before .pre .numbers .modulus-low in
+    let few = c .before .before .before .before .before .before .before .before .before .before .before .before .before .before .before .before .before .before .before .before .before .before .before .before .before .before .before .before .before .before .before .before .before .before .before .before .before .before .before .before .pre .numbers .in-range .modulus-high in
+    let some = c .before .before .before .before .before .before .before .before .before .before .before .before .before .before .before .before .before .before .before .before .before .before .before .before .before .before .before .before .before .before .before .before .before .before .before .before .before .before .before .before .pre .numbers .in-range .modulus-low in
     let l = length (a .scratch .now) in
     let ranged = c .before .before .before .before .before .before .before .before .before .before .before .before .before .before .before .before .before .before .before .before .before .before .before .before .before .before .before .before .before .encrypt-ranged .ensures ∙ ap (λ (p : ℕ). bytesBelow 3 (a .r .now ∷ a .e1 .now ∷ a .e2 .now ∷ []) && bytesBelow p (a .m .now ∷ [])) (c .before .before .before .before .before .before .before .before .before .before .before .before .before .before .before .before .before .before .before .before .before .before .before .before .before .before .before .before .before .before .plain .ensures) in
     let x = handed (c .before .before .before .before .before .before .before .before .before .before .before .before .before .before .before .before .before .before .before .before .before .before .before .before .before .noisy .ensures) (c .before .before .before .before .before .before .before .before .before .before .before .before .before .before .before .before .before .before .before .before .hand-out .ensures) in

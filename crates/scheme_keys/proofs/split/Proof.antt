@@ -35,7 +35,7 @@ halves s went = let a = s .args in split-passed (a .k) (s .pre .numbers) (a .s .
 
 -- the other half of s or of e, where it is put at the head of scratch
 stands : (s : tie.Start) (f : Poly) (w w1 : Bytes) → let k = s .args .k in length w ≡ 1048576 → w1 ≡ put w 0 (coefficientBytes (k .modulus) (k .ring) f) → InSlot (k .modulus) (k .ring) f w w1
-stands s f w w1 l e = let k = s .args .k in let u = s .pre .numbers in stands-put (k .modulus) (k .ring) (u .ring-high) (u .modulus-low) (u .modulus-high) f w w1 l e
+stands s f w w1 l e = let k = s .args .k in let u = s .pre .numbers in stands-put (k .modulus) (k .ring) (u .in-range .ring-high) (u .in-range .modulus-low) (u .in-range .modulus-high) f w w1 l e
 
 mul-t20 : tie.Need-mul-t20
 mul-t20 c = let h = c .before .before .before .before .before .before .before .pre .a .ring-high in search needs

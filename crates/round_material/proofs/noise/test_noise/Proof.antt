@@ -42,10 +42,10 @@ is-quiet-at-requires c κs =
     let p = c .before .before .before .before .before .before .before .pre in
     let l = c .before .before .loop in
     let h : l .at + ballotLength n ≤ ballotLength n * a .count = walked-ends (l .inv .1) (omega arith) in (
-      p .0 .ring-low,
-      p .0 .ring-high,
-      p .0 .modulus-low,
-      p .0 .modulus-high,
+      p .0 .in-range .ring-low,
+      p .0 .in-range .ring-high,
+      p .0 .in-range .modulus-low,
+      p .0 .in-range .modulus-high,
       l .inv .0 ∙ p .2,
       p .3,
       omega (arith, p .4),

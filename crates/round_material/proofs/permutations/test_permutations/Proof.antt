@@ -36,7 +36,7 @@ is-permutation-requires c κs =
     let l = c .before .before .before .loop in
     let h : l .at + 168 * n ≤ 168 * n * a .k .repeats = walked-ends (l .inv .1) (omega arith) in (
       omega (arith, lent-length (a .permutations .now) (l .at) (l .at + 168 * n - l .at) (168 * n) (omega arith) (omega (arith, c .before .before .before .before .before .before .pre .2))),
-      omega (arith, l .inv .0, c .before .before .before .before .before .before .pre .1, c .before .before .before .before .before .before .pre .0 .ring-high),
+      omega (arith, l .inv .0, c .before .before .before .before .before .before .pre .1, c .before .before .before .before .before .before .pre .0 .in-range .ring-high),
     )
 
 -- the marks are made in scratch, and its length is kept
@@ -50,7 +50,7 @@ returns c =
     let b = c .before .before .before .is-permutation in
     let e : l .at + 168 * a .k .ring - l .at ≡ 168 * a .k .ring = omega arith in (
       walked-refused (l .inv .1) 9 (omega arith) (sym (b .ensures .0 ∙ ap₂ (λ (x y : ℕ). permutes (42 * a .k .ring) (entries (part (a .permutations .now) x y))) (l .inv .1 .place) e) ∙ not-true (b .result) (c .if1 .taken)),
-      kept (a .k .ring) (l .work) _ (omega (arith, l .inv .0, c .before .before .before .before .before .before .before .before .before .before .pre .1, c .before .before .before .before .before .before .before .before .before .before .pre .0 .ring-high)) (b .ensures .1) ∙ l .inv .0,
+      kept (a .k .ring) (l .work) _ (omega (arith, l .inv .0, c .before .before .before .before .before .before .before .before .before .before .pre .1, c .before .before .before .before .before .before .before .before .before .before .pre .0 .in-range .ring-high)) (b .ensures .1) ∙ l .inv .0,
     )
 
 loop-again : tie.Need-loop-again Inv-loop μ-loop
@@ -59,7 +59,7 @@ loop-again c =
     let l = c .before .before .before .before .before .before .before .loop in
     let b = c .before .before .before .is-permutation in
     let e : l .at + 168 * a .k .ring - l .at ≡ 168 * a .k .ring = omega arith in (
-      kept (a .k .ring) (l .work) _ (omega (arith, l .inv .0, c .before .before .before .before .before .before .before .before .before .before .pre .1, c .before .before .before .before .before .before .before .before .before .before .pre .0 .ring-high)) (b .ensures .1) ∙ l .inv .0,
+      kept (a .k .ring) (l .work) _ (omega (arith, l .inv .0, c .before .before .before .before .before .before .before .before .before .before .pre .1, c .before .before .before .before .before .before .before .before .before .before .pre .0 .in-range .ring-high)) (b .ensures .1) ∙ l .inv .0,
       walked-more (l .inv .1) _ (omega arith) (omega arith) (sym (b .ensures .0 ∙ ap₂ (λ (x y : ℕ). permutes (42 * a .k .ring) (entries (part (a .permutations .now) x y))) (l .inv .1 .place) e) ∙ not-false (b .result) (c .if1 .left)),
     )
 

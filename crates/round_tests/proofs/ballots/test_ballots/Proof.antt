@@ -29,7 +29,7 @@ test-at-requires c κs =
     let a = c .before .before .before .before .before .before .before .before .before .args in
     let p = c .before .before .before .before .before .before .before .before .before .pre in
     let l = c .before .before .loop in
-    (p .0, p .1, l .inv .long, ballot-stands (a .k .modulus) (a .k .ring) (plain (a .k)) (maskOf (a .k)) (a .s .now) (a .ballots .now) (a .claims .now) (a .side) (a .shares0 .now) (a .shares1 .now) (a .count) (l .j) (l .at) (l .claim) (l .share) (l .work) (l .inv) (omega arith) (p .4) (p .1 .ring-low) (p .1 .ring-high) (p .1 .ring-power) (p .5) (p .6) (p .7))
+    (p .0, p .1, l .inv .long, ballot-stands (a .k .modulus) (a .k .ring) (plain (a .k)) (maskOf (a .k)) (a .s .now) (a .ballots .now) (a .claims .now) (a .side) (a .shares0 .now) (a .shares1 .now) (a .count) (l .j) (l .at) (l .claim) (l .share) (l .work) (l .inv) (omega arith) (p .4) (p .1 .in-range .ring-low) (p .1 .in-range .ring-high) (p .1 .ring-found) (p .5) (p .6) (p .7))
 
 returns : tie.Need-returns Inv-loop μ-loop
 returns c =

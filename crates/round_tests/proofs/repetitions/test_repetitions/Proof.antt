@@ -26,16 +26,16 @@ answer-length-requires : tie.Need-answer-length-requires Inv-loop μ-loop
 answer-length-requires c κs = c .before .before .before .before .before .before .before .before .pre .0 .a .ring-high
 
 cast-test-at : tie.Need-cast-test-at Inv-loop μ-loop
-cast-test-at c = omega (arith, c .before .before .before .before .before .before .before .before .before .before .pre .0 .numbers .repeats-high, c .before .before .before .before .loop .inv .within)
+cast-test-at c = omega (arith, c .before .before .before .before .before .before .before .before .before .before .pre .0 .numbers .in-range .repeats-high, c .before .before .before .before .loop .inv .within)
 
 mul-test-at : tie.Need-mul-test-at Inv-loop μ-loop
 mul-test-at c = omega (arith, c .before .before .before .before .before .before .before .before .before .before .pre .0 .a .ring-high)
 
 mul-test-at-2 : tie.Need-mul-test-at-2 Inv-loop μ-loop
-mul-test-at-2 c = omega (arith, c .before .before .before .before .before .before .before .before .before .before .pre .0 .numbers .repeats-high, c .before .before .before .before .loop .inv .within)
+mul-test-at-2 c = omega (arith, c .before .before .before .before .before .before .before .before .before .before .pre .0 .numbers .in-range .repeats-high, c .before .before .before .before .loop .inv .within)
 
 add-test-at : tie.Need-add-test-at Inv-loop μ-loop
-add-test-at c = omega (arith, c .before .before .before .before .before .before .before .before .before .before .pre .0 .a .ring-high, c .before .before .before .before .before .before .before .before .before .before .pre .0 .numbers .repeats-high, c .before .before .before .before .loop .inv .within)
+add-test-at c = omega (arith, c .before .before .before .before .before .before .before .before .before .before .pre .0 .a .ring-high, c .before .before .before .before .before .before .before .before .before .before .pre .0 .numbers .in-range .repeats-high, c .before .before .before .before .loop .inv .within)
 
 test-at-requires : tie.Need-test-at-requires Inv-loop μ-loop
 test-at-requires c κs =
@@ -66,7 +66,7 @@ add-at : tie.Need-add-at Inv-loop μ-loop
 add-at c =
     let a = c .before .before .before .before .before .before .before .before .before .before .before .before .before .before .before .args in
     let l = c .before .before .before .before .before .before .before .before .before .loop in
-    omega (arith, c .before .before .before .before .before .before .answer-length .ensures, answer-ends (a .k .modulus) (a .k .ring) (keysOf (a .k .ring) (keyBytes (a .k) (a .public .now))) (a .head .now) (a .challenges .now) (a .answers .now) (a .k .repeats) (l .i) (l .at) (l .work) (l .inv) (omega arith) (c .before .before .before .before .before .before .before .before .before .before .before .before .before .before .before .pre .4), answer-fits (a .k .modulus) (a .k .ring) (keysOf (a .k .ring) (keyBytes (a .k) (a .public .now))) (a .head .now) (a .challenges .now) (a .answers .now) (a .k .repeats) (l .i) (l .at) (l .work) (l .inv) (omega arith) (c .before .before .before .before .before .before .before .before .before .before .before .before .before .before .before .pre .4) (c .before .before .before .before .before .before .before .before .before .before .before .before .before .before .before .pre .0 .a .ring-high) (c .before .before .before .before .before .before .before .before .before .before .before .before .before .before .before .pre .0 .numbers .repeats-high))
+    omega (arith, c .before .before .before .before .before .before .answer-length .ensures, answer-ends (a .k .modulus) (a .k .ring) (keysOf (a .k .ring) (keyBytes (a .k) (a .public .now))) (a .head .now) (a .challenges .now) (a .answers .now) (a .k .repeats) (l .i) (l .at) (l .work) (l .inv) (omega arith) (c .before .before .before .before .before .before .before .before .before .before .before .before .before .before .before .pre .4), answer-fits (a .k .modulus) (a .k .ring) (keysOf (a .k .ring) (keyBytes (a .k) (a .public .now))) (a .head .now) (a .challenges .now) (a .answers .now) (a .k .repeats) (l .i) (l .at) (l .work) (l .inv) (omega arith) (c .before .before .before .before .before .before .before .before .before .before .before .before .before .before .before .pre .4) (c .before .before .before .before .before .before .before .before .before .before .before .before .before .before .before .pre .0 .a .ring-high) (c .before .before .before .before .before .before .before .before .before .before .before .before .before .before .before .pre .0 .numbers .in-range .repeats-high))
 
 loop-again : tie.Need-loop-again Inv-loop μ-loop
 loop-again c =

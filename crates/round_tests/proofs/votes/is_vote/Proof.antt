@@ -27,7 +27,7 @@ cast-if1 c = omega (arith, c .shared-slice-known3 .given (c .before .before .bef
 
 residue-requires : tie.Need-residue-requires Inv-loop μ-loop
 unfolding poly
-residue-requires c κs = let p = c .before .before .before .before .before .before .before .pre in (rw (c .before .read64 .ensures) (p .3 .at (c .before .before .before .loop .i) (omega arith)), p .0 .modulus-high, omega (arith, p .0 .plain-low, c .before .before .before .before .plain .ensures))
+residue-requires c κs = let p = c .before .before .before .before .before .before .before .pre in (rw (c .before .read64 .ensures) (p .3 .at (c .before .before .before .loop .i) (omega arith)), p .0 .in-range .modulus-high, omega (arith, p .0 .in-range .plain-low, c .before .before .before .before .plain .ensures))
 
 returns : tie.Need-returns Inv-loop μ-loop
 unfolding plain poly

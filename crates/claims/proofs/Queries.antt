@@ -1,4 +1,4 @@
--- The claim of specs/Exactly.antt: each call is taken exactly under its conditions. Assumes nothing.
+-- The calls that read are taken exactly under the conditions of specs/Queries.antt. Assumes nothing.
 use mathlib.Core.Path.{_≡_, refl, ap, ap₂}
 use mathlib.Core.Logic.{_↔_, Iff·trans}
 use mathlib.Core.Bool.{Bool, true, false, cond, _&&_, _||_, not}
@@ -9,23 +9,17 @@ use Rattle.codec.specs.Reply.{first}
 use Rattle.codec.specs.declared.Reply.the-variants.{Taken}
 use Rattle.codec.proofs.Laws.{both}
 use Rattle.codec.proofs.Replies.{taken-exactly}
-use Rattle.sha3.specs.Digest.{digestReply}
-use Rattle.sheet.specs.Calls.{describeReply}
 use Rattle.session_progress.specs.Progress.{drawn}
 use Rattle.session.specs.declared.Session.{Session}
 use Rattle.session.specs.Steps.{challengesTests, turnoutTests}
-use Rattle.session_image.specs.Image.{decode}
-use Rattle.session_image.specs.Images.{challengesReply, turnoutReply}
 use Rattle.round_tests.specs.Opened.{isOpened, openedPlace, openedReply}
 use Rattle.sheet_numbers.proofs.Ranges.{power-of, power-found, low-power}
-use Rattle.session_histories.proofs.Valid.{numbers-match, numbers-pass, ready, is-ready, valid-says, valid-holds, neither, sheet-exactly}
-use Rattle.claims.specs.Exactly.{TellsChallenges, Counts, ShareThere, CallsExactly}
-use Rattle.claims.proofs.Images.{over-image}
-use Rattle.claims.proofs.Scheme.{keygen-exactly, encrypt-exactly, decrypt-exactly, split-exactly, share-exactly, reconstruct-exactly, commitment-exactly}
+use Rattle.session_histories.proofs.Valid.{numbers-match, numbers-pass, ready, is-ready, valid-says, valid-holds, neither}
+use Rattle.claims.specs.Queries.{TellsChallenges, Counts, ShareThere}
 
 -- ---- over a session
 
-challenges-exactly : (s : Session) (round : ℕ) (out : Bytes) → (first (challengesTests s round out) ≡ Taken) ↔ TellsChallenges s round out
+pub challenges-exactly : (s : Session) (round : ℕ) (out : Bytes) → (first (challengesTests s round out) ≡ Taken) ↔ TellsChallenges s round out
 unfolding challengesTests
 challenges-exactly s round out =
     Iff·trans (taken-exactly _) (
@@ -36,7 +30,7 @@ challenges-exactly s round out =
       λ c. (is-ready s (c .sound) (ap₂ _&&_ (le-leb drawn (s .progress .phase) (c .phase)) (lt-ltb round (s .numbers .rounds) (c .within))), (numbers-pass (c .size), tt)),
     )
 
-turnout-exactly : (s : Session) (reg : Bytes) (enrolled : ℕ) → (first (turnoutTests s reg enrolled) ≡ Taken) ↔ Counts s reg enrolled
+pub turnout-exactly : (s : Session) (reg : Bytes) (enrolled : ℕ) → (first (turnoutTests s reg enrolled) ≡ Taken) ↔ Counts s reg enrolled
 unfolding turnoutTests
 turnout-exactly s reg enrolled =
     Iff·trans (taken-exactly _) (
@@ -81,7 +75,7 @@ module _ (side N length0 length1 j : ℕ) where
   told true e l = rw (e, lt-ltb (8 * N * j + 1) (2 ^ 56) l)
   told false e l = rw (e)
 
-  opened-exactly : 8 * N * j + 1 < 2 ^ 56
+  pub opened-exactly : 8 * N * j + 1 < 2 ^ 56
       → (ShareThere side N length0 length1 j → openedReply side N length0 length1 j ≡ 256 * (8 * N * j + 1))
       × ((ShareThere side N length0 length1 j → ⊥) → openedReply side N length0 length1 j ≡ 0)
   opened-exactly l = (λ t. told true (there-opened t) l, λ none. absent (isOpened side N length0 length1 j) refl none)
@@ -89,22 +83,3 @@ module _ (side N length0 length1 j : ℕ) where
       absent : (b : Bool) → isOpened side N length0 length1 j ≡ b → (ShareThere side N length0 length1 j → ⊥) → openedReply side N length0 length1 j ≡ 0
       absent true e none = absurd (none (share-there e))
       absent false e none = told false e l
-
--- ---- the claim
-
-pub calls-exactly : CallsExactly
-unfolding digestReply describeReply challengesReply turnoutReply
-calls-exactly = record {
-  digest = λ out. Iff·trans (taken-exactly _) (λ n. numbers-match (n .0), λ e. (numbers-pass e, tt));
-  sheet = λ text out. Iff·trans (taken-exactly _) (λ n. (numbers-match (n .0), sheet-exactly text .0 (n .1)), λ h. (numbers-pass (h .0), sheet-exactly text .1 (h .1)));
-  keygen = keygen-exactly;
-  encrypt = encrypt-exactly;
-  decrypt = decrypt-exactly;
-  split = split-exactly;
-  share = share-exactly;
-  reconstruct = reconstruct-exactly;
-  commitment = commitment-exactly;
-  challenges = λ image round out. over-image image (λ s. first (challengesTests s round out)) (challenges-exactly (decode image) round out);
-  turnout = λ image reg enrolled. over-image image (λ s. first (turnoutTests s reg enrolled)) (turnout-exactly (decode image) reg enrolled);
-  opened-share = opened-exactly;
-}

@@ -1,0 +1,99 @@
+-- The claim of specs/Calls.antt, a row for each exported call. Assumes nothing.
+use mathlib.Core.Path.{_≡_, refl}
+use mathlib.Core.Logic.{_↔_, Iff·trans}
+use mathlib.Core.Bool.{Bool, true, false, cond, not}
+use mathlib.Core.List.{List, _∷_, _++_}
+use Prim.Native.Nat.{_^_}
+use lib.Dec.{eqb, ltb}
+use lib.ListN.{length}
+use Rattle.codec.specs.Bytes.{Bytes}
+use Rattle.codec.specs.Reply.{Test, test, first}
+use Rattle.codec.specs.declared.Reply.the-variants.{Taken, Refused}
+use Rattle.codec.proofs.Replies.{taken-exactly, refused-exactly}
+use Rattle.sha3.specs.Digest.{digestReply}
+use Rattle.sheet.specs.Sheet.{order}
+use Rattle.sheet.specs.Calls.{describeReply}
+use Rattle.commitment.specs.Parameters.{parametersOf}
+use Rattle.round_lengths.specs.Calls.{firstTests, secondTests, openingsTests}
+use Rattle.round_tests.specs.Opened.{openedPlace}
+use Rattle.round_produce.specs.Replies.{firstReply, secondReply}
+use Rattle.round_extract.specs.Replies.{extractReply}
+use Rattle.session.specs.declared.Session.{Session}
+use Rattle.session.specs.Steps.{challengesTests, turnoutTests}
+use Rattle.session.specs.Machine.{state, tests, reply}
+use Rattle.session_image.specs.Image.{imageLength, decode}
+use Rattle.session_image.specs.Images.{lentReply, host, hostReply, challengesReply, turnoutReply}
+use Rattle.session_histories.proofs.Valid.{numbers-match, numbers-pass, sheet-exactly}
+use Rattle.session_histories.proofs.Checked.{step-exactly}
+use Rattle.claims.specs.Calls.{Decided, Ordered, lengthTest, EveryCall}
+use Rattle.claims.proofs.Images.{over-image}
+use Rattle.claims.proofs.Scheme.{keygen-exactly, encrypt-exactly, decrypt-exactly, split-exactly, share-exactly, reconstruct-exactly, commitment-exactly}
+use Rattle.claims.proofs.Produces.{first-exactly, second-call-exactly}
+use Rattle.claims.proofs.Extracts.{extractor-exactly}
+use Rattle.claims.proofs.Queries.{challenges-exactly, turnout-exactly, opened-exactly}
+use Rattle.claims.proofs.Replies.{Numbered, told, behind, in-producer, in-extract, extract-told, extract-value, lent, host-told, turnout-told, turnout-value, value-or-none}
+
+-- ---- what decides
+
+decided : (ts : List Test) → Decided (first ts) ts
+decided ts = record { taken = taken-exactly ts; refused = λ number place. refused-exactly number place ts }
+
+-- a call that is lent an image
+over : (image : Bytes) (ts : Session → List Test) → Decided (lentReply image (λ s. first (ts s))) (lengthTest imageLength image ∷ ts (decode image))
+over image ts = go (eqb (length image) imageLength)
+  where
+    go : (b : Bool) → Decided (cond b (first (ts (decode image))) (Refused 1 0)) (test 1 0 (not b) ∷ ts (decode image))
+    go true = unfold first in decided (test 1 0 false ∷ ts (decode image))
+    go false = unfold first in decided (test 1 0 true ∷ ts (decode image))
+
+-- ---- rows
+
+-- a call that is lent the sheet, and whose own order comes behind the sheet's
+ordered : (text : Bytes) (ts : List Test) {Conditions : Type 0} → Numbered ts → (first (order text ++ ts) ≡ Taken) ↔ Conditions → Ordered (order text ++ ts) Conditions
+ordered text ts numbers exactly = record { told = behind text ts numbers; decided = decided (order text ++ ts); exactly = exactly }
+
+pub every-call : EveryCall
+unfolding digestReply describeReply firstReply secondReply firstTests secondTests extractReply openingsTests hostReply reply challengesReply turnoutReply challengesTests
+every-call = record {
+  digest = λ out. record { told = told _ refl; decided = decided _; exactly = Iff·trans (taken-exactly _) (λ n. numbers-match (n .0), λ e. (numbers-pass e, tt)) };
+  sheet = λ text out. record {
+    told = told _ refl;
+    decided = decided _;
+    exactly = Iff·trans (taken-exactly _) (λ n. (numbers-match (n .0), sheet-exactly text .0 (n .1)), λ h. (numbers-pass (h .0), sheet-exactly text .1 (h .1)));
+  };
+  keygen = λ text s e b scratch. ordered text _ refl (keygen-exactly text s e b scratch);
+  encrypt = λ text r e1 e2 m ciphertext scratch. ordered text _ refl (encrypt-exactly text r e1 e2 m ciphertext scratch);
+  decrypt = λ text s ciphertext vote scratch. ordered text _ refl (decrypt-exactly text s ciphertext vote scratch);
+  split = λ text s e s0 e0 out scratch. ordered text _ refl (split-exactly text s e s0 e0 out scratch);
+  share = λ text half u mask t scratch. ordered text _ refl (share-exactly text half u mask t scratch);
+  reconstruct = λ text v t0 t1 vote scratch. ordered text _ refl (reconstruct-exactly text v t0 t1 vote scratch);
+  commitment = λ text m r pair scratch. ordered text _ refl (commitment-exactly text m r pair scratch);
+  produce-first = λ text x head shares0 shares1 claims scratch.
+      ordered text _ (in-producer (parametersOf text) _ x true) (first-exactly text x head shares0 shares1 claims scratch);
+  produce-second = λ text x side challenges opening answers scratch.
+      ordered text _ (in-producer (parametersOf text) _ x _) (second-call-exactly text x side challenges opening answers scratch);
+  extract = λ text x out scratch octets. record {
+    told = extract-told _ _ (behind text _ (in-extract (parametersOf text) _ x));
+    decided = decided _;
+    exactly = extractor-exactly text x out scratch octets;
+  };
+  extract-value = λ text x out scratch. extract-value _ _;
+  step = λ x image register bytes. record {
+    told = host-told x (host image register);
+    decided = over image (λ s. tests x (state s register));
+    exactly = over-image image (λ s. reply x (state s register)) (step-exactly x (state (decode image) register) bytes);
+  };
+  challenges = λ image round out. record {
+    told = lent image (λ s. first (challengesTests s round out)) (λ s. told (challengesTests s round out) refl);
+    decided = over image (λ s. challengesTests s round out);
+    exactly = over-image image (λ s. first (challengesTests s round out)) (challenges-exactly (decode image) round out);
+  };
+  turnout = λ image reg enrolled. record {
+    told = turnout-told image reg enrolled;
+    decided = over image (λ s. turnoutTests s reg enrolled);
+    exactly = over-image image (λ s. first (turnoutTests s reg enrolled)) (turnout-exactly (decode image) reg enrolled);
+  };
+  turnout-value = turnout-value;
+  opened-told = λ side N length0 length1 j. value-or-none (ltb (openedPlace side N length0 length1 j) (2 ^ 56)) (openedPlace side N length0 length1 j);
+  opened-share = opened-exactly;
+}

@@ -1,0 +1,104 @@
+-- Every exported call that can refuse, in a row: its reply, the number that C is answered, the order that decides, and when it is taken. Assumes nothing.
+use mathlib.Core.Path.{_≡_}
+use mathlib.Core.Logic.{_↔_}
+use mathlib.Core.Bool.{not}
+use mathlib.Core.List.{List, [], _∷_, _++_}
+use Prim.Native.Nat.{ℕ, _+_, _*_, _/_, _%_, _^_, _<_}
+use lib.Dec.{eqb}
+use lib.ListN.{length}
+use Rattle.codec.specs.Bytes.{Bytes, Octets}
+use Rattle.codec.specs.Reply.{Test, test, first, packed, None, Decides}
+use Rattle.codec.specs.declared.Reply.{Reply}
+use Rattle.codec.specs.declared.Reply.the-variants.{Taken, Refused}
+use Rattle.sheet.specs.Sheet.{order}
+use Rattle.sha3.specs.Digest.{digestReply}
+use Rattle.sheet.specs.Calls.{describeReply}
+use Rattle.register.specs.Register as entries
+use Rattle.round.specs.Producer.{Material}
+use Rattle.round.specs.Writes.{firstRoom, secondRoom}
+use Rattle.round.specs.Extractor.{Openings, extractRoom, kind}
+use Rattle.round_lengths.specs.Calls.{firstTests, secondTests, openingsTests}
+use Rattle.round_lengths.specs.Sheets.{ballotsIn}
+use Rattle.round_tests.specs.Opened.{openedReply}
+use Rattle.commitment.specs.Parameters.{parametersOf}
+use Rattle.scheme.specs.Orders.{keygenOrder, encryptOrder, decryptOrder, splitOrder, shareOrder, reconstructOrder, commitmentOrder}
+use Rattle.round_produce.specs.Replies.{firstReply, secondReply}
+use Rattle.round_extract.specs.Extraction.{answered}
+use Rattle.round_extract.specs.Replies.{extractReply, extractFound}
+use Rattle.session.specs.Steps.{challengesTests, turnoutTests}
+use Rattle.session.specs.Machine.{Step, state, tests}
+use Rattle.session_image.specs.Image.{imageLength, decode}
+use Rattle.session_image.specs.Images.{host, hostReply, challengesReply, turnoutReply, turnoutAnswer}
+use Rattle.session_histories.specs.Conditions.{SheetTaken, HeadIsBytes, Takes}
+use Rattle.claims.specs.Scheme.{Keygens, Encrypts, Decrypts, Splits, Shares, Reconstructs, CommitsTo}
+use Rattle.claims.specs.Produces.{WritesFirst, WritesSecond}
+use Rattle.claims.specs.Extracts.{TakesOpenings}
+use Rattle.claims.specs.Queries.{TellsChallenges, Counts, ShareThere}
+
+-- "A refusal carries number and place", and "calls the case through plain numbers": the remainder by 256 of what C is answered is 0 exactly if the call is taken, and else the number
+-- of the refusal; the quotient is then its place
+pub record Told (reply : Reply) (answer : ℕ) : Type 0 where
+  pub taken : (answer % 256 ≡ 0) ↔ (reply ≡ Taken)
+  pub refused : (number place : ℕ) → reply ≡ Refused number place → (answer % 256 ≡ number) × (answer / 256 ≡ place)
+
+-- "The first case that holds in the order given decides, and no refusal comes otherwise": taken exactly if no test of the order holds, refused exactly with number and place of a
+-- test that holds and none before it
+pub record Decided (reply : Reply) (ts : List Test) : Type 0 where
+  pub taken : (reply ≡ Taken) ↔ None ts
+  pub refused : (number place : ℕ) → (reply ≡ Refused number place) ↔ Decides number place ts
+
+-- one call: what C is told of its reply, the order that decides it, and the conditions under which it is taken
+pub record Call (reply : Reply) (answer : ℕ) (ts : List Test) (Conditions : Type 0) : Type 0 where
+  pub told : Told reply answer
+  pub decided : Decided reply ts
+  pub exactly : (reply ≡ Taken) ↔ Conditions
+
+-- one whose answer has no value but its reply
+abbrev pub Plain : Reply → List Test → Type 0 → Type 0
+Plain reply ts Conditions = Call reply (packed reply) ts Conditions
+
+-- and whose reply is said by its order
+abbrev pub Ordered : List Test → Type 0 → Type 0
+Ordered ts Conditions = Plain (first ts) ts Conditions
+
+-- an output of another length than n bytes, and an image of another length than its own, are refused 1 before all else
+abbrev pub lengthTest : ℕ → Bytes → Test
+lengthTest n lent = test 1 0 (not (eqb (length lent) n))
+
+pub record EveryCall : Type 0 where
+  pub digest : (out : Bytes) → Plain (digestReply out) (lengthTest 32 out ∷ []) (length out ≡ 32)
+  pub sheet : (text out : Bytes) → Plain (describeReply text out) (lengthTest 32 out ∷ order text) ((length out ≡ 32) × SheetTaken text)
+  pub keygen : (text s e b scratch : Bytes) → Ordered (keygenOrder text s e b scratch) (Keygens text s e b scratch)
+  pub encrypt : (text r e1 e2 m ciphertext scratch : Bytes) → Ordered (encryptOrder text r e1 e2 m ciphertext scratch) (Encrypts text r e1 e2 m ciphertext scratch)
+  pub decrypt : (text s ciphertext vote scratch : Bytes) → Ordered (decryptOrder text s ciphertext vote scratch) (Decrypts text s ciphertext vote scratch)
+  pub split : (text s e s0 e0 out scratch : Bytes) → Ordered (splitOrder text s e s0 e0 out scratch) (Splits text s e s0 e0 out scratch)
+  pub share : (text half u mask t scratch : Bytes) → Ordered (shareOrder text half u mask t scratch) (Shares text half u mask t scratch)
+  pub reconstruct : (text v t0 t1 vote scratch : Bytes) → Ordered (reconstructOrder text v t0 t1 vote scratch) (Reconstructs text v t0 t1 vote scratch)
+  pub commitment : (text m r pair scratch : Bytes) → Ordered (commitmentOrder text m r pair scratch) (CommitsTo text m r pair scratch)
+  -- the producer writes a round from all material that meets none of its refusals: its first message, and what answers a side and challenges
+  pub produce-first : (text : Bytes) (x : Material) (head shares0 shares1 claims scratch : Bytes) → let room = firstRoom head shares0 shares1 claims scratch in
+      Plain (firstReply text x room) (order text ++ firstTests (parametersOf text) x room) (WritesFirst text x head shares0 shares1 claims scratch)
+  pub produce-second : (text : Bytes) (x : Material) (side : ℕ) (challenges opening answers scratch : Bytes) → let room = secondRoom opening answers scratch in
+      Plain (secondReply text x side challenges room) (order text ++ secondTests (parametersOf text) x side challenges room)
+      (WritesSecond text x side challenges opening answers scratch)
+  -- the head of a first message is bytes, as all that is lent; where the extractor takes, the quotient is the kind of what it found
+  pub extract : (text : Bytes) (x : Openings) (out scratch : Bytes) → Octets (x .head) → let room = extractRoom out scratch in
+      Call (extractReply text x room) (answered (extractFound text x room)) (order text ++ openingsTests (parametersOf text) x room) (TakesOpenings text x out scratch)
+  pub extract-value : (text : Bytes) (x : Openings) (out scratch : Bytes) → let room = extractRoom out scratch in
+      extractReply text x room ≡ Taken → answered (extractFound text x room) / 256 ≡ kind (parametersOf text) (ballotsIn text (x .ballots)) x
+  -- the eight steps: the image has its length, and the conditions hold of the session in it: a check in every round if all of `Checks` holds, a ballot is admitted if all of `Admits`
+  -- does, where "full" means 4,096 entries, and so on
+  pub step : (x : Step) (image register : Bytes) → HeadIsBytes x → let at = state (decode image) register in
+      Plain (hostReply x (host image register)) (lengthTest imageLength image ∷ tests x at) ((length image ≡ imageLength) × Takes x at)
+  pub challenges : (image : Bytes) (round : ℕ) (out : Bytes)
+      → Plain (challengesReply image round out) (lengthTest imageLength image ∷ challengesTests (decode image) round out) ((length image ≡ imageLength) × TellsChallenges (decode image) round out)
+  -- where a turnout is taken, the quotient is the thousandths, of the entries that the session in the image counts as used
+  pub turnout : (image reg : Bytes) (enrolled : ℕ) → Call (turnoutReply image reg enrolled) (turnoutAnswer image reg enrolled)
+      (lengthTest imageLength image ∷ turnoutTests (decode image) reg enrolled) ((length image ≡ imageLength) × Counts (decode image) reg enrolled)
+  pub turnout-value : (image reg : Bytes) (enrolled : ℕ) → turnoutReply image reg enrolled ≡ Taken
+      → turnoutAnswer image reg enrolled / 256 ≡ entries.turnout reg (decode image .progress .used) enrolled
+  -- the call of the opened share refuses nothing: its value is the place of the share's first byte in the slice of the opened side plus one, and 0 exactly if it is not there; a value has 56 bits
+  pub opened-told : (side N length0 length1 j : ℕ) → openedReply side N length0 length1 j % 256 ≡ 0
+  pub opened-share : (side N length0 length1 j : ℕ) → 8 * N * j + 1 < 2 ^ 56
+      → (ShareThere side N length0 length1 j → openedReply side N length0 length1 j ≡ 256 * (8 * N * j + 1))
+      × ((ShareThere side N length0 length1 j → ⊥) → openedReply side N length0 length1 j ≡ 0)
