@@ -1,6 +1,5 @@
 // BGV encryption and decryption shares over slots of scratch (document 000, sections 5.3 and 6.1): what is worked on stands at 0, a
-// second operand at ERROR,
-// and a product has its room from ROOM on. p is lent. What is made from secrets is left in scratch.
+// second operand at ERROR, and a product has its room from ROOM on. p is lent. What is made from secrets is left in scratch.
 ghost use mathlib.Core.Path.{_≡_};
 ghost use Prim.Native.Nat.{_+_, _*_, _≤_, _<_, _^_};
 ghost use lib.ListN.{length};

@@ -1,9 +1,11 @@
 -- The claim of specs/Calls.antt, a row for each exported call. Assumes nothing.
-use mathlib.Core.Path.{_≡_, refl}
+use mathlib.Core.Path.{_≡_, refl, sym, subst}
 use mathlib.Core.Logic.{_↔_, Iff·trans}
 use mathlib.Core.Bool.{Bool, true, false, cond, not}
 use mathlib.Core.List.{List, _∷_, _++_}
-use Prim.Native.Nat.{_^_}
+use Prim.Native.Nat.{ℕ, _+_, _*_, _/_, _^_, _≤_}
+use native.Mathlib.Nat.{mul-add, mul-comm, div-add-mod', mod-lt}
+use native.Mathlib.Omega.{arith}
 use lib.Dec.{eqb, ltb}
 use lib.ListN.{length}
 use Rattle.codec.specs.Bytes.{Bytes}
@@ -12,6 +14,7 @@ use Rattle.codec.specs.declared.Reply.the-variants.{Taken, Refused}
 use Rattle.codec.proofs.Replies.{taken-exactly, refused-exactly}
 use Rattle.sha3.specs.Digest.{digestReply}
 use Rattle.sheet.specs.Sheet.{order}
+use Rattle.register.specs.Register.{standing, thousandths, turnout}
 use Rattle.sheet.specs.Calls.{describeReply}
 use Rattle.commitment.specs.Parameters.{parametersOf}
 use Rattle.round_lengths.specs.Calls.{firstTests, secondTests, openingsTests}
@@ -22,16 +25,16 @@ use Rattle.session.specs.declared.Session.{Session}
 use Rattle.session.specs.Steps.{challengesTests, turnoutTests}
 use Rattle.session.specs.Machine.{state, tests, reply}
 use Rattle.session_image.specs.Image.{imageLength, decode}
-use Rattle.session_image.specs.Images.{lentReply, host, hostReply, challengesReply, turnoutReply}
+use Rattle.session_image.specs.Images.{lentReply, host, hostReply, challengesReply, turnoutReply, turnoutAnswer}
 use Rattle.session_histories.proofs.Valid.{numbers-match, numbers-pass, sheet-exactly}
 use Rattle.session_histories.proofs.Checked.{step-exactly}
-use Rattle.claims.specs.Calls.{Decided, Ordered, lengthTest, EveryCall}
+use Rattle.claims.specs.Calls.{Decided, Ordered, lengthTest, Thousandths, SchemeCalls, RoundCalls, SessionCalls}
 use Rattle.claims.proofs.Images.{over-image}
 use Rattle.claims.proofs.Scheme.{keygen-exactly, encrypt-exactly, decrypt-exactly, split-exactly, share-exactly, reconstruct-exactly, commitment-exactly}
 use Rattle.claims.proofs.Produces.{first-exactly, second-call-exactly}
 use Rattle.claims.proofs.Extracts.{extractor-exactly}
-use Rattle.claims.proofs.Queries.{challenges-exactly, turnout-exactly, opened-exactly}
-use Rattle.claims.proofs.Replies.{Numbered, told, behind, in-producer, in-extract, extract-told, extract-value, lent, host-told, turnout-told, turnout-value, value-or-none}
+use Rattle.claims.proofs.Queries.{challenges-exactly, turnout-exactly, opened-there, opened-absent}
+use Rattle.claims.proofs.Replies.{Numbered, told, behind, in-producer, in-extract, extract-told, extract-value, lent, host-told, turnout-told, counted-value, value-or-none}
 
 -- ---- what decides
 
@@ -52,9 +55,9 @@ over image ts = go (eqb (length image) imageLength)
 ordered : (text : Bytes) (ts : List Test) {Conditions : Type 0} → Numbered ts → (first (order text ++ ts) ≡ Taken) ↔ Conditions → Ordered (order text ++ ts) Conditions
 ordered text ts numbers exactly = record { told = behind text ts numbers; decided = decided (order text ++ ts); exactly = exactly }
 
-pub every-call : EveryCall
-unfolding digestReply describeReply firstReply secondReply firstTests secondTests extractReply openingsTests hostReply reply challengesReply turnoutReply challengesTests
-every-call = record {
+pub scheme-calls : SchemeCalls
+unfolding digestReply describeReply
+scheme-calls = record {
   digest = λ out. record { told = told _ refl; decided = decided _; exactly = Iff·trans (taken-exactly _) (λ n. numbers-match (n .0), λ e. (numbers-pass e, tt)) };
   sheet = λ text out. record {
     told = told _ refl;
@@ -68,6 +71,11 @@ every-call = record {
   share = λ text half u mask t scratch. ordered text _ refl (share-exactly text half u mask t scratch);
   reconstruct = λ text v t0 t1 vote scratch. ordered text _ refl (reconstruct-exactly text v t0 t1 vote scratch);
   commitment = λ text m r pair scratch. ordered text _ refl (commitment-exactly text m r pair scratch);
+}
+
+pub round-calls : RoundCalls
+unfolding firstReply secondReply firstTests secondTests extractReply openingsTests
+round-calls = record {
   produce-first = λ text x head shares0 shares1 claims scratch.
       ordered text _ (in-producer (parametersOf text) _ x true) (first-exactly text x head shares0 shares1 claims scratch);
   produce-second = λ text x side challenges opening answers scratch.
@@ -78,6 +86,30 @@ every-call = record {
     exactly = extractor-exactly text x out scratch octets;
   };
   extract-value = λ text x out scratch. extract-value _ _;
+  opened-told = λ side N length0 length1 j. value-or-none (ltb (openedPlace side N length0 length1 j) (2 ^ 56)) (openedPlace side N length0 length1 j);
+  opened-there = opened-there;
+  opened-absent = opened-absent;
+}
+
+-- half up: the quotient by twice the enrolled
+half-up : (n enrolled : ℕ) → 1 ≤ enrolled → Thousandths n enrolled (thousandths n enrolled)
+unfolding thousandths
+half-up n enrolled some =
+    let x = 2000 * n + enrolled in
+    let d = 2 * enrolled in
+    record { low = omega (arith, div-add-mod' x d, mul-comm d (x / d)); high = omega (arith, div-add-mod' x d, mul-comm d (x / d), mod-lt x {m = d} (omega arith), mul-add d (x / d) 1) }
+
+turnout-value : (image reg : Bytes) (enrolled : ℕ) → turnoutReply image reg enrolled ≡ Taken
+    → Thousandths (length (standing reg (decode image .progress .used))) enrolled (turnoutAnswer image reg enrolled / 256)
+unfolding turnoutAnswer turnout turnoutReply
+turnout-value image reg enrolled taken =
+    let c = over-image image (λ s. first (turnoutTests s reg enrolled)) (turnout-exactly (decode image) reg enrolled) .0 taken .1 in
+    subst (Thousandths (length (standing reg (decode image .progress .used))) enrolled) (sym (counted-value (turnoutReply image reg enrolled) _ taken))
+    (half-up (length (standing reg (decode image .progress .used))) enrolled (c .some))
+
+pub session-calls : SessionCalls
+unfolding hostReply reply challengesReply turnoutReply challengesTests
+session-calls = record {
   step = λ x image register bytes. record {
     told = host-told x (host image register);
     decided = over image (λ s. tests x (state s register));
@@ -94,6 +126,4 @@ every-call = record {
     exactly = over-image image (λ s. first (turnoutTests s reg enrolled)) (turnout-exactly (decode image) reg enrolled);
   };
   turnout-value = turnout-value;
-  opened-told = λ side N length0 length1 j. value-or-none (ltb (openedPlace side N length0 length1 j) (2 ^ 56)) (openedPlace side N length0 length1 j);
-  opened-share = opened-exactly;
 }

@@ -32,7 +32,7 @@ use Rattle.claims.proofs.Endings.{refusal-ends, begun, scratch-zeroed}
 use Rattle.claims.proofs.Orders.{orders-as-written}
 use Rattle.claims.proofs.FromCalls.{from-calls, turns-come}
 use Rattle.claims.proofs.SomeElection.{some-election}
-use Rattle.claims.proofs.Calls.{every-call}
+use Rattle.claims.proofs.Calls.{scheme-calls, round-calls, session-calls}
 use Rattle.claims.proofs.Yields.{extractor-takes}
 use Rattle.claims.proofs.Produces.{positive, fits}
 use Rattle.claims.proofs.Extracts.{extractor-exactly, lent-takes}
@@ -44,7 +44,7 @@ use Rattle.commitment.specs.Parameters.{parametersOf}
 honest-ballots : HonestBallots
 honest-ballots text sheet s e r e1 e2 m ss se sr s1 s2 message matches =
     let P = parametersOf text in
-    let ok = sound text (taken-exactly (order text) .1 (sheet-exactly text .1 sheet)) in (
+    let ok = sound text sheet in (
       honest-noise ok (omega arith) (P .a) (P .b) s e r e1 e2 m ss se sr s1 s2 message matches,
       honest-decrypts ok (omega arith) (P .a) (P .b) s e r e1 e2 m ss se sr s1 s2 message matches,
     )
@@ -53,7 +53,7 @@ honest-rounds : HonestRounds
 honest-rounds text sheet m x sized suitable side low challenges size valid =
     let r = sheet .inside in
     let none = producer-exactly (parametersOf text) m x (omega (arith, r .modulus-low)) (omega (arith, r .modulus-high)) .1 suitable in
-    honest-accepted (parametersOf text) m x (sound text (taken-exactly (order text) .1 (sheet-exactly text .1 sheet))) (omega (arith, r .modulus-low)) (omega (arith, r .modulus-high)) sized none side low
+    honest-accepted (parametersOf text) m x (sound text sheet) (omega (arith, r .modulus-low)) (omega (arith, r .modulus-high)) sized none side low
     challenges size valid
 
 extracts : Extracts
@@ -65,7 +65,7 @@ extracts text x out scratch octets o1 o2 o3 e =
     let three : 2 < P .q = omega (arith, r .modulus-low) in
     let high = fits text (t .sheet) in
     let none = openings-exactly P m x (positive text (t .sheet)) high (t .lengths) .1 (t .accepted) in
-    let ok = sound text (taken-exactly (order text) .1 (sheet-exactly text .1 (t .sheet))) in
+    let ok = sound text (t .sheet) in
     (extraction P m x three high (t .lengths) none ok, hashed P m x o1 o2 o3, lowest P m x (omega arith) high, output P m x three high (t .lengths) none ok)
 
 -- its findings do not depend on output or scratch: any of the right lengths serve
@@ -95,7 +95,8 @@ rounds-yield text x opens answers sheet o1 o2 o3 few lent lending within opened 
 
 pub demand2 : Demand2
 demand2 = record {
-  every-call = every-call;
+  scheme-calls = scheme-calls;
+  session-calls = session-calls;
   rounds-checked = host-rounds-checked;
   ended-accepted = host-ended-accepted;
   bound = host-bound;
@@ -114,6 +115,7 @@ demand2 = record {
 
 pub demand3 : Demand3
 demand3 = record {
+  round-calls = round-calls;
   accepted-yields = accepted-yields;
   extracts = extracts;
   lent-rounds = lending;

@@ -34,7 +34,7 @@ use Rattle.claims.specs.Produces.{WritesFirst}
 use Rattle.claims.proofs.HostClaims as hosts
 use Rattle.claims.proofs.HostSteps.{Keeps, over-step, keeps-run, roll-over, uncleared}
 use Rattle.claims.proofs.Produces.{first-exactly}
-use Rattle.claims.proofs.Calls.{every-call}
+use Rattle.claims.proofs.Calls.{session-calls}
 
 pub turns-come : TurnsCome
 turns-come sheet start m ballot material claims seed s c =
@@ -143,7 +143,7 @@ module _ (sheet : Bytes) (start : Host) (before between later last : List Step) 
     -- ---- the side and the challenges
 
     taken : challengesReply (h4 .image) round out ≡ Taken
-    taken = every-call .challenges (h4 .image) round out .told .taken .0 (sym (ap (λ (n : ℕ). n % 256) (answered .replied)))
+    taken = session-calls .challenges (h4 .image) round out .told .taken .0 (sym (ap (λ (n : ℕ). n % 256) (answered .replied)))
 
     told-is : told ≡ challengesOut s round
     told-is =

@@ -1,9 +1,8 @@
 -- The claims of specs/Papers.antt, from the theorems of bgv and keccak_bits. Assumes nothing.
 use mathlib.Core.Path.{_≡_, ap}
 use Rattle.codec.specs.Bytes.{Bytes}
-use Rattle.codec.specs.Reply.{first}
+use Rattle.codec.proofs.Replies.{taken-exactly}
 use Rattle.codec.specs.declared.Reply.{Reply}
-use Rattle.codec.specs.declared.Reply.the-variants.{Taken}
 use Rattle.sheet.specs.Reader.{sheetOf}
 use Rattle.sheet.specs.Sheet.{order, readingBy, reading}
 use Rattle.sheet.specs.declared.Reading.the-variants as reading
@@ -15,16 +14,18 @@ use Rattle.bgv.proofs.Sheets.{sheet-sound}
 use Rattle.commitment.specs.Parameters.{Parameters, parametersOf}
 use Rattle.keccak.specs.Table.{offsets-rule}
 use Rattle.keccak.specs.Tables.{constants-rule}
+use Rattle.session_histories.specs.Conditions.{SheetTaken}
+use Rattle.session_histories.proofs.Valid.{sheet-exactly}
 use Rattle.claims.specs.Papers.{Distributed, DigestOfBits, TablesByRule}
 
 -- a sheet that is taken
-module _ (text : Bytes) (sheet : first (order text) ≡ Taken) where
+module _ (text : Bytes) (sheet : SheetTaken text) where
   abbrev P : Parameters
   P = parametersOf text
 
-  pub read : reading text ≡ reading.Taken (sheetOf text .numbers)
+  read : reading text ≡ reading.Taken (sheetOf text .numbers)
   unfolding reading
-  read = ap (λ (r : Reply). readingBy r (sheetOf text .numbers)) sheet
+  read = ap (λ (r : Reply). readingBy r (sheetOf text .numbers)) (taken-exactly (order text) .1 (sheet-exactly text .1 sheet))
 
   pub sound : Sound (P .q) (P .p) (P .D) (P .B)
   sound = sheet-sound text (sheetOf text .numbers) read

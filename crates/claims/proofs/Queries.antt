@@ -70,16 +70,13 @@ module _ (side N length0 length1 j : ℕ) where
       (ap₂ _&&_ (power-found 12 N (i .0) (low-power N (i .0) (t .ring-high) (i .1)) (i .1)) (ap₂ _&&_ (eq-eqb length0 length1 (t .equal))
       (ap₂ _&&_ (eq-eqb (length0 % (8 * N)) 0 (t .whole)) (lt-ltb j (length0 / (8 * N)) (t .within)))))))
 
-  told : (b : Bool) → isOpened side N length0 length1 j ≡ b → 8 * N * j + 1 < 2 ^ 56 → openedReply side N length0 length1 j ≡ cond b (256 * (8 * N * j + 1)) 0
+  pub opened-there : ShareThere side N length0 length1 j → 8 * N * j + 1 < 2 ^ 56 → openedReply side N length0 length1 j ≡ 256 * (8 * N * j + 1)
   unfolding openedPlace
-  told true e l = rw (e, lt-ltb (8 * N * j + 1) (2 ^ 56) l)
-  told false e l = rw (e)
+  opened-there t l = rw (there-opened t, lt-ltb (8 * N * j + 1) (2 ^ 56) l)
 
-  pub opened-exactly : 8 * N * j + 1 < 2 ^ 56
-      → (ShareThere side N length0 length1 j → openedReply side N length0 length1 j ≡ 256 * (8 * N * j + 1))
-      × ((ShareThere side N length0 length1 j → ⊥) → openedReply side N length0 length1 j ≡ 0)
-  opened-exactly l = (λ t. told true (there-opened t) l, λ none. absent (isOpened side N length0 length1 j) refl none)
+  pub opened-absent : (ShareThere side N length0 length1 j → ⊥) → openedReply side N length0 length1 j ≡ 0
+  opened-absent none = go (isOpened side N length0 length1 j) refl
     where
-      absent : (b : Bool) → isOpened side N length0 length1 j ≡ b → (ShareThere side N length0 length1 j → ⊥) → openedReply side N length0 length1 j ≡ 0
-      absent true e none = absurd (none (share-there e))
-      absent false e none = told false e l
+      go : (b : Bool) → isOpened side N length0 length1 j ≡ b → openedReply side N length0 length1 j ≡ 0
+      go true e = absurd (none (share-there e))
+      go false e = unfold openedPlace in rw (e)

@@ -178,14 +178,9 @@ turnout-told image reg enrolled =
     go true false false true v = told-refused 3 0 (omega arith) (omega arith)
     go true false false false v = told-taken v
 
-counted-value : (reply : Reply) (thousandths : ℕ) → reply ≡ Taken → countedAnswer (turnoutBy reply thousandths) / 256 ≡ thousandths
+pub counted-value : (reply : Reply) (thousandths : ℕ) → reply ≡ Taken → countedAnswer (turnoutBy reply thousandths) / 256 ≡ thousandths
 counted-value Taken thousandths e = omega arith
 counted-value (Refused number place) thousandths e = not-taken number place e
-
-pub turnout-value : (image reg : Bytes) (enrolled : ℕ) → turnoutReply image reg enrolled ≡ Taken
-    → turnoutAnswer image reg enrolled / 256 ≡ entries.turnout reg (decode image .progress .used) enrolled
-unfolding turnoutAnswer
-turnout-value image reg enrolled taken = counted-value (turnoutReply image reg enrolled) (entries.turnout reg (decode image .progress .used) enrolled) taken
 
 pub value-or-none : (b : Bool) (v : ℕ) → cond b (256 * v) 0 % 256 ≡ 0
 value-or-none true v = omega arith

@@ -1,9 +1,10 @@
--- Every exported call that can refuse, in a row: its reply, the number that C is answered, the order that decides, and when it is taken. Assumes nothing.
+-- The exported calls, each in a row: its reply, the number that C is answered, the order that decides, and when it is taken. Calls that can not refuse: the opened share has a row of its own
+-- kind, the three that give lengths are their contracts. Assumes nothing.
 use mathlib.Core.Path.{_≡_}
 use mathlib.Core.Logic.{_↔_}
 use mathlib.Core.Bool.{not}
 use mathlib.Core.List.{List, [], _∷_, _++_}
-use Prim.Native.Nat.{ℕ, _+_, _*_, _/_, _%_, _^_, _<_}
+use Prim.Native.Nat.{ℕ, _+_, _*_, _/_, _%_, _^_, _≤_, _<_}
 use lib.Dec.{eqb}
 use lib.ListN.{length}
 use Rattle.codec.specs.Bytes.{Bytes, Octets}
@@ -13,7 +14,7 @@ use Rattle.codec.specs.declared.Reply.the-variants.{Taken, Refused}
 use Rattle.sheet.specs.Sheet.{order}
 use Rattle.sha3.specs.Digest.{digestReply}
 use Rattle.sheet.specs.Calls.{describeReply}
-use Rattle.register.specs.Register as entries
+use Rattle.register.specs.Register.{standing}
 use Rattle.round.specs.Producer.{Material}
 use Rattle.round.specs.Writes.{firstRoom, secondRoom}
 use Rattle.round.specs.Extractor.{Openings, extractRoom, kind}
@@ -41,8 +42,8 @@ pub record Told (reply : Reply) (answer : ℕ) : Type 0 where
   pub taken : (answer % 256 ≡ 0) ↔ (reply ≡ Taken)
   pub refused : (number place : ℕ) → reply ≡ Refused number place → (answer % 256 ≡ number) × (answer / 256 ≡ place)
 
--- "The first case that holds in the order given decides, and no refusal comes otherwise": taken exactly if no test of the order holds, refused exactly with number and place of a
--- test that holds and none before it
+-- "The first case that holds in the order given decides, and no refusal comes otherwise": taken exactly if no test of the list holds, refused exactly with number and place of a test
+-- that holds and none before it. That the lists are the orders of document 01: specs/Orders.antt
 pub record Decided (reply : Reply) (ts : List Test) : Type 0 where
   pub taken : (reply ≡ Taken) ↔ None ts
   pub refused : (number place : ℕ) → (reply ≡ Refused number place) ↔ Decides number place ts
@@ -65,7 +66,9 @@ Ordered ts Conditions = Plain (first ts) ts Conditions
 abbrev pub lengthTest : ℕ → Bytes → Test
 lengthTest n lent = test 1 0 (not (eqb (length lent) n))
 
-pub record EveryCall : Type 0 where
+-- ---- digest, sheet, encryption, shares, commitment
+
+pub record SchemeCalls : Type 0 where
   pub digest : (out : Bytes) → Plain (digestReply out) (lengthTest 32 out ∷ []) (length out ≡ 32)
   pub sheet : (text out : Bytes) → Plain (describeReply text out) (lengthTest 32 out ∷ order text) ((length out ≡ 32) × SheetTaken text)
   pub keygen : (text s e b scratch : Bytes) → Ordered (keygenOrder text s e b scratch) (Keygens text s e b scratch)
@@ -75,6 +78,10 @@ pub record EveryCall : Type 0 where
   pub share : (text half u mask t scratch : Bytes) → Ordered (shareOrder text half u mask t scratch) (Shares text half u mask t scratch)
   pub reconstruct : (text v t0 t1 vote scratch : Bytes) → Ordered (reconstructOrder text v t0 t1 vote scratch) (Reconstructs text v t0 t1 vote scratch)
   pub commitment : (text m r pair scratch : Bytes) → Ordered (commitmentOrder text m r pair scratch) (CommitsTo text m r pair scratch)
+
+-- ---- a round: producer, extractor, opened share
+
+pub record RoundCalls : Type 0 where
   -- the producer writes a round from all material that meets none of its refusals: its first message, and what answers a side and challenges
   pub produce-first : (text : Bytes) (x : Material) (head shares0 shares1 claims scratch : Bytes) → let room = firstRoom head shares0 shares1 claims scratch in
       Plain (firstReply text x room) (order text ++ firstTests (parametersOf text) x room) (WritesFirst text x head shares0 shares1 claims scratch)
@@ -86,19 +93,28 @@ pub record EveryCall : Type 0 where
       Call (extractReply text x room) (answered (extractFound text x room)) (order text ++ openingsTests (parametersOf text) x room) (TakesOpenings text x out scratch)
   pub extract-value : (text : Bytes) (x : Openings) (out scratch : Bytes) → let room = extractRoom out scratch in
       extractReply text x room ≡ Taken → answered (extractFound text x room) / 256 ≡ kind (parametersOf text) (ballotsIn text (x .ballots)) x
-  -- the eight steps: the image has its length, and the conditions hold of the session in it: a check in every round if all of `Checks` holds, a ballot is admitted if all of `Admits`
-  -- does, where "full" means 4,096 entries, and so on
+  -- the call of the opened share refuses nothing. Its value is the place of the share's first byte in the slice of the opened side, plus one, where the share is there and the value has 56 bits;
+  -- where it is not there, 0
+  pub opened-told : (side N length0 length1 j : ℕ) → openedReply side N length0 length1 j % 256 ≡ 0
+  pub opened-there : (side N length0 length1 j : ℕ) → ShareThere side N length0 length1 j → 8 * N * j + 1 < 2 ^ 56 → openedReply side N length0 length1 j ≡ 256 * (8 * N * j + 1)
+  pub opened-absent : (side N length0 length1 j : ℕ) → (ShareThere side N length0 length1 j → ⊥) → openedReply side N length0 length1 j ≡ 0
+
+-- ---- a session
+
+-- t is n in thousandths of the enrolled, half up
+pub record Thousandths (n enrolled t : ℕ) : Type 0 where
+  pub low : 2 * enrolled * t ≤ 2000 * n + enrolled
+  pub high : 2000 * n + enrolled < 2 * enrolled * (t + 1)
+
+pub record SessionCalls : Type 0 where
+  -- the eight steps are taken exactly if the image has its length and their conditions hold of the session in it: a check in every round if all of `Checks` holds, a ballot is admitted if
+  -- all of `Admits` does, where "full" means 4,096 entries, and so on
   pub step : (x : Step) (image register : Bytes) → HeadIsBytes x → let at = state (decode image) register in
       Plain (hostReply x (host image register)) (lengthTest imageLength image ∷ tests x at) ((length image ≡ imageLength) × Takes x at)
   pub challenges : (image : Bytes) (round : ℕ) (out : Bytes)
       → Plain (challengesReply image round out) (lengthTest imageLength image ∷ challengesTests (decode image) round out) ((length image ≡ imageLength) × TellsChallenges (decode image) round out)
-  -- where a turnout is taken, the quotient is the thousandths, of the entries that the session in the image counts as used
   pub turnout : (image reg : Bytes) (enrolled : ℕ) → Call (turnoutReply image reg enrolled) (turnoutAnswer image reg enrolled)
       (lengthTest imageLength image ∷ turnoutTests (decode image) reg enrolled) ((length image ≡ imageLength) × Counts (decode image) reg enrolled)
+  -- where it is taken, the quotient is the thousandths of the entries that stand, of those that the session in the image counts as used
   pub turnout-value : (image reg : Bytes) (enrolled : ℕ) → turnoutReply image reg enrolled ≡ Taken
-      → turnoutAnswer image reg enrolled / 256 ≡ entries.turnout reg (decode image .progress .used) enrolled
-  -- the call of the opened share refuses nothing: its value is the place of the share's first byte in the slice of the opened side plus one, and 0 exactly if it is not there; a value has 56 bits
-  pub opened-told : (side N length0 length1 j : ℕ) → openedReply side N length0 length1 j % 256 ≡ 0
-  pub opened-share : (side N length0 length1 j : ℕ) → 8 * N * j + 1 < 2 ^ 56
-      → (ShareThere side N length0 length1 j → openedReply side N length0 length1 j ≡ 256 * (8 * N * j + 1))
-      × ((ShareThere side N length0 length1 j → ⊥) → openedReply side N length0 length1 j ≡ 0)
+      → Thousandths (length (standing reg (decode image .progress .used))) enrolled (turnoutAnswer image reg enrolled / 256)

@@ -1,4 +1,4 @@
--- The three demands, over the definitions that the contracts of the exported calls cite (src/). Proved: proofs/Demands.antt. Assumes nothing.
+-- The three demands, over the definitions that the contracts of the exported calls cite (crates/jackdawnail/src). Proved: proofs/Demands.antt. Assumes nothing.
 --
 -- 1. Any bytes, numbers or session lent to any entry point get an outcome and no fault. No exported call has a `requires`, and each contract gives the reply and every lent byte:
 --    that every contract is proved is this demand.
@@ -29,7 +29,7 @@ use Rattle.session_image.specs.Images.{host, hostReply}
 use Rattle.session_histories.specs.Conditions.{SheetTaken}
 use Rattle.session_histories.specs.Examples.{all-rows}
 use Rattle.claims.specs.Papers.{Distributed, DecryptsTogether, DigestOfBits, TablesByRule}
-use Rattle.claims.specs.Calls.{EveryCall}
+use Rattle.claims.specs.Calls.{SchemeCalls, RoundCalls, SessionCalls}
 use Rattle.claims.specs.HostClaims.{HostStaysOut, HostRollIsBatch, HostOwnRegister, HostRoundsChecked, HostEndedAccepted, HostBound, HostHonestAccepted, HostStaysValid, HostOnlyPhaseOrRound}
 use Rattle.claims.specs.AnySession.{AnySession}
 use Rattle.claims.specs.Endings.{RefusalEnds, ClearBegins, ScratchZeroed}
@@ -55,7 +55,8 @@ Examples = map (λ (x : Example). x .got) all-rows ≡ map (λ (x : Example). x 
 
 pub record Demand2 : Type 0 where
   -- each call is taken exactly under its conditions, the first case that holds in its order decides number and place, no refusal comes otherwise, and the number that C is answered tells so
-  pub every-call : EveryCall
+  pub scheme-calls : SchemeCalls
+  pub session-calls : SessionCalls
   -- over every list of calls from a clear that is taken: a round that a session counts as checked has had its check, and of a session that ended accepted every round has
   pub rounds-checked : HostRoundsChecked
   pub ended-accepted : HostEndedAccepted
@@ -85,7 +86,7 @@ Yields text x =
     let m = ballotsIn text (x .ballots) in
     Found P m x (kind P m x) × Hashed P m x × Lowest P m x (kind P m x) × Output P m x (kind P m x) (extracted P m x)
 
--- the extractor takes it, lent room and scratch of the right lengths
+-- the extractor takes these openings and answers, lent room and scratch of the right lengths
 abbrev pub ExtractorTakes : (text : Bytes) → Openings → Type 0
 ExtractorTakes text x = (out scratch : Bytes) → length out ≡ 24 * parametersOf text .N → length scratch ≡ scratchLength → extractReply text x (extractRoom out scratch) ≡ Taken
 
@@ -116,7 +117,7 @@ pub record AcceptedAnswer (text : Bytes) (x : Openings) (challenge : ℕ) : Type
   pub check : AcceptedCheck text
   pub answers : AnswersLent (parametersOf text .N) x challenge (checkedRound check)
 
--- if both openings and all three answers to one repetition are accepted against one first message, ballots and claims, they yield one of the three, which the extractor takes and finds. What is lent is bytes
+-- if both openings and all three answers to one repetition are accepted against one first message, ballots and claims, the extractor takes them and finds one of the three. What is lent is bytes
 abbrev pub AcceptedYields : Type 0
 AcceptedYields = (text : Bytes) (x : Openings) → Octets (x .head) → Octets (x .answer1) → Octets (x .answer2) → Octets (x .answer3)
     → AcceptedOpening text x 0 → AcceptedOpening text x 1 → AcceptedAnswer text x 1 → AcceptedAnswer text x 2 → AcceptedAnswer text x 3
@@ -126,7 +127,7 @@ AcceptedYields = (text : Bytes) (x : Openings) → Octets (x .head) → Octets (
 abbrev pub LentRounds : Type 0
 LentRounds = (P : Parameters) (m : ℕ) (x : Openings) → extractor.Lent P m x → x .repetition < P .repeats → Lending P m x (λ i. lentRound P x i 1) (λ c. lentRound P x 0 c)
 
--- and so accepted rounds of any side and challenges yield one of the three, whatever a seed draws, which the extractor takes and finds
+-- and so with accepted rounds of any side and challenges, whatever a seed draws, and a repetition in range: the extractor takes what they opened and answered, and finds one of the three
 abbrev pub RoundsYield : Type 0
 RoundsYield = (text : Bytes) (x : Openings) (opens answers : ℕ → Round) → SheetTaken text → Octets (x .answer1) → Octets (x .answer2) → Octets (x .answer3)
     → let P = parametersOf text in
@@ -142,8 +143,9 @@ HonestRounds = (text : Bytes) → SheetTaken text
     (m : ℕ) (x : Material) → MaterialSized P m x → Suitable P m x → (side : ℕ) → side < 2 → (challenges : Bytes) → length challenges ≡ P .repeats
     → ((i : ℕ) → i < P .repeats → (1 ≤ getD challenges i 0) × (getD challenges i 0 ≤ 3)) → Accepted P m (producedRound P m x side challenges)
 
--- when the extractor takes, and when the producer writes, is said with the other calls: `extract`, `produce-first` and `produce-second` of `EveryCall`
 pub record Demand3 : Type 0 where
+  -- the producer writes a round from all material that meets none of its refusals, and the extractor takes exactly what is in order
+  pub round-calls : RoundCalls
   pub accepted-yields : AcceptedYields
   pub extracts : Extracts
   pub lent-rounds : LentRounds

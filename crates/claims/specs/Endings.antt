@@ -1,4 +1,4 @@
--- A refusal ends (document 01: "Session and output buffers stay untouched, except that in a check a refusal listed after 16 ends the session refused"), over the exported calls.
+-- How a session ends and begins, and what becomes of scratch, over the exported calls. A refusal ends (document 01: "Session and output buffers stay untouched, except that in a check a refusal listed after 16 ends the session refused").
 -- Assumes nothing.
 use mathlib.Core.Path.{_≡_}
 use mathlib.Core.Logic.{_≢_, _⊎_}
@@ -49,7 +49,7 @@ pub record Begun (sheet : Bytes) (h : Host) : Type 0 where
 abbrev pub ClearBegins : Type 0
 ClearBegins = (sheet : Bytes) (h : Host) → Octets (h .image) → hostReply (clear (on sheet)) h ≡ Taken → Begun sheet (hostAfter (clear (on sheet)) h)
 
--- "scratch is zeroed": by every call, unless 1 or 31 refuses it, and then it is left
+-- "scratch is zeroed": what the contracts of all calls that are lent scratch say that they leave in it (`zeroized`) is zeros, unless 1 or 31 refuses the call, and then what it was
 pub record ScratchZeroed : Type 0 where
   pub taken : (scratch : Bytes) → zeroized Taken scratch ≡ zeros (length scratch)
   pub refused : (number place : ℕ) (scratch : Bytes) → number ≢ 1 → number ≢ 31 → zeroized (Refused number place) scratch ≡ zeros (length scratch)

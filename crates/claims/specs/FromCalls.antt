@@ -71,7 +71,7 @@ TurnsCome = (sheet : Bytes) (start : Host) (m : ℕ) (ballot : ℕ → Bytes) (m
     → Countable sheet m ballot material claims seed
     → decode (hostRun (election sheet m ballot material claims seed) (hostAfter (clear (on sheet)) start) .image) .progress .phase ≡ phases.ended-accepted
 
--- and there is such an election, so that neither is
+-- and there is such an election, so that this claim is not empty either
 pub record SomeElection : Type 0 where
   pub sheet : Bytes
   pub start : Host

@@ -47,7 +47,7 @@ HostRollIsBatch = (start : Host) (b : Beginning) (steps : List Step) → Starts 
     → (batch ≡ map sha3 roll) × ((y : Bytes) → List·Memᴰ y roll → length y ≡ ballotLength (s .numbers .ring))
     × (ballotDigests (ballotLength (s .numbers .ring)) (length batch) (flatten roll) ≡ batch)
 
--- and such a list is one of those below, so that a turn's batch can be that roll
+-- calls that are each lent the register that the last one left are calls that are each lent some register: what is claimed below holds of them too, with that roll for a turn's batch
 abbrev pub HostOwnRegister : Type 0
 HostOwnRegister = (steps : List Step) (h : Host) → hostTrace (hostCalls steps h) (h .image) ≡ hostRun steps h .image
 

@@ -60,7 +60,8 @@ pub record Starts (h : Host) (b : Beginning) : Type 0 where
   pub octets : Octets (h .image)
   pub taken : hostReply (clear b) h ≡ Taken
 
--- of every list of calls from such a clear on, each lent any register: of the clear, the calls, the image that the first of them is lent, the image that the last one leaves, and what was lodged
+-- what is claimed of every list of calls from such a clear on, each lent any register. `Of` is said of the clear, the calls, the image that the first of them is lent, the image that the last one
+-- leaves, and what was lodged
 abbrev pub FromClear : (Beginning → List Call → (first last : Bytes) → History → Type 0) → Type 0
 FromClear Of = (start : Host) (b : Beginning) (cs : List Call) → Starts start b
     → let first = hostAfter (clear b) start .image in

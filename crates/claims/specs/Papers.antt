@@ -43,12 +43,12 @@ module _ (P : Parameters) where
 
 -- for every sheet that is taken
 pub record Distributed : Type 0 where
-  pub deal : (text : Bytes) → first (order text) ≡ Taken → (s e s0 e0 : Poly) → Dealt (parametersOf text) s e s0 e0
-  pub play : (text : Bytes) → first (order text) ≡ Taken → (s u : Poly) → Played (parametersOf text) s u
-  pub reconstruct : (text : Bytes) → first (order text) ≡ Taken → (s u v : Poly) → Reconstructed (parametersOf text) s u v
+  pub deal : (text : Bytes) → SheetTaken text → (s e s0 e0 : Poly) → Dealt (parametersOf text) s e s0 e0
+  pub play : (text : Bytes) → SheetTaken text → (s u : Poly) → Played (parametersOf text) s u
+  pub reconstruct : (text : Bytes) → SheetTaken text → (s u v : Poly) → Reconstructed (parametersOf text) s u v
 
--- Definition 1 over what the exported calls write: of a ciphertext that jdn_encrypt writes of m, under a key that is the sheet's b, two shares that jdn_share writes with the halves of
--- the secret that jdn_split was lent and writes reconstruct to m, and so does the secret decrypt it. All four calls are taken, each lent its own room and scratch
+-- Definition 1 over what the exported calls write: jdn_encrypt writes a ciphertext of m, under a key that is the sheet's b; jdn_split is lent one half of the secret and writes the other;
+-- jdn_share writes a share with each half. These two shares reconstruct to m, and the secret decrypts the ciphertext to m. All four calls are taken, each lent its own room and scratch
 abbrev pub DecryptsTogether : Type 0
 DecryptsTogether = (text s e s0 e0 r e1 e2 m mask0 mask1 : Bytes) (room0 room1 room2 room3 scratch0 scratch1 scratch2 scratch3 : Bytes)
     → let P = parametersOf text in

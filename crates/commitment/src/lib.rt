@@ -1,6 +1,5 @@
 // The commitment to a polynomial (document 01, "Ring and scheme"), worked out in the slots of scratch: specs/Commitment.antt, with its
-// laws in
-// proofs/Additive.antt and proofs/Opening.antt.
+// laws in proofs/Additive.antt and proofs/Opening.antt.
 ghost use mathlib.Core.Path.{_≡_};
 ghost use Prim.Native.Nat.{_+_, _*_, _≤_};
 ghost use lib.ListN.{length};

@@ -1,5 +1,5 @@
 // SHA3-256 of a message that comes in parts: a hasher by value, and the same lent in place. The proofs of `make`, `state`, `update` and
-// `hash_parts` are walks by hand: the first two are all that reaches into a hasher's state, and the others lend a hasher by `&mut`.
+// `hash_parts` are written out step by step: the first two are all that reaches into a hasher's state, and the others lend a hasher by `&mut`.
 ghost use mathlib.Core.Path.{_≡_};
 ghost use mathlib.Core.List.{[], _++_};
 ghost use Rattle.sha3.specs.Sponge.{sha3};
@@ -60,7 +60,7 @@ impl Hasher {
     }
 }
 
-// SHA3-256 of four strings end to end. Its contract says nothing of a hasher, so its callers need no walk by hand.
+// SHA3-256 of four strings end to end. Its contract says nothing of a hasher, so its callers need no such proof.
 pub fn hash_parts(a: &[u8], b: &[u8], c: &[u8], d: &[u8]) -> [u8; 32]
     ensures { λ r. ⌜ r ≡ sha3 (now (a .entry) ++ (now (b .entry) ++ (now (c .entry) ++ now (d .entry)))) ⌝ }
 {

@@ -107,7 +107,7 @@ pub extern "C" fn jdn_produce_second(
     ))
 }
 
-// What two openings and three answers give away.
+// The extractor: what two openings and three answers yield.
 #[no_mangle]
 pub extern "C" fn jdn_extract<'a>(
     sheet: &[u8],

@@ -43,7 +43,7 @@ unfoldable pub chiFlipped : State → State
 chiFlipped s =
     chiRow0 (getD s 0 []) ∷ chiRow1 (getD s 1 []) ∷ chiRow2 (getD s 2 []) ∷ chiRow3 (getD s 3 []) ∷ chiRow4 (getD s 4 []) ∷ []
 
--- ---- keccak-f[1600] on a state of which six lanes stand complemented, so that chi needs few complements. No public contract cites this file
+-- ---- keccak-f[1600] on a state of which six lanes stand complemented, so that chi needs few complements
 
 infixl 30 _⊻_
 abbrev pub _⊻_ : Bool → Bool → Bool

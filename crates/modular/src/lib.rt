@@ -6,7 +6,7 @@ ghost use Rattle.modular.specs.Modulo.{centre, remainder};
 ghost use Rattle.modular.specs.Division.{multiplier, divide};
 ghost use Rattle.modular.specs.Internal.{Coprime};
 
-// a + b. Whether q is subtracted is computed, as a jump on it is foretold wrongly half the time: s + 2^62 - q is at least 2^62 where s
+// a + b. Whether q is subtracted is computed, as a branch on it is mispredicted half the time: s + 2^62 - q is at least 2^62 where s
 // is at least q, and only there, so that `over` is 1 there and else 0. What is divided by 2^62 is shifted.
 pub fn add(a: u64, b: u64, q: u64) -> u64
     requires { ⌜ (a < q) × (b < q) × (q < 2 ^ 56) ⌝ }

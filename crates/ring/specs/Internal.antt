@@ -9,7 +9,7 @@ use Rattle.modular.specs.Modulo.{remainder}
 use Rattle.ring.specs.Poly.{Poly}
 use Rattle.ring.specs.Slots.{poly, coefficientBytes}
 
--- ---- what inner functions hold: a sign. No public contract cites this file
+-- ---- a sign, signed numbers, slots of scratch, the polynomial 1
 
 -- 1, or -1 modulo q
 abbrev pub sign : ℕ → Bool → ℕ
@@ -29,6 +29,6 @@ pub record Slots (n at from : ℕ) (w : Bytes) : Type 0 where
   pub other : from + 8 * n ≤ length w
   pub apart : (from + 8 * n ≤ at) ⊎ (at + 8 * n ≤ from)
 
--- 1: what a product with it leaves as it is
+-- the polynomial 1, the unit of the product
 unfoldable pub one-poly : Poly
 one-poly = λ k. cond (eqb k 0) 1 0

@@ -60,7 +60,7 @@ pub fn count_of(t: &[u8], v: u8) -> usize
 
 // ---- slots
 
-// The coefficient that a ternary byte means. It is computed, as a jump on the byte is foretold wrongly too often: `above0`, `above1`
+// The coefficient that a ternary byte means. It is computed, as a branch on the byte is mispredicted too often: `above0`, `above1`
 // and `above2` say whether it is above 0, 1 and 2, since t + 2^62 - 1 - m is at least 2^62 where t is above m, and only there. What is
 // divided by 2^62 is shifted.
 pub fn from_ternary(b: u8, q: u64) -> u64

@@ -3,7 +3,7 @@ use mathlib.Core.Path.{_≡_}
 use Prim.Native.Nat.{ℕ, _+_, _*_, _≤_, _<_}
 use Rattle.ring.specs.Poly.{Poly, sum}
 
--- ---- what inner functions hold: sums of products by digits to the base 2^28. No public contract cites this file
+-- ---- sums of products by digits to the base 2^28
 
 -- the number with three digits, of any size
 abbrev pub threeDigits : ℕ → ℕ → ℕ → ℕ

@@ -115,8 +115,8 @@ fn products(work: &mut [u8], at: usize, room: usize, n: usize, q: u64)
     }
 }
 
-// Multiplies a slot by a lent polynomial modulo X^n + 1: the room is three slots
-// behind the slot; it is zero afterwards. What the contract says is independent of the method.
+// Multiplies a slot by a lent polynomial modulo X^n + 1. The room has the length of three slots and lies behind the slot; it is zero
+// afterwards. What the contract says is independent of the method.
 pub fn multiply(work: &mut [u8], at: usize, room: usize, a: &[u8], n: usize, q: u64)
     requires { ⌜ (0 < q) × (q < 2 ^ 56) × (n ≤ 2048) × (at + 8 * n ≤ room) × (room + 24 * n ≤ length (now work))
         × (8 * n ≤ length (now a)) ⌝ }

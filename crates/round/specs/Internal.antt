@@ -23,7 +23,7 @@ use Rattle.round.specs.Round.{Round, challengeAt, isChallenge, sharesOf,
 use Rattle.round.specs.Extractor.{Openings, sideTests}
 use Rattle.sheet_numbers.specs.declared.Numbers.{Numbers}
 
--- ---- what inner functions are given: ballots, claims, shares, challenges and answers that passed the tests of lengths and ranges
+-- ---- what inner functions are given and write: ballots, claims, shares, challenges and answers that passed the tests of lengths and ranges, and the room that is lent
 
 -- the shares of one side for `count` ballots
 pub record Shares (q N count : ℕ) (shares : Bytes) : Type 0 where
@@ -52,7 +52,7 @@ firstNow head shares0 shares1 claims scratch = firstRoom (head .now) (shares0 .n
 abbrev pub secondNow : (opening answers scratch : RefT Bytes) → SecondRoom
 secondNow opening answers scratch = secondRoom (opening .now) (answers .now) (scratch .now)
 
--- the same from the slices one by one
+-- a round from its slices one by one
 abbrev pub roundOf : (side : ℕ) (challenges ballots claims head shares0 shares1 opening answers : Bytes) → Round
 roundOf side challenges ballots claims head shares0 shares1 opening answers = record {
   side = side;
@@ -70,7 +70,7 @@ abbrev pub roundIn : (side : ℕ) (challenges ballots claims head shares0 shares
 roundIn side challenges ballots claims head shares0 shares1 opening answers =
     roundOf side (given challenges) (given ballots) (given claims) (given head) (given shares0) (given shares1) (given opening) (given answers)
 
--- all of m ballots is written, and scratch is zeroed
+-- the first message and the claims of m ballots are written, and scratch is zeroed
 pub record FirstProduced (P : Parameters) (m : ℕ) (x : Material) (before after : FirstRoom) : Type 0 where
   pub head : after .head ≡ producedHead P m x
   pub shares0 : after .shares0 ≡ producedShares P m x 0
@@ -129,7 +129,7 @@ module _ (P : Parameters) (m : ℕ) where
     pub opening : length (r .opening) ≡ 22 * N
     pub answers : length (r .answers) ≡ answersLength N (r .challenges)
 
--- ---- the tests of a check in two parts, in its order: of the opening, and of the answer in each repetition
+-- ---- the tests of a check in two parts: of the opening, and of the answer in each repetition
 
 module _ (P : Parameters) (m : ℕ) (r : Round) where
   open Parameters P using (q, N, p, k)

@@ -1,11 +1,10 @@
 -- The check of a round (document 01, "One round", and the order of check after 16): the ordered list of its tests. What an accepted round is
 -- in propositions: specs/Accepted.antt. Assumes nothing.
-use mathlib.Core.Path.{_≡_}
 use mathlib.Core.Bool.{Bool, not, _&&_}
 use mathlib.Core.List.{List, [], _∷_, _++_}
 use Prim.Native.Nat.{ℕ, zero, suc, _+_, _*_}
 use lib.Dec.{leb, ltb}
-use lib.ListN.{length, getD}
+use lib.ListN.{getD}
 use Rattle.codec.specs.Bytes.{Bytes, part, same}
 use Rattle.codec.specs.Reply.{Test, test}
 use Rattle.codec.specs.Lists.{list, allBelow, all}
@@ -16,7 +15,7 @@ use Rattle.commitment.specs.Commitment.{threeOf, opens}
 use Rattle.vector.specs.Vector.{vector}
 use Rattle.stern.specs.Shortness.{inRange, answerTests}
 use Rattle.commitment.specs.Parameters.{Parameters}
-use Rattle.round.specs.Layout.{Opening, joined, ballotLength, uAt, vAt, ballotsBelow, shareAt, claimAt, headLength, keyAt, pairsOf, pairAt, digestsAt, openingOf, answersLength, answerAt}
+use Rattle.round.specs.Layout.{Opening, joined, uAt, vAt, ballotsBelow, shareAt, claimAt, keyAt, pairsOf, pairAt, digestsAt, openingOf, answerAt}
 
 -- what is lent to a check of one round
 pub record Round : Type 0 where

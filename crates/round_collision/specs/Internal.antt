@@ -41,7 +41,7 @@ pub record MaskedVectors (q N : ℕ) (u r : Bytes) : Type 0 where
   pub below-u : allBelow q (vector u) ≡ true
   pub below-r : allBelow q (vector r) ≡ true
 
--- ---- what the functions come to
+-- ---- what the functions answer and leave
 
 -- two strings were compared, by way of scratch, which is left free
 pub record Compared (s t : Bytes) (yes : Bool) (work work' : Bytes) : Type 0 where

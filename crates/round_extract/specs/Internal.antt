@@ -5,7 +5,6 @@ use Rattle.round.specs.Extractor.{Openings, ExtractRoom}
 use Rattle.round_lengths.specs.Calls.{openingsTests}
 use Rattle.round_extract.specs.declared.Extraction.{Extraction}
 use Rattle.round_extract.specs.Extraction.{ExtractLeft}
-use Rattle.codec.specs.declared.Reply.the-variants as reply
 
 abbrev pub ExtractWritten : Parameters → Openings → (before : ExtractRoom) → Extraction → (after : ExtractRoom) → Type 0
 ExtractWritten P x before answer after = ExtractLeft P x before (first (openingsTests P x before)) answer after

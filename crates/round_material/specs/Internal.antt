@@ -11,7 +11,7 @@ use Rattle.round.specs.Layout.{ballotLength, ballotsBelow}
 use Rattle.commitment.specs.Parameters.{Parameters}
 use Rattle.round.specs.Producer.{Material, producerTests}
 
--- ---- what the tests of the producer's material come to
+-- ---- what the tests of the producer's material answer and leave
 
 -- what the tests by ballot and by repetition are given: the secrets, E of both sides, every P and the ballots, of right lengths, and the ballots in range
 pub record EachReady (k : Numbers) (count : ℕ) (s E0 E1 ps bs : Bytes) : Type 0 where

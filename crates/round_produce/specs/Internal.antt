@@ -15,7 +15,7 @@ use Rattle.round_lengths.specs.Calls.{countOf, lengthsTest, materialSized, firs
 use Rattle.round_produce.specs.First.{FirstLeft}
 use Rattle.round_produce.specs.Second.{SecondLeft}
 
--- ---- what the tests of a call come to: its reply, and scratch, which is left as the call leaves it
+-- ---- what the tests of a call answer and leave: its reply, and scratch, as the call leaves it
 
 pub record Tested (tests : List Test) (reply : Reply) (scratch scratch' : Bytes) : Type 0 where
   pub replied : reply ≡ first tests
@@ -26,10 +26,10 @@ abbrev pub callTests : (P : Parameters) (x : Material) (fits asked : Bool) → L
 callTests P x fits asked = let m = countOf (P .N) (x .ballots) in lengthsTest m (materialSized (P .N) (P .repeats) m x && fits) ∷ producerTests P m x asked
 
 -- scratch has its length where what a call is lent fits
-pub record Room (fits : Bool) (scratch : Bytes) : Type 0 where
+pub record ScratchFits (fits : Bool) (scratch : Bytes) : Type 0 where
   pub sized : fits ≡ true → length scratch ≡ scratchLength
 
--- ---- what the two calls come to once the sheet is taken
+-- ---- what the two calls answer and leave once the sheet is taken
 
 pub record FirstWritten (P : Parameters) (x : Material) (before : FirstRoom) (reply : Reply) (after : FirstRoom) : Type 0 where
   pub replied : reply ≡ first (firstTests P x before)

@@ -14,7 +14,7 @@ ghost use Rattle.round.specs.Vocabulary.{all, isChallenge, given, left, Loaded,
 ghost use Rattle.round.specs.Vocabulary.{secondOut};
 ghost use Prim.Native.Nat.{_≤_};
 ghost use Rattle.round_lengths.specs.Calls.{countOf};
-ghost use Rattle.round_produce.specs.Internal.{callTests, Room, Tested, FirstWritten, SecondWritten};
+ghost use Rattle.round_produce.specs.Internal.{callTests, ScratchFits, Tested, FirstWritten, SecondWritten};
 
 // ---- What the producer's second call is given beside the material: a side and the challenges.
 
@@ -73,7 +73,7 @@ fn test_call(
     asked: bool,
     scratch: &mut [u8],
 ) -> Reply
-    requires { ⌜ Loaded k (now public) × (count ≡ countOf (k .ring) (now ballots)) × (count ≤ 4096) × Room fits (now scratch) ⌝ }
+    requires { ⌜ Loaded k (now public) × (count ≡ countOf (k .ring) (now ballots)) × (count ≤ 4096) × ScratchFits fits (now scratch) ⌝ }
     ensures { λ reply. let x = materialIn secrets s0 e0 masks0 masks1 vectors permutations salts ballots in
         ⌜ Tested (callTests (parameters k (given public)) x fits asked) reply (given scratch) (left scratch) ⌝ }
 {

@@ -22,7 +22,7 @@ pub record Finds (P : Parameters) (head opening0 opening1 answer1 answer2 answer
   pub out-is : (m : ℕ) (shares0 shares1 ballots claims : Bytes) (repetition : ℕ)
       → out ≡ extracted P m (openingsOf head shares0 shares1 ballots claims opening0 opening1 repetition answer1 answer2 answer3)
 
--- ---- what inner functions work out: the unknowns, and what they leave of two openings. No public contract cites this file
+-- ---- what inner functions work out: the unknowns, and what they leave of two openings
 
 -- ---- the unknowns
 

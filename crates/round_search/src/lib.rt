@@ -1,4 +1,4 @@
-// What two openings and three answers to one first message give away (document 01, the extractor's paragraph): a collision of the
+// What two openings and three answers to one first message yield (document 01, the extractor's paragraph): a collision of the
 // digest, a short vector on which the commitment row is zero, or the key. specs/Extractor.antt of `round` says what is found.
 use round_collision::collision;
 use sheet_numbers::Numbers;

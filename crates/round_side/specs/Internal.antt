@@ -11,7 +11,7 @@ use Rattle.round.specs.Layout.{headLength, uAt, pairsOf}
 use Rattle.round.specs.Round.{Round, headRanged}
 use Rattle.round.specs.Internal.{Batch, Shares, Answers}
 
--- ---- what the inner functions of a check are given: parts of a round that passed the tests of lengths and ranges. The contracts of the whole orders do not cite this file
+-- ---- what the inner functions of a check are given: parts of a round that passed the tests of lengths and ranges
 
 -- 5 for m ballots, their claims and a first message
 abbrev pub messageRanged : (q n p m : ℕ) (ballots claims head shares0 shares1 : Bytes) → Bool

@@ -10,7 +10,7 @@ use Rattle.round.specs.Extractor.{Openings}
 use Rattle.round.specs.Internal.{Batch, Shares}
 use Rattle.round_side.specs.Internal.{Opened, Head}
 
--- ---- what the inner functions of the extractor's tests are given: two openings and three answers that passed the tests of lengths and ranges. The contract of the whole order does not cite this file
+-- ---- what the inner functions of the extractor's tests are given: two openings and three answers that passed the tests of lengths and ranges
 
 -- the answer to a challenge
 pub record AnswerLent (q n challenge : ℕ) (answer : Bytes) : Type 0 where

@@ -46,7 +46,7 @@ pub record InSlot (q n : ℕ) (f : Poly) (w w' : Bytes) : Type 0 where
   pub sized : Free w w'
   pub bytes : part w' 0 (8 * n) ≡ coefficientBytes q n f
 
--- what a call answers that ends with what is said of its sheet
+-- the reply of a call whose sheet is refused: the sheet's own
 abbrev pub refusal : Reading → Reply
 refusal (sheets.Taken k) = Taken
 refusal (sheets.Refused number) = Refused number 0

@@ -1,4 +1,4 @@
-// What the calls that are lent the sheet have in common: scratch and its zeroize, the tests of lengths and ranges, and a polynomial of
+// What the calls that are lent the sheet have in common: scratch and how it is zeroized, the tests of lengths and ranges, and a polynomial of
 // scratch written out.
 ghost use mathlib.Core.Path.{_≡_};
 ghost use mathlib.Core.Bool.{_&&_};

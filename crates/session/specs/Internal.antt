@@ -10,7 +10,6 @@ use Rattle.session.specs.Steps.{cleared, acceptedBy, refusedBy}
 use Rattle.session.specs.Machine.{check, Step, State, state, reply, after}
 use Rattle.session_check.specs.declared.Verdict.{Verdict}
 use Rattle.session_check.specs.declared.Verdict.the-variants.{Stopped, Failed, Passed}
-use Rattle.codec.specs.declared.Reply.the-variants as reply
 
 pub record Done (x : Step) (st : State) (r : Stepped) (register : Bytes) : Type 0 where
   pub replied : r .reply ≡ reply x st

@@ -11,8 +11,7 @@ ghost use mathlib.Core.Path.{_≡_};
 ghost use Rattle.codec.specs.declared.Reply.the-variants.{Refused};
 
 // A session. It keeps its phase and counts; the sheet's numbers before a and the sheet's digest; the closing and the claim digest; the
-// seed; and the digests of the rounds' first
-// messages, 32 bytes each.
+// seed; and the digests of the rounds' first messages, 32 bytes each.
 pub struct Session {
     pub progress: Progress,
     pub numbers: Numbers,

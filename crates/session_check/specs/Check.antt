@@ -3,7 +3,6 @@
 use mathlib.Core.List.{List, _++_}
 use Rattle.codec.specs.Slices.{Slice, given}
 use Rattle.codec.specs.Reply.{Test}
-use Rattle.codec.specs.declared.Reply.the-variants as reply
 use Rattle.sheet.specs.Sheet.{order}
 use Rattle.round.specs.Round.{roundTests}
 use Rattle.commitment.specs.Parameters.{parametersOf}

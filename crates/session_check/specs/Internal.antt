@@ -36,7 +36,7 @@ outcome s x = verdict (first (earlyTests s x)) (first (lateTests s x))
 abbrev pub CheckMade : Stored → Inputs → Verdict → (scratch : Bytes) → Type 0
 CheckMade s x v scratch = (v ≡ outcome s x) × (scratch ≡ zeroized (replyOfVerdict v) (x .scratch))
 
--- ---- what the parts of the check come to (specs/Check.antt)
+-- ---- what the parts of the check answer and leave (specs/Check.antt)
 
 -- what a check comes to once the sheet is taken, with the parameters of its round
 abbrev pub takenOutcome : Parameters → Stored → Inputs → Verdict

@@ -14,8 +14,7 @@ ghost use Rattle.session_check.specs.Stored.{challengesOf, inputsOf, sam
 ghost use Rattle.session_check.specs.Internal.{Within};
 
 // What a session holds for the check of a round: the sheet's numbers, how many ballots were closed, the digests of the sheet, of closing,
-// of the claims and of the
-// round's first message, the seed, and the round.
+// of the claims and of the round's first message, the seed, and the round.
 pub struct Stored {
     pub numbers: Numbers,
     pub closed: usize,

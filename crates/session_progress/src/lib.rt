@@ -9,8 +9,7 @@ ghost use Rattle.session_progress.specs.Progress.{drawn, inLimits, commi
 ghost use Rattle.session_progress.specs.Progress.{withBatch, withClaims, withMessage, withSeed, withRefusal, withAcceptance};
 
 // The phase is 0 gathering, 1 closed, 2 claimed, 3 drawn, 4 ended refused, 5 ended accepted; then how many entries of the register are
-// used, how many ballots were closed, and how many
-// rounds are committed and checked.
+// used, how many ballots were closed, and how many rounds are committed and checked.
 pub struct Progress {
     pub phase: u8,
     pub used: u64,

@@ -58,7 +58,7 @@ testReply n q challenge place k c d answer w =
     ∷ test 5 0 (not (allBelow q (vector k) && (allBelow q (vector c) && inRange q n challenge answer)))
     ∷ answerTests q n (keysOf n k) c d place challenge answer)
 
--- ---- what the functions come to, for the reply `is` that their tests give
+-- ---- what the functions answer and leave, for the reply `is` that their tests give
 
 -- the tests: scratch is free where it is zeroized behind them
 pub record Sifted (is reply : Reply) (scratch scratch' : Bytes) : Type 0 where

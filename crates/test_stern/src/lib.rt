@@ -1,8 +1,7 @@
 // Calls over `stern` for tests and benchmarks outside the proof: plain numbers and byte slices, nothing asked of the caller.
 // Each answers 0 where it is taken, and else document 01's number, with the place above the low byte: 1 for a slice of wrong length, 5
-// for a number out of range, 9 for
-// a P that is no permutation, and what the tests of an answer refuse. A refusal leaves the output as it was. Scratch is zeroed whole,
-// unless the refusal is 1.
+// for a number out of range, 9 for a P that is no permutation, and what the tests of an answer refuse. A refusal leaves the output as
+// it was. Scratch is zeroed whole, unless the refusal is 1.
 // In C a slice is `uint8_t *, size_t`, and `const` where it is lent to be read.
 mod lent;
 mod orders;

@@ -40,7 +40,7 @@ pub fn component(x: &[u8], i: usize) -> u64
     codec::read64(x, 8 * i)
 }
 
-// v where j is below m, and else 0. It is computed, as a jump is foretold wrongly too often where j is an entry of a random
+// v where j is below m, and else 0. It is computed, as a branch is mispredicted too often where j is an entry of a random
 // permutation: m + 2^62 - 1 - j is at least 2^62 where j is below m, and only there.
 fn below(j: usize, m: usize, v: usize) -> usize
     requires { ⌜ (j < 2 ^ 62) × (m < 2 ^ 62) ⌝ }
