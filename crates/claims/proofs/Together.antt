@@ -54,7 +54,7 @@ module _ (text : Bytes) (sheet : None (order text)) where
   taken = sheet-exactly text .0 sheet
 
   ok : Sound q p D B
-  ok = sound text (taken-exactly (order text) .1 sheet)
+  ok = sound text taken
 
   short : (t : Bytes) → Small q N 1 (ternary q t)
   short t = small-ternary q (ok .odd) N t (let r = taken .inside .modulus-low in omega arith)

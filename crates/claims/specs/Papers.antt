@@ -12,7 +12,7 @@ use Rattle.keccak.specs.Keccak.{constants}
 use Rattle.keccak.specs.Tables.{constant}
 use Rattle.ring.specs.Poly.{Poly, plus, Alike}
 use Rattle.ring.specs.Slots.{coefficientBytes}
-use Rattle.sheet.specs.Sheet.{order}
+use Rattle.session_histories.specs.Conditions.{SheetTaken}
 use Rattle.sha3.specs.Sponge.{sha3}
 use Rattle.keccak_bits.specs.Sponge.{bitsOf, sha3-256}
 use Rattle.bgv.specs.Scheme.{Wholes, Bounded, Small, key, opened, decrypted, other, share, recoveredMask, reconstructed}
