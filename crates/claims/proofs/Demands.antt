@@ -5,8 +5,6 @@ use native.Mathlib.Omega.{arith}
 use lib.ListN.{length, length-replicate}
 use Rattle.codec.specs.Bytes.{Bytes, Octets, zeros}
 use Rattle.codec.specs.Reply.{None}
-use Rattle.codec.proofs.Replies.{taken-exactly}
-use Rattle.sheet.specs.Sheet.{order}
 use Rattle.sheet.specs.declared.Reading.the-variants as reading
 use Rattle.scratch.specs.Call.{scratchLength}
 use Rattle.bgv.proofs.Ballot.{honest-noise, honest-decrypts}
@@ -23,7 +21,6 @@ use Rattle.round.proofs.ExtractionOutput.{output, lowest}
 use Rattle.round.proofs.Refuses.{takes-accepted, lending}
 use Rattle.round_lengths.specs.Sheets.{ballotsIn}
 use Rattle.session_histories.specs.Examples.{all-examples}
-use Rattle.session_histories.proofs.Valid.{sheet-exactly}
 use Rattle.claims.proofs.HostClaims.{host-stays-out, host-roll-is-batch, host-own-register, host-rounds-checked, host-ended-accepted, host-bound, host-honest-accepted, host-stays-valid, host-only-phase-or-round}
 use Rattle.claims.proofs.Papers.{sound, distributed, digest-of-bits, tables}
 use Rattle.claims.proofs.Together.{decrypts-together}
