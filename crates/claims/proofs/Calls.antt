@@ -28,7 +28,7 @@ use Rattle.session_image.specs.Image.{imageLength, decode}
 use Rattle.session_image.specs.Images.{lentReply, host, hostReply, challengesReply, turnoutReply, turnoutAnswer}
 use Rattle.session_histories.proofs.Valid.{numbers-match, numbers-pass, sheet-exactly}
 use Rattle.session_histories.proofs.Checked.{step-exactly}
-use Rattle.claims.specs.Calls.{Decided, Ordered, lengthTest, Thousandths, SchemeCalls, RoundCalls, SessionCalls}
+use Rattle.claims.specs.Calls.{Decided, OrderedCall, sizeTest, Thousandths, SchemeCalls, RoundCalls, SessionCalls}
 use Rattle.claims.proofs.Images.{over-image}
 use Rattle.claims.proofs.Scheme.{keygen-exactly, encrypt-exactly, decrypt-exactly, split-exactly, share-exactly, reconstruct-exactly, commitment-exactly}
 use Rattle.claims.proofs.Produces.{first-exactly, second-call-exactly}
@@ -42,7 +42,7 @@ decided : (ts : List Test) → Decided (first ts) ts
 decided ts = record { taken = taken-exactly ts; refused = λ number place. refused-exactly number place ts }
 
 -- a call that is lent an image
-over : (image : Bytes) (ts : Session → List Test) → Decided (lentReply image (λ s. first (ts s))) (lengthTest imageLength image ∷ ts (decode image))
+over : (image : Bytes) (ts : Session → List Test) → Decided (lentReply image (λ s. first (ts s))) (sizeTest imageLength image ∷ ts (decode image))
 over image ts = go (eqb (length image) imageLength)
   where
     go : (b : Bool) → Decided (cond b (first (ts (decode image))) (Refused 1 0)) (test 1 0 (not b) ∷ ts (decode image))
@@ -52,17 +52,17 @@ over image ts = go (eqb (length image) imageLength)
 -- ---- rows
 
 -- a call that is lent the sheet, and whose own order comes behind the sheet's
-ordered : (text : Bytes) (ts : List Test) {Conditions : Type 0} → Numbered ts → (first (order text ++ ts) ≡ Taken) ↔ Conditions → Ordered (order text ++ ts) Conditions
-ordered text ts numbers exactly = record { told = behind text ts numbers; decided = decided (order text ++ ts); exactly = exactly }
+ordered : (text : Bytes) (ts : List Test) {Conditions : Type 0} → Numbered ts → (first (order text ++ ts) ≡ Taken) ↔ Conditions → OrderedCall (order text ++ ts) Conditions
+ordered text ts numbers exactly = record { told = behind text ts numbers; decided = decided (order text ++ ts); exactly = λ _. exactly }
 
 pub scheme-calls : SchemeCalls
 unfolding digestReply describeReply
 scheme-calls = record {
-  digest = λ out. record { told = told _ refl; decided = decided _; exactly = Iff·trans (taken-exactly _) (λ n. numbers-match (n .0), λ e. (numbers-pass e, tt)) };
+  digest = λ out. record { told = told _ refl; decided = decided _; exactly = λ _. Iff·trans (taken-exactly _) (λ n. numbers-match (n .0), λ e. (numbers-pass e, tt)) };
   sheet = λ text out. record {
     told = told _ refl;
     decided = decided _;
-    exactly = Iff·trans (taken-exactly _) (λ n. (numbers-match (n .0), sheet-exactly text .0 (n .1)), λ h. (numbers-pass (h .0), sheet-exactly text .1 (h .1)));
+    exactly = λ _. Iff·trans (taken-exactly _) (λ n. (numbers-match (n .0), sheet-exactly text .0 (n .1)), λ h. (numbers-pass (h .0), sheet-exactly text .1 (h .1)));
   };
   keygen = λ text s e b scratch. ordered text _ refl (keygen-exactly text s e b scratch);
   encrypt = λ text r e1 e2 m ciphertext scratch. ordered text _ refl (encrypt-exactly text r e1 e2 m ciphertext scratch);
@@ -80,10 +80,10 @@ round-calls = record {
       ordered text _ (in-producer (parametersOf text) _ x true) (first-exactly text x head shares0 shares1 claims scratch);
   produce-second = λ text x side challenges opening answers scratch.
       ordered text _ (in-producer (parametersOf text) _ x _) (second-call-exactly text x side challenges opening answers scratch);
-  extract = λ text x out scratch octets. record {
+  extract = λ text x out scratch. record {
     told = extract-told _ _ (behind text _ (in-extract (parametersOf text) _ x));
     decided = decided _;
-    exactly = extractor-exactly text x out scratch octets;
+    exactly = extractor-exactly text x out scratch;
   };
   extract-value = λ text x out scratch. extract-value _ _;
   opened-told = λ side N length0 length1 j. value-or-none (ltb (openedPlace side N length0 length1 j) (2 ^ 56)) (openedPlace side N length0 length1 j);
@@ -110,20 +110,20 @@ turnout-value image reg enrolled taken =
 pub session-calls : SessionCalls
 unfolding hostReply reply challengesReply turnoutReply challengesTests
 session-calls = record {
-  step = λ x image register bytes. record {
+  step = λ x image register. record {
     told = host-told x (host image register);
     decided = over image (λ s. tests x (state s register));
-    exactly = over-image image (λ s. reply x (state s register)) (step-exactly x (state (decode image) register) bytes);
+    exactly = λ bytes. over-image image (λ s. reply x (state s register)) (step-exactly x (state (decode image) register) bytes);
   };
   challenges = λ image round out. record {
     told = lent image (λ s. first (challengesTests s round out)) (λ s. told (challengesTests s round out) refl);
     decided = over image (λ s. challengesTests s round out);
-    exactly = over-image image (λ s. first (challengesTests s round out)) (challenges-exactly (decode image) round out);
+    exactly = λ _. over-image image (λ s. first (challengesTests s round out)) (challenges-exactly (decode image) round out);
   };
   turnout = λ image reg enrolled. record {
     told = turnout-told image reg enrolled;
     decided = over image (λ s. turnoutTests s reg enrolled);
-    exactly = over-image image (λ s. first (turnoutTests s reg enrolled)) (turnout-exactly (decode image) reg enrolled);
+    exactly = λ _. over-image image (λ s. first (turnoutTests s reg enrolled)) (turnout-exactly (decode image) reg enrolled);
   };
   turnout-value = turnout-value;
 }

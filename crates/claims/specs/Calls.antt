@@ -1,5 +1,5 @@
--- The exported calls, each in a row: its reply, the number that C is answered, the order that decides, and when it is taken. Calls that can not refuse: the opened share has a row of its own
--- kind, the three that give lengths are their contracts. Assumes nothing.
+-- The exported calls, each in a row: its reply, the number that C is answered, the list of tests that decides, and when it is taken. Four calls refuse nothing: the opened share has fields of
+-- its own below, and of the three that give a length the contracts say all. Assumes nothing.
 use mathlib.Core.Path.{_≡_}
 use mathlib.Core.Logic.{_↔_}
 use mathlib.Core.Bool.{not}
@@ -48,49 +48,49 @@ pub record Decided (reply : Reply) (ts : List Test) : Type 0 where
   pub taken : (reply ≡ Taken) ↔ None ts
   pub refused : (number place : ℕ) → (reply ≡ Refused number place) ↔ Decides number place ts
 
--- one call: what C is told of its reply, the order that decides it, and the conditions under which it is taken
-pub record Call (reply : Reply) (answer : ℕ) (ts : List Test) (Conditions : Type 0) : Type 0 where
+-- one call: what C is told of its reply, the list that decides it, and the conditions under which it is taken, where what is lent is as `Lent` says
+pub record ExportedCall (reply : Reply) (answer : ℕ) (ts : List Test) (Lent Conditions : Type 0) : Type 0 where
   pub told : Told reply answer
   pub decided : Decided reply ts
-  pub exactly : (reply ≡ Taken) ↔ Conditions
+  pub exactly : Lent → (reply ≡ Taken) ↔ Conditions
 
 -- one whose answer has no value but its reply
-abbrev pub Plain : Reply → List Test → Type 0 → Type 0
-Plain reply ts Conditions = Call reply (packed reply) ts Conditions
+abbrev pub PackedCall : Reply → List Test → Type 0 → Type 0
+PackedCall reply ts Conditions = ExportedCall reply (packed reply) ts Unit Conditions
 
 -- and whose reply is said by its order
-abbrev pub Ordered : List Test → Type 0 → Type 0
-Ordered ts Conditions = Plain (first ts) ts Conditions
+abbrev pub OrderedCall : List Test → Type 0 → Type 0
+OrderedCall ts Conditions = PackedCall (first ts) ts Conditions
 
 -- an output of another length than n bytes, and an image of another length than its own, are refused 1 before all else
-abbrev pub lengthTest : ℕ → Bytes → Test
-lengthTest n lent = test 1 0 (not (eqb (length lent) n))
+abbrev pub sizeTest : ℕ → Bytes → Test
+sizeTest n lent = test 1 0 (not (eqb (length lent) n))
 
 -- ---- digest, sheet, encryption, shares, commitment
 
 pub record SchemeCalls : Type 0 where
-  pub digest : (out : Bytes) → Plain (digestReply out) (lengthTest 32 out ∷ []) (length out ≡ 32)
-  pub sheet : (text out : Bytes) → Plain (describeReply text out) (lengthTest 32 out ∷ order text) ((length out ≡ 32) × SheetTaken text)
-  pub keygen : (text s e b scratch : Bytes) → Ordered (keygenOrder text s e b scratch) (Keygens text s e b scratch)
-  pub encrypt : (text r e1 e2 m ciphertext scratch : Bytes) → Ordered (encryptOrder text r e1 e2 m ciphertext scratch) (Encrypts text r e1 e2 m ciphertext scratch)
-  pub decrypt : (text s ciphertext vote scratch : Bytes) → Ordered (decryptOrder text s ciphertext vote scratch) (Decrypts text s ciphertext vote scratch)
-  pub split : (text s e s0 e0 out scratch : Bytes) → Ordered (splitOrder text s e s0 e0 out scratch) (Splits text s e s0 e0 out scratch)
-  pub share : (text half u mask t scratch : Bytes) → Ordered (shareOrder text half u mask t scratch) (Shares text half u mask t scratch)
-  pub reconstruct : (text v t0 t1 vote scratch : Bytes) → Ordered (reconstructOrder text v t0 t1 vote scratch) (Reconstructs text v t0 t1 vote scratch)
-  pub commitment : (text m r pair scratch : Bytes) → Ordered (commitmentOrder text m r pair scratch) (CommitsTo text m r pair scratch)
+  pub digest : (out : Bytes) → PackedCall (digestReply out) (sizeTest 32 out ∷ []) (length out ≡ 32)
+  pub sheet : (text out : Bytes) → PackedCall (describeReply text out) (sizeTest 32 out ∷ order text) ((length out ≡ 32) × SheetTaken text)
+  pub keygen : (text s e b scratch : Bytes) → OrderedCall (keygenOrder text s e b scratch) (Keygens text s e b scratch)
+  pub encrypt : (text r e1 e2 m ciphertext scratch : Bytes) → OrderedCall (encryptOrder text r e1 e2 m ciphertext scratch) (Encrypts text r e1 e2 m ciphertext scratch)
+  pub decrypt : (text s ciphertext vote scratch : Bytes) → OrderedCall (decryptOrder text s ciphertext vote scratch) (Decrypts text s ciphertext vote scratch)
+  pub split : (text s e s0 e0 out scratch : Bytes) → OrderedCall (splitOrder text s e s0 e0 out scratch) (Splits text s e s0 e0 out scratch)
+  pub share : (text half u mask t scratch : Bytes) → OrderedCall (shareOrder text half u mask t scratch) (Shares text half u mask t scratch)
+  pub reconstruct : (text v t0 t1 vote scratch : Bytes) → OrderedCall (reconstructOrder text v t0 t1 vote scratch) (Reconstructs text v t0 t1 vote scratch)
+  pub commitment : (text m r pair scratch : Bytes) → OrderedCall (commitmentOrder text m r pair scratch) (CommitsTo text m r pair scratch)
 
 -- ---- a round: producer, extractor, opened share
 
 pub record RoundCalls : Type 0 where
   -- the producer writes a round from all material that meets none of its refusals: its first message, and what answers a side and challenges
   pub produce-first : (text : Bytes) (x : Material) (head shares0 shares1 claims scratch : Bytes) → let room = firstRoom head shares0 shares1 claims scratch in
-      Plain (firstReply text x room) (order text ++ firstTests (parametersOf text) x room) (WritesFirst text x head shares0 shares1 claims scratch)
+      PackedCall (firstReply text x room) (order text ++ firstTests (parametersOf text) x room) (WritesFirst text x head shares0 shares1 claims scratch)
   pub produce-second : (text : Bytes) (x : Material) (side : ℕ) (challenges opening answers scratch : Bytes) → let room = secondRoom opening answers scratch in
-      Plain (secondReply text x side challenges room) (order text ++ secondTests (parametersOf text) x side challenges room)
+      PackedCall (secondReply text x side challenges room) (order text ++ secondTests (parametersOf text) x side challenges room)
       (WritesSecond text x side challenges opening answers scratch)
   -- the head of a first message is bytes, as all that is lent; where the extractor takes, the quotient is the kind of what it found
-  pub extract : (text : Bytes) (x : Openings) (out scratch : Bytes) → Octets (x .head) → let room = extractRoom out scratch in
-      Call (extractReply text x room) (answered (extractFound text x room)) (order text ++ openingsTests (parametersOf text) x room) (TakesOpenings text x out scratch)
+  pub extract : (text : Bytes) (x : Openings) (out scratch : Bytes) → let room = extractRoom out scratch in
+      ExportedCall (extractReply text x room) (answered (extractFound text x room)) (order text ++ openingsTests (parametersOf text) x room) (Octets (x .head)) (TakesOpenings text x out scratch)
   pub extract-value : (text : Bytes) (x : Openings) (out scratch : Bytes) → let room = extractRoom out scratch in
       extractReply text x room ≡ Taken → answered (extractFound text x room) / 256 ≡ kind (parametersOf text) (ballotsIn text (x .ballots)) x
   -- the call of the opened share refuses nothing. Its value is the place of the share's first byte in the slice of the opened side, plus one, where the share is there and the value has 56 bits;
@@ -109,12 +109,13 @@ pub record Thousandths (n enrolled t : ℕ) : Type 0 where
 pub record SessionCalls : Type 0 where
   -- the eight steps are taken exactly if the image has its length and their conditions hold of the session in it: a check in every round if all of `Checks` holds, a ballot is admitted if
   -- all of `Admits` does, where "full" means 4,096 entries, and so on
-  pub step : (x : Step) (image register : Bytes) → HeadIsBytes x → let at = state (decode image) register in
-      Plain (hostReply x (host image register)) (lengthTest imageLength image ∷ tests x at) ((length image ≡ imageLength) × Takes x at)
+  pub step : (x : Step) (image register : Bytes) → let reply = hostReply x (host image register) in
+      let at = state (decode image) register in
+      ExportedCall reply (packed reply) (sizeTest imageLength image ∷ tests x at) (HeadIsBytes x) ((length image ≡ imageLength) × Takes x at)
   pub challenges : (image : Bytes) (round : ℕ) (out : Bytes)
-      → Plain (challengesReply image round out) (lengthTest imageLength image ∷ challengesTests (decode image) round out) ((length image ≡ imageLength) × TellsChallenges (decode image) round out)
-  pub turnout : (image reg : Bytes) (enrolled : ℕ) → Call (turnoutReply image reg enrolled) (turnoutAnswer image reg enrolled)
-      (lengthTest imageLength image ∷ turnoutTests (decode image) reg enrolled) ((length image ≡ imageLength) × Counts (decode image) reg enrolled)
+      → PackedCall (challengesReply image round out) (sizeTest imageLength image ∷ challengesTests (decode image) round out) ((length image ≡ imageLength) × TellsChallenges (decode image) round out)
+  pub turnout : (image reg : Bytes) (enrolled : ℕ) → ExportedCall (turnoutReply image reg enrolled) (turnoutAnswer image reg enrolled)
+      (sizeTest imageLength image ∷ turnoutTests (decode image) reg enrolled) Unit ((length image ≡ imageLength) × Counts (decode image) reg enrolled)
   -- where it is taken, the quotient is the thousandths of the entries that stand, of those that the session in the image counts as used
   pub turnout-value : (image reg : Bytes) (enrolled : ℕ) → turnoutReply image reg enrolled ≡ Taken
       → Thousandths (length (standing reg (decode image .progress .used))) enrolled (turnoutAnswer image reg enrolled / 256)
