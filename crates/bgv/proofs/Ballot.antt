@@ -10,7 +10,7 @@ use Rattle.modular.proofs.Near.{near-le, near-add, near-negative, near-plain}
 use Rattle.ring.specs.Poly.{Poly, plus, minus, scale, mul, Alike}
 use Rattle.ring.proofs.Polynomials.{plus-comm, plus-assoc, plus-left-comm, scale-plus, scale-left-comm, mul-plus, plus-mul, mul-scale, scale-mul, mul-poly-assoc, mul-poly-left-comm, alike-eq, alike-refl, alike-sym, _so_, alike-plus, alike-minus}
 use Rattle.ring.proofs.Sizes.{near-product}
-use Rattle.bgv.specs.Scheme.{noisy, Small, key, cipher-u, cipher-v, opened, plain, decrypted}
+use Rattle.bgv.specs.Scheme.{noisy, Small, key, cipher-u, cipher-v, opened, plaintext, decrypted}
 use Rattle.bgv.specs.Internal.{Sound}
 use Rattle.bgv.proofs.Form.{noisy-alike, alike-drop}
 use Rattle.bgv.proofs.Round.{positive}
@@ -60,5 +60,5 @@ module _ {q p D B : ℕ} (ok : Sound q p D B) {N : ℕ} (bound : p * (2 * N + 1)
   honest-noise = record { at = λ k l. near-size (ok .odd) (omega (arith, ok .room)) (near-le (omega (arith, message k l, bound)) (at-each k l .0)) }
 
   pub honest-decrypts : (k : ℕ) → k < N → decrypted q N p s (cipher-u q N p a r e') (cipher-v q N p b r e'' m) k ≡ m k
-  unfolding ballot plain
+  unfolding ballot plaintext
   honest-decrypts k l = at-each k l .1 ∙ mod-eq-of-lt (message k l)

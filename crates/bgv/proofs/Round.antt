@@ -14,7 +14,7 @@ use Rattle.modular.proofs.Division.{times-divide, divide-times}
 use Rattle.modular.proofs.WholeNumbers.{abs-negative, abs-sum, abs-multiple, remainder-sum, remainder-less, remainder-drops}
 use Rattle.ring.specs.Poly.{Poly, plus, minus, scale, mul, Alike}
 use Rattle.ring.proofs.Polynomials.{plus-comm, plus-assoc, plus-left-comm, scale-plus, scale-left-comm, plus-mul, alike-eq, alike-refl, _so_, alike-plus, alike-minus, alike-mul}
-use Rattle.bgv.specs.Scheme.{noisy, Wholes, residues, Bounded, Small, opened, plain, decrypted, share, recoveredMask, rebuilt, reconstructed}
+use Rattle.bgv.specs.Scheme.{noisy, Wholes, residues, Bounded, Small, opened, plaintext, decrypted, share, recoveredMask, rebuilt, reconstructed}
 use Rattle.bgv.specs.Internal.{Sound}
 use Rattle.bgv.proofs.Form.{alike-drop}
 
@@ -113,5 +113,5 @@ module _ {q p D B : ℕ} (ok : Sound q p D B) where
 
       -- reconstruction equals decryption
       pub reconstructs : (k : ℕ) → k < N → reconstructed q p v t0 t1 k ≡ decrypted q N p s u v k
-      unfolding plain
+      unfolding plaintext
       reconstructs k l = ap (remainder p) (rebuilt-centred k l) ∙ remainder-drops p (centre q (opened q N s u v k)) (E0 k +ℤ E1 k) (ok .positive)

@@ -18,7 +18,7 @@ use Rattle.ring.specs.Poly.{Poly}
 use Rattle.ring.specs.Slots.{poly}
 use Rattle.scratch.specs.Internal.{InSlot}
 use Rattle.scratch.proofs.Slots.{stands-poly}
-use Rattle.bgv.specs.Scheme.{plain, within}
+use Rattle.bgv.specs.Scheme.{plaintext, within}
 
 -- d with the first i bytes of a vote
 pub voted : Bytes → Poly → ℕ → Bytes
@@ -41,8 +41,8 @@ module _ (d : Bytes) (f : Poly) where
   voted-all n h = put-whole d (list n f) (length-list n f ∙ sym h)
 
 -- the vote goes by what the coefficients are modulo q
-pub plain-stands : (q p n : ℕ) (f : Poly) (w w' : Bytes) → 0 < q → q < 2 ^ 56 → InSlot q n f w w' → list n (plain q p (poly w')) ≡ list n (plain q p f)
-unfolding plain
+pub plain-stands : (q p n : ℕ) (f : Poly) (w w' : Bytes) → 0 < q → q < 2 ^ 56 → InSlot q n f w w' → list n (plaintext q p (poly w')) ≡ list n (plaintext q p f)
+unfolding plaintext
 plain-stands q p n f w w' h b s = list-cong n (λ k l. ap (remainder p) (ap (centre q) (stands-poly q n f w w' s h b k l) ∙ centre-mod q (f k)))
 
 divide-mod : (q p x : ℕ) → divide q p (x % q) ≡ divide q p x

@@ -23,15 +23,15 @@ use Rattle.sheet_lines.specs.Reader.{digit, step, values, line, rows as rowsIn}
 use Rattle.sheet.specs.Reader.{formed, sheetOf}
 use Rattle.sheet.specs.Sheet.{unfit, reading, replyOf}
 use Rattle.sheet.specs.Examples.{textI}
-use Rattle.bgv.specs.Scheme.{Wholes, noisy, centred, key, cipher-u, cipher-v, opened, plain, decrypted, other, lentMask, share, recoveredMask, within, rebuilt, reconstructed}
+use Rattle.bgv.specs.Scheme.{Wholes, noisy, centred, key, cipher-u, cipher-v, opened, plaintext, decrypted, other, lentMask, share, recoveredMask, within, rebuilt, reconstructed}
 
 -- ---- the paper's polynomials and numbers
 
 abbrev of : List ℕ → Poly
 of xs i = getD xs i 0
 
-abbrev whole : List ℤ → Wholes
-whole xs i = getD xs i (pos 0)
+abbrev wholeOf : List ℤ → Wholes
+wholeOf xs i = getD xs i (pos 0)
 
 infixl 90 -_
 abbrev -_ : ℕ → ℤ
@@ -95,48 +95,48 @@ four f = f 0 ∷ f 1 ∷ f 2 ∷ f 3 ∷ []
 abbrev reduced : Poly → List ℤ
 reduced f = four (λ k. pos (f k % 97))
 
-abbrev numbers : List ℕ → List ℤ
-numbers l = map pos l
+abbrev integers : List ℕ → List ℤ
+integers l = map pos l
 
 -- a reply: document 01's number, 0 for a call that is taken, and the place
-abbrev reply : Reply → List ℤ
-reply r = pos (numberOf r) ∷ pos (placeOf r) ∷ []
+abbrev replyRow : Reply → List ℤ
+replyRow r = pos (numberOf r) ∷ pos (placeOf r) ∷ []
 
 -- what the call of a decryption share answers by its test of a mask, which is lent in 64-bit numbers
-abbrev masked : List ℤ → Reply
-masked E = first (test 12 0 (not (within (mask 2 4 0) 4 (lentMask (words (map (remainder (2 ^ 64)) E))))) ∷ [])
+abbrev maskReply : List ℤ → Reply
+maskReply E = first (test 12 0 (not (within (mask 2 4 0) 4 (lentMask (words (map (remainder (2 ^ 64)) E))))) ∷ [])
 
 -- what is worked out, and what the paper has
 pub record Example : Type 0 where
   pub got : List ℤ
   pub said : List ℤ
 
-abbrev row : List ℤ → List ℤ → Example
-row g w = record { got = g; said = w }
+abbrev comparison : List ℤ → List ℤ → Example
+comparison g w = record { got = g; said = w }
 
-pub rows : List Example
-rows =
-    row (reduced (key 97 4 2 a s e)) (numbers (3 ∷ 7 ∷ 94 ∷ 92 ∷ []))  -- A
-    ∷ row (reduced (cipher-u 97 4 2 a r e')) (numbers (0 ∷ 3 ∷ 5 ∷ 0 ∷ []))  -- B
-    ∷ row (reduced (cipher-v 97 4 2 b r e'' m)) (numbers (8 ∷ 3 ∷ 8 ∷ 95 ∷ []))
-    ∷ row (reduced (opened 97 4 s u v)) (numbers (3 ∷ 0 ∷ 3 ∷ 1 ∷ []))  -- C
-    ∷ row (four (λ k. pos (decrypted 97 4 2 s u v k))) (numbers (1 ∷ 0 ∷ 1 ∷ 1 ∷ []))
-    ∷ row (reduced (other 97 s s0)) (numbers (88 ∷ 77 ∷ 66 ∷ 57 ∷ []))  -- D
-    ∷ row (reduced (share 97 4 2 s0 u (whole E0))) (numbers (29 ∷ 16 ∷ 13 ∷ 95 ∷ []))  -- E
-    ∷ row (reduced (share 97 4 2 s1 u (whole E1))) (numbers (81 ∷ 74 ∷ 0 ∷ 90 ∷ []))  -- F
-    ∷ row (four (recoveredMask 97 4 2 s0 u t0)) E0  -- E and F back: the masks worked out from the shares
-    ∷ row (four (recoveredMask 97 4 2 s1 u t1)) E1
-    ∷ row (four (centred 97 (rebuilt 97 v t0 t1))) (- 5 ∷ pos 10 ∷ - 5 ∷ pos 7 ∷ [])  -- G
-    ∷ row (four (λ k. pos (reconstructed 97 2 v t0 t1 k))) (numbers (1 ∷ 0 ∷ 1 ∷ 1 ∷ []))
-    ∷ row (pos (remainder 2 (centre 97 94)) ∷ pos (remainder 2 (- 3)) ∷ []) (numbers (1 ∷ 1 ∷ []))  -- 94 by 2, which is -3 by 2
-    ∷ row (reply (masked E0)) (numbers (0 ∷ 0 ∷ []))  -- E0 is taken
-    ∷ row (reply (masked (pos 5 ∷ - 4 ∷ pos 0 ∷ pos 1 ∷ []))) (numbers (12 ∷ 0 ∷ []))  -- H
-    ∷ row (reply (replyOf (reading (textI 81)))) (numbers (0 ∷ 0 ∷ []))  -- I: the sheet's text, read
-    ∷ row (reply (replyOf (reading (textI 73)))) (numbers (4 ∷ 0 ∷ []))
-    ∷ row (pos (noise 2 2048) ∷ pos (mask 2 2048 40) ∷ []) (numbers (8195 ∷ 2252624447406080 ∷ []))  -- J
+pub comparisons : List Example
+comparisons =
+    comparison (reduced (key 97 4 2 a s e)) (integers (3 ∷ 7 ∷ 94 ∷ 92 ∷ []))  -- A
+    ∷ comparison (reduced (cipher-u 97 4 2 a r e')) (integers (0 ∷ 3 ∷ 5 ∷ 0 ∷ []))  -- B
+    ∷ comparison (reduced (cipher-v 97 4 2 b r e'' m)) (integers (8 ∷ 3 ∷ 8 ∷ 95 ∷ []))
+    ∷ comparison (reduced (opened 97 4 s u v)) (integers (3 ∷ 0 ∷ 3 ∷ 1 ∷ []))  -- C
+    ∷ comparison (four (λ k. pos (decrypted 97 4 2 s u v k))) (integers (1 ∷ 0 ∷ 1 ∷ 1 ∷ []))
+    ∷ comparison (reduced (other 97 s s0)) (integers (88 ∷ 77 ∷ 66 ∷ 57 ∷ []))  -- D
+    ∷ comparison (reduced (share 97 4 2 s0 u (wholeOf E0))) (integers (29 ∷ 16 ∷ 13 ∷ 95 ∷ []))  -- E
+    ∷ comparison (reduced (share 97 4 2 s1 u (wholeOf E1))) (integers (81 ∷ 74 ∷ 0 ∷ 90 ∷ []))  -- F
+    ∷ comparison (four (recoveredMask 97 4 2 s0 u t0)) E0  -- E and F back: the masks worked out from the shares
+    ∷ comparison (four (recoveredMask 97 4 2 s1 u t1)) E1
+    ∷ comparison (four (centred 97 (rebuilt 97 v t0 t1))) (- 5 ∷ pos 10 ∷ - 5 ∷ pos 7 ∷ [])  -- G
+    ∷ comparison (four (λ k. pos (reconstructed 97 2 v t0 t1 k))) (integers (1 ∷ 0 ∷ 1 ∷ 1 ∷ []))
+    ∷ comparison (pos (remainder 2 (centre 97 94)) ∷ pos (remainder 2 (- 3)) ∷ []) (integers (1 ∷ 1 ∷ []))  -- 94 by 2, which is -3 by 2
+    ∷ comparison (replyRow (maskReply E0)) (integers (0 ∷ 0 ∷ []))  -- E0 is taken
+    ∷ comparison (replyRow (maskReply (pos 5 ∷ - 4 ∷ pos 0 ∷ pos 1 ∷ []))) (integers (12 ∷ 0 ∷ []))  -- H
+    ∷ comparison (replyRow (replyOf (reading (textI 81)))) (integers (0 ∷ 0 ∷ []))  -- I: the sheet's text, read
+    ∷ comparison (replyRow (replyOf (reading (textI 73)))) (integers (4 ∷ 0 ∷ []))
+    ∷ comparison (pos (noise 2 2048) ∷ pos (mask 2 2048 40) ∷ []) (integers (8195 ∷ 2252624447406080 ∷ []))  -- J
     ∷ []
 
 -- each row is as the paper says
-pub examples : map (λ (x : Example). x .got) rows ≡ map (λ (x : Example). x .said) rows
-unfolding rows centre remainder divide inverse multiplier sum turn coefficient mul plus scale meaning ternary noisy cipher-v opened plain recoveredMask rebuilt first within allBelow list poly signed words bytes number reading written lines listed decimal formed sheetOf rowsIn line values step digit any outside unsound sheet-plain unfit power least most
+pub examples : map (λ (x : Example). x .got) comparisons ≡ map (λ (x : Example). x .said) comparisons
+unfolding comparisons centre remainder divide inverse multiplier sum turn coefficient mul plus scale meaning ternary noisy cipher-v opened plaintext recoveredMask rebuilt first within allBelow list poly signed words bytes number reading written lines listed decimal formed sheetOf rowsIn line values step digit any outside unsound sheet-plain unfit power least most
 examples = refl

@@ -58,11 +58,11 @@ unfoldable pub opened : (q N : ℕ) (s u v : Poly) → Poly
 opened q N s u v = minus q v (mul q N s u)
 
 -- the remainder by p of the centred coefficients, never negative
-unfoldable pub plain : (q p : ℕ) → Poly → Poly
-plain q p w = λ k. remainder p (centre q (w k))
+unfoldable pub plaintext : (q p : ℕ) → Poly → Poly
+plaintext q p w = λ k. remainder p (centre q (w k))
 
 abbrev pub decrypted : (q N p : ℕ) (s u v : Poly) → Poly
-decrypted q N p s u v = plain q p (opened q N s u v)
+decrypted q N p s u v = plaintext q p (opened q N s u v)
 
 -- ---- distributed decryption (section 6.1)
 
@@ -87,4 +87,4 @@ unfoldable pub rebuilt : (q : ℕ) (v t0 t1 : Poly) → Poly
 rebuilt q v t0 t1 = minus q (minus q v t0) t1
 
 abbrev pub reconstructed : (q p : ℕ) (v t0 t1 : Poly) → Poly
-reconstructed q p v t0 t1 = plain q p (rebuilt q v t0 t1)
+reconstructed q p v t0 t1 = plaintext q p (rebuilt q v t0 t1)

@@ -169,7 +169,7 @@ pub fn rebuilt(work: &mut [u8], v: &[u8], t0: &[u8], t1: &[u8], n: usize, q: u64
 pub fn plain(work: &[u8], vote: &mut [u8], p: u64, n: usize, q: u64)
     requires { ⌜ (8 * n ≤ length (now work)) × (length (now vote) ≡ n) × (0 < q) × Below q n (poly (now work)) × (0 < p) × (p ≤ 256)
         × (q < 2 ^ 56) ⌝ }
-    ensures { λ _. ⌜ now (vote .exit) ≡ list n (scheme.plain q p (poly (now (work .entry)))) ⌝ }
+    ensures { λ _. ⌜ now (vote .exit) ≡ list n (scheme.plaintext q p (poly (now (work .entry)))) ⌝ }
 {
     let mut i = 0;
     while i < n {

@@ -23,7 +23,7 @@ use Rattle.session_check.specs.Check.{storedTests, earlyTests}
 use Rattle.session_check.proofs.Laws.{early-exactly}
 use Rattle.session.specs.declared.Session.{Session}
 use Rattle.session.specs.Steps.{storedFor, checkEarly, checkLate, checkTests, refusedBy}
-use Rattle.session_image.specs.Image.{imageLength, encode, decode}
+use Rattle.session_image.specs.Image.{imageLength, imageOf, decode}
 use Rattle.session_image.proofs.Law.{store-load}
 use Rattle.session.specs.Machine.{check, State, state, next, reply, after}
 use Rattle.session_image.specs.Images.{host, hostReply, hostAfter}
@@ -113,8 +113,8 @@ any-session h round x material made = (told (eqb (length (h .image)) imageLength
     told false = wrong-length
 
     left : Octets (h .image) → (b : Bool) → eqb (length (h .image)) imageLength ≡ b → cond b (first (checkTests s round x)) (Refused 1 0) ≢ Taken
-        → let st = after (check round x) (state s (h .register)) in cond b (host (encode (st .session)) (st .register)) h ≡ h
+        → let st = after (check round x) (state s (h .register)) in cond b (host (imageOf (st .session)) (st .register)) h ≡ h
     left octets true e n =
-        ap (λ (z : State). host (encode (z .session)) (z .register)) (left-early s round x material made (h .register) n)
+        ap (λ (z : State). host (imageOf (z .session)) (z .register)) (left-early s round x material made (h .register) n)
         ∙ ap (λ (image : Bytes). host image (h .register)) (store-load (h .image) (eqb-true (length (h .image)) imageLength e) octets)
     left octets false e n = refl

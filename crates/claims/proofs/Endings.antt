@@ -18,7 +18,7 @@ use Rattle.session_check.specs.Stored.{Inputs}
 use Rattle.session.specs.declared.Session.{Session}
 use Rattle.session.specs.Steps.{on, cleared, refusedBy}
 use Rattle.session.specs.Machine.{Step, clear, check, State, state, reply, after}
-use Rattle.session_image.specs.Image.{imageLength, encode, decode}
+use Rattle.session_image.specs.Image.{imageLength, imageOf, decode}
 use Rattle.session_image.proofs.Law.{store-load}
 use Rattle.session_image.specs.Images.{Host, host, hostReply, hostAfter}
 use Rattle.session_histories.specs.Runs.{Call, clears}
@@ -31,13 +31,13 @@ use Rattle.claims.proofs.Images.{lent-exactly}
 use Rattle.claims.proofs.HostSteps.{Holds, bytes-hold, replies, image-left, register-left}
 
 -- the image that a call leaves
-image-after : (x : Step) (h : Host) → length (h .image) ≡ imageLength → hostAfter x h .image ≡ encode (after x (state (decode (h .image)) (h .register)) .session)
+image-after : (x : Step) (h : Host) → length (h .image) ≡ imageLength → hostAfter x h .image ≡ imageOf (after x (state (decode (h .image)) (h .register)) .session)
 unfolding hostAfter
 image-after x h sized = rw (eq-eqb (length (h .image)) imageLength sized)
 
 -- ---- an image of an ended session
 
-module _ (image : Bytes) (sized : length image ≡ imageLength) (stored : encode (decode image) ≡ image) (ended : 3 < decode image .progress .phase) where
+module _ (image : Bytes) (sized : length image ≡ imageLength) (stored : imageOf (decode image) ≡ image) (ended : 3 < decode image .progress .phase) where
   abbrev s : Session
   s = decode image
 
@@ -51,7 +51,7 @@ module _ (image : Bytes) (sized : length image ≡ imageLength) (stored : encode
       not-taken 31 0 (sym (ended-refuses s register ended x t) ∙ e)
 
   left : (x : Step) (register : Bytes) → reply x (state s register) ≢ Taken → hostAfter x (host image register) .image ≡ image
-  left x register n = image-after x (host image register) sized ∙ ap (λ (z : State). encode (z .session)) (refused-stays s register ended x n) ∙ stored
+  left x register n = image-after x (host image register) sized ∙ ap (λ (z : State). imageOf (z .session)) (refused-stays s register ended x n) ∙ stored
 
   unchanged : (cs : List Call) → HostNoClear cs image → hostTrace cs image ≡ image
   unfolding hostTrace HostNoClear
@@ -79,8 +79,8 @@ module _ (h : Host) (round : ℕ) (x : Inputs) (sized : length (h .image) ≡ im
   step : after (check round x) (state was (h .register)) ≡ state (refusedBy was) (h .register)
   step = check-ends was (h .register) round x reaches (λ t. refused (replies (h .image) (h .register) was lent (check round x) ∙ t))
 
-  written : image ≡ encode (refusedBy was)
-  written = image-after (check round x) h sized ∙ ap (λ (z : State). encode (z .session)) step
+  written : image ≡ imageOf (refusedBy was)
+  written = image-after (check round x) h sized ∙ ap (λ (z : State). imageOf (z .session)) step
 
   now : Holds image (refusedBy was)
   now = subst (λ (z : State). Holds image (z .session)) step (image-left (h .image) (h .register) was lent (check round x))
@@ -90,7 +90,7 @@ module _ (h : Host) (round : ℕ) (x : Inputs) (sized : length (h .image) ≡ im
   phase = ap (λ (z : Session). z .progress .phase) (now .session)
 
   ends-over : Over image
-  ends-over = over image (now .sized) (ap encode (now .session) ∙ sym written) (omega (arith, phase))
+  ends-over = over image (now .sized) (ap imageOf (now .session) ∙ sym written) (omega (arith, phase))
 
 -- ---- a call that is not taken, and looked at no round
 
@@ -103,7 +103,7 @@ module _ (x : Step) (h : Host) (octets : Octets (h .image)) (refused : hostReply
   kept-by : (b : Bool) → eqb (length (h .image)) imageLength ≡ b → hostAfter x h ≡ h
   unfolding hostAfter
   kept-by true e =
-      rw e (ap (λ (z : State). host (encode (z .session)) (z .register)) (refused-keeps (state (decode (h .image)) (h .register)) x none (not-taken-in e))
+      rw e (ap (λ (z : State). host (imageOf (z .session)) (z .register)) (refused-keeps (state (decode (h .image)) (h .register)) x none (not-taken-in e))
       ∙ ap (λ (image : Bytes). host image (h .register)) (store-load (h .image) (eqb-true (length (h .image)) imageLength e) octets))
   kept-by false e = rw e
 

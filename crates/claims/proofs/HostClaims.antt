@@ -10,7 +10,7 @@ use Rattle.session_image.specs.Image.{decode}
 use Rattle.session.specs.Steps.{Beginning}
 use Rattle.session.specs.Machine.{Step, clear, withdraw, close, check, State, state, reply, after}
 use Rattle.session_histories.specs.Runs.{History, emptyHistory, Call, call}
-use Rattle.session_histories.specs.Internal.{Begins, StepChecked, initial, ownInitial, run, ownTrace, extend, trace, calls}
+use Rattle.session_histories.specs.Internal.{Begins, StepChecked, initialTrace, ownInitial, run, ownTrace, extendTrace, trace, calls}
 use Rattle.session_histories.specs.Conditions.{ValidSession, Checks}
 use Rattle.session_histories.specs.Claims.{Undue}
 use Rattle.session_histories.specs.Bound.{Bound, BoundBytes}
@@ -50,27 +50,27 @@ module _ (start : Host) (b : Beginning) (s : Starts start b) where
   pub keeps-initial : Keeps (hostAfter (clear b) start) (ownInitial b .now)
   keeps-initial = subst (Keeps (hostAfter (clear b) start)) (clear-taken st b taken .1) newly
 
-  begins : Holds first (initial b .session)
-  unfolding ownInitial initial
+  begins : Holds first (initialTrace b .session)
+  unfolding ownInitial initialTrace
   begins = keeps-initial .image
 
-  pub traced : (cs : List Call) → Holds (hostTrace cs first) (trace cs (initial b) .session)
-  traced cs = trace-over cs first (initial b) begins
+  pub traced : (cs : List Call) → Holds (hostTrace cs first) (trace cs (initialTrace b) .session)
+  traced cs = trace-over cs first (initialTrace b) begins
 
-  pub lodged : (cs : List Call) → hostHistory cs first (emptyHistory b) ≡ trace cs (initial b) .history
-  unfolding initial
-  lodged cs = history-over cs first (initial b) begins
+  pub lodged : (cs : List Call) → hostHistory cs first (emptyHistory b) ≡ trace cs (initialTrace b) .history
+  unfolding initialTrace
+  lodged cs = history-over cs first (initialTrace b) begins
 
   -- the reply of one more call
-  pub answered : (cs : List Call) (x : Step) (register : Bytes) → hostReply x (host (hostTrace cs first) register) ≡ reply x (state (trace cs (initial b) .session) register)
-  answered cs x register = replies (hostTrace cs first) register (trace cs (initial b) .session) (traced cs) x
+  pub answered : (cs : List Call) (x : Step) (register : Bytes) → hostReply x (host (hostTrace cs first) register) ≡ reply x (state (trace cs (initialTrace b) .session) register)
+  answered cs x register = replies (hostTrace cs first) register (trace cs (initialTrace b) .session) (traced cs) x
 
   -- what is shown of the session that a list of steps reaches is shown of the session in the image
-  in-image : (Of : Session → Type 0) (cs : List Call) → Of (trace cs (initial b) .session) → Of (decode (hostTrace cs first))
+  in-image : (Of : Session → Type 0) (cs : List Call) → Of (trace cs (initialTrace b) .session) → Of (decode (hostTrace cs first))
   in-image Of cs h = subst Of (sym (traced cs .session)) h
 
   -- and of what was lodged
-  in-both : (Of : Session → History → Type 0) (cs : List Call) → Of (trace cs (initial b) .session) (trace cs (initial b) .history)
+  in-both : (Of : Session → History → Type 0) (cs : List Call) → Of (trace cs (initialTrace b) .session) (trace cs (initialTrace b) .history)
       → Of (decode (hostTrace cs first)) (hostHistory cs first (emptyHistory b))
   in-both Of cs h = rw (traced cs .session, lodged cs) h
 
@@ -85,8 +85,8 @@ module _ (start : Host) (b : Beginning) (s : Starts start b) where
         inputs = c .inputs;
         later = c .later;
         listed = c .listed;
-        uncleared = no-clear-over (c .later) (hostAfter (check k (c .inputs)) (host (hostTrace before first) (c .register)) .image) (extend done (trace before (initial b)))
-            (unfold extend in image-left (hostTrace before first) (c .register) (trace before (initial b) .session) (traced before) (check k (c .inputs))) (c .uncleared);
+        uncleared = no-clear-over (c .later) (hostAfter (check k (c .inputs)) (host (hostTrace before first) (c .register)) .image) (extendTrace done (trace before (initialTrace b)))
+            (unfold extendTrace in image-left (hostTrace before first) (c .register) (trace before (initialTrace b) .session) (traced before) (check k (c .inputs))) (c .uncleared);
         taken = answered before (check k (c .inputs)) (c .register) ∙ c .taken;
         checks = λ octets. in-image (λ (z : Session). Checks z k (c .inputs)) before (c .checks octets);
         stored = rw (traced before .session, traced cs .session) (c .stored);

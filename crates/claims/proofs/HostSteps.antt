@@ -9,12 +9,12 @@ use Rattle.codec.specs.Reply.{leaves}
 use Rattle.codec.specs.declared.Reply.{Reply}
 use Rattle.session.specs.declared.Session.{Session}
 use Rattle.session.specs.Machine.{Step, State, state, reply, after}
-use Rattle.session_image.specs.Image.{imageLength, encode, decode}
+use Rattle.session_image.specs.Image.{imageLength, imageOf, decode}
 use Rattle.session_image.specs.Internal.{Typed}
 use Rattle.session_image.proofs.Law.{length-encode, load-store}
 use Rattle.session_image.specs.Images.{Host, host, hostReply, hostAfter}
 use Rattle.session_histories.specs.Runs.{historyAfter, rollAfter, clears, Call, call}
-use Rattle.session_histories.specs.Internal.{Trace, OwnTrace, run, ownExtend, ownTrace, extend, trace, NoClear, calls}
+use Rattle.session_histories.specs.Internal.{Trace, OwnTrace, run, ownExtend, ownTrace, extendTrace, trace, NoClear, calls}
 use Rattle.session_histories.proofs.Stepped.{Uncleared, none, more}
 use Rattle.claims.specs.HostSteps.{hostTrace, hostHistory, HostNoClear, hostRun, hostCalls, HostUncleared, hostRoll}
 use Rattle.claims.proofs.Typed.{typed-decode, typed-after}
@@ -31,7 +31,7 @@ bytes-hold image sized octets = record { sized = sized; session = refl; typed = 
 
 -- ---- one call
 
-stored : (s : Session) → Typed s → Holds (encode s) s
+stored : (s : Session) → Typed s → Holds (imageOf s) s
 stored s t = record { sized = length-encode s t; session = load-store s t; typed = t }
 
 module _ (image register : Bytes) (s : Session) (holds : Holds image s) (x : Step) where
@@ -56,27 +56,27 @@ module _ (image register : Bytes) (s : Session) (holds : Holds image s) (x : Ste
 -- ---- lists of calls, each lent any register
 
 pub trace-over : (cs : List Call) (image : Bytes) (l : Trace) → Holds image (l .session) → Holds (hostTrace cs image) (trace cs l .session)
-unfolding hostTrace trace extend
+unfolding hostTrace trace extendTrace
 trace-over [] image l e = e
-trace-over (c ∷ cs) image l e = trace-over cs (hostAfter (c .step) (host image (c .register)) .image) (extend c l) (image-left image (c .register) (l .session) e (c .step))
+trace-over (c ∷ cs) image l e = trace-over cs (hostAfter (c .step) (host image (c .register)) .image) (extendTrace c l) (image-left image (c .register) (l .session) e (c .step))
 
 -- what was lodged
 pub history-over : (cs : List Call) (image : Bytes) (l : Trace) → Holds image (l .session) → hostHistory cs image (l .history) ≡ trace cs l .history
-unfolding hostHistory trace extend
+unfolding hostHistory trace extendTrace
 history-over [] image l e = refl
 history-over (c ∷ cs) image l e =
     let lent = host image (c .register) in
-    let h : leaves (hostReply (c .step) lent) (historyAfter (c .step) (state (decode image) (c .register)) (l .history)) (l .history) ≡ extend c l .history =
+    let h : leaves (hostReply (c .step) lent) (historyAfter (c .step) (state (decode image) (c .register)) (l .history)) (l .history) ≡ extendTrace c l .history =
     rw (replies image (c .register) (l .session) e (c .step), e .session) in
-    ap (hostHistory cs (hostAfter (c .step) lent .image)) h ∙ history-over cs (hostAfter (c .step) lent .image) (extend c l) (image-left image (c .register) (l .session) e (c .step))
+    ap (hostHistory cs (hostAfter (c .step) lent .image)) h ∙ history-over cs (hostAfter (c .step) lent .image) (extendTrace c l) (image-left image (c .register) (l .session) e (c .step))
 
 -- no clear is taken
 pub no-clear-over : (cs : List Call) (image : Bytes) (l : Trace) → Holds image (l .session) → NoClear cs l → HostNoClear cs image
-unfolding HostNoClear NoClear extend
+unfolding HostNoClear NoClear extendTrace
 no-clear-over [] image l e n = tt
 no-clear-over (c ∷ cs) image l e n = (
   ap (clears (c .step)) (replies image (c .register) (l .session) e (c .step)) ∙ n .0,
-  no-clear-over cs (hostAfter (c .step) (host image (c .register)) .image) (extend c l) (image-left image (c .register) (l .session) e (c .step)) (n .1),
+  no-clear-over cs (hostAfter (c .step) (host image (c .register)) .image) (extendTrace c l) (image-left image (c .register) (l .session) e (c .step)) (n .1),
 )
 
 -- ---- lists of calls, each lent what the last one left

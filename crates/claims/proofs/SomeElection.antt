@@ -100,7 +100,7 @@ repeats = refl
 
 -- the vote of example C
 votes : producedClaims P 1 material ≡ 1 ∷ 0 ∷ 1 ∷ 1 ∷ []
-unfolding written lines listed decimal formed sheetOf rows line values step digit any plain polynomials producedClaims joined list poly slot number words bytes opened mul coefficient turn sum plus scale ternary meaning remainder centre scheme.plain
+unfolding written lines listed decimal formed sheetOf rows line values step digit any plain polynomials producedClaims joined list poly slot number words bytes opened mul coefficient turn sum plus scale ternary meaning remainder centre scheme.plaintext
 votes = refl
 
 sized : MaterialSized P 1 material

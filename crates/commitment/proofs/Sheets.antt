@@ -7,7 +7,7 @@ use lib.ListN.{length, take, drop, replicate, length-replicate}
 use Rattle.codec.specs.Bytes.{Bytes, part, put}
 use Rattle.codec.proofs.Laws.{length-part, part-part, part-put}
 use Rattle.sheet.specs.Sheet.{reading, polynomials}
-use Rattle.sheet.specs.Internal.{loaded, filled}
+use Rattle.sheet.specs.Internal.{loaded, bufferAfter}
 use Rattle.sheet.specs.declared.Reading.{Reading}
 use Rattle.sheet.specs.declared.Reading.the-variants.{Taken}
 use Rattle.sheet.proofs.Taken.{taken, length-polynomials}
@@ -59,7 +59,7 @@ module _ (text : Bytes) {public : Bytes} {r : Reading} {k : Numbers} (load : (r 
 
   held : public ≡ put (replicate 81920 0) 0 (polynomials text)
   unfolding loaded
-  held = load .1 ∙ ap (λ (x : Reading). filled x text (replicate 81920 0)) said
+  held = load .1 ∙ ap (λ (x : Reading). bufferAfter x text (replicate 81920 0)) said
 
   long : length (polynomials text) ≡ 40 * k .ring
   long = length-polynomials text said

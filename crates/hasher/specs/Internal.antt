@@ -2,7 +2,7 @@
 use Prim.Native.Nat.{ℕ, _+_, _%_}
 use lib.ListN.{length}
 use Rattle.codec.specs.Bytes.{Bytes}
-use Rattle.keccak.specs.Keccak.{State}
+use Rattle.keccak.specs.Keccak.{StateArray}
 use Rattle.sha3.specs.Absorb.{absorb, zeroState}
 use Rattle.sha3.specs.Sponge.{padding, squeeze}
 use Rattle.hasher.specs.declared.Hasher.{Hasher}
@@ -10,7 +10,7 @@ use Rattle.hasher.specs.declared.Hasher.{Hasher}
 -- ---- a hasher: the sponge of SHA3-256 (FIPS 202, section 4) between two parts of a message, for hashing a message that comes in parts. Its place is where the next byte goes in the block of 136 bytes; a number of 136 or more stands for its remainder
 
 -- the hasher of a state and a place
-abbrev pub made : State → ℕ → Hasher
+abbrev pub made : StateArray → ℕ → Hasher
 made s p = record { state = s; place = p }
 
 -- the hasher that has taken in the string m, from the state of zeros

@@ -6,7 +6,7 @@ use Prim.Native.Nat.{ℕ, suc, _+_, _*_, _%_, _^_, _<_}
 use native.Mathlib.Omega.{arith}
 use lib.Bits.{bitXor, bitAnd, bitOr, xor-lt}
 use lib.ListN.{getD}
-use Rattle.keccak.specs.Keccak.{State, lane, five, lanes, offsets, rotate, complement, parity, effect, theta, rho, pi, chi, chiRow, iota, round, rounds, constants}
+use Rattle.keccak.specs.Keccak.{StateArray, lane, five, lanes, offsets, rotate, complement, parity, effect, theta, rho, pi, chi, chiRow, iota, round, rounds, constants}
 use Rattle.keccak.specs.Internal.{chiRow0, chiRow1, chiRow2, chiRow3, chiRow4, chiFlipped, _⊻_, flip, flipped, six, roundFlipped}
 use Rattle.keccak.proofs.Complement.{flip-lt, flip-flip, flip-xor, flip-rotate, chiLane, by-and, by-or, twice}
 use Rattle.keccak.proofs.Bits.{rotate-lt}
@@ -39,7 +39,7 @@ thetaOf P x y = P x y ⊻ effectOf P x
 movedOf : (ℕ → ℕ → Bool) → ℕ → ℕ → Bool
 movedOf P x y = thetaOf P ((x + 3 * y) % 5) x
 
-module _ (P : ℕ → ℕ → Bool) (s : State) (w : Words s) where
+module _ (P : ℕ → ℕ → Bool) (s : StateArray) (w : Words s) where
   flipped-at : (x y : ℕ) → x < 5 → y < 5 → lane (flipped P s) x y ≡ flip (P x y) (lane s x y)
   unfolding flipped
   flipped-at x y hx hy = lanes-at (λ i j. flip (P i j) (lane s i j)) x y hx hy
@@ -124,7 +124,7 @@ module _ (P : ℕ → ℕ → Bool) (s : State) (w : Words s) where
       lanes-same (λ x y hx hy. ap (flip (P x y)) (lanes-at (λ i j. flip (P i j) (lane s i j)) x y hx hy) ∙ flip-flip (P x y) (lane s x y) (w .word x y hx hy))
       ∙ sym (shaped s h)
 
-moved : (s : State) → Words s → pi (rho (theta (flipped six s))) ≡ flipped (movedOf six) (pi (rho (theta s)))
+moved : (s : StateArray) → Words s → pi (rho (theta (flipped six s))) ≡ flipped (movedOf six) (pi (rho (theta s)))
 unfolding flipped
 moved s w =
     let t = pi (rho (theta (flipped six s))) in
@@ -153,7 +153,7 @@ module _ (x0 x1 x2 x3 x4 : ℕ) (h0 : x0 < 2 ^ 64) (h1 : x1 < 2 ^ 64) (h2 : x2 <
   unfolding chiRow4
   row4-flipped = row5 (by-and true x0 x1 x2 h0 h1 h2) (by-or true x1 x2 x3 h1 h2 h3) (by-and false x2 x3 x4 h2 h3 h4) (by-or true x3 x4 x0 h3 h4 h0) (by-and false x4 x0 x1 h4 h0 h1)
 
-chi-flipped : (b : State) → Words b → chiFlipped (flipped (movedOf six) b) ≡ flipped six (chi b)
+chi-flipped : (b : StateArray) → Words b → chiFlipped (flipped (movedOf six) b) ≡ flipped six (chi b)
 unfolding chiFlipped flipped movedOf thetaOf effectOf columnOf chi chiRow
 chi-flipped b w =
     let l : (x y : ℕ) → x < 5 → y < 5 → lane b x y < 2 ^ 64 = w .word in
@@ -166,22 +166,22 @@ chi-flipped b w =
 
 -- ---- a round, and all of them
 
-iota-flipped : (b : State) (c : ℕ) → iota (flipped six (chi b)) c ≡ flipped six (iota (chi b) c)
+iota-flipped : (b : StateArray) (c : ℕ) → iota (flipped six (chi b)) c ≡ flipped six (iota (chi b) c)
 unfolding iota flipped chi chiRow
 iota-flipped b c = refl
 
-round-flipped : (s : State) (c : ℕ) → Words s → roundFlipped (flipped six s) c ≡ flipped six (round s c)
+round-flipped : (s : StateArray) (c : ℕ) → Words s → roundFlipped (flipped six s) c ≡ flipped six (round s c)
 unfolding roundFlipped round
 round-flipped s c w =
     let b = pi (rho (theta s)) in
     let wb = pi-words (rho (theta s)) (rho-words (theta s) (theta-words s w)) in
-    ap (λ (t : State). iota (chiFlipped t) c) (moved s w) ∙ ap (λ (t : State). iota t c) (chi-flipped b wb) ∙ iota-flipped b c
+    ap (λ (t : StateArray). iota (chiFlipped t) c) (moved s w) ∙ ap (λ (t : StateArray). iota t c) (chi-flipped b wb) ∙ iota-flipped b c
 
 -- the lanes complemented, and again
-pub undone : (s t : State) → Words s → Shape s → t ≡ flipped six s → flipped six t ≡ s
+pub undone : (s t : StateArray) → Words s → Shape s → t ≡ flipped six s → flipped six t ≡ s
 undone s t w h e = ap (flipped six) e ∙ back six s w h
 
 -- one round more
-pub next-flipped : (n : ℕ) (s t u : State) → Words s → t ≡ flipped six (rounds n s) → u ≡ roundFlipped t (getD constants n 0) → u ≡ flipped six (rounds (suc n) s)
+pub next-flipped : (n : ℕ) (s t u : StateArray) → Words s → t ≡ flipped six (rounds n s) → u ≡ roundFlipped t (getD constants n 0) → u ≡ flipped six (rounds (suc n) s)
 unfolding rounds
-next-flipped n s t u w e f = f ∙ ap (λ (x : State). roundFlipped x (getD constants n 0)) e ∙ round-flipped (rounds n s) (getD constants n 0) (rounds-words n s w)
+next-flipped n s t u w e f = f ∙ ap (λ (x : StateArray). roundFlipped x (getD constants n 0)) e ∙ round-flipped (rounds n s) (getD constants n 0) (rounds-words n s w)

@@ -8,11 +8,11 @@ use lib.ListN.{length, getD, set}
 use lib.Seq.{getD-set-same, getD-set-other}
 use Rattle.codec.specs.Lists.{allBelow}
 use Rattle.codec.proofs.Lists.{allBelow-at}
-use Rattle.keccak.specs.Keccak.{Row, State, lane, five, offsets, constants, rotate, complement, xorRow, parity, effect, theta, rho, rhoRow, pi, chi, chiRow, iota, round, rounds}
+use Rattle.keccak.specs.Keccak.{Row, StateArray, lane, five, offsets, constants, rotate, complement, xorRow, parity, effect, theta, rho, rhoRow, pi, chi, chiRow, iota, round, rounds}
 use Rattle.keccak.proofs.Bits.{rotate-lt}
 
 -- every lane is below 2^64
-pub record Words (s : State) : Type 0 where
+pub record Words (s : StateArray) : Type 0 where
   pub word : (x y : ℕ) → x < 5 → y < 5 → lane s x y < 2 ^ 64
 
 -- one of five
@@ -47,7 +47,7 @@ offset-lt x (suc (suc (suc zero))) h = allBelow-at 64 (omega arith) (getD offset
 offset-lt x (suc (suc (suc (suc zero)))) h = allBelow-at 64 (omega arith) (getD offsets 4 []) refl x
 offset-lt x (suc (suc (suc (suc (suc y))))) h = absurd (omega arith)
 
-module _ (s : State) (w : Words s) where
+module _ (s : StateArray) (w : Words s) where
   -- ---- theta
 
   pub parity-at : (x : ℕ) → x < 5 → getD (parity s) x 0 ≡ bitXor (bitXor (bitXor (bitXor (lane s x 0) (lane s x 1)) (lane s x 2)) (lane s x 3)) (lane s x 4)
@@ -144,32 +144,32 @@ constant-lt n = allBelow-at (2 ^ 64) (omega arith) constants refl n
 
 -- ---- a round, and all of them
 
-chi-rows : (s : State) → 0 < length (chi s)
+chi-rows : (s : StateArray) → 0 < length (chi s)
 unfolding chi
 chi-rows s = omega arith
 
-chi-columns : (s : State) → 0 < length (getD (chi s) 0 [])
+chi-columns : (s : StateArray) → 0 < length (getD (chi s) 0 [])
 unfolding chi chiRow
 chi-columns s = omega arith
 
 -- what iota is given in a round
-pub record Before-iota (s : State) : Type 0 where
+pub record Before-iota (s : StateArray) : Type 0 where
   pub words : Words (chi (pi (rho (theta s))))
   pub rows : 0 < length (chi (pi (rho (theta s))))
   pub columns : 0 < length (getD (chi (pi (rho (theta s)))) 0 [])
 
-pub before-iota : (s : State) → Words s → Before-iota s
+pub before-iota : (s : StateArray) → Words s → Before-iota s
 before-iota s w = record {
   words = chi-words (pi (rho (theta s))) (pi-words (rho (theta s)) (rho-words (theta s) (theta-words s w)));
   rows = chi-rows (pi (rho (theta s)));
   columns = chi-columns (pi (rho (theta s)));
 }
 
-pub round-words : (s : State) → Words s → (c : ℕ) → c < 2 ^ 64 → Words (round s c)
+pub round-words : (s : StateArray) → Words s → (c : ℕ) → c < 2 ^ 64 → Words (round s c)
 unfolding round
 round-words s w c hc = let b = before-iota s w in iota-words (chi (pi (rho (theta s)))) (b .words) c hc (b .rows) (b .columns)
 
-pub rounds-words : (n : ℕ) (s : State) → Words s → Words (rounds n s)
+pub rounds-words : (n : ℕ) (s : StateArray) → Words s → Words (rounds n s)
 unfolding rounds
 rounds-words zero s w = w
 rounds-words (suc n) s w = round-words (rounds n s) (rounds-words n s w) (getD constants n 0) (constant-lt n)

@@ -11,7 +11,7 @@ use denote.Shadow.{shadow}
 use denote.Plain.{UInt}
 use mir.Syntax.{w64}
 use mir.Val.{Val}
-use Rattle.keccak.specs.Keccak.{State, lane, five, lanes, chiRow, chi, iota, round, rounds, keccak}
+use Rattle.keccak.specs.Keccak.{StateArray, lane, five, lanes, chiRow, chi, iota, round, rounds, keccak}
 
 -- five rows of five
 pub record Shape {A : Type 0} (s : List (List A)) : Type 0 where
@@ -29,7 +29,7 @@ five-of d (a ∷ b ∷ c ∷ e ∷ f ∷ []) h = refl
 five-of d (a ∷ b ∷ c ∷ e ∷ f ∷ g ∷ l) h = absurd (omega arith)
 
 -- a shaped state is its lanes
-pub shaped : (s : State) → Shape s → s ≡ lanes (lane s)
+pub shaped : (s : StateArray) → Shape s → s ≡ lanes (lane s)
 shaped s h =
     five-of [] s (h .rows)
     ∙ (λ i. five-of 0 (getD s 0 []) (h .row 0 (omega arith)) i ∷ five-of 0 (getD s 1 []) (h .row 1 (omega arith)) i
@@ -59,13 +59,13 @@ each-word (a ∷ xs) [] g x = absurd g
 each-word (a ∷ xs) (u ∷ us) g zero = g .0 .1
 each-word (a ∷ xs) (u ∷ us) g (suc x) = each-word xs us (g .1) x
 
-each-row : (n : ℕ) (xs : State) (us : List Val) → shadow (each (List ℕ) (inArray ℕ (UInt w64 .own) n) xs us) → (x y : ℕ) → lane xs x y < 2 ^ 64
+each-row : (n : ℕ) (xs : StateArray) (us : List Val) → shadow (each (List ℕ) (inArray ℕ (UInt w64 .own) n) xs us) → (x y : ℕ) → lane xs x y < 2 ^ 64
 each-row n [] us g x y = omega arith
 each-row n (r ∷ xs) [] g x y = absurd g
 each-row n (r ∷ xs) (u ∷ us) g x zero = each-word r (g .0 .0) (g .0 .1 .1) x
 each-row n (r ∷ xs) (u ∷ us) g x (suc y) = each-row n xs us (g .1) x y
 
-pub array-words : (s : State) (vs : List Val) → shadow (inArray (List ℕ) (inArray ℕ (UInt w64 .own) 5) 5 s vs) → (x y : ℕ) → lane s x y < 2 ^ 64
+pub array-words : (s : StateArray) (vs : List Val) → shadow (inArray (List ℕ) (inArray ℕ (UInt w64 .own) 5) 5 s vs) → (x y : ℕ) → lane s x y < 2 ^ 64
 array-words s vs g = each-row 5 s (g .0) (g .1 .1)
 
 -- ---- five rows of five that are written out
@@ -82,6 +82,6 @@ shape-of a b c d e ha hb hc hd he = record { rows = refl; row = row }
     row (suc (suc (suc (suc (suc y))))) h = absurd (omega arith)
 
 -- so has what a round leaves
-pub keccak-shape : (s : State) → Shape (keccak s)
+pub keccak-shape : (s : StateArray) → Shape (keccak s)
 unfolding keccak rounds round iota chi chiRow
 keccak-shape s = shape-of _ _ _ _ _ refl refl refl refl refl

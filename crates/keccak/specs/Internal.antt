@@ -3,7 +3,7 @@ use mathlib.Core.List.{List, [], _∷_}
 use Prim.Native.Nat.{ℕ, _<_}
 use lib.Bits.{bitXor, bitAnd, bitOr}
 use lib.ListN.{getD}
-use Rattle.keccak.specs.Steps.{Row, State, complement, lane, lanes, theta, rho, pi, iota}
+use Rattle.keccak.specs.Steps.{Row, StateArray, complement, lane, lanes, theta, rho, pi, iota}
 use mathlib.Core.Bool.{Bool, true, false, not}
 
 -- ---- chi on a state of which some lanes stand complemented, so that few complements are needed: `flipped six` after theta, rho and pi
@@ -39,7 +39,7 @@ chiRow4 r =
     bitXor (b 0) (bitAnd (complement (b 1)) (b 2)) ∷ bitXor (complement (b 1)) (bitOr (b 2) (b 3)) ∷ bitXor (b 2) (bitAnd (b 3) (b 4))
     ∷ bitXor (b 3) (bitOr (b 4) (b 0)) ∷ bitXor (b 4) (bitAnd (b 0) (b 1)) ∷ []
 
-unfoldable pub chiFlipped : State → State
+unfoldable pub chiFlipped : StateArray → StateArray
 chiFlipped s =
     chiRow0 (getD s 0 []) ∷ chiRow1 (getD s 1 []) ∷ chiRow2 (getD s 2 []) ∷ chiRow3 (getD s 3 []) ∷ chiRow4 (getD s 4 []) ∷ []
 
@@ -56,7 +56,7 @@ flip true l = complement l
 flip false l = l
 
 -- a state with the lanes complemented that P names
-unfoldable pub flipped : (ℕ → ℕ → Bool) → State → State
+unfoldable pub flipped : (ℕ → ℕ → Bool) → StateArray → StateArray
 flipped P s = lanes (λ x y. flip (P x y) (lane s x y))
 
 -- the six lanes
@@ -73,7 +73,7 @@ six x y =
     y [])
     x false
 
-unfoldable pub roundFlipped : State → ℕ → State
+unfoldable pub roundFlipped : StateArray → ℕ → StateArray
 roundFlipped s c = iota (chiFlipped (pi (rho (theta s)))) c
 
 -- ---- rho

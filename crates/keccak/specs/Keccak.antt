@@ -2,12 +2,12 @@
 use Prim.Native.Nat.{ℕ, zero, suc}
 use mathlib.Core.List.{List, [], _∷_}
 use lib.ListN.{getD}
-pub use Rattle.keccak.specs.Steps.{Row, State, lane, five, lanes, offsets, pi}
+pub use Rattle.keccak.specs.Steps.{Row, StateArray, lane, five, lanes, offsets, pi}
 unfoldable pub use Rattle.keccak.specs.Steps.{bit, rotate, complement, xorRow, parity, effect, theta, rhoRow, rho, chiRow, chi, iota}
 
 -- ---- 3.3 and 3.4, the permutation of 24 rounds
 
-unfoldable pub round : State → ℕ → State
+unfoldable pub round : StateArray → ℕ → StateArray
 round s c = iota (chi (pi (rho (theta s)))) c
 
 -- RC of the rounds 0 .. 23
@@ -22,9 +22,9 @@ constants =
     ∷ []
 
 -- the first n rounds
-unfoldable pub rounds : ℕ → State → State
+unfoldable pub rounds : ℕ → StateArray → StateArray
 rounds zero s = s
 rounds (suc n) s = round (rounds n s) (getD constants n 0)
 
-unfoldable pub keccak : State → State
+unfoldable pub keccak : StateArray → StateArray
 keccak s = rounds 24 s

@@ -11,13 +11,13 @@ unfoldable pub reduce : ℕ → ℕ → ℕ
 reduce zero r = r
 reduce (suc top) r = bitXor r 0x71
 
-unfoldable pub register : ℕ → ℕ
-register zero = 1
-register (suc t) = let r = register t in reduce (r / 128) (r * 2 % 256)
+unfoldable pub shiftRegister : ℕ → ℕ
+shiftRegister zero = 1
+shiftRegister (suc t) = let r = shiftRegister t in reduce (r / 128) (r * 2 % 256)
 
 -- rc(t), the lowest bit after t steps. Algorithm 5 takes t mod 255 steps; the constants of 24 rounds ask for t up to 6 + 7 * 23 = 167, where t mod 255 is t
 unfoldable pub rc : ℕ → ℕ
-rc t = register t % 2
+rc t = shiftRegister t % 2
 
 -- algorithm 6: bit 2^j - 1 of round k's constant is rc(j + 7k), j = 0 .. 6
 unfoldable pub constant : ℕ → ℕ
@@ -26,5 +26,5 @@ constant k =
     + rc (5 + 7 * k) * 2 ^ 31 + rc (6 + 7 * k) * 2 ^ 63
 
 pub constants-rule : list 24 constant ≡ constants
-unfolding list constant rc register reduce
+unfolding list constant rc shiftRegister reduce
 constants-rule = refl

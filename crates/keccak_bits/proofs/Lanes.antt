@@ -4,7 +4,7 @@ use Prim.Native.Nat.{ℕ, zero, suc, _+_, _-_, _*_, _%_, _^_, _<_}
 use native.Mathlib.Omega.{arith}
 use lib.ListN.{getD}
 use Rattle.keccak.specs.Keccak as lanes
-use Rattle.keccak.specs.Keccak.{State, lane, offsets, constants, keccak}
+use Rattle.keccak.specs.Keccak.{StateArray, lane, offsets, constants, keccak}
 use Rattle.keccak_bits.specs.Bits.{Bits, columnParity, theta, rho, pi, chi, iota, round, rounds}
 use Rattle.keccak_bits.specs.Internal.{view}
 use Rattle.keccak.proofs.Lanes.{Words, constant-lt, theta-words, rho-words, pi-words, before-iota, rounds-words}
@@ -61,7 +61,7 @@ rounds-agree (suc n) e = round-agree (rounds-agree n e) (getD constants n 0)
 
 -- ---- a round
 
-round-bits : (s : State) → Words s → (c : ℕ) → c < 2 ^ 64 → Agree (view (lanes.round s c)) (round (view s) c)
+round-bits : (s : StateArray) → Words s → (c : ℕ) → c < 2 ^ 64 → Agree (view (lanes.round s c)) (round (view s) c)
 unfolding lanes.round round
 round-bits s w c hc =
     let t = lanes.theta s in
@@ -79,7 +79,7 @@ round-bits s w c hc =
 
 -- ---- the permutation
 
-rounds-bits : (n : ℕ) (s : State) → Words s → Agree (view (lanes.rounds n s)) (rounds n (view s))
+rounds-bits : (n : ℕ) (s : StateArray) → Words s → Agree (view (lanes.rounds n s)) (rounds n (view s))
 unfolding lanes.rounds rounds
 rounds-bits zero s w = record { same = λ x y z hx hy hz. refl }
 rounds-bits (suc n) s w =
@@ -87,6 +87,6 @@ rounds-bits (suc n) s w =
     chain (round-bits (lanes.rounds n s) (rounds-words n s w) c (constant-lt n)) (round-agree (rounds-bits n s w) c)
 
 -- for every state of 64-bit lanes
-pub keccak-bits : (s : State) → Words s → Agree (view (keccak s)) (rounds 24 (view s))
+pub keccak-bits : (s : StateArray) → Words s → Agree (view (keccak s)) (rounds 24 (view s))
 unfolding keccak
 keccak-bits s w = rounds-bits 24 s w

@@ -14,7 +14,7 @@ use Rattle.codec.specs.Lists.{list}
 use Rattle.codec.proofs.Laws.{length-part, part-none, octets-drop, octets-part, octets-append}
 use Rattle.codec.proofs.Lists.{list-cong, list-getD}
 use Rattle.codec.proofs.Numbers.{length-bytes, bytes-octets, number-bytes, number-lt}
-use Rattle.keccak.specs.Keccak.{State, lane, lanes, bit, keccak}
+use Rattle.keccak.specs.Keccak.{StateArray, lane, lanes, bit, keccak}
 use Rattle.keccak.proofs.Bits.{bit-xor}
 use Rattle.keccak.proofs.Lanes.{Words, at-five, by-row, rounds-words}
 use Rattle.sha3.specs.Absorb.{zeroState}
@@ -119,7 +119,7 @@ lane-bits p o k z h =
 lane-lanes : (f : ℕ → ℕ → ℕ) (x y : ℕ) → x < 5 → y < 5 → lane (lanes f) x y ≡ f x y
 lane-lanes f x y hx hy = by-row (λ k. f 0 k ∷ f 1 k ∷ f 2 k ∷ f 3 k ∷ f 4 k ∷ []) x y hy ∙ at-five (λ k. f k y) 0 x hx
 
-xor-bits : (s : State) (A : Bits) (p : Bytes) → Agree (view s) A → Octets p → Agree (view (xorBlock s p)) (λ x y z. A x y z ⊕ arrayOf (bitsOf p) x y z)
+xor-bits : (s : StateArray) (A : Bits) (p : Bytes) → Agree (view s) A → Octets p → Agree (view (xorBlock s p)) (λ x y z. A x y z ⊕ arrayOf (bitsOf p) x y z)
 unfolding xorBlock
 xor-bits s A p e o = record {
   same = λ x y z hx hy hz.
@@ -143,18 +143,18 @@ lane-lt p k o e = go (decLt k 17)
         let z : number (part p (8 * k) 8) ≡ 0 = ap number (part-none p (8 * k) 8 (omega arith)) in
         omega arith
 
-xor-words : (s : State) (p : Bytes) → Words s → Octets p → length p ≡ 136 → Words (xorBlock s p)
+xor-words : (s : StateArray) (p : Bytes) → Words s → Octets p → length p ≡ 136 → Words (xorBlock s p)
 unfolding xorBlock
 xor-words s p w o e = record {
   word = λ x y hx hy.
       rw (lane-lanes (λ i j. bitXor (lane s i j) (number (part p (8 * (5 * j + i)) 8))) x y hx hy) (xor-lt 64 _ _ (w .word x y hx hy) (lane-lt p (5 * y + x) o e));
 }
 
-keccak-words : (s : State) → Words s → Words (keccak s)
+keccak-words : (s : StateArray) → Words s → Words (keccak s)
 unfolding keccak
 keccak-words s w = rounds-words 24 s w
 
-blocks-words : (n : ℕ) (s : State) (p : Bytes) → Words s → Octets p → length p ≡ 136 * n → Words (absorbBlocks n s p)
+blocks-words : (n : ℕ) (s : StateArray) (p : Bytes) → Words s → Octets p → length p ≡ 136 * n → Words (absorbBlocks n s p)
 unfolding absorbBlocks
 blocks-words zero s p w o l = w
 blocks-words (suc n) s p w o l =
@@ -162,7 +162,7 @@ blocks-words (suc n) s p w o l =
     let rest : length (drop 136 p) ≡ 136 * n = rw length-drop (omega arith) in
     blocks-words n (keccak (xorBlock s c)) (drop 136 p) (keccak-words (xorBlock s c) (xor-words s c w (octets-part p 0 136 o) (length-take-le 136 p (omega arith)))) (octets-drop p 136 o) rest
 
-blocks-bits : (n : ℕ) (s : State) (A : Bits) (p : Bytes) → Words s → Agree (view s) A → Octets p → length p ≡ 136 * n → Agree (view (absorbBlocks n s p)) (absorbed n A (bitsOf p))
+blocks-bits : (n : ℕ) (s : StateArray) (A : Bits) (p : Bytes) → Words s → Agree (view s) A → Octets p → length p ≡ 136 * n → Agree (view (absorbBlocks n s p)) (absorbed n A (bitsOf p))
 unfolding absorbBlocks absorbed
 blocks-bits zero s A p w e o l = e
 blocks-bits (suc n) s A p w e o l =
@@ -227,7 +227,7 @@ module _ (l : ℕ) (r : Bytes) where
       let e : 64 + i ≡ length (bitsOf (bytes 8 l)) + i = omega (arith, size) in
       rw (bits-append (bytes 8 l) r, e) (getD-append-add (bitsOf (bytes 8 l)) (bitsOf r) i 0)
 
-squeezed-at : (s : State) → Words s → (x z : ℕ) → x < 4 → z < 64 → getD (bitsOf (squeeze s)) (64 * x + z) 0 ≡ view s x 0 z
+squeezed-at : (s : StateArray) → Words s → (x z : ℕ) → x < 4 → z < 64 → getD (bitsOf (squeeze s)) (64 * x + z) 0 ≡ view s x 0 z
 unfolding squeeze
 squeezed-at s w zero z hx hz =
     let e : 64 * 0 + z ≡ z = omega arith in
@@ -245,7 +245,7 @@ squeezed-at s w (suc (suc (suc zero))) z hx hz =
     ∙ bytes-bits (lane s 3 0) z (w .word 3 0 (omega arith) (omega arith)))
 squeezed-at s w (suc (suc (suc (suc x)))) z hx hz = absurd (omega arith)
 
-squeezed : (s : State) (A : Bits) → Words s → Agree (view s) A → bitsOf (squeeze s) ≡ stringOf 256 A
+squeezed : (s : StateArray) (A : Bits) → Words s → Agree (view s) A → bitsOf (squeeze s) ≡ stringOf 256 A
 unfolding squeeze
 squeezed s A w e =
     let long : length (squeeze s) ≡ 32 = simp (length-append, length-bytes) in

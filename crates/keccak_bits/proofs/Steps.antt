@@ -7,13 +7,13 @@ use lib.Dec.{eqb·suc-zero}
 use lib.ListN.{length, getD}
 use mathlib.Core.List.{[]}
 use Rattle.keccak.specs.Keccak as lanes
-use Rattle.keccak.specs.Keccak.{State, lane, bit, offsets, complement, parity}
+use Rattle.keccak.specs.Keccak.{StateArray, lane, bit, offsets, complement, parity}
 use Rattle.keccak.proofs.Bits.{bit-xor, bit-and, bit-complement, bit-rotate}
 use Rattle.keccak.proofs.Lanes.{Words, offset-lt, parity-at, parity-lt, effect-at, theta-at, rho-at, pi-at, chi-at, iota-there, iota-row, iota-else}
 use Rattle.keccak_bits.specs.Bits.{_⊕_, columnParity, theta, rho, pi, chi, iota}
 use Rattle.keccak_bits.specs.Internal.{view}
 
-module _ (s : State) (w : Words s) where
+module _ (s : StateArray) (w : Words s) where
   parity-bit : (x z : ℕ) → x < 5 → bit (getD (parity s) x 0) z ≡ columnParity (view s) x z
   unfolding columnParity
   parity-bit x z h = rw (parity-at s w x h) (simp bit-xor)

@@ -22,7 +22,7 @@ use Rattle.ring.specs.Internal.{store}
 use Rattle.ring.proofs.Bridge.{poly-part, slot-later}
 use Rattle.ring.proofs.Polynomials.{alike-refl, alike-minus, alike-mul}
 use Rattle.scratch.specs.Internal.{Polynomial}
-use Rattle.bgv.specs.Scheme.{recoveredMask, within, plain, rebuilt, reconstructed}
+use Rattle.bgv.specs.Scheme.{recoveredMask, within, plaintext, rebuilt, reconstructed}
 use Rattle.scratch.proofs.Slotted.{Slotted, slotted-none, slotted-copy, slotted-add, slotted-below}
 use Rattle.commitment.proofs.Opening.{encode-bytes}
 use Rattle.round.proofs.ExtractionSizes.{same-centre}
@@ -71,7 +71,7 @@ module _ (q n p : ℕ) where
       ap (allBelow (suc bound)) (list-cong n (λ k l. ap natAbs (same-centre (record { is = ap (λ (x : ℕ). x % q) (same-divide p (alike-minus et (alike-mul alike-refl eu) .at k l)) }))))
 
   pub vote-alike : {v v' a a' b b' : Poly} → Alike q n v v' → Alike q n a a' → Alike q n b b' → list n (reconstructed q p v a b) ≡ list n (reconstructed q p v' a' b')
-  unfolding plain rebuilt
+  unfolding plaintext rebuilt
   vote-alike ev ea eb = list-cong n (λ k l. ap (remainder p) (same-centre (alike-minus (alike-minus ev ea) eb .at k l)))
 
 -- ---- a polynomial of a slice, lent on with a length that is a difference of places

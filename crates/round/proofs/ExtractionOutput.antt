@@ -13,7 +13,7 @@ use Rattle.ring.specs.Poly.{Poly, modulo, Alike}
 use Rattle.ring.specs.Slots.{encode}
 use Rattle.ring.proofs.Bridge.{length-encode}
 use Rattle.ring.proofs.Polynomials.{alike-refl, alike-sym, _so_, alike-minus, alike-mul}
-use Rattle.bgv.specs.Scheme.{opened, plain}
+use Rattle.bgv.specs.Scheme.{opened, plaintext}
 use Rattle.bgv.specs.Internal.{Sound}
 use Rattle.bgv.proofs.Form.{noisy-alike}
 use Rattle.commitment.specs.Commitment.{Three, Alike3}
@@ -66,7 +66,7 @@ module _ (P : Parameters) (m : ℕ) (x : Openings) where
   opened-secret u v e = alike-minus alike-refl (alike-mul e alike-refl)
 
   pub secret-alike : {f f' g g' : Poly} → Alike q N f f' → Alike q N g g' → Key P m x f g → Key P m x f' g'
-  unfolding plain
+  unfolding plaintext
   secret-alike ef eg y = record {
     short-s = small-alike 1 ef (y .short-s);
     short-e = small-alike 1 eg (y .short-e);

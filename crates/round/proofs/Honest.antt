@@ -19,7 +19,7 @@ use Rattle.ring.specs.Slots.{coefficientBytes, poly}
 use Rattle.ring.proofs.Bridge.{encode-alike}
 use Rattle.ring.proofs.Polynomials.{alike-refl, alike-sym, _so_, alike-plus}
 use Rattle.ring.proofs.Ranges.{below-complete}
-use Rattle.bgv.specs.Scheme.{plain, decrypted, share, recoveredMask, within, lentMask, reconstructed}
+use Rattle.bgv.specs.Scheme.{plaintext, decrypted, share, recoveredMask, within, lentMask, reconstructed}
 use Rattle.bgv.specs.Internal.{Sound}
 use Rattle.bgv.proofs.Form.{noisy-alike, halves, split-key}
 use Rattle.bgv.proofs.Round.{worked-share, reconstructs}
@@ -91,7 +91,7 @@ module _ (P : Parameters) (m : ℕ) (x : Material) where
     head-ranged = ten-below _ _ (producedPairs P m x) _ pairs-below
 
     claims-below : allBelow p (producedClaims P m x) ≡ true
-    unfolding producedClaims plain
+    unfolding producedClaims plaintext
     claims-below =
         below-joined p m (λ j. list N (decrypted q N p (secret-s P m x) (u j) (v j)))
         (λ j l. below-complete p N (decrypted q N p (secret-s P m x) (u j) (v j)) (record { at = λ i h. remainder-lt p _ (ok .positive) }))

@@ -26,7 +26,7 @@ use Rattle.sheet_numbers.specs.declared.Numbers.{Numbers}
 -- ---- what inner functions are given and write: ballots, claims, shares, challenges and answers that passed the tests of lengths and ranges, and the room that is lent
 
 -- the shares of one side for `count` ballots
-pub record Shares (q N count : ℕ) (shares : Bytes) : Type 0 where
+pub record SharesLent (q N count : ℕ) (shares : Bytes) : Type 0 where
   pub sized : length shares ≡ 8 * N * count
   pub below : (j : ℕ) → j < count → Below q N (shareAt N shares j)
 

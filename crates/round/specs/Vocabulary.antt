@@ -18,7 +18,7 @@ pub use Rattle.commitment.specs.Loaded.{keyBytes}
 pub use Rattle.commitment.specs.Parameters.{parameters}
 pub use Rattle.stern.specs.Internal.{RepetitionMaterial}
 pub use Rattle.stern.specs.Shortness.{answerLength, answerTests, drawnOf, inRange}
-pub use Rattle.round.specs.Internal.{Batch, Shares, materialNow, roundIn}
+pub use Rattle.round.specs.Internal.{Batch, SharesLent, materialNow, roundIn}
 pub use Rattle.round.specs.Layout.{answersLength, ballotLength, headLength, openingOf, pairsOf}
 pub use Rattle.round.specs.Lent.{firstIn, firstOut, materialIn, secondIn, secondOut}
 pub use Rattle.round.specs.Producer.{maskTests, noiseTests, permutationTests, sIn}

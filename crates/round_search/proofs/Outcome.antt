@@ -20,7 +20,7 @@ use Rattle.commitment.specs.Parameters.{Parameters, parameters}
 use Rattle.commitment.proofs.Cut.{keys-cut}
 use Rattle.round.specs.Extractor.{Openings, openingsOf, threeBytes, isZero, ternaryBytes, open0, open1, argument, read1, read2, read3, unknowns, vector-s, vector-e, kind, extracted}
 use Rattle.round.proofs.ExtractionWritten.{collision-written}
-use Rattle.round_search.specs.Internal.{Finds, unknownsOf, lessUnknowns, excess, solved, writtenVectors, vectorAt, keyOf, solvedBy, writtenBy}
+use Rattle.round_search.specs.Internal.{Finds, unknownsOf, lessUnknowns, excess, solved, writtenVectors, vectorAt, recoveredKey, solvedBy, writtenBy}
 use Rattle.round_collision.specs.Internal.{differing}
 use Rattle.round_search.proofs.Unknowns.{told-excess}
 
@@ -45,7 +45,7 @@ module _ (q N : ℕ) (o0 o1 : Bytes) (z : List ℕ) where
       unfolding solved writtenVectors
       e-nonzero n2 = rw (← (first .0), not-false r1 n1, ← (second .0), not-true r2 n2) (refl, second .1)
 
-      pub both-zero : not r2 ≡ false → (6 ≡ solvedBy q N o0 o1 z) × (keyOf q N o0 o1 z ≡ writtenBy q N o0 o1 z)
+      pub both-zero : not r2 ≡ false → (6 ≡ solvedBy q N o0 o1 z) × (recoveredKey q N o0 o1 z ≡ writtenBy q N o0 o1 z)
       unfolding solved writtenVectors
       both-zero n2 = rw (← (first .0), not-false r1 n1, ← (second .0), not-false r2 n2) (refl, refl)
 

@@ -56,11 +56,11 @@ module _ (q N : ℕ) (opening0 opening1 : Bytes) (z : List ℕ) where
   vectorAt at j = lessUnknowns q N (part opening0 at (3 * N)) (part opening1 at (3 * N)) z j
 
   -- s and e, and then zeros
-  abbrev pub keyOf : Bytes
-  keyOf = ternaryBytes q N (polynomial N z 0) ++ (ternaryBytes q N (polynomial N z 1) ++ zeros (22 * N))
+  abbrev pub recoveredKey : Bytes
+  recoveredKey = ternaryBytes q N (polynomial N z 0) ++ (ternaryBytes q N (polynomial N z 1) ++ zeros (22 * N))
 
   abbrev pub solvedBy : ℕ
   solvedBy = solved q N (vectorAt (16 * N) 2) (vectorAt (19 * N) 8)
 
   abbrev pub writtenBy : Bytes
-  writtenBy = writtenVectors q N (vectorAt (16 * N) 2) (vectorAt (19 * N) 8) keyOf
+  writtenBy = writtenVectors q N (vectorAt (16 * N) 2) (vectorAt (19 * N) 8) recoveredKey

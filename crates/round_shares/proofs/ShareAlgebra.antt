@@ -12,15 +12,15 @@ use Rattle.ring.specs.Slots.{coefficientBytes, poly, slot, encode}
 use Rattle.ring.specs.Ternary.{ternary}
 use Rattle.ring.proofs.Bridge.{encode-alike}
 use Rattle.ring.proofs.Polynomials.{minus-mul, alike-eq, alike-refl, _so_, alike-plus, alike-minus}
-use Rattle.bgv.specs.Scheme.{Wholes, noisy, residues, opened, plain, decrypted, other, lentMask, share}
+use Rattle.bgv.specs.Scheme.{Wholes, noisy, residues, opened, plaintext, decrypted, other, lentMask, share}
 use Rattle.bgv.proofs.Form.{noisy-alike, opened-alike}
 use Rattle.round.proofs.Compared.{lent-alike}
 use Rattle.round.proofs.ExtractionSizes.{same-centre}
 use Rattle.round_head.proofs.Joining.{cut}
 
 -- what a vote goes by: coefficients modulo q
-pub plain-alike : {q n : ℕ} (p : ℕ) {f g : Poly} → Alike q n f g → list n (plain q p f) ≡ list n (plain q p g)
-unfolding plain
+pub plain-alike : {q n : ℕ} (p : ℕ) {f g : Poly} → Alike q n f g → list n (plaintext q p f) ≡ list n (plaintext q p g)
+unfolding plaintext
 plain-alike {q} {n} p e = list-cong n (λ k l. ap (remainder p) (same-centre (e .at k l)))
 
 module _ (q n p : ℕ) (s s0 u : Poly) where
@@ -37,7 +37,7 @@ module _ (q n p : ℕ) (s s0 u : Poly) where
     other-share E h = encode-alike (alike-plus (alike-minus g h so alike-eq (sym (minus-mul q n s s0 u))) alike-refl)
 
     -- the claim
-    pub claim-plain : (v : Poly) → list n (plain q p (minus q v x)) ≡ list n (decrypted q n p s u v)
+    pub claim-plain : (v : Poly) → list n (plaintext q p (minus q v x)) ≡ list n (decrypted q n p s u v)
     unfolding opened
     claim-plain v = plain-alike p (alike-minus alike-refl g)
 

@@ -6,7 +6,7 @@ ghost use lib.ListN.{length};
 ghost use Rattle.round.specs.Vocabulary.{part, put, list, Below, coefficientBytes, poly, slot, ternary, scratchLength, Polynomial, Free};
 ghost use Rattle.round.specs.Vocabulary.{given, left, Usable, sIn};
 ghost use Rattle.ring.specs.Poly.{minus, mul};
-ghost use Rattle.bgv.specs.Scheme.{plain};
+ghost use Rattle.bgv.specs.Scheme.{plaintext};
 ghost use Rattle.round_shares.specs.Internal.{roomNow, roomIn, roomOut, Fits, BallotWritten, maskedProduct, TwoStand, Masked};
 ghost use Rattle.round_shares.specs.Internal.{BallotPlaces, BallotsWritten};
 
@@ -91,7 +91,7 @@ fn write_shares(
 fn write_claim(claims: &mut [u8], at: usize, work: &mut [u8], v: &[u8], p: u64, n: usize, q: u64)
     requires { ⌜ Polynomial n q (now v) × (length (now work) ≡ scratchLength) × Below q n (slot (now work) 0)
         × (at + n ≤ length (now claims)) × (0 < p) × (p ≤ 251) ⌝ }
-    ensures { λ _. let vote = list n (plain q p (minus q (poly (given v)) (slot (given work) 0))) in
+    ensures { λ _. let vote = list n (plaintext q p (minus q (poly (given v)) (slot (given work) 0))) in
         ⌜ (left claims ≡ put (given claims) at vote) × Free (given work) (left work) ⌝ }
 {
     ring::scale_slot(work, 0, q - 1, n, q);

@@ -21,7 +21,7 @@ use Rattle.stern.specs.Shortness.{inRange}
 use Rattle.stern.proofs.Written.{vector-below}
 use Rattle.round.specs.Layout.{ballotLength, headLength, uAt, pairsOf, answerAt}
 use Rattle.round.specs.Round.{Round, challengeAt, isChallenge, ballotsRanged, openingRanged, headRanged, answersRanged, ranged}
-use Rattle.round.specs.Internal.{Batch, Shares, Lengths}
+use Rattle.round.specs.Internal.{Batch, SharesLent, Lengths}
 use Rattle.round.proofs.Many.{stretch}
 use Rattle.round.proofs.Written.{below-slot, coefficients-vector}
 use Rattle.round.proofs.Compared.{lent-public}
@@ -75,7 +75,7 @@ module _ (P : Parameters) (m : ℕ) {a : Bytes} (p : Polynomial (P .N) (P .q) a)
     below = λ j h. below-sound q (2 * N) (uAt N ballots j) (all-sound m (λ i. allBelow q (list (2 * N) (uAt N ballots i))) t j h);
   }
 
-  pub shares-passed : (shares : Bytes) → length shares ≡ 8 * N * m → allBelow q (vector shares) ≡ true → Shares q N m shares
+  pub shares-passed : (shares : Bytes) → length shares ≡ 8 * N * m → allBelow q (vector shares) ≡ true → SharesLent q N m shares
   shares-passed shares l t = record {
     sized = l;
     below = λ j h. below-slot q (length shares / 8) shares (N * j) N (8 * N * j) (mul-assoc 8 N j) (ends j h) (vector-below q shares t);

@@ -9,7 +9,7 @@ use Rattle.scratch.specs.Internal.{Polynomial}
 use Rattle.vector.specs.Vector.{vector}
 use Rattle.round.specs.Layout.{headLength, uAt, pairsOf}
 use Rattle.round.specs.Round.{Round, headRanged}
-use Rattle.round.specs.Internal.{Batch, Shares, Answers}
+use Rattle.round.specs.Internal.{Batch, SharesLent, Answers}
 
 -- ---- what the inner functions of a check are given: parts of a round that passed the tests of lengths and ranges
 
@@ -38,6 +38,6 @@ pub record RoundInRange (q n count repeats : ℕ) (r : Round) : Type 0 where
   pub answers : Answers q n repeats (r .challenges) (r .answers)
   pub batch : Batch q n count (r .ballots) (r .claims)
   pub head : Head q n repeats (r .head)
-  pub shares0 : Shares q n count (r .shares0)
-  pub shares1 : Shares q n count (r .shares1)
+  pub shares0 : SharesLent q n count (r .shares0)
+  pub shares1 : SharesLent q n count (r .shares1)
   pub opening : Opened q n (r .opening)

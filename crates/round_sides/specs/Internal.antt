@@ -7,7 +7,7 @@ use Rattle.codec.specs.Bytes.{Bytes}
 use Rattle.stern.specs.Shortness.{answerLength, inRange}
 use Rattle.round.specs.Layout.{ballotLength}
 use Rattle.round.specs.Extractor.{Openings}
-use Rattle.round.specs.Internal.{Batch, Shares}
+use Rattle.round.specs.Internal.{Batch, SharesLent}
 use Rattle.round_side.specs.Internal.{Opened, Head}
 
 -- ---- what the inner functions of the extractor's tests are given: two openings and three answers that passed the tests of lengths and ranges
@@ -32,8 +32,8 @@ pub record OpeningsInRange (q n count repeats : ℕ) (x : Openings) : Type 0 whe
   pub repetition : x .repetition < repeats
   pub batch : Batch q n count (x .ballots) (x .claims)
   pub head : Head q n repeats (x .head)
-  pub shares0 : Shares q n count (x .shares0)
-  pub shares1 : Shares q n count (x .shares1)
+  pub shares0 : SharesLent q n count (x .shares0)
+  pub shares1 : SharesLent q n count (x .shares1)
   pub opening0 : Opened q n (x .opening0)
   pub opening1 : Opened q n (x .opening1)
   pub answer1 : AnswerLent q n 1 (x .answer1)

@@ -12,7 +12,7 @@ use stern_answers::layout::answer_ranged;
 ghost use mathlib.Core.Path.{_≡_};
 ghost use Prim.Native.Nat.{_*_, _≤_, _<_, _+_};
 ghost use lib.ListN.{length};
-ghost use Rattle.round.specs.Vocabulary.{scratchLength, Judged, Loaded, openingOf, ofSide, given, left, parameters, Batch, Shares, part};
+ghost use Rattle.round.specs.Vocabulary.{scratchLength, Judged, Loaded, openingOf, ofSide, given, left, parameters, Batch, SharesLent, part};
 ghost use Rattle.round.specs.Vocabulary.{keysOf, keyBytes, answerLength, inRange, answerTests, pairsOf, Bytes, openingsIn};
 ghost use Rattle.round.specs.Extractor.{sideTests, threeTests, Lent, openingsOf, lentRanged, extractLater, extractTests};
 ghost use Rattle.round_side.specs.Internal.{Opened, Head};
@@ -37,7 +37,7 @@ fn test_side<'a>(
 ) -> Reply
     requires { ⌜ Loaded k (now public) × Opened (k .modulus) (k .ring) (now opening) × (length (now work) ≡ scratchLength)
         × (80 * k .ring ≤ length (now head)) × (side < 2) × (count ≤ 4096) × Batch (k .modulus) (k .ring) count (now ballots) (now claims)
-        × Shares (k .modulus) (k .ring) count (now shares0) × Shares (k .modulus) (k .ring) count (now shares1) ⌝ }
+        × SharesLent (k .modulus) (k .ring) count (now shares0) × SharesLent (k .modulus) (k .ring) count (now shares1) ⌝ }
     ensures { λ reply. ⌜ Judged (sideTests (parameters k (given public)) count (given head) (given ballots) (given claims)
         (given shares0) (given shares1) side (ofSide side (given shares0) (given shares1)) (openingOf (k .ring) (given opening))) reply
         (given work) (left work) ⌝ }

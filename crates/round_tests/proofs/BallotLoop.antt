@@ -15,14 +15,14 @@ use Rattle.ring.specs.Slots.{poly, slot}
 use Rattle.sheet_numbers.specs.Bounds.{power}
 use Rattle.round.specs.Layout.{joined, ballotLength}
 use Rattle.round.specs.Round.{ofSide}
-use Rattle.round.specs.Internal.{Batch, Shares}
+use Rattle.round.specs.Internal.{Batch, SharesLent}
 use Rattle.round_tests.specs.Internal.{voteTests, BallotAt}
 use Rattle.round.proofs.Compared.{within-alike, vote-alike, lent-alike}
 use Rattle.round_tests.proofs.OpenedPlaces.{share-of}
 use Rattle.round.proofs.Many.{each-more, each-refused, each-taken, stretch}
 
 -- the shares of a side
-of-side : (q n count side : ℕ) {shares0 shares1 : Bytes} → Shares q n count shares0 → Shares q n count shares1 → Shares q n count (ofSide side shares0 shares1)
+of-side : (q n count side : ℕ) {shares0 shares1 : Bytes} → SharesLent q n count shares0 → SharesLent q n count shares1 → SharesLent q n count (ofSide side shares0 shares1)
 of-side q n count zero s0 s1 = s0
 of-side q n count (suc i) s0 s1 = s1
 
@@ -111,7 +111,7 @@ module _ (q n p bound : ℕ) (s ballots claims : Bytes) (side : ℕ) (shares0 sh
       omega (arith, r .sent, stretch (8 * n) j count h, mul-le-mul {n₁ = 8 * n} {m₁ = count} {n₂ = 16384} {m₂ = 4096} (omega arith) few),
     )
 
-    module _ (one : side < 2) (low : 4 ≤ n) (high : n ≤ 2048) (size : power 12 n ≡ true) (b : Batch q n count ballots claims) (s0 : Shares q n count shares0) (s1 : Shares q n count shares1) where
+    module _ (one : side < 2) (low : 4 ≤ n) (high : n ≤ 2048) (size : power 12 n ≡ true) (b : Batch q n count ballots claims) (s0 : SharesLent q n count shares0) (s1 : SharesLent q n count shares1) where
       pub ballot-stands : BallotAt q n ballots at claims claim side shares0 shares1 share j
       ballot-stands = let so = of-side q n count side s0 s1 in record {
         ballot-ends = omega (arith, r .ballot, b .ballots-sized, stretch (ballotLength n) j count h);

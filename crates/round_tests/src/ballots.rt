@@ -7,7 +7,7 @@ ghost use mathlib.Core.Path.{_≡_};
 ghost use Prim.Native.Nat.{_+_, _*_, _≤_, _<_};
 ghost use lib.ListN.{length};
 ghost use Rattle.round.specs.Vocabulary.{part, given, left, poly, slot, plain, maskOf, Usable, scratchLength, Polynomial, Judged, Tried};
-ghost use Rattle.round.specs.Vocabulary.{ofSide, votesTests, Batch, Shares};
+ghost use Rattle.round.specs.Vocabulary.{ofSide, votesTests, Batch, SharesLent};
 ghost use Rattle.round_tests.specs.Internal.{voteTests, BallotAt};
 
 // One ballot where it stands: the ballot, its claim and its shares at places of their slices, and its share of the opened side.
@@ -62,8 +62,8 @@ pub fn test_ballots<'a>(
     count: usize,
 ) -> Reply
     requires { ⌜ Polynomial (k .ring) (k .modulus) (now s) × Usable k × (length (now work) ≡ scratchLength) × (count ≤ 4096)
-        × (side < 2) × Batch (k .modulus) (k .ring) count (now ballots) (now claims) × Shares (k .modulus) (k .ring) count (now shares0)
-        × Shares (k .modulus) (k .ring) count (now shares1) ⌝ }
+        × (side < 2) × Batch (k .modulus) (k .ring) count (now ballots) (now claims) × SharesLent (k .modulus) (k .ring) count (now shares0)
+        × SharesLent (k .modulus) (k .ring) count (now shares1) ⌝ }
     ensures { λ reply. ⌜ Judged (votesTests (k .modulus) (k .ring) (plain k) (maskOf k) count (poly (given s)) (given ballots)
         (given claims) (given shares0) (given shares1) (ofSide side (given shares0) (given shares1))) reply (given work) (left work) ⌝ }
 {

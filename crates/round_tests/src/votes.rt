@@ -14,7 +14,7 @@ ghost use Rattle.round_tests.specs.Internal.{voteTests};
 fn is_vote(work: &[u8], k: Numbers, claim: &[u8]) -> bool
     requires { ⌜ Usable k × (8 * k .ring ≤ length (now work)) × (length (now claim) ≡ k .ring)
         × Below (k .modulus) (k .ring) (poly (now work)) ⌝ }
-    ensures { λ r. ⌜ r ≡ same (given claim) (list (k .ring) (scheme.plain (k .modulus) (plain k) (poly (given work)))) ⌝ }
+    ensures { λ r. ⌜ r ≡ same (given claim) (list (k .ring) (scheme.plaintext (k .modulus) (plain k) (poly (given work)))) ⌝ }
 {
     let n = k.ring as usize;
     let p = sheet_numbers::plain(k);
@@ -33,7 +33,7 @@ fn is_vote(work: &[u8], k: Numbers, claim: &[u8]) -> bool
 fn is_claim(work: &mut [u8], k: Numbers, claim: &[u8], v: &[u8], t0: &[u8], t1: &[u8]) -> bool
     requires { ⌜ Usable k × Polynomial (k .ring) (k .modulus) (now v) × Polynomial (k .ring) (k .modulus) (now t0)
         × Polynomial (k .ring) (k .modulus) (now t1) × (length (now work) ≡ scratchLength) × (length (now claim) ≡ k .ring) ⌝ }
-    ensures { λ r. ⌜ (r ≡ same (given claim) (list (k .ring) (scheme.plain (k .modulus) (plain k) (rebuilt (k .modulus) (poly (given v))
+    ensures { λ r. ⌜ (r ≡ same (given claim) (list (k .ring) (scheme.plaintext (k .modulus) (plain k) (rebuilt (k .modulus) (poly (given v))
         (poly (given t0)) (poly (given t1)))))) × Free (given work) (left work) ⌝ }
 {
     bgv::rebuilt(work, v, t0, t1, k.ring as usize, k.modulus);

@@ -12,7 +12,7 @@ use Rattle.ring.specs.Poly.{Alike}
 use Rattle.ring.specs.Slots.{poly}
 use Rattle.sheet.specs.Reader.{sheetOf}
 use Rattle.sheet.specs.Sheet.{order, reading, lists, polynomials}
-use Rattle.sheet.specs.Internal.{filled, loaded}
+use Rattle.sheet.specs.Internal.{bufferAfter, loaded}
 use Rattle.sheet_numbers.specs.declared.Numbers.{Numbers}
 use Rattle.sheet.specs.declared.Reading.{Reading}
 use Rattle.sheet.specs.declared.Reading.the-variants.{Taken, Refused}
@@ -46,7 +46,7 @@ module _ (text : Bytes) {public : Bytes} {r : Reading} {k : Numbers} (load : (r 
   -- what the bytes hold
   held : public ≡ put d 0 (polynomials text)
   unfolding loaded
-  held = load .1 ∙ ap (λ (x : Reading). filled x text d) said
+  held = load .1 ∙ ap (λ (x : Reading). bufferAfter x text d) said
 
   -- a part of them
   held-part : (i from long : ℕ) → from ≡ 8 * k .ring * i → long ≡ 8 * k .ring → take long (drop from public) ≡ part (put d 0 (polynomials text)) (8 * k .ring * i) (8 * k .ring)

@@ -30,7 +30,7 @@ use Rattle.session_histories.specs.Runs.{historyAfter, Message, message}
 use Rattle.session_histories.specs.Internal.{Trace, OwnTrace, Begins, ownInitial, ownExtend, ownTrace}
 use Rattle.session_histories.specs.Conditions.{SheetTaken}
 use Rattle.session_histories.specs.Claims.{Produced, Turn}
-use Rattle.session_histories.specs.Elections.{rounds, batch, Countable, inputsFor, commits, checks, election}
+use Rattle.session_histories.specs.Elections.{roundsOf, batchBytes, Countable, inputsFor, commits, checks, election}
 use Rattle.session_histories.proofs.Exact.{claimed-exactly, committed-exactly, drawn-exactly}
 use Rattle.session_histories.proofs.Honest.{reads, turn-accepted}
 use Rattle.session_histories.proofs.Valid.{sheet-exactly}
@@ -45,7 +45,7 @@ module _ (sheet : Bytes) (m : ℕ) (ballot : ℕ → Bytes) (material : ℕ → 
   k = sheetOf sheet .numbers
 
   abbrev ballots : Bytes
-  ballots = batch sheet m ballot material claims seed
+  ballots = batchBytes sheet m ballot material claims seed
 
   abbrev start : OwnTrace
   start = ownInitial (on sheet)

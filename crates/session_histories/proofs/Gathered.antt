@@ -18,7 +18,7 @@ use Rattle.session.specs.Steps.{on, cleared, admittedBy, closedBy}
 use Rattle.session.specs.Machine.{Step, admit, close, reply}
 use Rattle.session_histories.specs.Runs.{historyAfter, rollAfter}
 use Rattle.session_histories.specs.Internal.{OwnTrace, Begins, ownInitial, ownExtend, ownTrace}
-use Rattle.session_histories.specs.Elections.{batch, Countable}
+use Rattle.session_histories.specs.Elections.{batchBytes, Countable}
 use Rattle.session_histories.proofs.Exact.{admitted-exactly, closed-exactly}
 use Rattle.session_histories.proofs.Kept.{kept-own}
 use Rattle.session_histories.proofs.Roll.{roll-is-batch}
@@ -131,7 +131,7 @@ module _ (sheet : Bytes) (m : ℕ) (ballot : ℕ → Bytes) (material : ℕ → 
   shut-on : On sheet shut
   shut-on = subst (On sheet) (sym (extend-is close gathered closes)) (on-next sheet close gathered (g .on-sheet) closes (unfold historyAfter in refl))
 
-  pub shut-closed : Closed sheet m (batch sheet m ballot material claims seed) shut
+  pub shut-closed : Closed sheet m (batchBytes sheet m ballot material claims seed) shut
   shut-closed =
       let one = shut-phase in
       let of : OwnTrace → Type 0 = λ t. 0 < t .now .session .progress .phase

@@ -16,7 +16,7 @@ use Rattle.session_check.specs.Stored.{Inputs}
 use Rattle.session.specs.Steps.{Beginning}
 use Rattle.session.specs.Machine.{Step, clear, admit, withdraw, close, claim, commit, draw, check, State, reply}
 use Rattle.session_histories.specs.Runs.{Message, message, History, Call, emptyHistory, historyAfter}
-use Rattle.session_histories.specs.Internal.{lent, Trace, extend, trace, initial, ChecksHashed}
+use Rattle.session_histories.specs.Internal.{lent, Trace, extendTrace, trace, initialTrace, ChecksHashed}
 use Rattle.session_histories.specs.Bound.{lentMessage, lentBatch, batchString, claimsString, BoundBytes, Lodges, LodgesAll, LentBytes}
 use Rattle.session_histories.proofs.Replies.{left}
 
@@ -61,10 +61,10 @@ lodged-next (draw seed) st h o l = l
 lodged-next (check k x) st h o l = l
 
 lodged-trace : (cs : List Call) (l : Trace) → LodgesAll cs → Lodged (l .history) → Lodged (trace cs l .history)
-unfolding trace extend
+unfolding trace extendTrace
 lodged-trace [] l o h = h
 lodged-trace (c ∷ cs) l o h =
-    lodged-trace cs (extend c l) (o .1) (left (λ (g : History). Lodged g) (reply (c .step) (lent l c)) (λ e. lodged-next (c .step) (lent l c) (l .history) (o .0) h) h)
+    lodged-trace cs (extendTrace c l) (o .1) (left (λ (g : History). Lodged g) (reply (c .step) (lent l c)) (λ e. lodged-next (c .step) (lent l c) (l .history) (o .0) h) h)
 
 -- ---- the strings
 
@@ -97,5 +97,5 @@ hashed h k x l o =
     }
 
 pub checks-hashed : ChecksHashed
-unfolding initial
-checks-hashed b cs first all k x o = hashed (trace cs (initial b) .history) k x (lodged-trace cs (initial b) all (lodged-first b first)) o
+unfolding initialTrace
+checks-hashed b cs first all k x o = hashed (trace cs (initialTrace b) .history) k x (lodged-trace cs (initialTrace b) all (lodged-first b first)) o

@@ -33,7 +33,7 @@ use Rattle.session.specs.Session.{trailAt}
 use Rattle.session.specs.Steps.{Beginning, storedFor, checkEarly, checkLate, checkTests}
 use Rattle.session.specs.Machine.{check, state, reply}
 use Rattle.session_histories.specs.Runs.{Call}
-use Rattle.session_histories.specs.Internal.{Trace, Begins, trace, initial}
+use Rattle.session_histories.specs.Internal.{Trace, Begins, trace, initialTrace}
 use Rattle.session_histories.specs.Conditions.{SheetTaken}
 use Rattle.session_histories.specs.Claims.{Produced, Turn}
 use Rattle.session_histories.proofs.Valid.{sheet-exactly}
@@ -149,7 +149,7 @@ module _ (l : Trace) (k : Kept (l .session) (l .history)) (material : Material) 
 
 -- a round that the producer wrote for the session's sheet and batch, lodged, is accepted at its turn, whatever was drawn
 pub honest-accepted : (b : Beginning) (cs : List Call) → Begins b
-    → let l = trace cs (initial b) in
+    → let l = trace cs (initialTrace b) in
     (register : Bytes) (material : Material) (round : ℕ) (x : Inputs) → Turn (l .session) (l .history) material round x → reply (check round x) (state (l .session) register) ≡ Taken
 unfolding reply
-honest-accepted b cs e register material round x turn = turn-accepted (trace cs (initial b)) (kept b cs e) material round x turn
+honest-accepted b cs e register material round x turn = turn-accepted (trace cs (initialTrace b)) (kept b cs e) material round x turn

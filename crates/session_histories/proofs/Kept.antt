@@ -27,7 +27,7 @@ use Rattle.session.specs.Session.{changed}
 use Rattle.session.specs.Steps.{Beginning, cleared, admittedBy, closedBy, claimedBy, committedBy, drawnBy, acceptedBy, refusedBy}
 use Rattle.session.specs.Machine.{Step, clear, admit, withdraw, close, claim, commit, draw, check, State, state, next, reply, after}
 use Rattle.session_histories.specs.Runs.{Message, message, Call, History, emptyHistory, historyAfter}
-use Rattle.session_histories.specs.Internal.{Begins, Trace, extend, trace, initial, OwnTrace, ownInitial, ownExtend, ownTrace}
+use Rattle.session_histories.specs.Internal.{Begins, Trace, extendTrace, trace, initialTrace, OwnTrace, ownInitial, ownExtend, ownTrace}
 use Rattle.session_histories.specs.Conditions.{SheetTaken, ValidSession, Admits, Closes, Claims, Commits, Draws}
 use Rattle.session_histories.proofs.Valid.{sheet-exactly}
 use Rattle.session_histories.proofs.Stepped.{taken-turn, stepped-with}
@@ -249,9 +249,9 @@ module _ (reg : Bytes) (s : Session) (h : History) (k : Kept s h) where
   kept-step x = stepped-with st (λ (z : State) (g : History). Kept (z .session) g) x (kept-next x) (λ number place e. k) (λ number place e. kept-refused s h k)
 
 kept-trace : (cs : List Call) (l : Trace) → Kept (l .session) (l .history) → Kept (trace cs l .session) (trace cs l .history)
-unfolding trace extend
+unfolding trace extendTrace
 kept-trace [] l k = k
-kept-trace (c ∷ cs) l k = kept-trace cs (extend c l) (kept-step (c .register) (l .session) (l .history) k (c .step))
+kept-trace (c ∷ cs) l k = kept-trace cs (extendTrace c l) (kept-step (c .register) (l .session) (l .history) k (c .step))
 
 -- the same with the register that each step left
 pub kept-extend : (x : Step) (t : OwnTrace) → Kept (t .now .session) (t .history) → Kept (ownExtend x t .now .session) (ownExtend x t .history)
@@ -263,9 +263,9 @@ unfolding ownTrace
 kept-steps [] t k = k
 kept-steps (x ∷ xs) t k = kept-steps xs (ownExtend x t) (kept-extend x t k)
 
-pub kept : (b : Beginning) (cs : List Call) → Begins b → Kept (trace cs (initial b) .session) (trace cs (initial b) .history)
-unfolding initial
-kept b cs e = kept-trace cs (initial b) (kept-clear b (sheet-exactly (b .sheet) .0 (taken-exactly (order (b .sheet)) .0 e)))
+pub kept : (b : Beginning) (cs : List Call) → Begins b → Kept (trace cs (initialTrace b) .session) (trace cs (initialTrace b) .history)
+unfolding initialTrace
+kept b cs e = kept-trace cs (initialTrace b) (kept-clear b (sheet-exactly (b .sheet) .0 (taken-exactly (order (b .sheet)) .0 e)))
 
 pub kept-own : (b : Beginning) (xs : List Step) → Begins b → Kept (ownTrace xs (ownInitial b) .now .session) (ownTrace xs (ownInitial b) .history)
 unfolding ownInitial

@@ -20,7 +20,7 @@ use Rattle.session.specs.declared.Session.{Session}
 use Rattle.session.specs.Steps.{Beginning, cleared, admittedBy, closedBy, claimedBy, committedBy, drawnBy, acceptedBy, refusedBy}
 use Rattle.session.specs.Machine.{Step, clear, admit, withdraw, close, claim, commit, draw, check, State, state, next, reply, after}
 use Rattle.session_histories.specs.Runs.{Message, message, Call, History, emptyHistory, historyAfter}
-use Rattle.session_histories.specs.Internal.{Begins, Trace, extend, trace, initial}
+use Rattle.session_histories.specs.Internal.{Begins, Trace, extendTrace, trace, initialTrace}
 use Rattle.session_histories.proofs.Stepped.{taken-turn, stepped-with}
 use Rattle.session_histories.proofs.Exact.{closed-exactly, claimed-exactly, committed-exactly, drawn-exactly}
 use Rattle.session_histories.proofs.Kept.{Kept, kept-step, kept}
@@ -92,11 +92,11 @@ module _ (reg : Bytes) (s : Session) (h : History) (k : Kept s h) (m : Measured 
 -- ---- lists of steps
 
 measured-trace : (cs : List Call) (l : Trace) → Kept (l .session) (l .history) → Measured (l .session) (l .history) → Measured (trace cs l .session) (trace cs l .history)
-unfolding trace extend
+unfolding trace extendTrace
 measured-trace [] l k m = m
 measured-trace (c ∷ cs) l k m =
-    measured-trace cs (extend c l) (kept-step (c .register) (l .session) (l .history) k (c .step)) (measured-step (c .register) (l .session) (l .history) k m (c .step))
+    measured-trace cs (extendTrace c l) (kept-step (c .register) (l .session) (l .history) k (c .step)) (measured-step (c .register) (l .session) (l .history) k m (c .step))
 
-pub measured : (b : Beginning) (cs : List Call) → Begins b → Measured (trace cs (initial b) .session) (trace cs (initial b) .history)
-unfolding initial trace
-measured b cs e = measured-trace cs (initial b) (kept b [] e) (measured-clear b)
+pub measured : (b : Beginning) (cs : List Call) → Begins b → Measured (trace cs (initialTrace b) .session) (trace cs (initialTrace b) .history)
+unfolding initialTrace trace
+measured b cs e = measured-trace cs (initialTrace b) (kept b [] e) (measured-clear b)

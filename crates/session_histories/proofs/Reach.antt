@@ -19,7 +19,7 @@ use Rattle.session.specs.Session.{valid}
 use Rattle.session.specs.Steps.{Beginning, dueTest, storedFor, clearTests, admitTests, withdrawTests, closeTests, claimTests, commitTests, drawTests, checkEarly, checkLate, checkTests}
 use Rattle.session.specs.Machine.{Step, clear, admit, withdraw, close, claim, commit, draw, check, State, state, reply, after}
 use Rattle.session_histories.specs.Runs.{Call}
-use Rattle.session_histories.specs.Internal.{Begins, ownInitial, initial, trace}
+use Rattle.session_histories.specs.Internal.{Begins, ownInitial, initialTrace, trace}
 use Rattle.session_histories.specs.Conditions.{ValidSession}
 use Rattle.session_histories.specs.Claims.{Undue}
 use Rattle.session_histories.proofs.Replies.{Others, others, others-append, later-others, head-holds}
@@ -31,7 +31,7 @@ use Rattle.session_histories.proofs.Ended.{undue-refused}
 use Rattle.session_check.specs.Stored.{Inputs, drawnRound}
 
 pub reachable-valid : (b : Beginning) (cs : List Call) → Begins b
-    → let l = trace cs (initial b) in
+    → let l = trace cs (initialTrace b) in
     ValidSession (l .session) × (l .session .numbers ≡ sheetOf (l .history .sheet) .numbers)
 reachable-valid b cs e = let k = kept b cs e in (k .sound, k .origin .numbers)
 
@@ -75,8 +75,8 @@ module _ (s : Session) (reg : Bytes) (place : ℕ) (v : valid s ≡ true) where
 -- so 31 is met for wrong phase or round, and for nothing else
 pub only-phase-or-round : (b : Beginning) (cs : List Call) → Begins b
     → (x : Step) (register : Bytes) (place : ℕ)
-    → let s = trace cs (initial b) .session in
+    → let s = trace cs (initialTrace b) .session in
     (reply x (state s register) ≡ Refused 31 place → Undue x s) × (Undue x s → reply x (state s register) ≡ Refused 31 0)
 only-phase-or-round b cs e x reg place =
-    let s = trace cs (initial b) .session in
+    let s = trace cs (initialTrace b) .session in
     (only-31 s reg place (valid-holds s (reachable-valid b cs e .0)) x, undue-refused s reg x)

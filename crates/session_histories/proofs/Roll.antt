@@ -22,7 +22,7 @@ use Rattle.session.specs.declared.Session.{Session}
 use Rattle.session.specs.Steps.{cleared, admittedBy, closedBy, claimedBy, committedBy, drawnBy, acceptedBy, refusedBy}
 use Rattle.session.specs.Machine.{Step, clear, admit, withdraw, close, claim, commit, draw, check, State, state, next, reply, after}
 use Rattle.session_histories.specs.Runs.{History, historyAfter, without, rollAfter}
-use Rattle.session_histories.specs.Internal.{OwnTrace, Trace, initial, ownInitial, ownExtend, ownTrace, extend, trace, calls, RollIsBatch, OwnRegister}
+use Rattle.session_histories.specs.Internal.{OwnTrace, Trace, initialTrace, ownInitial, ownExtend, ownTrace, extendTrace, trace, calls, RollIsBatch, OwnRegister}
 use Rattle.session_histories.specs.Conditions.{Admits, Withdraws, Claims, Draws}
 use Rattle.session_histories.proofs.Stepped.{taken-turn, stepped-all}
 use Rattle.session_histories.proofs.Exact.{here, admitted-exactly, withdrawn-exactly, claimed-exactly, drawn-exactly}
@@ -218,10 +218,10 @@ roll-is-batch b steps l =
 
 same-trace : (xs : List Step) (t : OwnTrace) (l : Trace) → l .session ≡ t .now .session → l .history ≡ t .history
     → (trace (calls xs (t .now)) l .session ≡ ownTrace xs t .now .session) × (trace (calls xs (t .now)) l .history ≡ ownTrace xs t .history)
-unfolding trace extend ownTrace ownExtend calls
+unfolding trace extendTrace ownTrace ownExtend calls
 same-trace [] t l es eh = (es, eh)
-same-trace (x ∷ xs) t l es eh = same-trace xs (ownExtend x t) (extend (record { step = x; register = t .now .register }) l) (rw es) (rw (es, eh))
+same-trace (x ∷ xs) t l es eh = same-trace xs (ownExtend x t) (extendTrace (record { step = x; register = t .now .register }) l) (rw es) (rw (es, eh))
 
 pub own-register : OwnRegister
-unfolding ownInitial initial
-own-register b steps = same-trace steps (ownInitial b) (initial b) refl refl
+unfolding ownInitial initialTrace
+own-register b steps = same-trace steps (ownInitial b) (initialTrace b) refl refl

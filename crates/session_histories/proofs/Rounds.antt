@@ -18,7 +18,7 @@ use Rattle.session.specs.Session.{trailAt}
 use Rattle.session.specs.Steps.{Beginning, storedFor, cleared, admittedBy, closedBy, claimedBy, committedBy, drawnBy, acceptedBy, refusedBy}
 use Rattle.session.specs.Machine.{Step, clear, admit, withdraw, close, claim, commit, draw, check, State, state, next, reply, after}
 use Rattle.session_histories.specs.Runs.{Call, call, clears}
-use Rattle.session_histories.specs.Internal.{Begins, Trace, lent, NoClear, extend, trace, initial, StepChecked}
+use Rattle.session_histories.specs.Internal.{Begins, Trace, lent, NoClear, extendTrace, trace, initialTrace, StepChecked}
 use Rattle.session_histories.proofs.Stepped.{clears-refused, stepped, taken-turn}
 use Rattle.session_histories.proofs.Exact.{closed-exactly, claimed-exactly, committed-exactly, drawn-exactly}
 use Rattle.session_histories.proofs.Checked.{accepted-exactly}
@@ -85,28 +85,28 @@ unfolding refusedBy
 complete-step x reg s h = stepped (state s reg) (λ (z : State). Complete (z .session)) x (complete-next x reg s h) (λ number place e. h) (λ number place e was low l. absurd (omega arith))
 
 complete-trace : (cs : List Call) (l : Trace) → Complete (l .session) → Complete (trace cs l .session)
-unfolding trace extend
+unfolding trace extendTrace
 complete-trace [] l h = h
-complete-trace (c ∷ cs) l h = complete-trace cs (extend c l) (complete-step (c .step) (c .register) (l .session) h)
+complete-trace (c ∷ cs) l h = complete-trace cs (extendTrace c l) (complete-step (c .step) (c .register) (l .session) h)
 
 -- ---- one call more
 
 trace-append : (cs ds : List Call) (l : Trace) → trace (cs ++ ds) l ≡ trace ds (trace cs l)
 unfolding trace
 trace-append [] ds l = refl
-trace-append (c ∷ cs) ds l = trace-append cs ds (extend c l)
+trace-append (c ∷ cs) ds l = trace-append cs ds (extendTrace c l)
 
 no-clear-more : (cs : List Call) (c : Call) (l : Trace) → NoClear cs l → clears (c .step) (reply (c .step) (lent (trace cs l) c)) ≡ false → NoClear (cs ++ (c ∷ [])) l
 unfolding trace NoClear
 no-clear-more [] c l h e = (e, tt)
-no-clear-more (d ∷ cs) c l h e = (h .0, no-clear-more cs c (extend d l) (h .1) e)
+no-clear-more (d ∷ cs) c l h e = (h .0, no-clear-more cs c (extendTrace d l) (h .1) e)
 
 module _ (b : Beginning) (readable : Begins b) where
   abbrev at : List Call → Trace
-  at cs = trace cs (initial b)
+  at cs = trace cs (initialTrace b)
 
-  at-more : (cs : List Call) (c : Call) → at (cs ++ (c ∷ [])) ≡ extend c (at cs)
-  at-more cs c = trace-append cs (c ∷ []) (initial b) ∙ (unfold trace in refl)
+  at-more : (cs : List Call) (c : Call) → at (cs ++ (c ∷ [])) ≡ extendTrace c (at cs)
+  at-more cs c = trace-append cs (c ∷ []) (initialTrace b) ∙ (unfold trace in refl)
 
   record All (cs : List Call) : Type 0 where
     of : (k : ℕ) → k < at cs .session .progress .checked → StepChecked b cs k
@@ -122,14 +122,14 @@ module _ (b : Beginning) (readable : Begins b) where
     longer : clears (c .step) (reply (c .step) (lent (at cs) c)) ≡ false → (k : ℕ) → storedFor s k ≡ storedFor t k → StepChecked b cs k → StepChecked b (cs ++ (c ∷ [])) k
     longer e k d w =
         let this = call (check k (w .inputs)) (w .register) in
-        let where-at : at cs ≡ trace (w .later) (extend this (at (w .before))) = ap at (w .listed) ∙ trace-append (w .before) (this ∷ w .later) (initial b) ∙ (unfold trace in refl) in
+        let where-at : at cs ≡ trace (w .later) (extendTrace this (at (w .before))) = ap at (w .listed) ∙ trace-append (w .before) (this ∷ w .later) (initialTrace b) ∙ (unfold trace in refl) in
         record {
           before = w .before;
           register = w .register;
           inputs = w .inputs;
           later = w .later ++ (c ∷ []);
           listed = ap (λ (l : List Call). l ++ (c ∷ [])) (w .listed) ∙ append-assoc (w .before) (this ∷ w .later) (c ∷ []);
-          uncleared = no-clear-more (w .later) c (extend this (at (w .before))) (w .uncleared) (ap (λ (l : Trace). clears (c .step) (reply (c .step) (lent l c))) (sym where-at) ∙ e);
+          uncleared = no-clear-more (w .later) c (extendTrace this (at (w .before))) (w .uncleared) (ap (λ (l : Trace). clears (c .step) (reply (c .step) (lent l c))) (sym where-at) ∙ e);
           taken = w .taken;
           checks = w .checks;
           stored = w .stored ∙ d;
@@ -150,7 +150,7 @@ module _ (b : Beginning) (readable : Begins b) where
     }
 
     step : All (cs ++ (c ∷ []))
-    unfolding extend
+    unfolding extendTrace
     step = record { of = λ k l. go (c .step) refl (moves s (c .register) (kept b cs readable .counts .unchecked) (c .step)) k (rw (at-more cs c) at l) }
       where
         now : after (c .step) (lent (at cs) c) .session ≡ t
@@ -172,16 +172,16 @@ module _ (b : Beginning) (readable : Begins b) where
   all cs (d ∷ ds) h = subst All (append-assoc cs (d ∷ []) ds) (all (cs ++ (d ∷ [])) ds (step cs d h))
 
   every : (cs : List Call) → All cs
-  every cs = all [] cs (record { of = λ k l. absurd (unfold trace initial cleared in omega arith) })
+  every cs = all [] cs (record { of = λ k l. absurd (unfold trace initialTrace cleared in omega arith) })
 
 -- every round that a session counts as checked was checked
-pub rounds-checked : (b : Beginning) (cs : List Call) → Begins b → (k : ℕ) → k < trace cs (initial b) .session .progress .checked → StepChecked b cs k
+pub rounds-checked : (b : Beginning) (cs : List Call) → Begins b → (k : ℕ) → k < trace cs (initialTrace b) .session .progress .checked → StepChecked b cs k
 rounds-checked b cs e = every b e cs .of
 
 -- and of a session that ended accepted every round was
 pub ended-accepted : (b : Beginning) (cs : List Call) → Begins b
-    → let s = trace cs (initial b) .session in
+    → let s = trace cs (initialTrace b) .session in
     s .progress .phase ≡ 5 → (k : ℕ) → k < s .numbers .rounds → StepChecked b cs k
 ended-accepted b cs e ended k l =
-    let all : Complete (trace cs (initial b) .session) = complete-trace cs (initial b) (λ w. absurd (unfold initial cleared in omega arith)) in
+    let all : Complete (trace cs (initialTrace b) .session) = complete-trace cs (initialTrace b) (λ w. absurd (unfold initialTrace cleared in omega arith)) in
     every b e cs .of k (omega (arith, all ended))

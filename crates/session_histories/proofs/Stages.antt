@@ -16,7 +16,7 @@ use Rattle.round.specs.Layout.{ballotLength}
 use Rattle.session.specs.Machine.{Step, next, reply}
 use Rattle.session_histories.specs.Runs.{historyAfter, rollAfter}
 use Rattle.session_histories.specs.Internal.{OwnTrace, ownExtend, ownTrace}
-use Rattle.session_histories.specs.Elections.{batch}
+use Rattle.session_histories.specs.Elections.{batchBytes}
 use Rattle.session_histories.proofs.Kept.{Kept, kept-extend}
 use Rattle.session_histories.proofs.OwnTurn.{extend-taken}
 

@@ -24,12 +24,12 @@ module _ (sheet : Bytes) (m : ℕ) (ballot : ℕ → Bytes) (material : ℕ → 
   abbrev P : Parameters
   P = parametersOf sheet
 
-  abbrev pub rounds : ℕ
-  rounds = sheetOf sheet .numbers .rounds
+  abbrev pub roundsOf : ℕ
+  roundsOf = sheetOf sheet .numbers .rounds
 
   -- the batch
-  abbrev pub batch : Bytes
-  batch = flatten (list m ballot)
+  abbrev pub batchBytes : Bytes
+  batchBytes = flatten (list m ballot)
 
   -- ballots that can be admitted, with different marks, and material over them from which the producer writes a round, all with the same votes
   pub record Countable : Type 0 where
@@ -38,16 +38,16 @@ module _ (sheet : Bytes) (m : ℕ) (ballot : ℕ → Bytes) (material : ℕ → 
     pub ballot-size : (i : ℕ) → i < m → length (ballot i) ≡ ballotLength (P .N)
     pub ballot-range : (i : ℕ) → i < m → EachBelow (P .q) (vector (drop 4 (ballot i)))
     pub marks : (i j : ℕ) → i < j → j < m → markOf (ballot i) ≢ markOf (ballot j)
-    pub over-batch : (k : ℕ) → k < rounds → material k .ballots ≡ batch
-    pub sized : (k : ℕ) → k < rounds → MaterialSized P m (material k)
-    pub suitable : (k : ℕ) → k < rounds → Suitable P m (material k)
-    pub votes : (k : ℕ) → k < rounds → producedClaims P m (material k) ≡ claims
+    pub over-batch : (k : ℕ) → k < roundsOf → material k .ballots ≡ batchBytes
+    pub sized : (k : ℕ) → k < roundsOf → MaterialSized P m (material k)
+    pub suitable : (k : ℕ) → k < roundsOf → Suitable P m (material k)
+    pub votes : (k : ℕ) → k < roundsOf → producedClaims P m (material k) ≡ claims
     pub seed-size : length seed ≡ 32
 
   -- what a check of round k is lent
   abbrev pub inputsFor : ℕ → Inputs
   inputsFor k =
-      inputsOf sheet batch claims (producedHead P m (material k)) (producedShares P m (material k) 0) (producedShares P m (material k) 1) (producedOpening P m (material k) (drawnSide seed k))
+      inputsOf sheet batchBytes claims (producedHead P m (material k)) (producedShares P m (material k) 0) (producedShares P m (material k) 1) (producedOpening P m (material k) (drawnSide seed k))
       (producedAnswers P m (material k) (drawnChallenges seed k (P .repeats))) (zeros scratchLength)
 
   abbrev pub commits : ℕ → Step
@@ -58,4 +58,4 @@ module _ (sheet : Bytes) (m : ℕ) (ballot : ℕ → Bytes) (material : ℕ → 
 
   -- every ballot admitted, the batch closed, the claims, every round's first message, the seed, and every round's check
   unfoldable pub election : List Step
-  election = list m (λ i. admit (ballot i)) ++ (close ∷ claim claims ∷ (list rounds commits ++ (draw seed ∷ list rounds checks)))
+  election = list m (λ i. admit (ballot i)) ++ (close ∷ claim claims ∷ (list roundsOf commits ++ (draw seed ∷ list roundsOf checks)))

@@ -3,18 +3,18 @@ use mathlib.Core.Path.{_≡_, refl, sym, ap₂, _∙_}
 use mathlib.Core.List.{List, [], _∷_, _++_, map, map-append}
 use lib.IntN.{pos}
 use Rattle.codec.specs.Bytes.{Bytes, zeros}
-use Rattle.bgv.specs.Examples.{Example, rows, examples}
+use Rattle.bgv.specs.Examples.{Example, comparisons, examples}
 use Rattle.register.specs.Register.{stateAt, standing, thousandths, turnout}
 
 -- two entries, of which the second is withdrawn
-abbrev register : Bytes
-register = zeros 4 ++ (1 ∷ zeros 39) ++ (2 ∷ zeros 35)
+abbrev twoEntries : Bytes
+twoEntries = zeros 4 ++ (1 ∷ zeros 39) ++ (2 ∷ zeros 35)
 
 abbrev row-K : Example
-row-K = record { got = pos (thousandths 1 16) ∷ pos (turnout register 2 16) ∷ []; said = pos 63 ∷ pos 63 ∷ [] }
+row-K = record { got = pos (thousandths 1 16) ∷ pos (turnout twoEntries 2 16) ∷ []; said = pos 63 ∷ pos 63 ∷ [] }
 
 pub all-rows : List Example
-all-rows = rows ++ (row-K ∷ [])
+all-rows = comparisons ++ (row-K ∷ [])
 
 fact-K : map (λ (x : Example). x .got) (row-K ∷ []) ≡ map (λ (x : Example). x .said) (row-K ∷ [])
 unfolding stateAt standing thousandths turnout
@@ -23,4 +23,4 @@ fact-K = refl
 -- each row is as the paper says
 pub all-examples : map (λ (x : Example). x .got) all-rows ≡ map (λ (x : Example). x .said) all-rows
 unfolding all-rows
-all-examples = map-append _ rows (row-K ∷ []) ∙ ap₂ _++_ examples fact-K ∙ sym (map-append _ rows (row-K ∷ []))
+all-examples = map-append _ comparisons (row-K ∷ []) ∙ ap₂ _++_ examples fact-K ∙ sym (map-append _ comparisons (row-K ∷ []))

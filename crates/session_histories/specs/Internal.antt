@@ -39,8 +39,8 @@ abbrev pub Begins : Beginning → Type 0
 Begins b = first (order (b .sheet)) ≡ Taken
 
 -- newly cleared
-unfoldable pub initial : Beginning → Trace
-initial b = record { session = cleared b; history = emptyHistory b }
+unfoldable pub initialTrace : Beginning → Trace
+initialTrace b = record { session = cleared b; history = emptyHistory b }
 
 -- with the register that clear leaves
 unfoldable pub ownInitial : Beginning → OwnTrace
@@ -66,20 +66,20 @@ ownTrace (x ∷ xs) t = ownTrace xs (ownExtend x t)
 
 -- ---- each step is given the session that the last one left, and any register
 
-unfoldable pub extend : Call → Trace → Trace
-extend c l = record {
+unfoldable pub extendTrace : Call → Trace → Trace
+extendTrace c l = record {
   session = after (c .step) (lent l c) .session;
   history = leaves (reply (c .step) (lent l c)) (historyAfter (c .step) (lent l c) (l .history)) (l .history);
 }
 
 unfoldable pub trace : List Call → Trace → Trace
 trace [] l = l
-trace (c ∷ cs) l = trace cs (extend c l)
+trace (c ∷ cs) l = trace cs (extendTrace c l)
 
 -- no clear is taken
 unfoldable pub NoClear : List Call → Trace → Type 0
 NoClear [] l = Unit
-NoClear (c ∷ cs) l = (clears (c .step) (reply (c .step) (lent l c)) ≡ false) × NoClear cs (extend c l)
+NoClear (c ∷ cs) l = (clears (c .step) (reply (c .step) (lent l c)) ≡ false) × NoClear cs (extendTrace c l)
 
 -- steps as calls that are lent the register that the last step left
 unfoldable pub calls : List Step → State → List Call
@@ -95,12 +95,12 @@ pub record StepChecked (b : Beginning) (cs : List Call) (round : ℕ) : Type 0 w
   pub inputs : Inputs
   pub later : List Call
   pub listed : cs ≡ before ++ (call (check round inputs) register ∷ later)
-  pub uncleared : NoClear later (extend (call (check round inputs) register) (trace before (initial b)))
+  pub uncleared : NoClear later (extendTrace (call (check round inputs) register) (trace before (initialTrace b)))
   -- it was taken, so all that a check of this round asks for was found
-  pub taken : reply (check round inputs) (state (trace before (initial b) .session) register) ≡ Taken
-  pub checks : Octets (inputs .head) → Checks (trace before (initial b) .session) round inputs
+  pub taken : reply (check round inputs) (state (trace before (initialTrace b) .session) register) ≡ Taken
+  pub checks : Octets (inputs .head) → Checks (trace before (initialTrace b) .session) round inputs
   -- what it was held against is what the session holds at the end: numbers, closed count, the digests of sheet, closing, claims and the round's first message, and the seed
-  pub stored : storedFor (trace before (initial b) .session) round ≡ storedFor (trace cs (initial b) .session) round
+  pub stored : storedFor (trace before (initialTrace b) .session) round ≡ storedFor (trace cs (initialTrace b) .session) round
 
 -- without host writing, the ballots admitted and not withdrawn are the batch: its digests are theirs, in order, and each has a ballot's length
 abbrev pub RollIsBatch : Type 0
@@ -114,15 +114,15 @@ RollIsBatch = (b : Beginning) (steps : List Step)
 abbrev pub OwnRegister : Type 0
 OwnRegister = (b : Beginning) (steps : List Step)
     → let t = ownTrace steps (ownInitial b) in
-    let l = trace (calls steps (ownInitial b .now)) (initial b) in
+    let l = trace (calls steps (ownInitial b .now)) (initialTrace b) in
     (l .session ≡ t .now .session) × (l .history ≡ t .history)
 
 -- every check that is taken is bound
 abbrev pub ChecksBound : Type 0
 ChecksBound = (b : Beginning) (cs : List Call) → Begins b
-    → let l = trace cs (initial b) in
+    → let l = trace cs (initialTrace b) in
     (register : Bytes) (k : ℕ) (x : Inputs) → reply (check k x) (state (l .session) register) ≡ Taken → Bound (l .history) k x
 
 -- by strings of bytes, where what is lent is bytes
 abbrev pub ChecksHashed : Type 0
-ChecksHashed = (b : Beginning) (cs : List Call) → Octets (b .sheet) → LodgesAll cs → (k : ℕ) (x : Inputs) → LentBytes x → BoundBytes (trace cs (initial b) .history) k x
+ChecksHashed = (b : Beginning) (cs : List Call) → Octets (b .sheet) → LodgesAll cs → (k : ℕ) (x : Inputs) → LentBytes x → BoundBytes (trace cs (initialTrace b) .history) k x

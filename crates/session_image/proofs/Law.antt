@@ -11,71 +11,71 @@ use Rattle.codec.proofs.Laws.{length-part, octets-part, part-whole, put-whole, 
 use Rattle.codec.proofs.Numbers.{length-bytes, number-bytes, bytes-number}
 use Rattle.session_digests.proofs.Laws.{flatten-append}
 use Rattle.session.specs.declared.Session.{Session}
-use Rattle.session_image.specs.Image.{imageLength, size, values, start, head, batch, rounds, fields, at, encode, decode}
+use Rattle.session_image.specs.Image.{imageLength, size, contentsOf, start, headFields, batchFields, roundFields, fields, at, imageOf, decode}
 use Rattle.session_image.specs.Internal.{Typed}
 use Rattle.session_image.proofs.Pieces.{Fits, fits-append, length-values, named, taken-out, cut, flatten-cut}
 
 -- ---- of a session
 
 module _ (s : Session) where
-  pub fits-head : length (s .sheet) ≡ 32 → Fits head s
+  pub fits-head : length (s .sheet) ≡ 32 → Fits headFields s
   fits-head sheet = (refl, (length-bytes 8 _, (length-bytes 8 _, (length-bytes 8 _, (length-bytes 8 _, (length-bytes 8 _, (sheet, tt)))))))
 
-  pub fits-batch : length (s .closing) ≡ 32 → length (s .claim) ≡ 32 → Fits batch s
+  pub fits-batch : length (s .closing) ≡ 32 → length (s .claim) ≡ 32 → Fits batchFields s
   fits-batch closing claim = (length-bytes 8 _, (length-bytes 8 _, (closing, (claim, tt))))
 
-  pub fits-rounds : length (s .seed) ≡ 32 → length (s .trail) ≡ 4096 → Fits rounds s
+  pub fits-rounds : length (s .seed) ≡ 32 → length (s .trail) ≡ 4096 → Fits roundFields s
   fits-rounds seed trail = (length-bytes 8 _, (seed, (length-bytes 8 _, (trail, tt))))
 
 module _ (s : Session) (t : Typed s) where
-  h : Fits head s
+  h : Fits headFields s
   h = fits-head s (t .sheet-long)
 
-  m : Fits batch s
+  m : Fits batchFields s
   m = fits-batch s (t .closing-long) (t .claim-long)
 
-  r : Fits rounds s
+  r : Fits roundFields s
   r = fits-rounds s (t .seed-long) (t .trail-long)
 
   fits : Fits fields s
-  fits = fits-append head (batch ++ rounds) s h (fits-append batch rounds s m r)
+  fits = fits-append headFields (batchFields ++ roundFields) s h (fits-append batchFields roundFields s m r)
 
   -- every image has one length
-  pub length-encode : length (encode s) ≡ imageLength
-  unfolding encode
+  pub length-encode : length (imageOf s) ≡ imageLength
+  unfolding imageOf
   length-encode = length-values fields s fits
 
   -- the three groups of fields, written one behind the other
   pub written : (d : Bytes) → length d ≡ imageLength
-      → put (put (put d 0 (flatten (values head s))) (size head) (flatten (values batch s))) (size head + size batch) (flatten (values rounds s)) ≡ encode s
-  unfolding encode
+      → put (put (put d 0 (flatten (contentsOf headFields s))) (size headFields) (flatten (contentsOf batchFields s))) (size headFields + size batchFields) (flatten (contentsOf roundFields s)) ≡ imageOf s
+  unfolding imageOf
   written d l =
-      let first = flatten (values head s) in
-      let second = flatten (values batch s) in
-      let third = flatten (values rounds s) in
-      let i = length-values head s h in
-      let j = length-values batch s m in
-      let k = length-values rounds s r in
-      let lb : length (first ++ second) ≡ size head + size batch = length-append first second ∙ omega arith in
-      let w = written-behind d _ _ first second 0 (size head) (omega arith) (omega arith) refl refl in
-      let v = written-behind d _ _ (first ++ second) third 0 (size head + size batch) (omega arith) (omega arith) w refl in
+      let first = flatten (contentsOf headFields s) in
+      let second = flatten (contentsOf batchFields s) in
+      let third = flatten (contentsOf roundFields s) in
+      let i = length-values headFields s h in
+      let j = length-values batchFields s m in
+      let k = length-values roundFields s r in
+      let lb : length (first ++ second) ≡ size headFields + size batchFields = length-append first second ∙ omega arith in
+      let w = written-behind d _ _ first second 0 (size headFields) (omega arith) (omega arith) refl refl in
+      let v = written-behind d _ _ (first ++ second) third 0 (size headFields + size batchFields) (omega arith) (omega arith) w refl in
       v ∙ put-whole d ((first ++ second) ++ third) (length-append (first ++ second) third ∙ omega arith)
       ∙ append-assoc first second third
-      ∙ ap (λ (u : Bytes). first ++ u) (sym (flatten-append (values batch s) (values rounds s)))
-      ∙ sym (flatten-append (values head s) (values batch s ++ values rounds s))
+      ∙ ap (λ (u : Bytes). first ++ u) (sym (flatten-append (contentsOf batchFields s) (contentsOf roundFields s)))
+      ∙ sym (flatten-append (contentsOf headFields s) (contentsOf batchFields s ++ contentsOf roundFields s))
 
   -- a number that stands in a field of eight bytes
-  word : (name : String) (v : ℕ) → named fields name s ≡ bytes 8 v → v < 2 ^ 64 → number (at (flatten (values fields s)) name) ≡ v
+  word : (name : String) (v : ℕ) → named fields name s ≡ bytes 8 v → v < 2 ^ 64 → number (at (flatten (contentsOf fields s)) name) ≡ v
   word name v e h = ap number (taken-out fields s name fits ∙ e) ∙ number-bytes 8 v h
 
   -- the phase stands first
-  first : getD (flatten (values fields s)) 0 0 ≡ s .progress .phase
+  first : getD (flatten (contentsOf fields s)) 0 0 ≡ s .progress .phase
   unfolding flatten
   first = refl
 
   -- written, then read
-  pub load-store : decode (encode s) ≡ s
-  unfolding encode decode
+  pub load-store : decode (imageOf s) ≡ s
+  unfolding imageOf decode
   load-store =
       rw (
         first,
@@ -107,7 +107,7 @@ module _ (b : Bytes) (l : length b ≡ imageLength) (o : Octets b) where
   byte-kept : _≡_ {A = Bytes} (getD b 0 0 ∷ []) (part b 0 1)
   byte-kept = sym (take-suc b 0 0 (omega arith))
 
-  cuts : values fields (decode b) ≡ cut b 0 fields
+  cuts : contentsOf fields (decode b) ≡ cut b 0 fields
   unfolding decode
   cuts =
       rw (
@@ -124,6 +124,6 @@ module _ (b : Bytes) (l : length b ≡ imageLength) (o : Octets b) where
       )
 
   -- read, then written
-  pub store-load : encode (decode b) ≡ b
-  unfolding encode
+  pub store-load : imageOf (decode b) ≡ b
+  unfolding imageOf
   store-load = ap flatten cuts ∙ flatten-cut b 0 fields ∙ ap (λ (n : ℕ). part b 0 n) (sym l) ∙ part-whole b

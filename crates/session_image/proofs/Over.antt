@@ -14,7 +14,7 @@ use Rattle.scratch.specs.Call.{zeroized}
 use Rattle.session_check.specs.Stored.{Inputs}
 use Rattle.session.specs.Machine.{Step, check, State, state, reply, after}
 use Rattle.session.specs.Internal.{Done, CheckDone}
-use Rattle.session_image.specs.Image.{imageLength, encode, decode}
+use Rattle.session_image.specs.Image.{imageLength, imageOf, decode}
 use Rattle.session_image.specs.Images.{Host, host, lentReply, hostReply, hostAfter, StepCalled, CheckCalled}
 
 module _ (image : Bytes) (asked : Session → Reply) where
@@ -34,14 +34,14 @@ module _ (x : Step) (h : Host) where
 
   -- the session that the step leaves is stored
   pub over : length (h .image) ≡ imageLength → {s : Session} → s ≡ decode (h .image) → {r : Stepped} {register image : Bytes} {answer : ℕ} → Done x (state s (h .register)) r register
-      → (answer ≡ packed (r .reply)) × (image ≡ encode (r .session)) → StepCalled x h answer (host image register)
+      → (answer ≡ packed (r .reply)) × (image ≡ imageOf (r .session)) → StepCalled x h answer (host image register)
   unfolding hostReply hostAfter
   over long held d k =
       let e = eq-eqb (length (h .image)) imageLength long in
       let at = ap (λ (z : Session). state z (h .register)) held in
       record {
         replied = rw e (k .0 ∙ ap packed (d .replied ∙ ap (reply x) at));
-        image-left = rw e (k .1 ∙ ap encode (d .session ∙ ap (λ (z : State). after x z .session) at));
+        image-left = rw e (k .1 ∙ ap imageOf (d .session ∙ ap (λ (z : State). after x z .session) at));
         register-left = rw e (d .register-left ∙ ap (λ (z : State). after x z .register) at);
       }
 
@@ -56,7 +56,7 @@ module _ (round : ℕ) (x : Inputs) (image : Bytes) where
   }
 
   pub over-check : length image ≡ imageLength → {s : Session} → s ≡ decode image → {r : Stepped} {scratch image' : Bytes} {answer : ℕ} → CheckDone round x s r scratch
-      → (answer ≡ packed (r .reply)) × (image' ≡ encode (r .session)) → CheckCalled round x image answer image' scratch
+      → (answer ≡ packed (r .reply)) × (image' ≡ imageOf (r .session)) → CheckCalled round x image answer image' scratch
   unfolding hostReply
   over-check long held d k = record {
     called = λ register. over (check round x) (host image register) long held (d .done register) k;

@@ -11,7 +11,7 @@ use lib.Seq.{take-at, drop-append-add}
 use Rattle.codec.specs.Bytes.{Bytes, part, put}
 use Rattle.codec.proofs.Laws.{part-append, length-put, put-append, put-none}
 use Rattle.session.specs.declared.Session.{Session}
-use Rattle.session_image.specs.Image.{Field, size, values, start, width}
+use Rattle.session_image.specs.Image.{Field, size, contentsOf, start, width}
 
 -- what stands in each field has its width
 abbrev pub Fits : List Field → Session → Type 0
@@ -22,10 +22,10 @@ pub fits-append : (fs gs : List Field) (s : Session) → Fits fs s → Fits gs s
 fits-append [] gs s h g = g
 fits-append (f ∷ fs) gs s h g = (h .0, fits-append fs gs s (h .1) g)
 
-pub length-values : (fs : List Field) (s : Session) → Fits fs s → length (flatten (values fs s)) ≡ size fs
+pub length-values : (fs : List Field) (s : Session) → Fits fs s → length (flatten (contentsOf fs s)) ≡ size fs
 unfolding flatten
 length-values [] s h = refl
-length-values (f ∷ fs) s h = length-append (f .contents s) (flatten (values fs s)) ∙ ap₂ (λ (n m : ℕ). n + m) (h .0) (length-values fs s (h .1))
+length-values (f ∷ fs) s h = length-append (f .contents s) (flatten (contentsOf fs s)) ∙ ap₂ (λ (n m : ℕ). n + m) (h .0) (length-values fs s (h .1))
 
 -- ---- taken out
 
@@ -34,13 +34,13 @@ abbrev pub named : List Field → String → Session → Bytes
 named [] name s = []
 named (f ∷ fs) name s = cond (eqt (f .name) name) (f .contents s) (named fs name s)
 
-pub taken-out : (fs : List Field) (s : Session) (name : String) → Fits fs s → part (flatten (values fs s)) (start fs name) (width fs name) ≡ named fs name s
+pub taken-out : (fs : List Field) (s : Session) (name : String) → Fits fs s → part (flatten (contentsOf fs s)) (start fs name) (width fs name) ≡ named fs name s
 unfolding flatten
 taken-out [] s name h = refl
 taken-out (f ∷ fs) s name h = go (eqt (f .name) name) (taken-out fs s name (h .1))
   where
     rest : Bytes
-    rest = flatten (values fs s)
+    rest = flatten (contentsOf fs s)
 
     go : (b : Bool) → part rest (start fs name) (width fs name) ≡ named fs name s
         → part (f .contents s ++ rest) (cond b 0 (f .width + start fs name)) (cond b (f .width) (width fs name)) ≡ cond b (f .contents s) (named fs name s)
@@ -66,11 +66,11 @@ abbrev pub puts : Bytes → ℕ → List Field → Session → Bytes
 puts d at [] s = d
 puts d at (f ∷ fs) s = puts (put d at (f .contents s)) (at + f .width) fs s
 
-pub puts-all : (fs : List Field) (s : Session) (d : Bytes) (at : ℕ) → Fits fs s → at + size fs ≤ length d → puts d at fs s ≡ put d at (flatten (values fs s))
+pub puts-all : (fs : List Field) (s : Session) (d : Bytes) (at : ℕ) → Fits fs s → at + size fs ≤ length d → puts d at fs s ≡ put d at (flatten (contentsOf fs s))
 unfolding flatten
 puts-all [] s d at h l = sym (put-none d at)
 puts-all (f ∷ fs) s d at h l =
     let k = h .0 in
     let n = length-values fs s (h .1) in
     puts-all fs s (put d at (f .contents s)) (at + f .width) (h .1) (omega (arith, length-put d at (f .contents s) (omega arith)))
-    ∙ ap (λ (n : ℕ). put (put d at (f .contents s)) (at + n) (flatten (values fs s))) (sym (h .0)) ∙ put-append d at (f .contents s) (flatten (values fs s)) (omega arith)
+    ∙ ap (λ (n : ℕ). put (put d at (f .contents s)) (at + n) (flatten (contentsOf fs s))) (sym (h .0)) ∙ put-append d at (f .contents s) (flatten (contentsOf fs s)) (omega arith)

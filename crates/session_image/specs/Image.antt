@@ -23,8 +23,8 @@ abbrev word : String → (Session → ℕ) → Field
 word name value = field name 8 (λ s. bytes 8 (value s))
 
 -- the phase, the sheet's numbers before a, and the sheet's digest
-abbrev pub head : List Field
-head =
+abbrev pub headFields : List Field
+headFields =
     field "phase" 1 (λ s. s .progress .phase ∷ [])
     ∷ word "ring" (λ s. s .numbers .ring)
     ∷ word "modulus" (λ s. s .numbers .modulus)
@@ -35,8 +35,8 @@ head =
     ∷ []
 
 -- entries used, ballots closed, closing digest and claim digest
-abbrev pub batch : List Field
-batch =
+abbrev pub batchFields : List Field
+batchFields =
     word "used" (λ s. s .progress .used)
     ∷ word "closed" (λ s. s .progress .closed)
     ∷ field "closing" 32 (λ s. s .closing)
@@ -44,8 +44,8 @@ batch =
     ∷ []
 
 -- rounds committed, seed, rounds checked, and the digests of the first messages
-abbrev pub rounds : List Field
-rounds =
+abbrev pub roundFields : List Field
+roundFields =
     word "committed" (λ s. s .progress .committed)
     ∷ field "seed" 32 (λ s. s .seed)
     ∷ word "checked" (λ s. s .progress .checked)
@@ -53,7 +53,7 @@ rounds =
     ∷ []
 
 abbrev pub fields : List Field
-fields = head ++ (batch ++ rounds)
+fields = headFields ++ (batchFields ++ roundFields)
 
 -- ---- what follows from a list of fields
 
@@ -63,9 +63,9 @@ size [] = 0
 size (f ∷ fs) = f .width + size fs
 
 -- what stands in them
-abbrev pub values : List Field → Session → List Bytes
-values [] s = []
-values (f ∷ fs) s = f .contents s ∷ values fs s
+abbrev pub contentsOf : List Field → Session → List Bytes
+contentsOf [] s = []
+contentsOf (f ∷ fs) s = f .contents s ∷ contentsOf fs s
 
 -- where a field begins, and its width
 abbrev pub start : List Field → String → ℕ
@@ -87,8 +87,8 @@ at b name = part b (start fields name) (width fields name)
 -- ---- to bytes and back
 
 -- the image of a session
-unfoldable pub encode : Session → Bytes
-encode s = flatten (values fields s)
+unfoldable pub imageOf : Session → Bytes
+imageOf s = flatten (contentsOf fields s)
 
 -- the session that an image holds
 unfoldable pub decode : Bytes → Session

@@ -18,7 +18,7 @@ use Rattle.session.specs.declared.Turnout.the-variants as turnout
 use Rattle.session.specs.declared.Turnout.the-variants.{Counted}
 use Rattle.session.specs.Steps.{challengesTests, challengesOut, turnoutTests, turnoutBy}
 use Rattle.session.specs.Machine.{Step, check, state, reply, after}
-use Rattle.session_image.specs.Image.{imageLength, encode, decode}
+use Rattle.session_image.specs.Image.{imageLength, imageOf, decode}
 
 -- what the host keeps between two calls
 pub record Host : Type 0 where
@@ -41,7 +41,7 @@ hostReply x h = lentReply (h .image) (λ s. reply x (state s (h .register)))
 unfoldable pub hostAfter : Step → Host → Host
 hostAfter x h =
     let st = after x (state (decode (h .image)) (h .register)) in
-    cond (eqb (length (h .image)) imageLength) (host (encode (st .session)) (st .register)) h
+    cond (eqb (length (h .image)) imageLength) (host (imageOf (st .session)) (st .register)) h
 
 -- ---- what a call promises: the number that it answers, and the image and the register that it leaves
 

@@ -10,7 +10,7 @@ ghost use Prim.Native.Nat.{_+_, _≤_};
 ghost use lib.ListN.{length};
 ghost use Rattle.codec.specs.Reply.{packed};
 ghost use Rattle.scratch.specs.Vocabulary.{given, left, part, put};
-ghost use Rattle.session_image.specs.Image.{imageLength, size, values, encode, decode, head, batch, rounds};
+ghost use Rattle.session_image.specs.Image.{imageLength, size, contentsOf, imageOf, decode, headFields, batchFields, roundFields};
 ghost use Rattle.session_image.specs.Images.{countedAnswer};
 
 // Where each field begins: behind the one before it. The length of an image is where the last one ends.
@@ -117,7 +117,7 @@ pub fn load(image: &[u8]) -> Session
 // Writes the phase, the sheet's numbers and the sheet's digest.
 fn store_head(session: Session, image: &mut [u8])
     requires { ⌜ length (now image) ≡ imageLength ⌝ }
-    ensures { λ _. ⌜ left image ≡ put (given image) 0 (flatten (values head session)) ⌝ }
+    ensures { λ _. ⌜ left image ≡ put (given image) 0 (flatten (contentsOf headFields session)) ⌝ }
 {
     let numbers = session.numbers;
     codec::write8(image, PHASE, session.progress.phase);
@@ -132,7 +132,7 @@ fn store_head(session: Session, image: &mut [u8])
 // Writes the counts and the digests of the batch.
 fn store_batch(session: Session, image: &mut [u8])
     requires { ⌜ length (now image) ≡ imageLength ⌝ }
-    ensures { λ _. ⌜ left image ≡ put (given image) (size head) (flatten (values batch session)) ⌝ }
+    ensures { λ _. ⌜ left image ≡ put (given image) (size headFields) (flatten (contentsOf batchFields session)) ⌝ }
 {
     codec::write64(image, USED, session.progress.used);
     codec::write64(image, CLOSED, session.progress.closed);
@@ -143,7 +143,7 @@ fn store_batch(session: Session, image: &mut [u8])
 // Writes the counts of rounds, the seed, and the digests of the first messages.
 fn store_rounds(session: Session, image: &mut [u8])
     requires { ⌜ length (now image) ≡ imageLength ⌝ }
-    ensures { λ _. ⌜ left image ≡ put (given image) (size head + size batch) (flatten (values rounds session)) ⌝ }
+    ensures { λ _. ⌜ left image ≡ put (given image) (size headFields + size batchFields) (flatten (contentsOf roundFields session)) ⌝ }
 {
     codec::write64(image, COMMITTED, session.progress.committed);
     codec::copy(image, SEED, &session.seed);
@@ -154,7 +154,7 @@ fn store_rounds(session: Session, image: &mut [u8])
 // Writes the image of a session.
 pub fn store(session: Session, image: &mut [u8])
     requires { ⌜ length (now image) ≡ imageLength ⌝ }
-    ensures { λ _. ⌜ left image ≡ encode session ⌝ }
+    ensures { λ _. ⌜ left image ≡ imageOf session ⌝ }
 {
     store_head(session, image);
     store_batch(session, image);
@@ -164,7 +164,7 @@ pub fn store(session: Session, image: &mut [u8])
 // Stores the session that a step leaves, and answers for the step.
 pub fn keep(stepped: Stepped, image: &mut [u8]) -> u64
     requires { ⌜ length (now image) ≡ imageLength ⌝ }
-    ensures { λ answer. ⌜ (answer ≡ packed (stepped .reply)) × (left image ≡ encode (stepped .session)) ⌝ }
+    ensures { λ answer. ⌜ (answer ≡ packed (stepped .reply)) × (left image ≡ imageOf (stepped .session)) ⌝ }
 {
     let reply = stepped.reply;
     let session = stepped.session;

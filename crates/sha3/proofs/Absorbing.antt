@@ -10,13 +10,13 @@ use lib.ListN.{length, getD, set, replicate, take, drop, length-drop, take-appen
 use lib.Seq.{set-getD, take-suc, take-all, take-take, length-take-le}
 use lib.Bits.{bitXor, xor-zero-r}
 use borrow.Author.Tests.{lt-ltb, le-ltb}
-use Rattle.keccak.specs.Keccak.{State, Row, lane, keccak}
+use Rattle.keccak.specs.Keccak.{StateArray, Row, lane, keccak}
 use Rattle.codec.proofs.Laws.{drop-take}
 use Rattle.sha3.specs.Absorb.{xorLane, xorByte, feed, absorb}
 
 -- ---- absorbing
 
-pub absorb-append : (a b : List ℕ) (s : State) (at : ℕ) → at < 136
+pub absorb-append : (a b : List ℕ) (s : StateArray) (at : ℕ) → at < 136
     → absorb s at (a ++ b) ≡ absorb (absorb s at a) ((at + length a) % 136) b
 unfolding absorb
 absorb-append [] b s at h =
@@ -26,13 +26,13 @@ absorb-append (x ∷ a) b s at h =
     absorb-append a b (feed s at x) ((at + 1) % 136) (omega arith)
     ∙ ap (λ (k : ℕ). absorb (absorb (feed s at x) ((at + 1) % 136) a) k b) e
 
-pub absorb-snoc : (a : List ℕ) (b : ℕ) (s : State) (at : ℕ) → at < 136
+pub absorb-snoc : (a : List ℕ) (b : ℕ) (s : StateArray) (at : ℕ) → at < 136
     → absorb s at (a ++ (b ∷ [])) ≡ feed (absorb s at a) ((at + length a) % 136) b
 unfolding absorb
 absorb-snoc a b s at h = absorb-append a (b ∷ []) s at h
 
 -- one byte more
-pub absorb-take : (m : List ℕ) (i : ℕ) (s : State) (at : ℕ) → at < 136 → i < length m
+pub absorb-take : (m : List ℕ) (i : ℕ) (s : StateArray) (at : ℕ) → at < 136 → i < length m
     → absorb s at (take (i + 1) m) ≡ feed (absorb s at (take i m)) ((at + i) % 136) (getD m i 0)
 absorb-take m i s at h hi =
     let e : length (take i m) ≡ i = length-take-le i m (omega arith) in
@@ -45,22 +45,22 @@ put-nothing : (l k : ℕ) → xorLane l k 0 ≡ l
 unfolding xorLane
 put-nothing l k = ap (bitXor l) (zero-mul (2 ^ (k * 8))) ∙ xor-zero-r l
 
-xor-nothing : (s : State) (i : ℕ) → xorByte s i 0 ≡ s
+xor-nothing : (s : StateArray) (i : ℕ) → xorByte s i 0 ≡ s
 unfolding xorByte
 xor-nothing s i =
     ap (λ (v : ℕ). set s (i / 40) (set (getD s (i / 40) []) (i / 8 % 5) v)) (put-nothing (lane s (i / 8 % 5) (i / 40)) (i % 8))
     ∙ ap (λ (r : Row). set s (i / 40) r) (set-getD (getD s (i / 40) []) (i / 8 % 5) 0)
     ∙ set-getD s (i / 40) []
 
-pub feed-early : (s : State) (at b : ℕ) → at < 135 → feed s at b ≡ xorByte s at b
+pub feed-early : (s : StateArray) (at b : ℕ) → at < 135 → feed s at b ≡ xorByte s at b
 unfolding feed
 feed-early s at b h = simp (lt-ltb _ _ h)
 
-pub feed-late : (s : State) (at b : ℕ) → 135 ≤ at → feed s at b ≡ keccak (xorByte s at b)
+pub feed-late : (s : StateArray) (at b : ℕ) → 135 ≤ at → feed s at b ≡ keccak (xorByte s at b)
 unfolding feed
 feed-late s at b h = simp (le-ltb _ _ h)
 
-pub absorb-zeros : (n : ℕ) (l : List ℕ) (s : State) (at : ℕ) → at + n < 136 → absorb s at (replicate n 0 ++ l) ≡ absorb s (at + n) l
+pub absorb-zeros : (n : ℕ) (l : List ℕ) (s : StateArray) (at : ℕ) → at + n < 136 → absorb s at (replicate n 0 ++ l) ≡ absorb s (at + n) l
 unfolding absorb
 absorb-zeros zero l s at h =
     let e : at ≡ at + 0 = omega arith in ap (λ (k : ℕ). absorb s k l) e
@@ -74,7 +74,7 @@ absorb-zeros (suc n) l s at h =
     ∙ ap (λ (k : ℕ). absorb s k l) e
 
 -- what is absorbed up to k is absorbed, and then the rest
-pub split-at : (m : List ℕ) (k : ℕ) (s : State) (at p : ℕ) → at < 136 → k ≤ length m → (at + k) % 136 ≡ p
+pub split-at : (m : List ℕ) (k : ℕ) (s : StateArray) (at p : ℕ) → at < 136 → k ≤ length m → (at + k) % 136 ≡ p
     → absorb (absorb s at (take k m)) p (drop k m) ≡ absorb s at m
 split-at m k s at p h hk e =
     let n : length (take k m) ≡ k = length-take-le k m hk in
@@ -84,7 +84,7 @@ split-at m k s at p h hk e =
     ∙ ap (absorb s at) (take-append-drop k m)
 
 -- a head to a block's end, whole blocks, and what is left: each part as `&m[a..e]` gives it
-pub thirds : (m : List ℕ) (s : State) (at h e : ℕ) → at < 136 → (at + h) % 136 ≡ 0 → h ≤ e → (e - h) % 136 ≡ 0 → e ≤ length m
+pub thirds : (m : List ℕ) (s : StateArray) (at h e : ℕ) → at < 136 → (at + h) % 136 ≡ 0 → h ≤ e → (e - h) % 136 ≡ 0 → e ≤ length m
     → absorb (absorb (absorb s at (take (h - 0) (drop 0 m))) 0 (take (e - h) (drop h m))) 0 (take (length m - e) (drop e m)) ≡ absorb s at m
 thirds m s at h e hat z he z′ hm =
     let a : take (h - 0) m ≡ take h (take e m) = ap (λ (k : ℕ). take k m) (sub-zero h) ∙ sym (take-take h e m he) in
@@ -93,5 +93,5 @@ thirds m s at h e hat z he z′ hm =
     let l : length (take e m) ≡ e = length-take-le e m hm in
     let c : take (length m - e) (drop e m) ≡ drop e m = take-all (length m - e) (drop e m) (rw (length-drop e m) (omega arith)) in
     (λ i. absorb (absorb (absorb s at (a i)) 0 (b i)) 0 (c i))
-    ∙ ap (λ (t : State). absorb t 0 (drop e m)) (split-at (take e m) h s at 0 hat (omega arith) z)
+    ∙ ap (λ (t : StateArray). absorb t 0 (drop e m)) (split-at (take e m) h s at 0 hat (omega arith) z)
     ∙ split-at m e s at 0 hat hm (omega arith)

@@ -11,25 +11,25 @@ use lib.ListN.{length, getD, set, take, drop, length-drop, length-set, take-appe
 use lib.Seq.{take-add, drop-drop, length-take-le, getD-set-same, getD-set-other}
 use Rattle.codec.specs.Bytes.{Bytes, Octets, number, part}
 use Rattle.codec.proofs.Laws.{length-part, part-part, part-none, octets-drop, octets-part}
-use Rattle.keccak.specs.Keccak.{Row, State, lane, five, lanes, keccak}
+use Rattle.keccak.specs.Keccak.{Row, StateArray, lane, five, lanes, keccak}
 use Rattle.keccak.proofs.Rows.{row5}
 use Rattle.keccak.proofs.Shape.{Shape, shaped, keccak-shape}
-use Rattle.sha3.specs.Internal.{xorBlock, xorRow, absorbBlocks}
+use Rattle.sha3.specs.Internal.{xorBlock, absorbRow, absorbBlocks}
 use Rattle.sha3.specs.Absorb.{xorByte, feed, absorb}
 use Rattle.sha3.proofs.Absorbing.{feed-early, absorb-append, split-at}
 use Rattle.sha3.proofs.Lanes.{laneAt, setLane, xors, Has, eight}
 
 -- the bytes to a block's end
-full : (m : Bytes) (b : ℕ) (s : State) (at : ℕ) → at + suc (length m) ≡ 136 → absorb s at (b ∷ m) ≡ keccak (xors s at (b ∷ m))
+full : (m : Bytes) (b : ℕ) (s : StateArray) (at : ℕ) → at + suc (length m) ≡ 136 → absorb s at (b ∷ m) ≡ keccak (xors s at (b ∷ m))
 unfolding absorb feed xors
 full [] b s at h =
     let late : 135 ≤ at = omega arith in simp (le-ltb _ _ late)
 full (c ∷ m) b s at h =
     let one : (at + 1) % 136 ≡ at + 1 = omega arith in
-    ap₂ (λ (t : State) (k : ℕ). absorb t k (c ∷ m)) (feed-early s at b (omega arith)) one ∙ full m c (xorByte s at b) (at + 1) (omega arith)
+    ap₂ (λ (t : StateArray) (k : ℕ). absorb t k (c ∷ m)) (feed-early s at b (omega arith)) one ∙ full m c (xorByte s at b) (at + 1) (omega arith)
 
 -- bytes side by side
-xors-append : (a b : Bytes) (s : State) (i : ℕ) → xors s i (a ++ b) ≡ xors (xors s i a) (i + length a) b
+xors-append : (a b : Bytes) (s : StateArray) (i : ℕ) → xors s i (a ++ b) ≡ xors (xors s i a) (i + length a) b
 unfolding xors
 xors-append [] b s i = ap (λ (k : ℕ). xors s k b) (omega arith)
 xors-append (x ∷ a) b s i = xors-append a b (xorByte s i x) (i + 1) ∙ ap (λ (k : ℕ). xors (xors (xorByte s i x) (i + 1) a) k b) (omega arith)
@@ -37,18 +37,18 @@ xors-append (x ∷ a) b s i = xors-append a b (xorByte s i x) (i + 1) ∙ ap (λ
 -- ---- a lane at a time
 
 -- n lanes of the bytes p, the first lane k
-xorLanes : ℕ → ℕ → State → Bytes → State
+xorLanes : ℕ → ℕ → StateArray → Bytes → StateArray
 xorLanes zero k s p = s
 xorLanes (suc n) k s p = xorLanes n (k + 1) (setLane s k (bitXor (laneAt s k) (number (part p (8 * k) 8)))) p
 
 -- every lane is there, and stays there
-abbrev All : State → Type 0
+abbrev All : StateArray → Type 0
 All s = (k : ℕ) → k < 25 → Has s k
 
-shape-all : (s : State) → Shape s → All s
+shape-all : (s : StateArray) → Shape s → All s
 shape-all s h k l = record { row = rw (h .rows) (omega arith); column = rw (h .row (k / 5) (omega arith)) (omega arith) }
 
-all-set : (s : State) (k v : ℕ) → All s → k < 25 → All (setLane s k v)
+all-set : (s : StateArray) (k v : ℕ) → All s → k < 25 → All (setLane s k v)
 unfolding setLane
 all-set s k v h l j hj = record { row = rw length-set (h j hj .row); column = go (ℕ-discrete (j / 5) (k / 5)) }
   where
@@ -56,7 +56,7 @@ all-set s k v h l j hj = record { row = rw length-set (h j hj .row); column = go
     go (yes e) = rw (e, getD-set-same s (k / 5) (set (getD s (k / 5) []) (k % 5) v) [] (h k l .row), length-set, ← e) (h j hj .column)
     go (no d) = rw (getD-set-other s (k / 5) (j / 5) (set (getD s (k / 5) []) (k % 5) v) [] d) (h j hj .column)
 
-by-lanes : (n k : ℕ) (s : State) (p : Bytes) → All s → Octets p → k + n ≤ 25 → length p ≡ 8 * (k + n) → xors s (8 * k) (drop (8 * k) p) ≡ xorLanes n k s p
+by-lanes : (n k : ℕ) (s : StateArray) (p : Bytes) → All s → Octets p → k + n ≤ 25 → length p ≡ 8 * (k + n) → xors s (8 * k) (drop (8 * k) p) ≡ xorLanes n k s p
 unfolding xors xorLanes
 by-lanes zero k s p h o l e = ap (xors s (8 * k)) (drop-of-length-le p {i = 8 * k} (omega arith))
 by-lanes (suc m) k s p h o l e =
@@ -69,7 +69,7 @@ by-lanes (suc m) k s p h o l e =
     sym (take-append-drop 8 (drop (8 * k) p)) ∙ ap (λ (r : Bytes). c ++ r) (drop-drop 8 (8 * k) p ∙ ap (λ (j : ℕ). drop j p) n) in
     ap (xors s (8 * k)) d
     ∙ xors-append c (drop (8 * (k + 1)) p) s (8 * k)
-    ∙ ap₂ (λ (u : State) (j : ℕ). xors u j (drop (8 * (k + 1)) p)) (eight c s k (h k (omega arith)) (octets-part p (8 * k) 8 o) w) i
+    ∙ ap₂ (λ (u : StateArray) (j : ℕ). xors u j (drop (8 * (k + 1)) p)) (eight c s k (h k (omega arith)) (octets-part p (8 * k) 8 o) w) i
     ∙ by-lanes m (k + 1) t p (all-set s k (bitXor (laneAt s k) (number c)) h (omega arith)) o (omega arith) (omega arith)
 
 -- ---- a block
@@ -87,17 +87,17 @@ reached g p h =
     (row5 refl refl (past p (g 2 3) 136 (omega arith)) (past p (g 3 3) 144 (omega arith)) (past p (g 4 3) 152 (omega arith)))
     (row5 (past p (g 0 4) 160 (omega arith)) (past p (g 1 4) 168 (omega arith)) (past p (g 2 4) 176 (omega arith)) (past p (g 3 4) 184 (omega arith)) (past p (g 4 4) 192 (omega arith)))
 
-pub block : (s : State) (p : Bytes) → Shape s → Octets p → length p ≡ 136 → keccak (xorBlock s p) ≡ absorb s 0 p
+pub block : (s : StateArray) (p : Bytes) → Shape s → Octets p → length p ≡ 136 → keccak (xorBlock s p) ≡ absorb s 0 p
 block s [] h o e = absurd (omega arith)
 block s (b ∷ m) h o e =
     let p = b ∷ m in
     let t = shaped s h in
     sym (full m b s 0 (omega arith) ∙ ap keccak (by-lanes 17 0 s p (shape-all s h) o (omega arith) (omega arith)
-    ∙ ap (λ (u : State). xorLanes 17 0 u p) t ∙ reached (lane s) p e ∙ ap (λ (u : State). xorBlock u p) (sym t)))
+    ∙ ap (λ (u : StateArray). xorLanes 17 0 u p) t ∙ reached (lane s) p e ∙ ap (λ (u : StateArray). xorBlock u p) (sym t)))
 
 -- a row from the 40 bytes of m from at + b, by the block from at
-pub row-in : (r : Row) (m : Bytes) (at b : ℕ) → b + 40 ≤ 136 → xorRow r m (at + b) ≡ five (λ x. bitXor (getD r x 0) (number (part (part m at 136) (b + 8 * x) 8)))
-unfolding xorRow
+pub row-in : (r : Row) (m : Bytes) (at b : ℕ) → b + 40 ≤ 136 → absorbRow r m (at + b) ≡ five (λ x. bitXor (getD r x 0) (number (part (part m at 136) (b + 8 * x) 8)))
+unfolding absorbRow
 row-in r m at b h = row5 (lane-in 0 (omega arith)) (lane-in 1 (omega arith)) (lane-in 2 (omega arith)) (lane-in 3 (omega arith)) (lane-in 4 (omega arith))
   where
     lane-in : (x : ℕ) → x < 5 → bitXor (getD r x 0) (number (part m (at + b + 8 * x) 8)) ≡ bitXor (getD r x 0) (number (part (part m at 136) (b + 8 * x) 8))
@@ -106,7 +106,7 @@ row-in r m at b h = row5 (lane-in 0 (omega arith)) (lane-in 1 (omega arith)) (la
         (ap (λ (k : ℕ). part m k 8) (add-assoc at b (8 * x)) ∙ sym (part-part m at 136 (b + 8 * x) 8 (omega arith)))
 
 -- one block more
-pub next-block : (m : Bytes) (i : ℕ) (s : State) → i + 136 ≤ length m → i % 136 ≡ 0 → absorb (absorb s 0 (take i m)) 0 (part m i 136) ≡ absorb s 0 (take (i + 136) m)
+pub next-block : (m : Bytes) (i : ℕ) (s : StateArray) → i + 136 ≤ length m → i % 136 ≡ 0 → absorb (absorb s 0 (take i m)) 0 (part m i 136) ≡ absorb s 0 (take (i + 136) m)
 next-block m i s h z =
     let n : length (take i m) ≡ i = length-take-le i m (omega arith) in
     let e : 0 ≡ (0 + length (take i m)) % 136 = omega arith in
@@ -116,7 +116,7 @@ next-block m i s h z =
 
 -- ---- the blocks of section 4
 
-pub blocks : (n : ℕ) (s : State) (p : Bytes) → Shape s → Octets p → length p ≡ 136 * n → absorbBlocks n s p ≡ absorb s 0 p
+pub blocks : (n : ℕ) (s : StateArray) (p : Bytes) → Shape s → Octets p → length p ≡ 136 * n → absorbBlocks n s p ≡ absorb s 0 p
 unfolding absorbBlocks absorb
 blocks zero s [] h o e = refl
 blocks zero s (b ∷ p) h o e = absurd (omega arith)
@@ -126,5 +126,5 @@ blocks (suc n) s p h o e =
     let r : length (drop 136 p) ≡ 136 * n = rw length-drop (omega arith) in
     let t = keccak (xorBlock s c) in
     blocks n t (drop 136 p) (keccak-shape (xorBlock s c)) (octets-drop p 136 o) r
-    ∙ ap (λ (u : State). absorb u 0 (drop 136 p)) (block s c h (octets-part p 0 136 o) w)
+    ∙ ap (λ (u : StateArray). absorb u 0 (drop 136 p)) (block s c h (octets-part p 0 136 o) w)
     ∙ split-at p 136 s 0 0 (omega arith) (omega arith) refl

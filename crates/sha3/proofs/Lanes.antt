@@ -10,7 +10,7 @@ use lib.ListN.{length, getD, set, length-set}
 use lib.Pow.{pow-add, shl-lt}
 use lib.Seq.{set-getD, set-set, getD-set-same}
 use Rattle.codec.specs.Bytes.{Bytes, Octets, number}
-use Rattle.keccak.specs.Keccak.{State, Row, lane}
+use Rattle.keccak.specs.Keccak.{StateArray, Row, lane}
 use Rattle.sha3.specs.Absorb.{xorLane, xorByte}
 
 -- ---- exclusive or is associative
@@ -65,23 +65,23 @@ together (b ∷ m) l k o =
 
 -- ---- lanes of a state by their number, 5 y + x
 
-unfoldable pub laneAt : State → ℕ → ℕ
+unfoldable pub laneAt : StateArray → ℕ → ℕ
 laneAt s k = lane s (k % 5) (k / 5)
 
-unfoldable pub setLane : State → ℕ → ℕ → State
+unfoldable pub setLane : StateArray → ℕ → ℕ → StateArray
 setLane s k v = set s (k / 5) (set (getD s (k / 5) []) (k % 5) v)
 
 -- bytes that are xored in one by one, with no permutation
-unfoldable pub xors : State → ℕ → Bytes → State
+unfoldable pub xors : StateArray → ℕ → Bytes → StateArray
 xors s i [] = s
 xors s i (b ∷ m) = xors (xorByte s i b) (i + 1) m
 
 -- the state has a lane k
-pub record Has (s : State) (k : ℕ) : Type 0 where
+pub record Has (s : StateArray) (k : ℕ) : Type 0 where
   pub row : k / 5 < length s
   pub column : k % 5 < length (getD s (k / 5) [])
 
-byte-in : (s : State) (k j b : ℕ) → j < 8 → xorByte s (8 * k + j) b ≡ setLane s k (xorLane (laneAt s k) j b)
+byte-in : (s : StateArray) (k j b : ℕ) → j < 8 → xorByte s (8 * k + j) b ≡ setLane s k (xorLane (laneAt s k) j b)
 unfolding xorByte setLane laneAt
 byte-in s k j b h =
     let y : (8 * k + j) / 40 ≡ k / 5 = omega arith in
@@ -89,7 +89,7 @@ byte-in s k j b h =
     let z : (8 * k + j) % 8 ≡ j = omega arith in
     rw (y, x, z)
 
-module _ (s : State) (k v : ℕ) (h : Has s k) where
+module _ (s : StateArray) (k v : ℕ) (h : Has s k) where
   row-set : getD (setLane s k v) (k / 5) [] ≡ set (getD s (k / 5) []) (k % 5) v
   unfolding setLane
   row-set = getD-set-same s (k / 5) (set (getD s (k / 5) []) (k % 5) v) [] (h .row)
@@ -112,24 +112,24 @@ module _ (s : State) (k v : ℕ) (h : Has s k) where
       ∙ ap (λ (r : Row). set (setLane s k v) (k / 5) r) (set-set (getD s (k / 5) []) (k % 5) v w)
       ∙ set-set s (k / 5) (set (getD s (k / 5) []) (k % 5) v) (set (getD s (k / 5) []) (k % 5) w)
 
-same-lane : (s : State) (k : ℕ) → setLane s k (laneAt s k) ≡ s
+same-lane : (s : StateArray) (k : ℕ) → setLane s k (laneAt s k) ≡ s
 unfolding setLane laneAt
 same-lane s k = ap (λ (r : Row). set s (k / 5) r) (set-getD (getD s (k / 5) []) (k % 5) 0) ∙ set-getD s (k / 5) []
 
-run : (m : Bytes) (s : State) (k j : ℕ) → Has s k → j + length m ≤ 8 → xors s (8 * k + j) m ≡ setLane s k (xorBytes (laneAt s k) j m)
+run : (m : Bytes) (s : StateArray) (k j : ℕ) → Has s k → j + length m ≤ 8 → xors s (8 * k + j) m ≡ setLane s k (xorBytes (laneAt s k) j m)
 unfolding xors xorBytes
 run [] s k j h l = sym (same-lane s k)
 run (b ∷ m) s k j h l =
     let v = xorLane (laneAt s k) j b in
     let t = setLane s k v in
     let i : 8 * k + j + 1 ≡ 8 * k + (j + 1) = omega arith in
-    ap₂ (λ (u : State) (n : ℕ). xors u n m) (byte-in s k j b (omega arith)) i
+    ap₂ (λ (u : StateArray) (n : ℕ). xors u n m) (byte-in s k j b (omega arith)) i
     ∙ run m t k (j + 1) (still s k v h) (omega arith)
     ∙ ap (λ (w : ℕ). setLane t k (xorBytes w (j + 1) m)) (lane-set s k v h)
     ∙ twice s k v h (xorBytes v (j + 1) m)
 
 -- the eight bytes of a lane
-pub eight : (m : Bytes) (s : State) (k : ℕ) → Has s k → Octets m → length m ≡ 8 → xors s (8 * k) m ≡ setLane s k (bitXor (laneAt s k) (number m))
+pub eight : (m : Bytes) (s : StateArray) (k : ℕ) → Has s k → Octets m → length m ≡ 8 → xors s (8 * k) m ≡ setLane s k (bitXor (laneAt s k) (number m))
 eight m s k h o l =
     ap (λ (i : ℕ). xors s i m) (omega arith)
     ∙ run m s k 0 h (omega arith)

@@ -8,12 +8,12 @@ use borrow.Author.Tests.{lt-ltb, le-ltb}
 use lib.ListN.{length, replicate, length-append, length-replicate}
 use Rattle.codec.specs.Bytes.{Octets, zeros}
 use Rattle.codec.proofs.Laws.{octets-one, octets-zeros, octets-append}
-use Rattle.keccak.specs.Keccak.{State, keccak}
+use Rattle.keccak.specs.Keccak.{StateArray, keccak}
 use Rattle.sha3.specs.Absorb.{xorByte, feed, absorb}
 use Rattle.sha3.proofs.Absorbing.{feed-early, absorb-zeros}
 use Rattle.sha3.specs.Sponge.{padding}
 
-pub pad-early : (s : State) (at : ℕ) → at < 135 → absorb s at (padding at) ≡ keccak (xorByte (xorByte s at 6) 135 128)
+pub pad-early : (s : StateArray) (at : ℕ) → at < 135 → absorb s at (padding at) ≡ keccak (xorByte (xorByte s at 6) 135 128)
 unfolding absorb padding feed
 pad-early s at h =
     let one : (at + 1) % 136 ≡ at + 1 = omega arith in
@@ -24,7 +24,7 @@ pad-early s at h =
     ∙ absorb-zeros (134 - at) (128 ∷ []) (xorByte s at 6) (at + 1) (omega arith)
     ∙ ap (λ (k : ℕ). absorb (xorByte s at 6) k (128 ∷ [])) e
 
-pub pad-late : (s : State) (at : ℕ) → at ≡ 135 → absorb s at (padding at) ≡ keccak (xorByte s 135 134)
+pub pad-late : (s : StateArray) (at : ℕ) → at ≡ 135 → absorb s at (padding at) ≡ keccak (xorByte s 135 134)
 unfolding absorb padding feed
 pad-late s at e = ap (λ (k : ℕ). absorb s k (padding k)) e
 

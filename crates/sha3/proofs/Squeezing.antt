@@ -7,11 +7,11 @@ use lib.ListN.{length, length-append}
 use Rattle.codec.specs.Bytes.{Bytes, Octets, bytes, put}
 use Rattle.codec.proofs.Laws.{put-append, put-whole, octets-append}
 use Rattle.codec.proofs.Numbers.{length-bytes, bytes-octets}
-use Rattle.keccak.specs.Keccak.{State, lane}
+use Rattle.keccak.specs.Keccak.{StateArray, lane}
 use Rattle.sha3.specs.Absorb.{absorb, zeroState}
 use Rattle.sha3.specs.Sponge.{padding, squeeze, sha3}
 
-length-squeeze : (s : State) → length (squeeze s) ≡ 32
+length-squeeze : (s : StateArray) → length (squeeze s) ≡ 32
 unfolding squeeze
 length-squeeze s = simp (length-append, length-bytes)
 
@@ -19,7 +19,7 @@ pub length-sha3 : (m : Bytes) → length (sha3 m) ≡ 32
 unfolding sha3
 length-sha3 m = length-squeeze (absorb zeroState 0 (m ++ padding (length m % 136)))
 
-octets-squeeze : (s : State) → Octets (squeeze s)
+octets-squeeze : (s : StateArray) → Octets (squeeze s)
 unfolding squeeze
 octets-squeeze s =
     let l : (x : ℕ) → Octets (bytes 8 (lane s x 0)) = λ x. bytes-octets 8 (lane s x 0) in
@@ -39,7 +39,7 @@ after o a n v e l =
     let w = length-bytes 8 v in
     ap (λ (i : ℕ). put (put o 0 a) i (bytes 8 v)) k ∙ put-append o 0 a (bytes 8 v) (omega arith)
 
-pub squeezed : (o : Bytes) (s : State) → length o ≡ 32
+pub squeezed : (o : Bytes) (s : StateArray) → length o ≡ 32
     → put (put (put (put o 0 (bytes 8 (lane s 0 0))) 8 (bytes 8 (lane s 1 0))) 16 (bytes 8 (lane s 2 0))) 24 (bytes 8 (lane s 3 0)) ≡ squeeze s
 unfolding squeeze
 squeezed o s l =

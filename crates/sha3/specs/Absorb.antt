@@ -7,10 +7,10 @@ use lib.Bits.{bitXor}
 use lib.Dec.{ltb}
 use lib.ListN.{getD, set}
 use Rattle.codec.specs.Bytes.{Bytes}
-use Rattle.keccak.specs.Keccak.{State, lane, lanes, keccak}
+use Rattle.keccak.specs.Keccak.{StateArray, lane, lanes, keccak}
 
 -- the state of zeros
-unfoldable pub zeroState : State
+unfoldable pub zeroState : StateArray
 zeroState = lanes (λ x y. 0)
 
 -- a lane with the byte b xored into its byte k, the lowest of which is byte 0
@@ -18,14 +18,14 @@ unfoldable pub xorLane : ℕ → ℕ → ℕ → ℕ
 xorLane l k b = bitXor l (b * 2 ^ (k * 8))
 
 -- a state with the byte b xored into its byte i, which is in column i / 8 % 5 of row i / 40 (3.1.2, B.1)
-unfoldable pub xorByte : State → ℕ → ℕ → State
+unfoldable pub xorByte : StateArray → ℕ → ℕ → StateArray
 xorByte s i b = set s (i / 40) (set (getD s (i / 40) []) (i / 8 % 5) (xorLane (lane s (i / 8 % 5) (i / 40)) (i % 8) b))
 
 -- one byte of a message at place `at` of its block of 136: after the last of a block comes the permutation
-unfoldable pub feed : State → ℕ → ℕ → State
+unfoldable pub feed : StateArray → ℕ → ℕ → StateArray
 feed s at b = cond (ltb at 135) (xorByte s at b) (keccak (xorByte s at b))
 
 -- bytes of a message, the first at place `at` of its block
-unfoldable pub absorb : State → ℕ → Bytes → State
+unfoldable pub absorb : StateArray → ℕ → Bytes → StateArray
 absorb s at [] = s
 absorb s at (b ∷ m) = absorb (feed s at b) ((at + 1) % 136) m

@@ -7,7 +7,7 @@ use Prim.Native.Nat.{ℕ, _-_, _%_}
 use lib.Dec.{ltb}
 use lib.ListN.{length, replicate}
 use Rattle.codec.specs.Bytes.{Bytes, bytes}
-use Rattle.keccak.specs.Keccak.{State, lane}
+use Rattle.keccak.specs.Keccak.{StateArray, lane}
 use Rattle.sha3.specs.Absorb.{absorb, zeroState}
 
 -- what follows a message that ends before place `at` of its last block: the bits 01, then 1, zeros to the block's end, and 1
@@ -15,7 +15,7 @@ unfoldable pub padding : ℕ → Bytes
 padding at = cond (ltb at 135) (0x06 ∷ replicate (134 - at) 0 ++ (0x80 ∷ [])) (0x86 ∷ [])
 
 -- the first 32 bytes of the state
-unfoldable pub squeeze : State → Bytes
+unfoldable pub squeeze : StateArray → Bytes
 squeeze s = bytes 8 (lane s 0 0) ++ (bytes 8 (lane s 1 0) ++ (bytes 8 (lane s 2 0) ++ bytes 8 (lane s 3 0)))
 
 unfoldable pub sha3 : Bytes → Bytes

@@ -4,7 +4,7 @@ ghost use Prim.Native.Nat.{_+_, _%_, _≤_, _<_};
 ghost use lib.ListN.{length};
 ghost use Rattle.codec.specs.Bytes.{part};
 ghost use Rattle.sha3.specs.Absorb.{xorLane, xorByte, absorb, zeroState};
-ghost use Rattle.sha3.specs.Internal.{xorBlock, xorRow};
+ghost use Rattle.sha3.specs.Internal.{xorBlock, absorbRow};
 
 // The state before any message.
 pub fn start() -> [[u64; 5]; 5]
@@ -61,7 +61,7 @@ fn absorb_bytes(s: [[u64; 5]; 5], at: usize, m: &[u8]) -> [[u64; 5]; 5]
 // A row with the 40 bytes of m from `at` xored in.
 fn xor_row(r: [u64; 5], m: &[u8], at: usize) -> [u64; 5]
     requires { ⌜ at + 40 ≤ length (now m) ⌝ }
-    ensures { λ q. ⌜ q ≡ xorRow r (now (m .entry)) at ⌝ }
+    ensures { λ q. ⌜ q ≡ absorbRow r (now (m .entry)) at ⌝ }
 {
     [
         r[0] ^ codec::read64(m, at),

@@ -4,26 +4,26 @@ use mathlib.Core.List.{[], _∷_}
 use Rattle.codec.specs.Lists.{allBelow}
 use Rattle.codec.specs.Reply.{first}
 use Rattle.sheet_numbers.specs.Plain.{plain}
-use Rattle.sheet_numbers.specs.Bounds.{noise, mask, unknowns, most, least, power}
+use Rattle.sheet_numbers.specs.Bounds.{noise, mask, unknownCount, most, least, power}
 use Rattle.sheet_numbers.specs.Rules.{any, outside, unsound}
 use Rattle.sheet_lines.specs.Form.{decimal, listed, lines}
 use Rattle.sheet.specs.Form.{written}
 use Rattle.sheet_lines.specs.Reader.{digit, step, values, line, rows}
 use Rattle.sheet.specs.Reader.{formed, sheetOf}
 use Rattle.sheet.specs.Sheet.{unfit, reading}
-use Rattle.sheet.specs.Examples.{numbers, small, text}
+use Rattle.sheet.specs.Examples.{smallNumbers, small, text}
 use Rattle.sheet.specs.declared.Reading.the-variants.{Taken}
 
 as-written : written (small 97 (3 ∷ 7 ∷ 94 ∷ 92 ∷ [])) ≡ text
 unfolding written lines listed decimal
 as-written = refl
 
-as-read : reading text ≡ Taken (numbers 97)
+as-read : reading text ≡ Taken (smallNumbers 97)
 unfolding reading first formed sheetOf rows line values step digit any outside unsound plain unfit allBelow power least most
 as-read = refl
 
 -- its D, B and L
-bounds : noise 2 4 ∷ mask 2 4 0 ∷ unknowns 4 ∷ [] ≡ 19 ∷ 4 ∷ 56 ∷ []
+bounds : noise 2 4 ∷ mask 2 4 0 ∷ unknownCount 4 ∷ [] ≡ 19 ∷ 4 ∷ 56 ∷ []
 bounds = refl
 
 -- document 01: 10 rounds give 17, 128 give 218

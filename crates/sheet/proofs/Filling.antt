@@ -14,7 +14,7 @@ use Rattle.codec.specs.Bytes.{Bytes, words, put}
 use Rattle.codec.proofs.Laws.{both, length-put, put-none, put-append, le-or}
 use Rattle.sheet_lines.specs.Form.{numberKeys, listKeys}
 use Rattle.sheet.specs.Form.{rowsOf}
-use Rattle.sheet_lines.specs.Reader.{Found, missing, found, fresh, values, line, Block, broken, block, after, onward, rows}
+use Rattle.sheet_lines.specs.Reader.{LineFound, missing, found, fresh, values, line, Block, broken, block, precededBy, onward, rows}
 use Rattle.sheet.specs.Reader.{formed, sheetOf}
 use Rattle.sheet_lines.specs.Internal.{none, outline, outlined, seen}
 use Rattle.sheet.specs.Internal.{Ready, Writes, Fitting}
@@ -66,14 +66,14 @@ first-row : (k : Bytes) (ks : List Bytes) (t : Bytes) {r : List ℕ} {rs : List 
 unfolding rows
 first-row k ks t {r} {rs} {u} e = by-line (line k t) refl e
   where
-    by-rest : (s : List ℕ) (w : Bytes) → line k t ≡ found s w → (b : Block) → rows ks w ≡ b → after (s ∷ []) b ≡ block (r ∷ rs) u → First k ks t r rs u
+    by-rest : (s : List ℕ) (w : Bytes) → line k t ≡ found s w → (b : Block) → rows ks w ≡ b → precededBy (s ∷ []) b ≡ block (r ∷ rs) u → First k ks t r rs u
     by-rest s w f broken g e = never-block e
     by-rest s w f (block ss v) g e =
         let a : s ≡ r = cc in
         let b : block ss v ≡ block rs u = cc in
         record { next = w; is = f ∙ ap (λ (x : List ℕ). found x w) a; others = g ∙ b }
 
-    by-line : (f : Found) → line k t ≡ f → onward f (rows ks) ≡ block (r ∷ rs) u → First k ks t r rs u
+    by-line : (f : LineFound) → line k t ≡ f → onward f (rows ks) ≡ block (r ∷ rs) u → First k ks t r rs u
     by-line missing f e = never-block e
     by-line (found s w) f e = by-rest s w f (rows ks w) refl e
 
@@ -91,7 +91,7 @@ lists-from-rows text (block rs u) e f head s = go (head .whole) s (rows listKeys
     tail ls q = sym (drop-at rs ls 5 n) ∙ ap (drop 5) q
 
     go : (w : Bool) → cond w (outline (head .counts) (head .largest) (drop (head .next) text)) none ≡ outlined (block rs u)
-        → (b : Block) → rows listKeys u ≡ b → after rs b ≡ block (rowsOf (sheetOf text)) []
+        → (b : Block) → rows listKeys u ≡ b → precededBy rs b ≡ block (rowsOf (sheetOf text)) []
         → rows listKeys (drop (head .next) text) ≡ block (lists (sheetOf text)) []
     go false s b g q = absurd (let z : _≡_ {A = ℕ} 0 1 = cc in omega arith)
     go true s broken g q = never-block q

@@ -14,7 +14,7 @@ use Rattle.codec.specs.Reply.{first}
 use Rattle.codec.specs.declared.Reply.the-variants as reply
 use Rattle.sheet_lines.specs.Form.{numberKeys, listKeys}
 use Rattle.sheet.specs.Form.{Sheet}
-use Rattle.sheet_lines.specs.Reader.{block, after, rows}
+use Rattle.sheet_lines.specs.Reader.{block, precededBy, rows}
 use Rattle.sheet.specs.Reader.{whole, formed, sheetFrom, sheetOf}
 use Rattle.sheet_lines.specs.Internal.{largest, outlined, seen}
 use Rattle.sheet.specs.Internal.{judged}
@@ -77,7 +77,7 @@ module _ (text : Bytes) (head : Lines) (sh : seen text head ≡ outlined (rows n
     abbrev H : Five (rows numberKeys text) (head .counts) (head .largest) (drop (head .next) text)
     H = five text head (rows numberKeys text) sh w
 
-    joined : rows (numberKeys ++ listKeys) text ≡ after (H .rs) (rows listKeys (drop (head .next) text))
+    joined : rows (numberKeys ++ listKeys) text ≡ precededBy (H .rs) (rows listKeys (drop (head .next) text))
     joined = rows-append numberKeys listKeys text (H .is)
 
     pub tail-broken : tail .whole ≡ false → formed text ≡ false
@@ -89,7 +89,7 @@ module _ (text : Bytes) (head : Lines) (sh : seen text head ≡ outlined (rows n
       L = five text tail (rows listKeys (drop (head .next) text)) st x
 
       all-rows : rows (numberKeys ++ listKeys) text ≡ block (H .rs ++ L .rs) (drop (tail .next) text)
-      all-rows = joined ∙ ap (after (H .rs)) (L .is)
+      all-rows = joined ∙ ap (precededBy (H .rs)) (L .is)
 
       -- text after the last line
       pub more-text : tail .next < length text → formed text ≡ false

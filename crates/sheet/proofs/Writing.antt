@@ -11,29 +11,29 @@ use lib.ListN.{length, drop, getD, length-append, drop-of-length-le}
 use Rattle.codec.specs.Bytes.{Bytes, bytes, words, put}
 use Rattle.codec.proofs.Laws.{length-put, put-none, put-append, le-or}
 use Rattle.codec.proofs.Numbers.{length-bytes, length-words, words-append, words-one}
-use Rattle.sheet_lines.specs.Reader.{digit, Place, fresh, within, Found, missing, found, Step, stop, on, done, step, follow, values}
+use Rattle.sheet_lines.specs.Reader.{digit, Place, fresh, within, LineFound, missing, found, Transition, stop, on, done, step, follow, values}
 use Rattle.sheet.specs.Internal.{numbersIn, Ready, Writes}
 use Rattle.sheet_lines.proofs.Steps.{unroll, same-or, begins, no-number, grows, leading-zero, too-long, comma, ends, neither}
 
 -- ---- a line has no fewer numbers than were read
 
-data Grown (n : ℕ) : Found → Type 0 where
+data Grown (n : ℕ) : LineFound → Type 0 where
   nothing : Grown n missing
   grown : {xs : List ℕ} {t : Bytes} → n ≤ length xs → Grown n (found xs t)
 
-grown-le : {n : ℕ} {f : Found} → Grown n f → (f ≡ missing → ⊥) → n ≤ length (numbersIn f)
+grown-le : {n : ℕ} {f : LineFound} → Grown n f → (f ≡ missing → ⊥) → n ≤ length (numbersIn f)
 grown-le nothing m = absurd (m refl)
 grown-le (grown k) m = k
 
 snoc-more : (xs : List ℕ) (v : ℕ) → length xs ≤ length (xs ++ v ∷ [])
 snoc-more xs v = simp length-append (omega arith)
 
-data Kept (n : ℕ) : Step → Type 0 where
+data Kept (n : ℕ) : Transition → Type 0 where
   stops : Kept n stop
   moves : {xs : List ℕ} {p : Place} → n ≤ length xs → Kept n (on xs p)
   closes : {xs : List ℕ} → n ≤ length xs → Kept n (done xs)
 
-pick : {n : ℕ} (b : Bool) {x y : Step} → Kept n x → Kept n y → Kept n (cond b x y)
+pick : {n : ℕ} (b : Bool) {x y : Transition} → Kept n x → Kept n y → Kept n (cond b x y)
 pick true p q = p
 pick false p q = q
 
@@ -45,11 +45,11 @@ kept xs (within v) c =
     (pick (eqb v 0) stops (pick (leb (10 ^ 16) v) stops (moves (le-refl (length xs)))))
     (pick (eqb c 44) (moves (snoc-more xs v)) (pick (eqb c 10) (closes (snoc-more xs v)) stops))
 
-fewer : {n m : ℕ} {f : Found} → n ≤ m → Grown m f → Grown n f
+fewer : {n m : ℕ} {f : LineFound} → n ≤ m → Grown m f → Grown n f
 fewer h nothing = nothing
 fewer h (grown k) = grown (le-trans h k)
 
-follow-grown : {n : ℕ} {s : Step} (f : List ℕ → Place → Found) (t : Bytes) → Kept n s → ((xs : List ℕ) (p : Place) → Grown (length xs) (f xs p))
+follow-grown : {n : ℕ} {s : Transition} (f : List ℕ → Place → LineFound) (t : Bytes) → Kept n s → ((xs : List ℕ) (p : Place) → Grown (length xs) (f xs p))
     → Grown n (follow s f t)
 follow-grown f t stops g = nothing
 follow-grown f t (moves {xs} {p} h) g = fewer h (g xs p)

@@ -5,13 +5,13 @@ use Rattle.codec.specs.Bytes.{Bytes}
 use Rattle.sheet_numbers.specs.declared.Numbers.{Numbers}
 use Rattle.sheet.specs.Form.{Sheet, written}
 
-abbrev pub numbers : ℕ → Numbers
-numbers q = record { ring = 4; modulus = q; drown = 0; rounds = 1; repeats = 1 }
+abbrev pub smallNumbers : ℕ → Numbers
+smallNumbers q = record { ring = 4; modulus = q; drown = 0; rounds = 1; repeats = 1 }
 
 -- document 01's sheet, with another modulus q and another list b
 abbrev pub small : ℕ → List ℕ → Sheet
 small q b = record {
-  numbers = numbers q;
+  numbers = smallNumbers q;
   a = 3 ∷ 5 ∷ 0 ∷ 0 ∷ [];
   b = b;
   k1 = 10 ∷ 0 ∷ 0 ∷ 0 ∷ [];

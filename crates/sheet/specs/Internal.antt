@@ -7,7 +7,7 @@ use lib.Dec.{eqb}
 use lib.ListN.{length}
 use Rattle.codec.specs.Bytes.{Bytes, words, put}
 use Rattle.codec.specs.Lists.{every, allBelow}
-use Rattle.sheet_lines.specs.Reader.{Found, missing, found}
+use Rattle.sheet_lines.specs.Reader.{LineFound, missing, found}
 use Rattle.sheet.specs.Reader.{formed, sheetOf}
 use Rattle.sheet_numbers.specs.Rules.{outside, unsound}
 use Rattle.sheet.specs.Sheet.{unfit, reading, polynomials}
@@ -19,21 +19,21 @@ use Rattle.codec.specs.declared.Reply.the-variants as reply
 -- ---- for the contracts of the crate's inner functions: what is put out of the lines of a text, and what is said of it by what the code keeps of its lines
 
 -- a line's numbers, and the text after it
-abbrev pub numbersIn : Found → List ℕ
+abbrev pub numbersIn : LineFound → List ℕ
 numbersIn missing = []
 numbersIn (found xs t) = xs
 
-abbrev pub rest : Found → Bytes
+abbrev pub rest : LineFound → Bytes
 rest missing = []
 rest (found xs t) = t
 
 -- the line is there, and its numbers fit into d from an index on
-pub record Ready (f : Found) (from : ℕ) (d : Bytes) : Type 0 where
+pub record Ready (f : LineFound) (from : ℕ) (d : Bytes) : Type 0 where
   pub there : f ≡ missing → ⊥
   pub room : from + 8 * length (numbersIn f) ≤ length d
 
 -- they were put there, and the text after the line is t
-pub record Writes (f : Found) (from : ℕ) (d : Bytes) (t out : Bytes) : Type 0 where
+pub record Writes (f : LineFound) (from : ℕ) (d : Bytes) (t out : Bytes) : Type 0 where
   pub wrote : out ≡ put d from (words (numbersIn f))
   pub goes-on : t ≡ rest f
 
@@ -53,9 +53,9 @@ judged k counts tops =
     (Refused 5)))
 
 -- what a lent buffer holds after a reading: the polynomials at its head, or what it held if the sheet is refused
-abbrev pub filled : Reading → Bytes → Bytes → Bytes
-filled (Taken k) text d = put d 0 (polynomials text)
-filled (Refused n) text d = d
+abbrev pub bufferAfter : Reading → Bytes → Bytes → Bytes
+bufferAfter (Taken k) text d = put d 0 (polynomials text)
+bufferAfter (Refused n) text d = d
 
 unfoldable pub loaded : Bytes → Bytes → Bytes
-loaded text d = filled (reading text) text d
+loaded text d = bufferAfter (reading text) text d

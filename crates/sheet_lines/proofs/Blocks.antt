@@ -9,17 +9,17 @@ use lib.ListN.{length, take, drop, getD, set, length-append, length-drop, length
 use lib.Seq.{length-take-le, getD-take, getD-drop, set-append-seam}
 use Rattle.codec.specs.Bytes.{Bytes, zeros}
 use Rattle.sheet_lines.specs.Form.{numberKeys, listKeys}
-use Rattle.sheet_lines.specs.Reader.{Found, missing, found, line, Block, broken, block, after, onward, rows}
+use Rattle.sheet_lines.specs.Reader.{LineFound, missing, found, line, Block, broken, block, precededBy, onward, rows}
 use Rattle.sheet_lines.specs.Internal.{largest, bad, sum, summed, none, outline, outlined, seen, Reached, behind, further, reached, filled, Scanned}
 use Rattle.sheet_lines.specs.declared.Lines.{Lines}
 use Rattle.sheet_lines.proofs.Steps.{unroll}
 use Rattle.sheet_lines.proofs.LineForm.{never-block}
 
-after-none : (b : Block) → after [] b ≡ b
+after-none : (b : Block) → precededBy [] b ≡ b
 after-none broken = refl
 after-none (block rs t) = refl
 
-after-after : (rs ss : List (List ℕ)) (b : Block) → after rs (after ss b) ≡ after (rs ++ ss) b
+after-after : (rs ss : List (List ℕ)) (b : Block) → precededBy rs (precededBy ss b) ≡ precededBy (rs ++ ss) b
 after-after rs ss broken = refl
 after-after rs ss (block us t) = ap (λ (l : List (List ℕ)). block l t) (sym (append-assoc rs ss us))
 
@@ -31,19 +31,19 @@ map-snoc f [] r = refl
 map-snoc f (s ∷ rs) r = ap (λ (l : List ℕ). f s ∷ l) (map-snoc f rs r)
 
 -- a line that was summed is there
-pub record Met (f : Found) (n top : ℕ) (t : Bytes) : Type 0 where
+pub record Met (f : LineFound) (n top : ℕ) (t : Bytes) : Type 0 where
   pub xs : List ℕ
   pub is : f ≡ found xs t
   pub count : n ≡ length xs
   pub most : top ≡ largest 0 xs
 
-pub meet : (f : Found) {n top : ℕ} {t : Bytes} → sum n top t ≡ summed f → Met f n top t
+pub meet : (f : LineFound) {n top : ℕ} {t : Bytes} → sum n top t ≡ summed f → Met f n top t
 meet missing e = absurd (let z : _≡_ {A = ℕ} 0 1 = cc in omega arith)
 meet (found xs u) {n} {top} {t} e =
     let q : u ≡ t = cc in
     record { xs = xs; is = ap (found xs) q; count = cc; most = cc }
 
-unmet : (f : Found) → bad ≡ summed f → f ≡ missing
+unmet : (f : LineFound) → bad ≡ summed f → f ≡ missing
 unmet missing e = refl
 unmet (found xs u) e = absurd (let z : _≡_ {A = ℕ} 0 1 = cc in omega arith)
 
@@ -63,7 +63,7 @@ module _ (f : List ℕ → ℕ) (rs : List (List ℕ)) where
 pub record Passed (ks : List Bytes) (text : Bytes) (at i next : ℕ) (counts tops : List ℕ) : Type 0 where
   pub rs : List (List ℕ)
   pub many : length rs ≡ i
-  pub same : rows ks (drop at text) ≡ after rs (rows (drop i ks) (drop next text))
+  pub same : rows ks (drop at text) ≡ precededBy rs (rows (drop i ks) (drop next text))
   pub reach : reached ks (drop at text) ≡ behind rs (reached (drop i ks) (drop next text))
   pub counted : counts ≡ filled length rs
   pub most : tops ≡ filled (largest 0) rs
@@ -73,7 +73,7 @@ module _ (ks : List Bytes) (text : Bytes) (at : ℕ) where
   starts c t = record { rs = []; many = refl; same = sym (after-none (rows ks (drop at text))); reach = refl; counted = c; most = t }
 
   module _ (i next : ℕ) (counts tops : List ℕ) (p : Passed ks text at i next counts tops) where
-    row : i < length ks → rows ks (drop at text) ≡ after (p .rs) (onward (line (getD ks i []) (drop next text)) (rows (drop (i + 1) ks)))
+    row : i < length ks → rows ks (drop at text) ≡ precededBy (p .rs) (onward (line (getD ks i []) (drop next text)) (rows (drop (i + 1) ks)))
     unfolding rows
     row h = p .same ∙ rw (unroll [] ks i h)
 
@@ -123,7 +123,7 @@ module _ (from : ℕ) (h : from + 5 ≤ 10) where
 
 -- ---- two blocks
 
-pub rows-append : (ks ls : List Bytes) (t : Bytes) {rs : List (List ℕ)} {u : Bytes} → rows ks t ≡ block rs u → rows (ks ++ ls) t ≡ after rs (rows ls u)
+pub rows-append : (ks ls : List Bytes) (t : Bytes) {rs : List (List ℕ)} {u : Bytes} → rows ks t ≡ block rs u → rows (ks ++ ls) t ≡ precededBy rs (rows ls u)
 unfolding rows
 rows-append [] ls t {rs} {u} e =
     let a : rs ≡ [] = cc in
@@ -131,18 +131,18 @@ rows-append [] ls t {rs} {u} e =
     rw (a, b) (sym (after-none (rows ls u)))
 rows-append (k ∷ ks) ls t {rs} {u} e = by-line (line k t) e (λ w ss v f. rows-append ks ls w f)
   where
-    by-rest : (r : List ℕ) (w : Bytes) (b : Block) → rows ks w ≡ b → after (r ∷ []) b ≡ block rs u
-        → ((ss : List (List ℕ)) (v : Bytes) → rows ks w ≡ block ss v → rows (ks ++ ls) w ≡ after ss (rows ls v))
-        → after (r ∷ []) (rows (ks ++ ls) w) ≡ after rs (rows ls u)
+    by-rest : (r : List ℕ) (w : Bytes) (b : Block) → rows ks w ≡ b → precededBy (r ∷ []) b ≡ block rs u
+        → ((ss : List (List ℕ)) (v : Bytes) → rows ks w ≡ block ss v → rows (ks ++ ls) w ≡ precededBy ss (rows ls v))
+        → precededBy (r ∷ []) (rows (ks ++ ls) w) ≡ precededBy rs (rows ls u)
     by-rest r w broken f e h = never-block e
     by-rest r w (block ss v) f e h =
         let a : r ∷ ss ≡ rs = cc in
         let b : v ≡ u = cc in
         rw (h ss v f, ← a, ← b) (after-after (r ∷ []) ss (rows ls v))
 
-    by-line : (f : Found) → onward f (rows ks) ≡ block rs u
-        → ((w : Bytes) (ss : List (List ℕ)) (v : Bytes) → rows ks w ≡ block ss v → rows (ks ++ ls) w ≡ after ss (rows ls v))
-        → onward f (rows (ks ++ ls)) ≡ after rs (rows ls u)
+    by-line : (f : LineFound) → onward f (rows ks) ≡ block rs u
+        → ((w : Bytes) (ss : List (List ℕ)) (v : Bytes) → rows ks w ≡ block ss v → rows (ks ++ ls) w ≡ precededBy ss (rows ls v))
+        → onward f (rows (ks ++ ls)) ≡ precededBy rs (rows ls u)
     by-line missing e h = never-block e
     by-line (found r w) e h = by-rest r w (rows ks w) refl e (h w)
 
@@ -151,12 +151,12 @@ unfolding rows
 rows-broken [] ls t e = never-block (sym e)
 rows-broken (k ∷ ks) ls t e = by-line (line k t) e (λ w f. rows-broken ks ls w f)
   where
-    by-rest : (r : List ℕ) (w : Bytes) (b : Block) → rows ks w ≡ b → after (r ∷ []) b ≡ broken → (rows ks w ≡ broken → rows (ks ++ ls) w ≡ broken)
-        → after (r ∷ []) (rows (ks ++ ls) w) ≡ broken
+    by-rest : (r : List ℕ) (w : Bytes) (b : Block) → rows ks w ≡ b → precededBy (r ∷ []) b ≡ broken → (rows ks w ≡ broken → rows (ks ++ ls) w ≡ broken)
+        → precededBy (r ∷ []) (rows (ks ++ ls) w) ≡ broken
     by-rest r w broken f e h = rw (h f)
     by-rest r w (block ss v) f e h = never-block (sym e)
 
-    by-line : (f : Found) → onward f (rows ks) ≡ broken → ((w : Bytes) → rows ks w ≡ broken → rows (ks ++ ls) w ≡ broken) → onward f (rows (ks ++ ls)) ≡ broken
+    by-line : (f : LineFound) → onward f (rows ks) ≡ broken → ((w : Bytes) → rows ks w ≡ broken → rows (ks ++ ls) w ≡ broken) → onward f (rows (ks ++ ls)) ≡ broken
     by-line missing e h = refl
     by-line (found r w) e h = by-rest r w (rows ks w) refl e (h w)
 

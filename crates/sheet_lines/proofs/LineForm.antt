@@ -12,7 +12,7 @@ use lib.ListN.{length}
 use lib.Seq.{append-snoc}
 use Rattle.codec.specs.Bytes.{Bytes}
 use Rattle.sheet_lines.specs.Form.{decimal, listed, lines, Plain, AllPlain}
-use Rattle.sheet_lines.specs.Reader.{digit, Place, fresh, within, Found, missing, found, values, line, Block, broken, block, after, onward, rows}
+use Rattle.sheet_lines.specs.Reader.{digit, Place, fresh, within, LineFound, missing, found, values, line, Block, broken, block, precededBy, onward, rows}
 use Rattle.codec.proofs.Laws.{le-or}
 use Rattle.sheet_lines.proofs.Steps.{same-or, never-found, digit-is, digit-of, begins, no-number, grows, leading-zero, too-long, comma, ends, neither}
 
@@ -216,7 +216,7 @@ lined [] text e = relined e (record { is = refl; plain = tt; count = refl })
 lined (k ∷ ks) text {rs} {t} e = by-line (line k text) refl e (λ u ss w g. lined ks u g)
   where
     by-rest : (r : List ℕ) (u : Bytes) → line k text ≡ found r u → (b : Block) → ((ss : List (List ℕ)) (w : Bytes) → b ≡ block ss w → Lined ks u ss w)
-        → after (r ∷ []) b ≡ block rs t → Lined (k ∷ ks) text rs t
+        → precededBy (r ∷ []) b ≡ block rs t → Lined (k ∷ ks) text rs t
     by-rest r u f broken h e = never-block e
     by-rest r u f (block ss w) h e =
         let y = keyed k text f in
@@ -229,7 +229,7 @@ lined (k ∷ ks) text {rs} {t} e = by-line (line k text) refl e (λ u ss w g. li
           count = ap suc (l .count);
         })
 
-    by-line : (f : Found) → line k text ≡ f → onward f (rows ks) ≡ block rs t
+    by-line : (f : LineFound) → line k text ≡ f → onward f (rows ks) ≡ block rs t
         → ((u : Bytes) (ss : List (List ℕ)) (w : Bytes) → rows ks u ≡ block ss w → Lined ks u ss w) → Lined (k ∷ ks) text rs t
     by-line missing f e h = never-block e
     by-line (found r u) f e h = by-rest r u f (rows ks u) (h u) e

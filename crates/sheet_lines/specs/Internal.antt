@@ -6,7 +6,7 @@ use Prim.Native.Nat.{ℕ, _-_}
 use lib.Dec.{ltb}
 use lib.ListN.{length, drop}
 use Rattle.codec.specs.Bytes.{Bytes, zeros}
-use Rattle.sheet_lines.specs.Reader.{Found, missing, found, line, Block, broken, block, rows}
+use Rattle.sheet_lines.specs.Reader.{LineFound, missing, found, line, Block, broken, block, rows}
 use Rattle.sheet_lines.specs.declared.Scan.{Scan}
 use Rattle.sheet_lines.specs.declared.Lines.{Lines}
 use Rattle.sheet_lines.specs.declared.Scan.the-variants as scan
@@ -25,7 +25,7 @@ pub data Summed : Type 0 where
   bad : Summed
   sum : ℕ → ℕ → Bytes → Summed
 
-abbrev pub summed : Found → Summed
+abbrev pub summed : LineFound → Summed
 summed missing = bad
 summed (found xs t) = sum (length xs) (largest 0 xs) t
 
@@ -54,7 +54,7 @@ pub record Reached : Type 0 where
 abbrev pub behind : List (List ℕ) → Reached → Reached
 behind rs r = record { numbers = rs ++ r .numbers; rest = r .rest }
 
-abbrev pub further : Found → (Bytes → Reached) → Bytes → Reached
+abbrev pub further : LineFound → (Bytes → Reached) → Bytes → Reached
 further missing f t = record { numbers = []; rest = t }
 further (found xs u) f t = behind (xs ∷ []) (f u)
 

@@ -15,18 +15,18 @@ pub data Place : Type 0 where
   within : ℕ → Place
 
 -- what stands at the head of a text: no line of the kind, or a line of these numbers, and the text after it
-pub data Found : Type 0 where
-  missing : Found
-  found : List ℕ → Bytes → Found
+pub data LineFound : Type 0 where
+  missing : LineFound
+  found : List ℕ → Bytes → LineFound
 
 -- what the next byte makes of a place: no such line, on to another place, or the end of the line; with the numbers read
-pub data Step : Type 0 where
-  stop : Step
-  on : List ℕ → Place → Step
-  done : List ℕ → Step
+pub data Transition : Type 0 where
+  stop : Transition
+  on : List ℕ → Place → Transition
+  done : List ℕ → Transition
 
 -- a digit may follow a number that is not 0 (no leading zero) and is below 10^16 (17 digits at most); a comma or LF may follow any number
-unfoldable pub step : List ℕ → Place → ℕ → Step
+unfoldable pub step : List ℕ → Place → ℕ → Transition
 step xs fresh c = cond (ltb (digit c) 10) (on xs (within (digit c))) stop
 step xs (within v) c =
     cond (ltb (digit c) 10)
@@ -35,18 +35,18 @@ step xs (within v) c =
     (cond (eqb c 10) (done (xs ++ v ∷ []))
     stop))
 
-abbrev pub follow : Step → (List ℕ → Place → Found) → Bytes → Found
+abbrev pub follow : Transition → (List ℕ → Place → LineFound) → Bytes → LineFound
 follow stop f t = missing
 follow (on xs p) f t = f xs p
 follow (done xs) f t = found xs t
 
 -- numbers between commas up to LF, after the numbers xs
-unfoldable pub values : List ℕ → Place → Bytes → Found
+unfoldable pub values : List ℕ → Place → Bytes → LineFound
 values xs p [] = missing
 values xs p (c ∷ t) = follow (step xs p c) (λ ys q. values ys q t) t
 
 -- a line: the key, then the numbers
-unfoldable pub line : Bytes → Bytes → Found
+unfoldable pub line : Bytes → Bytes → LineFound
 line [] t = values [] fresh t
 line (k ∷ ks) [] = missing
 line (k ∷ ks) (c ∷ t) = cond (eqb c k) (line ks t) missing
@@ -56,13 +56,13 @@ pub data Block : Type 0 where
   broken : Block
   block : List (List ℕ) → Bytes → Block
 
-abbrev pub after : List (List ℕ) → Block → Block
-after rs broken = broken
-after rs (block ss t) = block (rs ++ ss) t
+abbrev pub precededBy : List (List ℕ) → Block → Block
+precededBy rs broken = broken
+precededBy rs (block ss t) = block (rs ++ ss) t
 
-abbrev pub onward : Found → (Bytes → Block) → Block
+abbrev pub onward : LineFound → (Bytes → Block) → Block
 onward missing f = broken
-onward (found xs t) f = after (xs ∷ []) (f t)
+onward (found xs t) f = precededBy (xs ∷ []) (f t)
 
 -- the lines of these keys, in order
 unfoldable pub rows : List Bytes → Bytes → Block

@@ -12,8 +12,8 @@ abbrev pub mask : ℕ → ℕ → ℕ → ℕ
 mask p n d = 2 ^ d * noise p n / (2 * p)
 
 -- the unknowns of the shortness argument, L
-abbrev pub unknowns : ℕ → ℕ
-unknowns n = 14 * n
+abbrev pub unknownCount : ℕ → ℕ
+unknownCount n = 14 * n
 
 -- the largest m, up to n, with 3^m ≤ 2^(rounds + m)
 unfoldable pub most : ℕ → ℕ → ℕ

@@ -43,7 +43,7 @@ pub fn mask_bound(k: Numbers) -> u64
 // The unknowns of the shortness argument, L.
 pub fn unknowns(n: u64) -> u64
     requires { ⌜ n ≤ 2048 ⌝ }
-    ensures { λ r. ⌜ r ≡ def.unknowns n ⌝ }
+    ensures { λ r. ⌜ r ≡ def.unknownCount n ⌝ }
 {
     14 * n
 }

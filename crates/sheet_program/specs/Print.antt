@@ -7,7 +7,7 @@ use lib.Dec.{ltb}
 use lib.ListN.{length}
 use Rattle.codec.specs.Bytes.{Bytes, put}
 use Rattle.sheet_lines.specs.Form.{decimal}
-use Rattle.sheet_numbers.specs.Bounds.{unknowns}
+use Rattle.sheet_numbers.specs.Bounds.{unknownCount}
 use Rattle.sheet_numbers.specs.Plain.{noiseOf, maskOf}
 use Rattle.sheet.specs.Sheet.{reading}
 use Rattle.sheet.specs.declared.Reading.{Reading}
@@ -31,13 +31,13 @@ noise= = 110 ∷ 111 ∷ 105 ∷ 115 ∷ 101 ∷ 61 ∷ []
 abbrev pub mask= : Bytes
 mask= = 109 ∷ 97 ∷ 115 ∷ 107 ∷ 61 ∷ []
 
-abbrev pub unknowns= : Bytes
-unknowns= = 117 ∷ 110 ∷ 107 ∷ 110 ∷ 111 ∷ 119 ∷ 110 ∷ 115 ∷ 61 ∷ []
+abbrev pub unknownCount= : Bytes
+unknownCount= = 117 ∷ 110 ∷ 107 ∷ 110 ∷ 111 ∷ 119 ∷ 110 ∷ 115 ∷ 61 ∷ []
 
 -- verdict, N, D, B and L; a refusal prints the verdict line only
 unfoldable pub printedBy : Reading → Bytes
 printedBy (Taken k) =
-    printedLine verdict= 0 ++ printedLine ring= (k .ring) ++ printedLine noise= (noiseOf k) ++ printedLine mask= (maskOf k) ++ printedLine unknowns= (unknowns (k .ring))
+    printedLine verdict= 0 ++ printedLine ring= (k .ring) ++ printedLine noise= (noiseOf k) ++ printedLine mask= (maskOf k) ++ printedLine unknownCount= (unknownCount (k .ring))
 printedBy (Refused n) = printedLine verdict= n
 
 -- over 65,536 bytes: verdict 1

@@ -25,7 +25,7 @@ use Rattle.vector.proofs.Vectors.{at-each}
 use Rattle.commitment.specs.Commitment.{Keys}
 use Rattle.stern.specs.Argument.{two-by1, three-by1, one-by2, three-by2, one-by3, two-by3}
 use Rattle.stern.specs.Internal.{Short, Solves, Passes1, PassesPermuted, Passes2, Passes3, Extracted}
-use Rattle.stern.specs.Shortness.{polynomial, numbers, equations, rightHandSides, setting, firstOf, answerLength, answer1Of, answer2Of, answer3Of, tests1, tests2, tests3}
+use Rattle.stern.specs.Shortness.{polynomial, listModulo, equations, rightHandSides, setting, firstOf, answerLength, answer1Of, answer2Of, answer3Of, tests1, tests2, tests3}
 use Rattle.stern.specs.Claims.{Meets}
 use Rattle.stern.proofs.FourEquations.{alike-numbers, setting-valid}
 use Rattle.stern.proofs.Layouts.{vector-of, permutes-of}
@@ -110,17 +110,17 @@ module _ (q N : ℕ) (k : Keys) (c : Bytes) (three : 2 < q) where
       let m : v % q ≡ q - 1 = rw e (mod-eq-of-lt (omega arith)) in
       rw (centre-high q v (omega arith) (omega arith)) (omega arith)
 
-  long : (f g : Poly) → length (numbers q N f) ≡ length (numbers q N g)
+  long : (f g : Poly) → length (listModulo q N f) ≡ length (listModulo q N g)
   long f g = length-list N (modulo q f) ∙ sym (length-list N (modulo q g))
 
   -- four lists of numbers side by side are equal one by one
   apart : (f₁ f₂ f₃ f₄ g₁ g₂ g₃ g₄ : Poly)
-      → numbers q N f₁ ++ (numbers q N f₂ ++ (numbers q N f₃ ++ numbers q N f₄)) ≡ numbers q N g₁ ++ (numbers q N g₂ ++ (numbers q N g₃ ++ numbers q N g₄))
+      → listModulo q N f₁ ++ (listModulo q N f₂ ++ (listModulo q N f₃ ++ listModulo q N f₄)) ≡ listModulo q N g₁ ++ (listModulo q N g₂ ++ (listModulo q N g₃ ++ listModulo q N g₄))
       → (Alike q N f₁ g₁) × (Alike q N f₂ g₂) × (Alike q N f₃ g₃) × (Alike q N f₄ g₄)
   apart f₁ f₂ f₃ f₄ g₁ g₂ g₃ g₄ e =
-      let a = parts (numbers q N f₁) (numbers q N g₁) (long f₁ g₁) e in
-      let b = parts (numbers q N f₂) (numbers q N g₂) (long f₂ g₂) (a .1) in
-      let d = parts (numbers q N f₃) (numbers q N g₃) (long f₃ g₃) (b .1) in
+      let a = parts (listModulo q N f₁) (listModulo q N g₁) (long f₁ g₁) e in
+      let b = parts (listModulo q N f₂) (listModulo q N g₂) (long f₂ g₂) (a .1) in
+      let d = parts (listModulo q N f₃) (listModulo q N g₃) (long f₃ g₃) (b .1) in
       (alike-numbers f₁ g₁ (a .0), alike-numbers f₂ g₂ (b .0), alike-numbers f₃ g₃ (d .0), alike-numbers f₄ g₄ (d .1))
 
   -- of the case `found` of an extraction

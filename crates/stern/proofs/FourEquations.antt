@@ -23,43 +23,43 @@ use Rattle.vector.proofs.Linear.{join}
 use Rattle.commitment.specs.Commitment.{Keys, Three, Alike3, plus3, row, second}
 use Rattle.commitment.proofs.Additive.{row-adds, second-adds, row-alike, second-alike}
 use Rattle.stern.specs.Internal.{Valid}
-use Rattle.stern.specs.Shortness.{polynomial, threeFrom, numbers, equations, rightHandSides, setting}
+use Rattle.stern.specs.Shortness.{polynomial, threeFrom, listModulo, equations, rightHandSides, setting}
 
 -- ---- the numbers of a polynomial
 
-pub numbers-vector : {q : ℕ} (N : ℕ) (f : Poly) → 0 < q → Vector q N (numbers q N f)
-numbers-vector {q} N f h = rw (length-list N (modulo q f)) at (allBelow-each q (numbers q N f) (below-complete q N (modulo q f) (below-modulo f h)))
+pub numbers-vector : {q : ℕ} (N : ℕ) (f : Poly) → 0 < q → Vector q N (listModulo q N f)
+numbers-vector {q} N f h = rw (length-list N (modulo q f)) at (allBelow-each q (listModulo q N f) (below-complete q N (modulo q f) (below-modulo f h)))
 
-pub numbers-at : (q N : ℕ) (f : Poly) (k : ℕ) → k < N → getD (numbers q N f) k 0 ≡ f k % q
+pub numbers-at : (q N : ℕ) (f : Poly) (k : ℕ) → k < N → getD (listModulo q N f) k 0 ≡ f k % q
 unfolding modulo
 numbers-at q N f k l = getD-list N (modulo q f) k l
 
 -- polynomials have the same numbers exactly if they are alike
-pub numbers-alike : {q N : ℕ} {f g : Poly} → Alike q N f g → numbers q N f ≡ numbers q N g
+pub numbers-alike : {q N : ℕ} {f g : Poly} → Alike q N f g → listModulo q N f ≡ listModulo q N g
 unfolding modulo
 numbers-alike {N} e = list-cong N (λ k l. e .at k l .is)
 
-pub alike-numbers : {q N : ℕ} (f g : Poly) → numbers q N f ≡ numbers q N g → Alike q N f g
+pub alike-numbers : {q N : ℕ} (f g : Poly) → listModulo q N f ≡ listModulo q N g → Alike q N f g
 alike-numbers {q} {N} f g e = record {
   at = λ k l. record { is = sym (numbers-at q N f k l) ∙ ap (λ (x : List ℕ). getD x k 0) e ∙ numbers-at q N g k l };
 }
 
-pub numbers-add : (q N : ℕ) (f g : Poly) → 0 < q → numbers q N (plus f g) ≡ add q (numbers q N f) (numbers q N g)
+pub numbers-add : (q N : ℕ) (f g : Poly) → 0 < q → listModulo q N (plus f g) ≡ add q (listModulo q N f) (listModulo q N g)
 unfolding plus
 numbers-add q N f g h =
-    ext-getD 0 (numbers q N (plus f g)) (add q (numbers q N f) (numbers q N g)) (size ∙ sym (each-length (add-vector v w)))
+    ext-getD 0 (listModulo q N (plus f g)) (add q (listModulo q N f) (listModulo q N g)) (size ∙ sym (each-length (add-vector v w)))
     (λ k l. entry k (omega (arith, size)))
   where
-    v : Vector q N (numbers q N f)
+    v : Vector q N (listModulo q N f)
     v = numbers-vector N f h
 
-    w : Vector q N (numbers q N g)
+    w : Vector q N (listModulo q N g)
     w = numbers-vector N g h
 
-    size : length (numbers q N (plus f g)) ≡ N
+    size : length (listModulo q N (plus f g)) ≡ N
     size = length-list N (modulo q (plus f g))
 
-    entry : (k : ℕ) → k < N → getD (numbers q N (plus f g)) k 0 ≡ getD (add q (numbers q N f) (numbers q N g)) k 0
+    entry : (k : ℕ) → k < N → getD (listModulo q N (plus f g)) k 0 ≡ getD (add q (listModulo q N f) (listModulo q N g)) k 0
     entry k l =
         numbers-at q N (plus f g) k l ∙ add-mod (f k) (g k) q
         ∙ sym (add-at k v w ∙ ap₂ (λ (a b : ℕ). (a + b) % q) (numbers-at q N f k l) (numbers-at q N g k l))
@@ -95,16 +95,16 @@ module _ (q N : ℕ) (k : Keys) where
 
   module _ (h : 0 < q) where
     -- what is additive has additive numbers
-    linear-numbers : {L : ℕ} (F : List ℕ → Poly) → ((x z : List ℕ) → Vector q L x → Vector q L z → Alike q N (F (add q x z)) (plus (F x) (F z))) → Linear q L N (λ x. numbers q N (F x))
+    linear-numbers : {L : ℕ} (F : List ℕ → Poly) → ((x z : List ℕ) → Vector q L x → Vector q L z → Alike q N (F (add q x z)) (plus (F x) (F z))) → Linear q L N (λ x. listModulo q N (F x))
     linear-numbers F additive = record {
       vector = λ {x} v. numbers-vector N (F x) h;
       sum = λ {x} {z} v w. numbers-alike (additive x z v w) ∙ numbers-add q N (F x) (F z) h;
     }
 
-    row-linear : {L : ℕ} (i j : ℕ) → Linear q L N (λ x. numbers q N (row q N k (hiding x i j)))
+    row-linear : {L : ℕ} (i j : ℕ) → Linear q L N (λ x. listModulo q N (row q N k (hiding x i j)))
     row-linear i j = linear-numbers (λ x. row q N k (hiding x i j)) (λ x z v w. row-alike q N k (hiding-add i j v w) so alike-eq (row-adds q N k (hiding x i j) (hiding z i j)))
 
-    second-linear : {L : ℕ} (i j l : ℕ) → Linear q L N (λ x. numbers q N (second q N k (hiding x i j) (polynomial N x l)))
+    second-linear : {L : ℕ} (i j l : ℕ) → Linear q L N (λ x. listModulo q N (second q N k (hiding x i j) (polynomial N x l)))
     second-linear i j l =
         linear-numbers (λ x. second q N k (hiding x i j) (polynomial N x l))
         (λ x z v w. second-alike q N k (hiding-add i j v w) (polynomial-add N l v w) so alike-eq (second-adds q N k (hiding x i j) (hiding z i j) (polynomial N x l) (polynomial N z l)))

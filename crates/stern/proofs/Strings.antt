@@ -23,7 +23,7 @@ use Rattle.commitment.specs.Internal.{PairInSlots}
 use Rattle.commitment.proofs.Additive.{row-alike, second-alike}
 use Rattle.vector.specs.Vector.{vector, subtract}
 use Rattle.vector.proofs.Vectors.{add-subtract}
-use Rattle.stern.specs.Shortness.{polynomial, threeFrom, numbers, equations, rightHandSides}
+use Rattle.stern.specs.Shortness.{polynomial, threeFrom, listModulo, equations, rightHandSides}
 use Rattle.stern.specs.Internal.{words-at, threeWords, summedPair, lessPairs, equationPair}
 use Rattle.stern.proofs.FourEquations.{numbers-vector, numbers-alike, numbers-add, polynomial-vector}
 
@@ -41,9 +41,9 @@ module _ (q N : ℕ) (positive : 0 < q) where
   back f g =
       alike-eq (plus-assoc f _ g ∙ ap (plus f) (plus-comm _ g)) so alike-plus alike-refl (minus-self g positive) so alike-eq (Rattle.ring.proofs.Polynomials.plus-zero f)
 
-  numbers-subtract : (f g : Poly) → subtract q (numbers q N f) (numbers q N g) ≡ numbers q N (minus q f g)
+  numbers-subtract : (f g : Poly) → subtract q (listModulo q N f) (listModulo q N g) ≡ listModulo q N (minus q f g)
   numbers-subtract f g =
-      ap (λ (x : List ℕ). subtract q x (numbers q N g)) (sym (numbers-alike (back f g)) ∙ numbers-add q N (minus q f g) g positive)
+      ap (λ (x : List ℕ). subtract q x (listModulo q N g)) (sym (numbers-alike (back f g)) ∙ numbers-add q N (minus q f g) g positive)
       ∙ add-subtract (numbers-vector N (minus q f g) positive) (numbers-vector N g positive)
 
   -- two subtracted one after the other
@@ -92,7 +92,7 @@ module _ (q N : ℕ) (positive : 0 < q) where
     two-pair = summedPair q N k x (8 * N) N
 
     abbrev joined : Pair → Pair → List ℕ
-    joined a b = numbers q N (a .one) ++ (numbers q N (a .two) ++ (numbers q N (b .one) ++ numbers q N (b .two)))
+    joined a b = listModulo q N (a .one) ++ (listModulo q N (a .two) ++ (listModulo q N (b .one) ++ listModulo q N (b .two)))
 
     equations-are : equations q N k xs ≡ joined one-pair two-pair
     unfolding equations
@@ -103,22 +103,22 @@ module _ (q N : ℕ) (positive : 0 < q) where
 
     -- ---- the right-hand sides subtracted
 
-    less-part : (f : Poly) (i j a b : ℕ) → i ≡ 8 * a → j ≡ 8 * b → subtract q (numbers q N f) (numbers q N (plus (slot c i) (slot c j))) ≡ numbers q N (minus q (minus q f (words-at c a)) (words-at c b))
+    less-part : (f : Poly) (i j a b : ℕ) → i ≡ 8 * a → j ≡ 8 * b → subtract q (listModulo q N f) (listModulo q N (plus (slot c i) (slot c j))) ≡ listModulo q N (minus q (minus q f (words-at c a)) (words-at c b))
     less-part f i j a b ei ej =
-        numbers-subtract f (plus (slot c i) (slot c j)) ∙ ap (numbers q N) (twice f (slot c i) (slot c j) ∙ ap₂ (λ (u v : ℕ). minus q (minus q f (slot c u)) (slot c v)) ei ej)
+        numbers-subtract f (plus (slot c i) (slot c j)) ∙ ap (listModulo q N) (twice f (slot c i) (slot c j) ∙ ap₂ (λ (u v : ℕ). minus q (minus q f (slot c u)) (slot c v)) ei ej)
 
-    same-length : (f g : Poly) → length (numbers q N f) ≡ length (numbers q N g)
+    same-length : (f g : Poly) → length (listModulo q N f) ≡ length (listModulo q N g)
     same-length f g = length-list N (modulo q f) ∙ sym (length-list N (modulo q g))
 
     less-are : subtract q (equations q N k xs) (rightHandSides q N c) ≡ joined (lessPairs q N one-pair c 0) (lessPairs q N two-pair c (4 * N))
     unfolding rightHandSides
     less-are =
         ap (λ (l : List ℕ). subtract q l (rightHandSides q N c)) equations-are
-        ∙ subtract-append q (numbers q N (one-pair .one)) _ (numbers q N (plus (slot c 0) (slot c (16 * N)))) _ (same-length _ _)
+        ∙ subtract-append q (listModulo q N (one-pair .one)) _ (listModulo q N (plus (slot c 0) (slot c (16 * N)))) _ (same-length _ _)
         ∙ ap₂ _++_ (less-part (one-pair .one) 0 (16 * N) 0 (0 + 2 * N) (omega arith) (omega arith))
-        (subtract-append q (numbers q N (one-pair .two)) _ (numbers q N (plus (slot c (8 * N)) (slot c (24 * N)))) _ (same-length _ _)
+        (subtract-append q (listModulo q N (one-pair .two)) _ (listModulo q N (plus (slot c (8 * N)) (slot c (24 * N)))) _ (same-length _ _)
         ∙ ap₂ _++_ (less-part (one-pair .two) (8 * N) (24 * N) (0 + N) (0 + 3 * N) (omega arith) (omega arith))
-        (subtract-append q (numbers q N (two-pair .one)) _ (numbers q N (plus (slot c (32 * N)) (slot c (48 * N)))) _ (same-length _ _)
+        (subtract-append q (listModulo q N (two-pair .one)) _ (listModulo q N (plus (slot c (32 * N)) (slot c (48 * N)))) _ (same-length _ _)
         ∙ ap₂ _++_ (less-part (two-pair .one) (32 * N) (48 * N) (4 * N) (4 * N + 2 * N) (omega arith) (omega arith))
         (less-part (two-pair .two) (40 * N) (56 * N) (4 * N + N) (4 * N + 3 * N) (omega arith) (omega arith))))
 
@@ -127,10 +127,10 @@ module _ (q N : ℕ) (positive : 0 < q) where
     joined-bytes : (a b : Pair) → words (joined a b) ≡ pairBytes q N a ++ pairBytes q N b
     unfolding pairBytes encode
     joined-bytes a b =
-        words-append (numbers q N (a .one)) _
-        ∙ ap (λ (t : Bytes). words (numbers q N (a .one)) ++ t)
-        (words-append (numbers q N (a .two)) _ ∙ ap (λ (t : Bytes). words (numbers q N (a .two)) ++ t) (words-append (numbers q N (b .one)) (numbers q N (b .two))))
-        ∙ sym (append-assoc (words (numbers q N (a .one))) (words (numbers q N (a .two))) _)
+        words-append (listModulo q N (a .one)) _
+        ∙ ap (λ (t : Bytes). words (listModulo q N (a .one)) ++ t)
+        (words-append (listModulo q N (a .two)) _ ∙ ap (λ (t : Bytes). words (listModulo q N (a .two)) ++ t) (words-append (listModulo q N (b .one)) (listModulo q N (b .two))))
+        ∙ sym (append-assoc (words (listModulo q N (a .one))) (words (listModulo q N (a .two))) _)
 
     pub covered : (less : Bool) → words (cond less (subtract q (equations q N k xs) (rightHandSides q N c)) (equations q N k xs)) ≡ pairBytes q N (equationPair q N k c less x (2 * N) 0 0) ++ pairBytes q N (equationPair q N k c less x (8 * N) N (4 * N))
     covered true = ap words less-are ∙ joined-bytes (lessPairs q N one-pair c 0) (lessPairs q N two-pair c (4 * N))

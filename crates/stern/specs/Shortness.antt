@@ -27,8 +27,8 @@ abbrev pub threeFrom : ℕ → List ℕ → ℕ → Three
 threeFrom N x j = record { r1 = polynomial N x j; r2 = polynomial N x (j + 1); r3 = polynomial N x (j + 2) }
 
 -- the numbers of a polynomial modulo q
-abbrev pub numbers : (q N : ℕ) → Poly → List ℕ
-numbers q N f = list N (modulo q f)
+abbrev pub listModulo : (q N : ℕ) → Poly → List ℕ
+listModulo q N f = list N (modulo q f)
 
 -- the unknowns are s, e, then the three r of s0, of s1, of e0, of e1. The left-hand sides: the pair made from s and the summed r of s0 and s1, first half first, then
 -- likewise for e
@@ -36,18 +36,18 @@ unfoldable pub equations : (q N : ℕ) → Keys → List ℕ → List ℕ
 equations q N k x =
     let rs = plus3 (threeFrom N x 2) (threeFrom N x 5) in
     let re = plus3 (threeFrom N x 8) (threeFrom N x 11) in
-    numbers q N (row q N k rs)
-    ++ (numbers q N (second q N k rs (polynomial N x 0))
-    ++ (numbers q N (row q N k re)
-    ++ numbers q N (second q N k re (polynomial N x 1))))
+    listModulo q N (row q N k rs)
+    ++ (listModulo q N (second q N k rs (polynomial N x 0))
+    ++ (listModulo q N (row q N k re)
+    ++ listModulo q N (second q N k re (polynomial N x 1))))
 
 -- the right-hand sides: the committed pairs for s0 and s1 added, then those for e0 and e1. The pairs of s0, s1, e0, e1 are 64N bytes
 unfoldable pub rightHandSides : (q N : ℕ) → Bytes → List ℕ
 rightHandSides q N c =
-    numbers q N (plus (slot c 0) (slot c (16 * N)))
-    ++ (numbers q N (plus (slot c (8 * N)) (slot c (24 * N)))
-    ++ (numbers q N (plus (slot c (32 * N)) (slot c (48 * N)))
-    ++ numbers q N (plus (slot c (40 * N)) (slot c (56 * N)))))
+    listModulo q N (plus (slot c 0) (slot c (16 * N)))
+    ++ (listModulo q N (plus (slot c (8 * N)) (slot c (24 * N)))
+    ++ (listModulo q N (plus (slot c (32 * N)) (slot c (48 * N)))
+    ++ listModulo q N (plus (slot c (40 * N)) (slot c (56 * N)))))
 
 -- Stern's argument for them, with salts of 32 bytes and SHA3-256
 abbrev pub setting : (q N : ℕ) → Keys → Bytes → Setting

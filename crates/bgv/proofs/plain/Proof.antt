@@ -7,13 +7,13 @@ use lib.ListN.{length}
 use Rattle.modular.specs.Modulo.{centre, remainder}
 use Rattle.modular.proofs.Centring.{remainder-lt}
 use Rattle.ring.specs.Slots.{poly}
-use Rattle.bgv.specs.Scheme.{plain}
+use Rattle.bgv.specs.Scheme.{plaintext}
 use Rattle.bgv.proofs.Votes.{voted, voted-none, voted-more, voted-all}
 use Rattle.bgv.proofs.plain.Statement.{statement}
 use Rattle.bgv.proofs.plain.Tie as tie
 
 abbrev Inv-loop : tie.InvT-loop
-Inv-loop work vote₀ p n q i₀ vote i = (i ≤ n) × (length vote ≡ length vote₀) × (vote ≡ voted vote₀ (plain q p (poly work)) i)
+Inv-loop work vote₀ p n q i₀ vote i = (i ≤ n) × (length vote ≡ length vote₀) × (vote ≡ voted vote₀ (plaintext q p (poly work)) i)
 
 abbrev μ-loop : tie.MeasureT-loop
 μ-loop work vote₀ p n q i₀ vote i = n - i
@@ -32,13 +32,13 @@ cast-write8 c =
     omega arith
 
 loop-again : tie.Need-loop-again Inv-loop μ-loop
-unfolding plain poly
+unfolding plaintext poly
 loop-again c =
     let a = c .before .before .before .before .before .before .before .before .before .before .args in
     let l = c .before .before .before .before .before .before .before .loop in (
       omega arith,
       c .before .before .write8 .kept .0 ∙ l .inv .1,
-      voted-more (a .vote .now) (plain (a .q) (a .p) (poly (a .work .now))) (l .i) (l .vote) _ _ (l .inv .2) (omega arith)
+      voted-more (a .vote .now) (plaintext (a .q) (a .p) (poly (a .work .now))) (l .i) (l .vote) _ _ (l .inv .2) (omega arith)
           (c .before .before .before .before .residue .ensures ∙ ap (λ x. remainder (a .p) (centre (a .q) x)) (c .before .before .before .before .before .read64 .ensures)) (c .before .before .write8 .ensures),
     )
 

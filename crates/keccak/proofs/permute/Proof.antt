@@ -4,7 +4,7 @@ use Prim.Native.Nat.{ℕ, _≤_, _-_}
 use native.Mathlib.Numerals.{add-one}
 use native.Mathlib.Omega.{arith}
 use borrow.Author.Needs.{needs}
-use Rattle.keccak.specs.Keccak.{State, rounds, keccak}
+use Rattle.keccak.specs.Keccak.{StateArray, rounds, keccak}
 use Rattle.keccak.specs.Internal.{flipped, six}
 use Rattle.keccak.proofs.Flips.{back, undone, next-flipped}
 use Rattle.keccak.proofs.Lanes.{Words, rounds-words}
@@ -44,7 +44,7 @@ returns c =
     let l = c .before .before .loop in
     let n : l .k ≡ 24 = omega arith in
     c .complemented2 .ensures
-    ∙ ap (flipped six) (l .inv .1 ∙ ap₂ (λ (k : ℕ) (x : State). flipped six (rounds k x)) n e)
+    ∙ ap (flipped six) (l .inv .1 ∙ ap₂ (λ (k : ℕ) (x : StateArray). flipped six (rounds k x)) n e)
     ∙ back six (rounds 24 s) (rounds-words 24 s w) (keccak-shape s)
 
 pub permute-spec : {M : Type 1} → statement M

@@ -1,7 +1,7 @@
 -- `keccak::round_step` meets its contract. Assumes nothing.
 use mathlib.Core.Path.{_∙_, ap}
 use borrow.Author.Needs.{needs}
-use Rattle.keccak.specs.Keccak.{State, rho, pi, iota}
+use Rattle.keccak.specs.Keccak.{StateArray, rho, pi, iota}
 use Rattle.keccak.specs.Internal.{chiFlipped, roundFlipped}
 use Rattle.keccak.proofs.round_step.Statement.{statement}
 use Rattle.keccak.proofs.round_step.Tie as tie
@@ -11,7 +11,7 @@ unfolding roundFlipped
 returns c =
     let k = c .before .before .before .before .before .args .c in
     c .iota-step .ensures
-    ∙ ap (λ (s : State). iota s k)
+    ∙ ap (λ (s : StateArray). iota s k)
     (c .before .chi-step .ensures
     ∙ ap chiFlipped (c .before .before .pi-step .ensures
     ∙ ap pi (c .before .before .before .rho-step .ensures

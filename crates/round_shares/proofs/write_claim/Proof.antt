@@ -11,7 +11,7 @@ use Rattle.codec.proofs.Lists.{length-list}
 use Rattle.ring.specs.Poly.{minus}
 use Rattle.ring.specs.Slots.{poly, slot}
 use Rattle.scratch.proofs.Slots.{stands-below}
-use Rattle.bgv.specs.Scheme.{plain}
+use Rattle.bgv.specs.Scheme.{plaintext}
 use Rattle.bgv.proofs.Votes.{plain-stands}
 use Rattle.stern.proofs.Answered.{lent-length}
 use Rattle.round_shares.proofs.ShareSteps.{add-lent-asks, opened-stands}
@@ -44,8 +44,8 @@ returns c =
     let f = minus (a .q) (poly (a .v .now)) (slot (a .work .now) 0) in
     let s = opened-stands (a .q) (a .n) (p .0 .ring-high) (p .0 .modulus-low) (p .0 .modulus-high) (a .work .now) (p .1) (poly (a .v .now)) (c .before .before .before .before .before .before .before .before .before .before .before .scale-slot .last .0) (c .before .before .before .before .before .before .before .before .before .before .before .scale-slot .ensures) (c .before .before .before .before .before .before .before .add .last .0) (c .before .before .before .before .before .before .before .add .ensures) in
     let t = c .before .before .plain .last .1 .0 in
-    let e : t ≡ list (a .n) (plain (a .q) (a .p) f) = c .before .before .plain .ensures ∙ plain-stands (a .q) (a .p) (a .n) f (a .work .now) (c .before .before .before .before .before .before .before .add .last .0) z (p .0 .modulus-high) s in
-    (put-between (a .claims .now) t (a .at) (a .at + a .n) (omega arith) (ap length e ∙ length-list (a .n) (plain (a .q) (a .p) f) ∙ omega arith) ∙ ap (put (a .claims .now) (a .at)) e, s .sized)
+    let e : t ≡ list (a .n) (plaintext (a .q) (a .p) f) = c .before .before .plain .ensures ∙ plain-stands (a .q) (a .p) (a .n) f (a .work .now) (c .before .before .before .before .before .before .before .add .last .0) z (p .0 .modulus-high) s in
+    (put-between (a .claims .now) t (a .at) (a .at + a .n) (omega arith) (ap length e ∙ length-list (a .n) (plaintext (a .q) (a .p) f) ∙ omega arith) ∙ ap (put (a .claims .now) (a .at)) e, s .sized)
 
 pub write-claim-spec : {M : Type 1} → statement M
 write-claim-spec = tie.close (tie.spec (λ c. search needs) (λ c κs. search needs) add-requires (λ c. search needs) (λ c. search needs) (λ c. search needs) (λ c. search needs) plain-requires (λ c. search needs) (λ c. search needs) returns)

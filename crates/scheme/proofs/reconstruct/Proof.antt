@@ -12,7 +12,7 @@ use Rattle.ring.specs.Slots.{poly}
 use Rattle.scratch.proofs.Order.{length-asked, stops, follows}
 use Rattle.scratch.proofs.Slots.{stands-below}
 use Rattle.scratch.proofs.Zeroizing.{worked-taken, worked-refused}
-use Rattle.bgv.specs.Scheme.{rebuilt, plain}
+use Rattle.bgv.specs.Scheme.{rebuilt, plaintext}
 use Rattle.bgv.proofs.Votes.{plain-stands}
 use Rattle.scheme.specs.Calls.{reconstructTests, reconstructWrites}
 use Rattle.scheme.proofs.Passed.{done, reconstruct-passed}
@@ -56,7 +56,7 @@ returns-3 c =
     let u = c .before .before .before .before .before .before .before .before .before .before .before .before .before .before .before .before .before .before .before .before .before .before .before .pre in
     let o = c .before .before .before .before .before .before .before .before .before .before .before .rebuilt .ensures in
     let went : Taken ≡ first (tests (c .before .before .before .before .before .before .before .before .before .before .before .before .before .before .before .before .before .before .before .before .before .before .before)) = follows 1 (c .before .before .before .before .before .before .before .before .before .before .before .before .before .before .before .before .before .sized .ensures) _ (c .before .before .before .before .before .before .before .before .before .before .before .before .before .before .before .before .if1 .left) (follows 5 (c .before .before .before .before .before .before .before .before .before .before .before .before .before .before .before .reconstruct-ranged .ensures) _ (c .before .before .before .before .before .before .before .before .before .before .before .before .before .before .if2 .left) done) in
-    let voted = ap (λ (i : ℕ). list (a .k .ring) (plain (a .k .modulus) i (rebuilt (a .k .modulus) (poly (a .v .now)) (poly (a .t0 .now)) (poly (a .t1 .now))))) (c .before .before .before .before .before .before .before .before .before .before .before .before .before .plain .ensures) in
+    let voted = ap (λ (i : ℕ). list (a .k .ring) (plaintext (a .k .modulus) i (rebuilt (a .k .modulus) (poly (a .v .now)) (poly (a .t0 .now)) (poly (a .t1 .now))))) (c .before .before .before .before .before .before .before .before .before .before .before .before .before .plain .ensures) in
     worked-taken went refl (c .before .before .before .before .before .before .plain2 .ensures ∙ plain-stands (a .k .modulus) _ (a .k .ring) _ _ _ (omega (arith, u .in-range .modulus-low)) (u .in-range .modulus-high) o ∙ voted) (c .before .before .wipe .ensures ∙ ap zeros (o .sized))
 
 pub reconstruct-spec : {M : Type 1} → statement M

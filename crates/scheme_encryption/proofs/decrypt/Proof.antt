@@ -14,7 +14,7 @@ use Rattle.scratch.proofs.Order.{length-asked, stops, follows}
 use Rattle.scratch.proofs.Slots.{stands-below, stands-alike}
 use Rattle.scratch.proofs.Ranges.{half-alike, half-public}
 use Rattle.scratch.proofs.Zeroizing.{worked-taken, worked-refused}
-use Rattle.bgv.specs.Scheme.{opened, plain}
+use Rattle.bgv.specs.Scheme.{opened, plaintext}
 use Rattle.bgv.proofs.Votes.{plain-stands}
 use Rattle.bgv.proofs.Form.{opened-alike}
 use Rattle.scheme.specs.Calls.{decryptTests, decryptWrites}
@@ -77,7 +77,7 @@ returns-3 c =
     let u = half-alike n q (l .in-range .ring-low) (l .in-range .ring-high) (l .in-range .modulus-low) (l .in-range .modulus-high) (a .ciphertext .now) (p .1) (p .2) 0 0 (8 * n - 0) (omega arith) (omega arith) (omega arith) in
     let v = half-alike n q (l .in-range .ring-low) (l .in-range .ring-high) (l .in-range .modulus-low) (l .in-range .modulus-high) (a .ciphertext .now) (p .1) (p .2) n (8 * n) (16 * n - 8 * n) (omega arith) (omega arith) (omega arith) in
     let o = stands-alike (c .before .before .before .before .before .before .before .before .before .before .before .opened .ensures) (opened-alike q n (ternary q (a .s .now)) u v) in
-    let voted = ap (λ (i : ℕ). list n (plain q i (opened q n (ternary q (a .s .now)) (slot (a .ciphertext .now) 0) (slot (a .ciphertext .now) (8 * n))))) (c .before .before .before .before .before .before .before .before .before .before .before .before .before .before .before .plain .ensures) in
+    let voted = ap (λ (i : ℕ). list n (plaintext q i (opened q n (ternary q (a .s .now)) (slot (a .ciphertext .now) 0) (slot (a .ciphertext .now) (8 * n))))) (c .before .before .before .before .before .before .before .before .before .before .before .before .before .before .before .plain .ensures) in
     worked-taken went refl (c .before .before .before .before .before .before .plain2 .ensures ∙ plain-stands q _ n _ _ _ (omega (arith, l .in-range .modulus-low)) (l .in-range .modulus-high) o ∙ voted) (c .before .before .wipe .ensures ∙ ap zeros (o .sized))
 
 pub decrypt-spec : {M : Type 1} → statement M

@@ -2,7 +2,7 @@
 use mathlib.Core.Path.{_∙_, ap, sym}
 use borrow.Author.Needs.{needs}
 use native.Mathlib.Omega.{arith}
-use Rattle.keccak.specs.Keccak.{State, keccak}
+use Rattle.keccak.specs.Keccak.{StateArray, keccak}
 use Rattle.sha3.specs.Absorb.{xorByte}
 use Rattle.sha3.proofs.Padding.{pad-early, pad-late}
 use Rattle.sha3.proofs.pad.Statement.{statement}
@@ -12,7 +12,7 @@ returns : tie.Need-returns
 returns c =
     let st = c .before .before .before .before in
     c .permute .ensures
-    ∙ ap keccak (c .before .xor-byte2 .ensures ∙ ap (λ (s : State). xorByte s 135 128) (c .before .before .xor-byte .ensures))
+    ∙ ap keccak (c .before .xor-byte2 .ensures ∙ ap (λ (s : StateArray). xorByte s 135 128) (c .before .before .xor-byte .ensures))
     ∙ sym (pad-early (st .args .s) (st .args .at) (search needs))
 
 returns-2 : tie.Need-returns-2

@@ -3,7 +3,7 @@ use mathlib.Core.Path.{_∙_, ap, ap₂}
 use Prim.Native.Nat.{_%_}
 use native.Mathlib.Omega.{arith}
 use borrow.Author.Needs.{needs}
-use Rattle.keccak.specs.Keccak.{State}
+use Rattle.keccak.specs.Keccak.{StateArray}
 use Rattle.sha3.specs.Absorb.{absorb}
 use Rattle.hasher.specs.Internal.{made, updated}
 use Rattle.hasher.proofs.Hasher.absorbed.Statement.{statement}
@@ -16,7 +16,7 @@ returns c =
     let h = a .self in
     let b = a .bytes .now in
     c .make .ensures
-    ∙ ap₂ made (c .before .before .absorb .ensures ∙ ap (λ (s : State). absorb s (h .place % 136) b) (c .before .before .before .state .ensures))
+    ∙ ap₂ made (c .before .before .absorb .ensures ∙ ap (λ (s : StateArray). absorb s (h .place % 136) b) (c .before .before .before .state .ensures))
     (omega (arith, c .before .advance .ensures))
 
 pub absorbed-spec : {M : Type 1} → statement M

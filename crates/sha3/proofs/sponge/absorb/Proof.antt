@@ -5,7 +5,7 @@ use lib.ListN.{length, take, drop}
 use native.Mathlib.Omega.{arith}
 use borrow.Author.Needs.{needs}
 use Rattle.sha3.specs.Absorb.{absorb}
-use Rattle.keccak.specs.Keccak.{State}
+use Rattle.keccak.specs.Keccak.{StateArray}
 use Rattle.sha3.proofs.Absorbing.{thirds}
 use Rattle.sha3.proofs.sponge.absorb.Statement.{statement}
 use Rattle.sha3.proofs.sponge.absorb.Tie as tie
@@ -18,9 +18,9 @@ returns-2 c =
     let h = (136 - at) % 136 in
     let e = length m - (length m - h) % 136 in
     c .absorb-bytes3 .ensures
-    ∙ ap (λ (s : State). absorb s 0 (take (length m - e) (drop e m)))
+    ∙ ap (λ (s : StateArray). absorb s 0 (take (length m - e) (drop e m)))
     (c .before .before .absorb-blocks .ensures
-    ∙ ap (λ (s : State). absorb s 0 (take (e - h) (drop h m))) (c .before .before .before .before .absorb-bytes2 .ensures))
+    ∙ ap (λ (s : StateArray). absorb s 0 (take (e - h) (drop h m))) (c .before .before .before .before .absorb-bytes2 .ensures))
     ∙ thirds m (st .args .s) at h e (search needs) (omega arith) (omega arith) (omega arith) (omega arith)
 
 pub absorb-spec : {M : Type 1} → statement M

@@ -5,7 +5,7 @@ use native.Mathlib.Omega.{arith}
 use borrow.Author.Needs.{needs}
 use lib.ListN.{length, take, drop}
 use lib.Seq.{take-all}
-use Rattle.keccak.specs.Keccak.{State, keccak}
+use Rattle.keccak.specs.Keccak.{StateArray, keccak}
 use Rattle.sha3.specs.Absorb.{absorb}
 use Rattle.codec.proofs.Laws.{length-part, octets-part}
 use Rattle.keccak.proofs.Shape.{Shape, array-shape, keccak-shape}
@@ -34,7 +34,7 @@ loop-again c =
     let e = c .permute .ensures ∙ ap keccak (c .before .xor-block .ensures) in (
       omega arith,
       omega arith,
-      e ∙ block (l .t) p (l .inv .3) o n ∙ ap (λ (s : State). absorb s 0 p) (l .inv .2) ∙ next-block m (l .i) (st .args .s) (omega arith) (l .inv .1),
+      e ∙ block (l .t) p (l .inv .3) o n ∙ ap (λ (s : StateArray). absorb s 0 p) (l .inv .2) ∙ next-block m (l .i) (st .args .s) (omega arith) (l .inv .1),
       subst⁻¹ Shape (c .permute .ensures) (keccak-shape (c .before .xor-block .result)),
     )
 

@@ -6,14 +6,14 @@ use native.Mathlib.Omega.{arith}
 use borrow.Author.Needs.{needs}
 use lib.ListN.{length, take, getD, set}
 use lib.Seq.{take-all}
-use Rattle.keccak.specs.Keccak.{State, lane, keccak}
+use Rattle.keccak.specs.Keccak.{StateArray, lane, keccak}
 use Rattle.sha3.specs.Absorb.{absorb, feed, xorLane, xorByte}
 use Rattle.sha3.proofs.Absorbing.{absorb-take, feed-early, feed-late}
 use Rattle.sha3.proofs.sponge.absorb_bytes.Statement.{statement}
 use Rattle.sha3.proofs.sponge.absorb_bytes.Tie as tie
 
 -- what a store of the lane leaves
-putInto : (s : State) (i b v : ℕ) → v ≡ xorLane (lane s (i / 8 % 5) (i / 40)) (i % 8) b → set s (i / 40) (set (getD s (i / 40) []) (i / 8 % 5) v) ≡ xorByte s i b
+putInto : (s : StateArray) (i b v : ℕ) → v ≡ xorLane (lane s (i / 8 % 5) (i / 40)) (i % 8) b → set s (i / 40) (set (getD s (i / 40) []) (i / 8 % 5) v) ≡ xorByte s i b
 unfolding xorByte
 putInto s i b v e = ap (λ (w : ℕ). set s (i / 40) (set (getD s (i / 40) []) (i / 8 % 5) w)) e
 

@@ -11,7 +11,7 @@ use Rattle.codec.proofs.Laws.{length-part, part-part}
 use Rattle.keccak.specs.Keccak.{lane}
 use Rattle.keccak.proofs.Rows.{row5}
 use Rattle.keccak.proofs.Shape.{five-of, array-shape}
-use Rattle.sha3.specs.Internal.{xorRow, xorBlock}
+use Rattle.sha3.specs.Internal.{absorbRow, xorBlock}
 use Rattle.sha3.proofs.Blocks.{past, row-in}
 use Rattle.sha3.proofs.sponge.xor_block.Statement.{statement}
 use Rattle.sha3.proofs.sponge.xor_block.Tie as tie
@@ -27,7 +27,7 @@ returns c =
     let w : length p ≡ 136 = length-part m at 136 (search needs) in
     let shape = array-shape _ _ s _ (st .good .0) in
     row5
-    (c .before .before .before .before .before .before .before .before .before .before .before .before .xor-row .ensures ∙ ap (xorRow (getD s 0 []) m) (sym (add-zero at)) ∙ row-in (getD s 0 []) m at 0 (omega arith))
+    (c .before .before .before .before .before .before .before .before .before .before .before .before .xor-row .ensures ∙ ap (absorbRow (getD s 0 []) m) (sym (add-zero at)) ∙ row-in (getD s 0 []) m at 0 (omega arith))
     (c .before .before .before .before .before .before .before .before .before .before .xor-row2 .ensures ∙ row-in (getD s 1 []) m at 40 (omega arith))
     (c .before .before .before .before .before .before .before .before .xor-row3 .ensures ∙ row-in (getD s 2 []) m at 80 (omega arith))
     (row5

@@ -7,12 +7,12 @@ use lib.Bits.{bitXor}
 use lib.ListN.{getD}
 use Rattle.codec.specs.Bytes.{number, part}
 use Rattle.keccak.proofs.Rows.{row5}
-use Rattle.sha3.specs.Internal.{xorRow}
+use Rattle.sha3.specs.Internal.{absorbRow}
 use Rattle.sha3.proofs.sponge.xor_row.Statement.{statement}
 use Rattle.sha3.proofs.sponge.xor_row.Tie as tie
 
 returns : tie.Need-returns
-unfolding xorRow
+unfolding absorbRow
 returns c =
     let a = c .before .before .before .before .before .before .args in
     let r = a .t1 in
