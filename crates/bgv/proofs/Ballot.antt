@@ -10,7 +10,7 @@ use Rattle.modular.proofs.Near.{near-le, near-add, near-negative, near-plain}
 use Rattle.ring.specs.Poly.{Poly, plus, minus, scale, mul, Alike}
 use Rattle.ring.proofs.Polynomials.{plus-comm, plus-assoc, plus-left-comm, scale-plus, scale-left-comm, mul-plus, plus-mul, mul-scale, scale-mul, mul-poly-assoc, mul-poly-left-comm, alike-eq, alike-refl, alike-sym, _so_, alike-plus, alike-minus}
 use Rattle.ring.proofs.Sizes.{near-product}
-use Rattle.bgv.specs.Scheme.{noisy, Small, key, cipher-u, cipher-v, opened, plaintext, decrypted}
+use Rattle.bgv.specs.Scheme.{noisy, Small, key, cipher-u, cipher-v, noiseIn, plaintext, decrypted}
 use Rattle.bgv.specs.Internal.{Sound}
 use Rattle.bgv.proofs.Form.{noisy-alike, alike-drop}
 use Rattle.bgv.proofs.Round.{positive}
@@ -19,7 +19,7 @@ module _ {q p D B : ℕ} (ok : Sound q p D B) {N : ℕ} (bound : p * (2 * N + 1)
     (short-s : Small q N 1 s) (short-e : Small q N 1 e) (short-r : Small q N 1 r) (short-e' : Small q N 1 e') (short-e'' : Small q N 1 e'')
     (message : (k : ℕ) → k < N → m k < p) (matches : Alike q N (key q N p a s e) b) where
   ballot : Poly
-  ballot = opened q N s (cipher-u q N p a r e') (cipher-v q N p b r e'' m)
+  ballot = noiseIn q N s (cipher-u q N p a r e') (cipher-v q N p b r e'' m)
 
   -- e r + e'' - s e'
   error : Poly
@@ -27,7 +27,7 @@ module _ {q p D B : ℕ} (ok : Sound q p D B) {N : ℕ} (bound : p * (2 * N + 1)
 
   -- v - s u = p (e r + e'' - s e') + m
   ballot-noise : Alike q N ballot (plus (scale p error) m)
-  unfolding ballot error opened cipher-v noisy
+  unfolding ballot error noiseIn cipher-v noisy
   ballot-noise =
       alike-minus (alike-plus (noisy-alike q N p (alike-sym matches) alike-refl alike-refl) alike-refl) alike-refl so alike-eq sorted
       so alike-drop (mul q N a (mul q N s r)) (plus (scale p error) m) (positive ok)
@@ -55,7 +55,7 @@ module _ {q p D B : ℕ} (ok : Sound q p D B) {N : ℕ} (bound : p * (2 * N + 1)
       fits : p * (2 * N + 1) + m k ≤ (q - 1) / 2
       fits = omega (arith, message k l, bound, ok .room)
 
-  pub honest-noise : Small q N D (opened q N s (cipher-u q N p a r e') (cipher-v q N p b r e'' m))
+  pub honest-noise : Small q N D (noiseIn q N s (cipher-u q N p a r e') (cipher-v q N p b r e'' m))
   unfolding ballot
   honest-noise = record { at = λ k l. near-size (ok .odd) (omega (arith, ok .room)) (near-le (omega (arith, message k l, bound)) (at-each k l .0)) }
 

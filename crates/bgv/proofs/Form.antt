@@ -3,7 +3,7 @@ use mathlib.Core.Path.{_≡_, sym, ap, _∙_}
 use Prim.Native.Nat.{ℕ, _-_, _<_}
 use Rattle.ring.specs.Poly.{Poly, plus, scale, mul, zero-poly, Alike}
 use Rattle.ring.proofs.Polynomials.{plus-comm, plus-assoc, plus-left-comm, plus-zero, scale-plus, mul-plus, mul-poly-comm, alike-eq, alike-refl, alike-sym, _so_, alike-plus, alike-minus, alike-scale, alike-mul, minus-self}
-use Rattle.bgv.specs.Scheme.{noisy, key, opened, other}
+use Rattle.bgv.specs.Scheme.{noisy, key, noiseIn, other}
 
 module _ (q N p : ℕ) where
   -- a (x + x') + p (y + y')
@@ -24,9 +24,9 @@ module _ (q N p : ℕ) where
   unfolding noisy
   noisy-either a x y = noisy-turned a x y
 
-pub opened-alike : (q N : ℕ) (s : Poly) {u u' v v' : Poly} → Alike q N u u' → Alike q N v v' → Alike q N (opened q N s u v) (opened q N s u' v')
-unfolding opened
-opened-alike q N s e f = alike-minus f (alike-mul alike-refl e)
+pub noise-alike : (q N : ℕ) (s : Poly) {u u' v v' : Poly} → Alike q N u u' → Alike q N v v' → Alike q N (noiseIn q N s u v) (noiseIn q N s u' v')
+unfolding noiseIn
+noise-alike q N s e f = alike-minus f (alike-mul alike-refl e)
 
 -- x + (-x + r) = r
 pub alike-drop : {q N : ℕ} (x r : Poly) → 0 < q → Alike q N (plus x (plus (scale (q - 1) x) r)) r

@@ -14,7 +14,7 @@ use Rattle.modular.proofs.Division.{times-divide, divide-times}
 use Rattle.modular.proofs.WholeNumbers.{abs-negative, abs-sum, abs-multiple, remainder-sum, remainder-less, remainder-drops}
 use Rattle.ring.specs.Poly.{Poly, plus, minus, scale, mul, Alike}
 use Rattle.ring.proofs.Polynomials.{plus-comm, plus-assoc, plus-left-comm, scale-plus, scale-left-comm, plus-mul, alike-eq, alike-refl, _so_, alike-plus, alike-minus, alike-mul}
-use Rattle.bgv.specs.Scheme.{noisy, Wholes, residues, Bounded, Small, opened, plaintext, decrypted, share, recoveredMask, rebuilt, reconstructed}
+use Rattle.bgv.specs.Scheme.{noisy, Wholes, residues, Bounded, Small, noiseIn, plaintext, decrypted, share, recoveredMask, rebuilt, reconstructed}
 use Rattle.bgv.specs.Internal.{Sound}
 use Rattle.bgv.proofs.Form.{alike-drop}
 
@@ -70,9 +70,9 @@ module _ {q p D B : ℕ} (ok : Sound q p D B) where
   module _ {N : ℕ} (s0 s1 s u v t0 t1 : Poly) (E0 E1 : Wholes) (adds : Alike q N (plus s0 s1) s)
       (made0 : Alike q N t0 (share q N p s0 u E0)) (made1 : Alike q N t1 (share q N p s1 u E1)) where
     -- v - t0 - t1 = (v - s u) - p (E0 + E1)
-    rebuilt-opened : Alike q N (rebuilt q v t0 t1) (minus q (opened q N s u v) (scale p (plus (residues q E0) (residues q E1))))
-    unfolding rebuilt opened noisy
-    rebuilt-opened =
+    rebuilt-noise : Alike q N (rebuilt q v t0 t1) (minus q (noiseIn q N s u v) (scale p (plus (residues q E0) (residues q E1))))
+    unfolding rebuilt noiseIn noisy
+    rebuilt-noise =
         alike-minus (alike-minus alike-refl made0) made1 so alike-eq sorted
         so alike-minus (alike-minus alike-refl (alike-mul adds alike-refl)) alike-refl
       where
@@ -80,21 +80,21 @@ module _ {q p D B : ℕ} (ok : Sound q p D B) where
             ≡ minus q (minus q v (mul q N (plus s0 s1) u)) (scale p (plus (residues q E0) (residues q E1)))
         sorted = simp (plus-mul, scale-plus, scale-left-comm, plus-assoc, plus-comm, plus-left-comm)
 
-    module _ (noise : Small q N D (opened q N s u v)) (mask0 : Bounded N B E0) (mask1 : Bounded N B E1) where
+    module _ (noise : Small q N D (noiseIn q N s u v)) (mask0 : Bounded N B E0) (mask1 : Bounded N B E1) where
       -- centred it is (v - s u centred) - p (E0 + E1)
-      pub rebuilt-centred : (k : ℕ) → k < N → centre q (rebuilt q v t0 t1 k) ≡ centre q (opened q N s u v k) -ℤ pos p *ℤ (E0 k +ℤ E1 k)
+      pub rebuilt-centred : (k : ℕ) → k < N → centre q (rebuilt q v t0 t1 k) ≡ centre q (noiseIn q N s u v k) -ℤ pos p *ℤ (E0 k +ℤ E1 k)
       rebuilt-centred k l =
           centre-unique q (rebuilt q v t0 t1 k) (c -ℤ pos p *ℤ (E0 k +ℤ E1 k)) (ok .odd)
           (sym (remainder-mod q (c -ℤ pos p *ℤ (E0 k +ℤ E1 k)))
           ∙ (remainder-less q positive p c (E0 k +ℤ E1 k)
-          then same-add (same-eq (centre-remainder q (opened q N s u v k) positive) then same-mod) (same-mul (same-refl {x = q - 1}) (same-mul (same-refl {x = p}) (remainder-sum q positive (E0 k) (E1 k))))
-          then same-sym (rebuilt-opened .at k l then pointwise)) .is)
+          then same-add (same-eq (centre-remainder q (noiseIn q N s u v k) positive) then same-mod) (same-mul (same-refl {x = q - 1}) (same-mul (same-refl {x = p}) (remainder-sum q positive (E0 k) (E1 k))))
+          then same-sym (rebuilt-noise .at k l then pointwise)) .is)
           size
         where
           c : ℤ
-          c = centre q (opened q N s u v k)
+          c = centre q (noiseIn q N s u v k)
 
-          pointwise : Same q (minus q (opened q N s u v) (scale p (plus (residues q E0) (residues q E1))) k) (opened q N s u v k + (q - 1) * (p * (remainder q (E0 k) + remainder q (E1 k))))
+          pointwise : Same q (minus q (noiseIn q N s u v) (scale p (plus (residues q E0) (residues q E1))) k) (noiseIn q N s u v k + (q - 1) * (p * (remainder q (E0 k) + remainder q (E1 k))))
           pointwise = unfold plus scale in same-refl
 
           size : natAbs (c -ℤ pos p *ℤ (E0 k +ℤ E1 k)) ≤ (q - 1) / 2
@@ -114,4 +114,4 @@ module _ {q p D B : ℕ} (ok : Sound q p D B) where
       -- reconstruction equals decryption
       pub reconstructs : (k : ℕ) → k < N → reconstructed q p v t0 t1 k ≡ decrypted q N p s u v k
       unfolding plaintext
-      reconstructs k l = ap (remainder p) (rebuilt-centred k l) ∙ remainder-drops p (centre q (opened q N s u v k)) (E0 k +ℤ E1 k) (ok .positive)
+      reconstructs k l = ap (remainder p) (rebuilt-centred k l) ∙ remainder-drops p (centre q (noiseIn q N s u v k)) (E0 k +ℤ E1 k) (ok .positive)

@@ -2,7 +2,7 @@
 use mathlib.Core.Path.{_≡_}
 use native.Mathlib.Omega.{arith}
 use Rattle.codec.specs.Bytes.{Bytes}
-use Rattle.sheet_numbers.specs.Plain.{plain, noiseOf, maskOf}
+use Rattle.sheet_numbers.specs.Plain.{plain, noiseBoundOf, maskBoundOf}
 use Rattle.sheet_numbers.proofs.Ranges.{usable}
 use Rattle.sheet.specs.Sheet.{reading}
 use Rattle.sheet_numbers.specs.declared.Numbers.{Numbers}
@@ -11,8 +11,8 @@ use Rattle.sheet.proofs.Taken.{taken}
 use Rattle.bgv.specs.Internal.{Sound}
 use Rattle.bgv.proofs.Round.{sound}
 
-pub sheet-sound : (text : Bytes) (k : Numbers) → reading text ≡ Taken k → Sound (k .modulus) (plain k) (noiseOf k) (maskOf k)
+pub sheet-sound : (text : Bytes) (k : Numbers) → reading text ≡ Taken k → Sound (k .modulus) (plain k) (noiseBoundOf k) (maskBoundOf k)
 sheet-sound text k e =
     let t = taken text e in
     let u = usable k (t .ranged) (t .sound) in
-    sound (k .modulus) (plain k) (noiseOf k) (k .drown) (u .odd) (omega (arith, t .ranged .plain-low)) (u .apart) (t .sound .noise-fits)
+    sound (k .modulus) (plain k) (noiseBoundOf k) (k .drown) (u .odd) (omega (arith, t .ranged .plain-low)) (u .apart) (t .sound .noise-fits)

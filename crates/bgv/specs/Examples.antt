@@ -14,7 +14,7 @@ use Rattle.modular.specs.Division.{multiplier, inverse, divide}
 use Rattle.ring.specs.Poly.{Poly, sum, turn, coefficient, mul, plus, scale}
 use Rattle.ring.specs.Slots.{poly}
 use Rattle.ring.specs.Ternary.{meaning, ternary}
-use Rattle.sheet_numbers.specs.Bounds.{noise, mask, most, least, power}
+use Rattle.sheet_numbers.specs.Bounds.{noiseBound, maskBound, most, least, power}
 use Rattle.sheet_numbers.specs.Plain.{plain as sheet-plain}
 use Rattle.sheet_numbers.specs.Rules.{any, outside, unsound}
 use Rattle.sheet_lines.specs.Form.{decimal, listed, lines}
@@ -23,7 +23,7 @@ use Rattle.sheet_lines.specs.Reader.{digit, step, values, line, rows as rowsIn}
 use Rattle.sheet.specs.Reader.{formed, sheetOf}
 use Rattle.sheet.specs.Sheet.{unfit, reading, replyOf}
 use Rattle.sheet.specs.Examples.{textI}
-use Rattle.bgv.specs.Scheme.{Wholes, noisy, centred, key, cipher-u, cipher-v, opened, plaintext, decrypted, other, lentMask, share, recoveredMask, within, rebuilt, reconstructed}
+use Rattle.bgv.specs.Scheme.{Wholes, noisy, centred, key, cipher-u, cipher-v, noiseIn, plaintext, decrypted, other, lentMask, share, recoveredMask, within, rebuilt, reconstructed}
 
 -- ---- the paper's polynomials and numbers
 
@@ -104,7 +104,7 @@ replyRow r = pos (numberOf r) ∷ pos (placeOf r) ∷ []
 
 -- what the call of a decryption share answers by its test of a mask, which is lent in 64-bit numbers
 abbrev maskReply : List ℤ → Reply
-maskReply E = first (test 12 0 (not (within (mask 2 4 0) 4 (lentMask (words (map (remainder (2 ^ 64)) E))))) ∷ [])
+maskReply E = first (test 12 0 (not (within (maskBound 2 4 0) 4 (lentMask (words (map (remainder (2 ^ 64)) E))))) ∷ [])
 
 -- what is worked out, and what the paper has
 pub record Example : Type 0 where
@@ -119,7 +119,7 @@ comparisons =
     comparison (reduced (key 97 4 2 a s e)) (integers (3 ∷ 7 ∷ 94 ∷ 92 ∷ []))  -- A
     ∷ comparison (reduced (cipher-u 97 4 2 a r e')) (integers (0 ∷ 3 ∷ 5 ∷ 0 ∷ []))  -- B
     ∷ comparison (reduced (cipher-v 97 4 2 b r e'' m)) (integers (8 ∷ 3 ∷ 8 ∷ 95 ∷ []))
-    ∷ comparison (reduced (opened 97 4 s u v)) (integers (3 ∷ 0 ∷ 3 ∷ 1 ∷ []))  -- C
+    ∷ comparison (reduced (noiseIn 97 4 s u v)) (integers (3 ∷ 0 ∷ 3 ∷ 1 ∷ []))  -- C
     ∷ comparison (four (λ k. pos (decrypted 97 4 2 s u v k))) (integers (1 ∷ 0 ∷ 1 ∷ 1 ∷ []))
     ∷ comparison (reduced (other 97 s s0)) (integers (88 ∷ 77 ∷ 66 ∷ 57 ∷ []))  -- D
     ∷ comparison (reduced (share 97 4 2 s0 u (wholeOf E0))) (integers (29 ∷ 16 ∷ 13 ∷ 95 ∷ []))  -- E
@@ -133,10 +133,10 @@ comparisons =
     ∷ comparison (replyRow (maskReply (pos 5 ∷ - 4 ∷ pos 0 ∷ pos 1 ∷ []))) (integers (12 ∷ 0 ∷ []))  -- H
     ∷ comparison (replyRow (replyOf (reading (textI 81)))) (integers (0 ∷ 0 ∷ []))  -- I: the sheet's text, read
     ∷ comparison (replyRow (replyOf (reading (textI 73)))) (integers (4 ∷ 0 ∷ []))
-    ∷ comparison (pos (noise 2 2048) ∷ pos (mask 2 2048 40) ∷ []) (integers (8195 ∷ 2252624447406080 ∷ []))  -- J
+    ∷ comparison (pos (noiseBound 2 2048) ∷ pos (maskBound 2 2048 40) ∷ []) (integers (8195 ∷ 2252624447406080 ∷ []))  -- J
     ∷ []
 
 -- each row is as the paper says
 pub examples : map (λ (x : Example). x .got) comparisons ≡ map (λ (x : Example). x .said) comparisons
-unfolding comparisons centre remainder divide inverse multiplier sum turn coefficient mul plus scale meaning ternary noisy cipher-v opened plaintext recoveredMask rebuilt first within allBelow list poly signed words bytes number reading written lines listed decimal formed sheetOf rowsIn line values step digit any outside unsound sheet-plain unfit power least most
+unfolding comparisons centre remainder divide inverse multiplier sum turn coefficient mul plus scale meaning ternary noisy cipher-v noiseIn plaintext recoveredMask rebuilt first within allBelow list poly signed words bytes number reading written lines listed decimal formed sheetOf rowsIn line values step digit any outside unsound sheet-plain unfit power least most
 examples = refl

@@ -54,15 +54,15 @@ unfoldable pub cipher-v : (q N p : ℕ) (b r e'' m : Poly) → Poly
 cipher-v q N p b r e'' m = plus (noisy q N p b r e'') m
 
 -- v - s u. Its centred coefficients are the noise of the ciphertext (u, v)
-unfoldable pub opened : (q N : ℕ) (s u v : Poly) → Poly
-opened q N s u v = minus q v (mul q N s u)
+unfoldable pub noiseIn : (q N : ℕ) (s u v : Poly) → Poly
+noiseIn q N s u v = minus q v (mul q N s u)
 
 -- the remainder by p of the centred coefficients, never negative
 unfoldable pub plaintext : (q p : ℕ) → Poly → Poly
 plaintext q p w = λ k. remainder p (centre q (w k))
 
 abbrev pub decrypted : (q N p : ℕ) (s u v : Poly) → Poly
-decrypted q N p s u v = plaintext q p (opened q N s u v)
+decrypted q N p s u v = plaintext q p (noiseIn q N s u v)
 
 -- ---- distributed decryption (section 6.1)
 

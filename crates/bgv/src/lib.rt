@@ -145,9 +145,9 @@ fn less_product(work: &mut [u8], u: &[u8], v: &[u8], n: usize, q: u64)
 }
 
 // v - s u, for ternary bytes s.
-pub fn opened(work: &mut [u8], s: &[u8], u: &[u8], v: &[u8], n: usize, q: u64)
+pub fn noise(work: &mut [u8], s: &[u8], u: &[u8], v: &[u8], n: usize, q: u64)
     requires { ⌜ Polynomial n q (now u) × Polynomial n q (now v) × (length (now work) ≡ scratchLength) × (length (now s) ≡ n) ⌝ }
-    ensures { λ _. ⌜ InSlot q n (scheme.opened q n (ternary q (now (s .entry))) (poly (now (u .entry))) (poly (now (v .entry))))
+    ensures { λ _. ⌜ InSlot q n (scheme.noiseIn q n (ternary q (now (s .entry))) (poly (now (u .entry))) (poly (now (v .entry))))
         (now (work .entry)) (now (work .exit)) ⌝ }
 {
     ring::load_ternary(work, 0, s, q);

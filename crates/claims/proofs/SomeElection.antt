@@ -27,7 +27,7 @@ use Rattle.sheet.specs.Form.{written}
 use Rattle.sheet.specs.Reader.{formed, sheetOf}
 use Rattle.sheet.specs.Sheet.{order, unfit, polynomials}
 use Rattle.bgv.specs.Scheme as scheme
-use Rattle.bgv.specs.Scheme.{noisy, opened, within}
+use Rattle.bgv.specs.Scheme.{noisy, noiseIn, within}
 use Rattle.commitment.specs.Parameters.{Parameters, parametersOf}
 use Rattle.round.specs.Layout.{joined}
 use Rattle.round.specs.Producer.{Material, MaterialSized, producerTests, producedClaims}
@@ -82,7 +82,7 @@ P = parametersOf sheet
 
 -- none of the producer's tests refuses it
 passes : first (producerTests P 1 material true) ≡ Taken
-unfolding written lines listed decimal formed sheetOf rows line values step digit any plain polynomials first producerTests joined all allBelow list vector poly slot number words bytes encode modulo same noisy opened mul coefficient turn sum plus scale ternary meaning remainder centre within signed entries permutes count flatMap
+unfolding written lines listed decimal formed sheetOf rows line values step digit any plain polynomials first producerTests joined all allBelow list vector poly slot number words bytes encode modulo same noisy noiseIn mul coefficient turn sum plus scale ternary meaning remainder centre within signed entries permutes count flatMap
 passes = refl
 
 -- the ring, the modulus, one round and two repetitions, as the text says
@@ -100,7 +100,7 @@ repeats = refl
 
 -- the vote of example C
 votes : producedClaims P 1 material ≡ 1 ∷ 0 ∷ 1 ∷ 1 ∷ []
-unfolding written lines listed decimal formed sheetOf rows line values step digit any plain polynomials producedClaims joined list poly slot number words bytes opened mul coefficient turn sum plus scale ternary meaning remainder centre scheme.plaintext
+unfolding written lines listed decimal formed sheetOf rows line values step digit any plain polynomials producedClaims joined list poly slot number words bytes noiseIn mul coefficient turn sum plus scale ternary meaning remainder centre scheme.plaintext
 votes = refl
 
 sized : MaterialSized P 1 material

@@ -23,10 +23,10 @@ use Rattle.sheet.specs.Reader.{sheetOf}
 use Rattle.sheet.specs.Sheet.{order}
 use Rattle.scratch.specs.Call.{scratchLength, bytesBelow, coefficients}
 use Rattle.scratch.proofs.Order.{length-at}
-use Rattle.bgv.specs.Scheme.{Bounded, Small, key, cipher-u, cipher-v, opened, decrypted, other, share, lentMask}
+use Rattle.bgv.specs.Scheme.{Bounded, Small, key, cipher-u, cipher-v, noiseIn, decrypted, other, share, lentMask}
 use Rattle.bgv.specs.Internal.{Sound}
 use Rattle.bgv.proofs.Ballot.{honest-noise, honest-decrypts}
-use Rattle.bgv.proofs.Form.{halves, opened-alike}
+use Rattle.bgv.proofs.Form.{halves, noise-alike}
 use Rattle.bgv.proofs.Round as round
 use Rattle.commitment.proofs.Opening.{encode-decides}
 use Rattle.scheme.specs.Calls.{encryptTests, shareTests, encryptWrites, splitWrites, shareWrites, keygenWrites, decryptWrites, reconstructWrites}
@@ -84,7 +84,7 @@ module _ (text : Bytes) (sheet : None (order text)) where
     unfolding keygenWrites
     key-matches = encode-decides q N (positive text taken) (fits text taken) matches
 
-    noise : Small q N D (opened q N (ternary q s) uf vf)
+    noise : Small q N D (noiseIn q N (ternary q s) uf vf)
     noise = honest-noise ok (omega arith) a b (ternary q s) (ternary q e) (ternary q r) (ternary q e1) (ternary q e2) (coefficients m) (short s) (short e) (short r) (short e1) (short e2) message key-matches
 
     votes : list N (decrypted q N p (ternary q s) uf vf) ≡ m
@@ -96,7 +96,7 @@ module _ (text : Bytes) (sheet : None (order text)) where
     unfolding decryptWrites
     decrypts =
         plain-alike p
-        (opened-alike q N (ternary q s) (slot-alike q N (positive text taken) (fits text taken) c 0 uf (halves-of .0)) (slot-alike q N (positive text taken) (fits text taken) c (8 * N) vf (halves-of .1)))
+        (noise-alike q N (ternary q s) (slot-alike q N (positive text taken) (fits text taken) c 0 uf (halves-of .0)) (slot-alike q N (positive text taken) (fits text taken) c (8 * N) vf (halves-of .1)))
         ∙ votes
 
     -- ---- two shares of it
@@ -125,8 +125,8 @@ module _ (text : Bytes) (sheet : None (order text)) where
       v-alike : Alike q N (poly v) vf
       v-alike = alike-eq (ap poly (halves-of .1)) so read vf
 
-      opened-same : Alike q N (opened q N (ternary q s) (poly u) (poly v)) (opened q N (ternary q s) uf vf)
-      opened-same = opened-alike q N (ternary q s) u-alike v-alike
+      noise-same : Alike q N (noiseIn q N (ternary q s) (poly u) (poly v)) (noiseIn q N (ternary q s) uf vf)
+      noise-same = noise-alike q N (ternary q s) u-alike v-alike
 
       made : (half mask : Bytes) → Alike q N (poly (shareOf text half u mask)) (share q N p (poly half) (poly u) (lentMask mask))
       unfolding shareWrites
@@ -136,8 +136,8 @@ module _ (text : Bytes) (sheet : None (order text)) where
       unfolding reconstructWrites
       reconstructs =
           list-cong N (round.reconstructs ok (poly s0) (poly s1) (ternary q s) (poly u) (poly v) (poly (shareOf text s0 u mask0)) (poly (shareOf text s1 u mask1)) (lentMask mask0) (lentMask mask1) adds
-          (made s0 mask0) (made s1 mask1) (small-alike D (alike-sym opened-same) noise) bounded0 bounded1)
-          ∙ plain-alike p opened-same
+          (made s0 mask0) (made s1 mask1) (small-alike D (alike-sym noise-same) noise) bounded0 bounded1)
+          ∙ plain-alike p noise-same
           ∙ votes
 
 pub decrypts-together : DecryptsTogether

@@ -10,7 +10,7 @@ use Rattle.codec.specs.Bytes.{Bytes, Octets}
 use Rattle.codec.specs.declared.Reply.the-variants.{Taken}
 use Rattle.ring.specs.Poly.{Poly, Alike}
 use Rattle.scratch.specs.Call.{scratchLength}
-use Rattle.bgv.specs.Scheme.{Small, key, cipher-u, cipher-v, opened, decrypted}
+use Rattle.bgv.specs.Scheme.{Small, key, cipher-u, cipher-v, noiseIn, decrypted}
 use Rattle.bgv.specs.Examples.{Example}
 use Rattle.round.specs.Round.{Round}
 use Rattle.round.specs.Accepted.{Accepted}
@@ -47,7 +47,7 @@ HonestBallots = (text : Bytes) → SheetTaken text
     → ((i : ℕ) → i < P .N → m i < P .p) → Alike (P .q) (P .N) (key (P .q) (P .N) (P .p) (P .a) s e) (P .b)
     → let u = cipher-u (P .q) (P .N) (P .p) (P .a) r e1 in
     let v = cipher-v (P .q) (P .N) (P .p) (P .b) r e2 m in
-    Small (P .q) (P .N) (P .D) (opened (P .q) (P .N) s u v) × ((i : ℕ) → i < P .N → decrypted (P .q) (P .N) (P .p) s u v i ≡ m i)
+    Small (P .q) (P .N) (P .D) (noiseIn (P .q) (P .N) s u v) × ((i : ℕ) → i < P .N → decrypted (P .q) (P .N) (P .p) s u v i ≡ m i)
 
 -- worked examples A to K
 abbrev pub Examples : Type 0

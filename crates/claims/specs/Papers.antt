@@ -15,7 +15,7 @@ use Rattle.ring.specs.Slots.{coefficientBytes}
 use Rattle.session_histories.specs.Conditions.{SheetTaken}
 use Rattle.sha3.specs.Sponge.{sha3}
 use Rattle.keccak_bits.specs.Sponge.{bitsOf, sha3-256}
-use Rattle.bgv.specs.Scheme.{Wholes, Bounded, Small, key, opened, decrypted, other, share, recoveredMask, reconstructed}
+use Rattle.bgv.specs.Scheme.{Wholes, Bounded, Small, key, noiseIn, decrypted, other, share, recoveredMask, reconstructed}
 use Rattle.commitment.specs.Parameters.{Parameters, parametersOf}
 use Rattle.scheme.specs.Orders.{encryptOrder, splitOrder, shareOrder, keyOf, ciphertextOf, voteOf, splitOf, shareOf, voteOfShares}
 
@@ -35,7 +35,7 @@ module _ (P : Parameters) where
 
   -- Rec, as in jdn_reconstruct, of what two players give is Dec, as in jdn_decrypt: for halves that add up, masks within B and noise within D
   abbrev pub Reconstructed : (s u v : Poly) → Type 0
-  Reconstructed s u v = Small q N D (opened q N s u v)
+  Reconstructed s u v = Small q N D (noiseIn q N s u v)
       → (s0 s1 : Poly) → Alike q N (plus s0 s1) s
       → (E0 E1 : Wholes) → Bounded N B E0 → Bounded N B E1
       → (t0 t1 : Poly) → Alike q N t0 (share q N p s0 u E0) → Alike q N t1 (share q N p s1 u E1)

@@ -5,7 +5,7 @@ use Rattle.ring.specs.Poly.{Poly}
 use Rattle.ring.specs.Slots.{poly}
 use Rattle.sheet.specs.Reader.{sheetOf}
 use Rattle.sheet.specs.Sheet.{polynomials}
-use Rattle.sheet_numbers.specs.Plain.{plain, noiseOf, maskOf}
+use Rattle.sheet_numbers.specs.Plain.{plain, noiseBoundOf, maskBoundOf}
 use Rattle.sheet_numbers.specs.declared.Numbers.{Numbers}
 use Rattle.commitment.specs.Commitment.{Keys, keysOf}
 use Rattle.commitment.specs.Loaded.{aOf, bOf, keyBytes}
@@ -28,8 +28,8 @@ parametersBy k a b keys = record {
   q = k .modulus;
   N = k .ring;
   p = plain k;
-  B = maskOf k;
-  D = noiseOf k;
+  B = maskBoundOf k;
+  D = noiseBoundOf k;
   repeats = k .repeats;
   a = poly a;
   b = poly b;

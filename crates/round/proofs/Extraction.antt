@@ -11,7 +11,7 @@ use Rattle.codec.proofs.Lists.{list-cong}
 use Rattle.ring.specs.Poly.{Poly, plus, Alike}
 use Rattle.ring.specs.Slots.{slot}
 use Rattle.ring.proofs.Polynomials.{alike-eq, alike-sym, alike-refl, _so_, alike-plus}
-use Rattle.bgv.specs.Scheme.{Small, opened, decrypted, recoveredMask, reconstructed}
+use Rattle.bgv.specs.Scheme.{Small, noiseIn, decrypted, recoveredMask, reconstructed}
 use Rattle.bgv.specs.Internal.{Sound}
 use Rattle.bgv.proofs.Form.{noisy-adds, noisy-alike}
 use Rattle.bgv.proofs.Round.{share-worked, reconstructs}
@@ -112,7 +112,7 @@ module _ (P : Parameters) (m : ℕ) (x : Openings) where
           opens = λ j l noise. sym (accepted .side0 .claimed j l ∙ list-cong N (decrypts j l noise));
         }
           where
-            decrypts : (j : ℕ) → j < m → Small q N D (opened q N f (uAt N (x .ballots) j) (vAt N (x .ballots) j)) → (i : ℕ) → i < N
+            decrypts : (j : ℕ) → j < m → Small q N D (noiseIn q N f (uAt N (x .ballots) j) (vAt N (x .ballots) j)) → (i : ℕ) → i < N
                 → reconstructed q p (vAt N (x .ballots) j) (shareAt N (x .shares0) j) (shareAt N (x .shares1) j) i ≡ decrypted q N p f (uAt N (x .ballots) j) (vAt N (x .ballots) j) i
             decrypts j l noise =
                 let u = uAt N (x .ballots) j in

@@ -13,7 +13,7 @@ use Rattle.ring.specs.Poly.{Poly, modulo, Alike}
 use Rattle.ring.specs.Slots.{encode}
 use Rattle.ring.proofs.Bridge.{length-encode}
 use Rattle.ring.proofs.Polynomials.{alike-refl, alike-sym, _so_, alike-minus, alike-mul}
-use Rattle.bgv.specs.Scheme.{opened, plaintext}
+use Rattle.bgv.specs.Scheme.{noiseIn, plaintext}
 use Rattle.bgv.specs.Internal.{Sound}
 use Rattle.bgv.proofs.Form.{noisy-alike}
 use Rattle.commitment.specs.Commitment.{Three, Alike3}
@@ -61,9 +61,9 @@ module _ (P : Parameters) (m : ℕ) (x : Openings) where
       go (inr (inr n)) = inr (inr (nonzero-alike (e .r3) n))
 
   -- v - s u goes by s
-  opened-secret : {f g : Poly} (u v : Poly) → Alike q N f g → Alike q N (opened q N f u v) (opened q N g u v)
-  unfolding opened
-  opened-secret u v e = alike-minus alike-refl (alike-mul e alike-refl)
+  noise-secret : {f g : Poly} (u v : Poly) → Alike q N f g → Alike q N (noiseIn q N f u v) (noiseIn q N g u v)
+  unfolding noiseIn
+  noise-secret u v e = alike-minus alike-refl (alike-mul e alike-refl)
 
   pub secret-alike : {f f' g g' : Poly} → Alike q N f f' → Alike q N g g' → Key P m x f g → Key P m x f' g'
   unfolding plaintext
@@ -72,7 +72,7 @@ module _ (P : Parameters) (m : ℕ) (x : Openings) where
     short-e = small-alike 1 eg (y .short-e);
     matches = noisy-alike q N p alike-refl (alike-sym ef) (alike-sym eg) so y .matches;
     opens = λ j l noise.
-        let same = opened-secret (uAt N (x .ballots) j) (vAt N (x .ballots) j) ef in
+        let same = noise-secret (uAt N (x .ballots) j) (vAt N (x .ballots) j) ef in
         list-cong N (λ i h. ap (remainder p) (sym (same-centre (same .at i h)))) ∙ y .opens j l (small-alike D (alike-sym same) noise);
   }
 

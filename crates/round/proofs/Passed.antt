@@ -17,7 +17,7 @@ use Rattle.ring.specs.Poly.{Below}
 use Rattle.ring.specs.Slots.{poly}
 use Rattle.ring.proofs.Bridge.{encode-alike}
 use Rattle.ring.proofs.Ranges.{below-sound, below-complete}
-use Rattle.bgv.specs.Scheme.{Wholes, centred, Bounded, within, opened, lentMask}
+use Rattle.bgv.specs.Scheme.{Wholes, centred, Bounded, within, noiseIn, lentMask}
 use Rattle.commitment.proofs.Opening.{encode-decides}
 use Rattle.vector.specs.Vector.{vector}
 use Rattle.vector.specs.Permutation.{entries, permutes}
@@ -41,7 +41,7 @@ module _ (P : Parameters) (m : ℕ) (x : Material) where
   mask side j = lentMask (maskAt P m x side j)
 
   abbrev noise : ℕ → Wholes
-  noise j = centred q (opened q N (secret-s P m x) (uAt N (x .ballots) j) (vAt N (x .ballots) j))
+  noise j = centred q (noiseIn q N (secret-s P m x) (uAt N (x .ballots) j) (vAt N (x .ballots) j))
 
   abbrev mask-test : ℕ → List Test
   mask-test j = test 12 j (not (within B N (mask 0 j) && within B N (mask 1 j))) ∷ []

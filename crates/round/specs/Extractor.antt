@@ -13,7 +13,7 @@ use Rattle.sha3.specs.Sponge.{sha3}
 use Rattle.ring.specs.Poly.{Poly, modulo, zero-poly, Alike}
 use Rattle.ring.specs.Slots.{slot, encode}
 use Rattle.ring.specs.Ternary.{ternary}
-use Rattle.bgv.specs.Scheme.{Small, key, decrypted, opened}
+use Rattle.bgv.specs.Scheme.{Small, key, decrypted, noiseIn}
 use Rattle.commitment.specs.Commitment.{Three, Alike3, threeOf, plus3, minus3, row}
 use Rattle.vector.specs.Vector.{vector}
 use Rattle.stern.specs.Argument.{Setting, Answer1, Answer2, Answer3, solution, one-by2, one-by3, two-by1, two-by3, three-by1, three-by2}
@@ -223,7 +223,7 @@ module _ (P : Parameters) (m : ℕ) (x : Openings) where
     pub short-s : Small q N 1 f
     pub short-e : Small q N 1 g
     pub matches : Alike q N (key q N p a f g) b
-    pub opens : (j : ℕ) → j < m → Small q N D (opened q N f (uAt N (x .ballots) j) (vAt N (x .ballots) j))
+    pub opens : (j : ℕ) → j < m → Small q N D (noiseIn q N f (uAt N (x .ballots) j) (vAt N (x .ballots) j))
         → list N (decrypted q N p f (uAt N (x .ballots) j) (vAt N (x .ballots) j)) ≡ claimAt N (x .claims) j
 
   -- by the kind

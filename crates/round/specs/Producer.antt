@@ -12,7 +12,7 @@ use Rattle.codec.specs.Lists.{list, allBelow, all}
 use Rattle.ring.specs.Poly.{Poly}
 use Rattle.ring.specs.Slots.{coefficientBytes, poly}
 use Rattle.ring.specs.Ternary.{ternary}
-use Rattle.bgv.specs.Scheme.{centred, key, opened, decrypted, other, share, lentMask, within}
+use Rattle.bgv.specs.Scheme.{centred, key, noiseIn, decrypted, other, share, lentMask, within}
 use Rattle.commitment.specs.Commitment.{Keys, threeOf, committed, pairBytes}
 use Rattle.vector.specs.Vector.{vector}
 use Rattle.vector.specs.Permutation.{entries, permutes}
@@ -113,7 +113,7 @@ permutationTests N repeats permutations = joined repeats (λ i. test 9 i (not (p
 -- 15: the noise, v - s u centred, is at most D in size, by ballot
 abbrev pub noiseTests : (q N D m : ℕ) (secrets ballots : Bytes) → List Test
 noiseTests q N D m secrets ballots =
-    joined m (λ j. test 15 j (not (within D N (centred q (opened q N (ternary q (sIn N secrets)) (uAt N ballots j) (vAt N ballots j))))) ∷ [])
+    joined m (λ j. test 15 j (not (within D N (centred q (noiseIn q N (ternary q (sIn N secrets)) (uAt N ballots j) (vAt N ballots j))))) ∷ [])
 
 -- ---- what is written, each part over the slices that it is made from
 

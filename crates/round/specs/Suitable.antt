@@ -5,7 +5,7 @@ use lib.ListN.{getD}
 use Rattle.codec.specs.Bytes.{Bytes}
 use Rattle.ring.specs.Poly.{Alike, Below}
 use Rattle.ring.specs.Slots.{poly}
-use Rattle.bgv.specs.Scheme.{Bounded, Small, key, opened, lentMask}
+use Rattle.bgv.specs.Scheme.{Bounded, Small, key, noiseIn, lentMask}
 use Rattle.vector.specs.Vector.{vector}
 use Rattle.vector.specs.Permutation.{Permutes, entries}
 use Rattle.round.specs.Layout.{uAt, vAt}
@@ -31,7 +31,7 @@ module _ (P : Parameters) (m : ℕ) (x : Material) where
     -- 9: every P is a permutation of 3L places
     pub permuting : (i : ℕ) → i < repeats → Permutes (42 * N) (entries (permutationAt P m x i))
     -- 15: the noise of every ballot, v - s u centred, is at most D in size
-    pub quiet : (j : ℕ) → j < m → Small q N D (opened q N (secret-s P m x) (uAt N (x .ballots) j) (vAt N (x .ballots) j))
+    pub quiet : (j : ℕ) → j < m → Small q N D (noiseIn q N (secret-s P m x) (uAt N (x .ballots) j) (vAt N (x .ballots) j))
 
   -- what the second call is given beside the material (5): a side, and a challenge for each repetition
   pub record Asked (side : ℕ) (challenges : Bytes) : Type 0 where

@@ -8,7 +8,7 @@ pub use Rattle.ring.specs.Slots.{coefficientBytes, encode, poly, slot}
 pub use Rattle.ring.specs.Ternary.{ternary}
 pub use Rattle.vector.specs.Vector.{vector}
 pub use Rattle.sheet_numbers.specs.Internal.{Usable}
-pub use Rattle.sheet_numbers.specs.Plain.{maskOf, noiseOf, plain}
+pub use Rattle.sheet_numbers.specs.Plain.{maskBoundOf, noiseBoundOf, plain}
 pub use Rattle.scratch.specs.Call.{scratchLength, zeroized}
 pub use Rattle.scratch.specs.Internal.{Free, Judged, Polynomial, Tried}
 pub use Rattle.bgv.specs.Scheme.{other, within}

@@ -13,7 +13,7 @@ ghost use mathlib.Core.Path.{_≡_};
 ghost use mathlib.Core.List.{_++_};
 ghost use Prim.Native.Nat.{_*_, _≤_};
 ghost use lib.ListN.{length};
-ghost use Rattle.round.specs.Vocabulary.{Bytes, given, left, slot, plain, maskOf, scratchLength, Judged, Loaded, ballotLength};
+ghost use Rattle.round.specs.Vocabulary.{Bytes, given, left, slot, plain, maskBoundOf, scratchLength, Judged, Loaded, ballotLength};
 ghost use Rattle.round.specs.Vocabulary.{answersLength, ofSide, answersTests, votesTests, roundIn, parameters};
 ghost use Rattle.round.specs.Round.{ranged, roundLater, roundTests};
 ghost use Rattle.round.specs.Internal.{roundOf, Lengths};
@@ -71,7 +71,7 @@ fn check_answers<'a>(
         × RoundInRange (k .modulus) (k .ring) count (k .repeats)
         (roundOf side (now challenges) (now ballots) (now claims) (now head) (now shares0) (now shares1) (now opening) (now answers)) ⌝ }
     ensures { λ reply. ⌜ Judged (answersTests (parameters k (given public)) (given head) (given challenges) (given answers)
-        ++ votesTests (k .modulus) (k .ring) (plain k) (maskOf k) count (slot (given opening) 0) (given ballots) (given claims)
+        ++ votesTests (k .modulus) (k .ring) (plain k) (maskBoundOf k) count (slot (given opening) 0) (given ballots) (given claims)
         (given shares0) (given shares1) (ofSide side (given shares0) (given shares1))) reply (given work) (left work) ⌝ }
 {
     let answered = test_repetitions(work, k, public, head, challenges, answers);

@@ -12,7 +12,7 @@ ghost use mathlib.Core.Path.{_≡_};
 ghost use mathlib.Core.List.{_++_};
 ghost use Prim.Native.Nat.{_*_, _≤_};
 ghost use lib.ListN.{length};
-ghost use Rattle.round.specs.Vocabulary.{zeros, first, noiseOf, maskOf, scratchLength, Free, Loaded, ballotLength, given, left};
+ghost use Rattle.round.specs.Vocabulary.{zeros, first, noiseBoundOf, maskBoundOf, scratchLength, Free, Loaded, ballotLength, given, left};
 ghost use Rattle.round.specs.Vocabulary.{materialIn, materialNow, maskTests, permutationTests, noiseTests, parameters, Usable};
 ghost use Rattle.codec.specs.Reply.{leaves};
 ghost use Rattle.round.specs.Producer.{MaterialSized, secretTests};
@@ -82,8 +82,8 @@ fn test_each(
 ) -> Reply
     requires { ⌜ Usable k × (length (now work) ≡ scratchLength) × (count ≤ 4096)
         × EachReady k count (now secrets) (now masks0) (now masks1) (now permutations) (now ballots) ⌝ }
-    ensures { λ reply. let masks = maskTests (k .ring) (maskOf k) count (given masks0) (given masks1) in
-        let noise = noiseTests (k .modulus) (k .ring) (noiseOf k) count (given secrets) (given ballots) in
+    ensures { λ reply. let masks = maskTests (k .ring) (maskBoundOf k) count (given masks0) (given masks1) in
+        let noise = noiseTests (k .modulus) (k .ring) (noiseBoundOf k) count (given secrets) (given ballots) in
         ⌜ (reply ≡ first (masks ++ (permutationTests (k .ring) (k .repeats) (given permutations) ++ noise)))
         × (left work ≡ zeros (length (given work))) ⌝ }
 {

@@ -5,7 +5,7 @@ ghost use mathlib.Core.Path.{_≡_};
 ghost use mathlib.Core.Bool.{_&&_};
 ghost use Prim.Native.Nat.{_*_, _≤_};
 ghost use lib.ListN.{length};
-ghost use Rattle.round.specs.Vocabulary.{first, maskOf, within, given, maskTests, Usable};
+ghost use Rattle.round.specs.Vocabulary.{first, maskBoundOf, within, given, maskTests, Usable};
 ghost use Rattle.bgv.specs.Scheme.{lentMask};
 
 // Whether every number of two lent masks is at most a bound in size.
@@ -23,7 +23,7 @@ fn both_bounded(mask0: &[u8], mask1: &[u8], bound: u64, n: usize) -> bool
 // The masks of every ballot, in order.
 pub fn test_masks(k: Numbers, masks0: &[u8], masks1: &[u8], count: usize) -> Reply
     requires { ⌜ Usable k × (count ≤ 4096) × (length (now masks0) ≡ 8 * k .ring * count) × (length (now masks1) ≡ 8 * k .ring * count) ⌝ }
-    ensures { λ reply. ⌜ reply ≡ first (maskTests (k .ring) (maskOf k) count (given masks0) (given masks1)) ⌝ }
+    ensures { λ reply. ⌜ reply ≡ first (maskTests (k .ring) (maskBoundOf k) count (given masks0) (given masks1)) ⌝ }
 {
     let n = k.ring as usize;
     let bound = sheet_numbers::mask_bound(k);

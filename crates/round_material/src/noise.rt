@@ -5,9 +5,9 @@ ghost use mathlib.Core.Path.{_≡_};
 ghost use mathlib.Core.Bool.{true};
 ghost use Prim.Native.Nat.{_+_, _*_, _≤_, _<_, _^_};
 ghost use lib.ListN.{length};
-ghost use Rattle.round.specs.Vocabulary.{first, Below, poly, slot, ternary, noiseOf, scratchLength, Polynomial, Free, within};
+ghost use Rattle.round.specs.Vocabulary.{first, Below, poly, slot, ternary, noiseBoundOf, scratchLength, Polynomial, Free, within};
 ghost use Rattle.round.specs.Vocabulary.{ballotLength, given, left, sIn, noiseTests, Usable};
-ghost use Rattle.bgv.specs.Scheme.{centred, opened};
+ghost use Rattle.bgv.specs.Scheme.{centred, noiseIn};
 ghost use Rattle.round.specs.Layout.{ballotsBelow};
 
 // Whether the centred coefficients at the head of scratch are at most a bound in size.
@@ -29,10 +29,10 @@ fn head_within(work: &[u8], bound: u64, n: usize, q: u64) -> bool
 // Whether the noise of a ciphertext u, v is at most a bound.
 fn is_quiet(work: &mut [u8], s: &[u8], u: &[u8], v: &[u8], bound: u64, n: usize, q: u64) -> bool
     requires { ⌜ Polynomial n q (now u) × Polynomial n q (now v) × (length (now work) ≡ scratchLength) × (length (now s) ≡ n) ⌝ }
-    ensures { λ r. ⌜ (r ≡ within bound n (centred q (opened q n (ternary q (given s)) (poly (given u)) (poly (given v)))))
+    ensures { λ r. ⌜ (r ≡ within bound n (centred q (noiseIn q n (ternary q (given s)) (poly (given u)) (poly (given v)))))
         × Free (given work) (left work) ⌝ }
 {
-    bgv::opened(work, s, u, v, n, q);
+    bgv::noise(work, s, u, v, n, q);
     head_within(work, bound, n, q)
 }
 
@@ -49,7 +49,7 @@ fn is_quiet_at(
     requires { ⌜ (4 ≤ n) × (n ≤ 2048) × (3 ≤ q) × (q < 2 ^ 56) × (length (now work) ≡ scratchLength) × (length (now secrets) ≡ 14 * n)
         × (at + 4 + 16 * n ≤ length (now ballots)) × Below q (2 * n) (slot (now ballots) (at + 4)) ⌝ }
     ensures { λ r. let u = slot (given ballots) (at + 4) in let v = slot (given ballots) (at + 4 + 8 * n) in
-        ⌜ (r ≡ within bound n (centred q (opened q n (ternary q (sIn n (given secrets))) u v)))
+        ⌜ (r ≡ within bound n (centred q (noiseIn q n (ternary q (sIn n (given secrets))) u v)))
         × Free (given work) (left work) ⌝ }
 {
     let from = at + 4;
@@ -77,7 +77,7 @@ pub fn test_noise(
     requires { ⌜ Usable k × (count ≤ 4096) × (length (now work) ≡ scratchLength) × (length (now secrets) ≡ 14 * k .ring)
         × (length (now ballots) ≡ ballotLength (k .ring) * count)
         × (ballotsBelow (k .modulus) (k .ring) count (now ballots) ≡ true) ⌝ }
-    ensures { λ reply. ⌜ (reply ≡ first (noiseTests (k .modulus) (k .ring) (noiseOf k) count (given secrets) (given ballots)))
+    ensures { λ reply. ⌜ (reply ≡ first (noiseTests (k .modulus) (k .ring) (noiseBoundOf k) count (given secrets) (given ballots)))
         × Free (given work) (left work) ⌝ }
 {
     let n = k.ring as usize;

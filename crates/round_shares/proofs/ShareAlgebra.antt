@@ -12,8 +12,8 @@ use Rattle.ring.specs.Slots.{coefficientBytes, poly, slot, encode}
 use Rattle.ring.specs.Ternary.{ternary}
 use Rattle.ring.proofs.Bridge.{encode-alike}
 use Rattle.ring.proofs.Polynomials.{minus-mul, alike-eq, alike-refl, _so_, alike-plus, alike-minus}
-use Rattle.bgv.specs.Scheme.{Wholes, noisy, residues, opened, plaintext, decrypted, other, lentMask, share}
-use Rattle.bgv.proofs.Form.{noisy-alike, opened-alike}
+use Rattle.bgv.specs.Scheme.{Wholes, noisy, residues, noiseIn, plaintext, decrypted, other, lentMask, share}
+use Rattle.bgv.proofs.Form.{noisy-alike, noise-alike}
 use Rattle.round.proofs.Compared.{lent-alike}
 use Rattle.round.proofs.ExtractionSizes.{same-centre}
 use Rattle.round_head.proofs.Joining.{cut}
@@ -38,7 +38,7 @@ module _ (q n p : ℕ) (s s0 u : Poly) where
 
     -- the claim
     pub claim-plain : (v : Poly) → list n (plaintext q p (minus q v x)) ≡ list n (decrypted q n p s u v)
-    unfolding opened
+    unfolding noiseIn
     claim-plain v = plain-alike p (alike-minus alike-refl g)
 
 -- ---- one ballot, from lent parts of the strings: what is written is of its u, v and masks where they stand
@@ -74,5 +74,5 @@ module _ (q n p at sent claim : ℕ) (secrets s0 masks0 masks1 ballots : Bytes) 
         ∙ ap (λ (b : Bytes). coefficientBytes q n (share q n p (other q (ternary q b) (poly s0)) (slot ballots (at + 4)) (lentMask (part masks1 sent (8 * n))))) secret),
     e2
         ∙ ap (put claims claim) (ap (λ (b : Bytes). list n (decrypted q n p (ternary q b) (poly (take (at + 4 + 8 * n - (at + 4)) (drop (at + 4) ballots))) (poly (take (at + 4 + 16 * n - (at + 4 + 8 * n)) (drop (at + 4 + 8 * n) ballots))))) secret
-        ∙ plain-alike p (opened-alike q n (ternary q (part secrets 0 n)) alike-u alike-v)),
+        ∙ plain-alike p (noise-alike q n (ternary q (part secrets 0 n)) alike-u alike-v)),
   )

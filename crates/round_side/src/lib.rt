@@ -6,7 +6,7 @@ ghost use mathlib.Core.Bool.{_&&_};
 ghost use Prim.Native.Nat.{_*_, _≤_, ℕ, _+_, _<_};
 ghost use lib.ListN.{length};
 ghost use Rattle.round.specs.Vocabulary.{plain, answerLength, inRange, ballotLength, answersLength, isChallenge, given, zeros, slot};
-ghost use Rattle.round.specs.Vocabulary.{maskOf, Usable, scratchLength, Judged, Loaded, openingOf, ofSide, votesTests, left, parameters};
+ghost use Rattle.round.specs.Vocabulary.{maskBoundOf, Usable, scratchLength, Judged, Loaded, openingOf, ofSide, votesTests, left, parameters};
 ghost use Rattle.round.specs.Vocabulary.{Batch, SharesLent};
 ghost use Rattle.round.specs.Round.{openingRanged, headRanged, answersRanged, opensKey, opensPairs, halfTests};
 ghost use Rattle.round_side.specs.Internal.{messageRanged, Opened, Head};
@@ -216,7 +216,7 @@ pub fn test_votes<'a>(
     requires { ⌜ Usable k × Opened (k .modulus) (k .ring) (now opening) × (length (now work) ≡ scratchLength) × (count ≤ 4096)
         × (side < 2) × Batch (k .modulus) (k .ring) count (now ballots) (now claims) × SharesLent (k .modulus) (k .ring) count (now shares0)
         × SharesLent (k .modulus) (k .ring) count (now shares1) ⌝ }
-    ensures { λ reply. ⌜ Judged (votesTests (k .modulus) (k .ring) (plain k) (maskOf k) count (slot (given opening) 0)
+    ensures { λ reply. ⌜ Judged (votesTests (k .modulus) (k .ring) (plain k) (maskBoundOf k) count (slot (given opening) 0)
         (given ballots) (given claims) (given shares0) (given shares1) (ofSide side (given shares0) (given shares1))) reply (given work)
         (left work) ⌝ }
 {

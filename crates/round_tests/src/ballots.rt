@@ -6,7 +6,7 @@ use sheet_numbers::Numbers;
 ghost use mathlib.Core.Path.{_≡_};
 ghost use Prim.Native.Nat.{_+_, _*_, _≤_, _<_};
 ghost use lib.ListN.{length};
-ghost use Rattle.round.specs.Vocabulary.{part, given, left, poly, slot, plain, maskOf, Usable, scratchLength, Polynomial, Judged, Tried};
+ghost use Rattle.round.specs.Vocabulary.{part, given, left, poly, slot, plain, maskBoundOf, Usable, scratchLength, Polynomial, Judged, Tried};
 ghost use Rattle.round.specs.Vocabulary.{ofSide, votesTests, Batch, SharesLent};
 ghost use Rattle.round_tests.specs.Internal.{voteTests, BallotAt};
 
@@ -27,7 +27,7 @@ fn test_at<'a>(
 ) -> Reply
     requires { ⌜ Polynomial (k .ring) (k .modulus) (now s) × Usable k × (length (now work) ≡ scratchLength)
         × BallotAt (k .modulus) (k .ring) (now ballots) at (now claims) claim side (now shares0) (now shares1) share place ⌝ }
-    ensures { λ reply. ⌜ Tried (voteTests (k .modulus) (k .ring) (plain k) (maskOf k) place (poly (given s))
+    ensures { λ reply. ⌜ Tried (voteTests (k .modulus) (k .ring) (plain k) (maskBoundOf k) place (poly (given s))
         (slot (given ballots) (at + 4)) (slot (ofSide side (given shares0) (given shares1)) share) (part (given claims) claim (k .ring))
         (slot (given ballots) (at + 4 + 8 * k .ring)) (slot (given shares0) share) (slot (given shares1) share)) reply (given work)
         (left work) ⌝ }
@@ -64,7 +64,7 @@ pub fn test_ballots<'a>(
     requires { ⌜ Polynomial (k .ring) (k .modulus) (now s) × Usable k × (length (now work) ≡ scratchLength) × (count ≤ 4096)
         × (side < 2) × Batch (k .modulus) (k .ring) count (now ballots) (now claims) × SharesLent (k .modulus) (k .ring) count (now shares0)
         × SharesLent (k .modulus) (k .ring) count (now shares1) ⌝ }
-    ensures { λ reply. ⌜ Judged (votesTests (k .modulus) (k .ring) (plain k) (maskOf k) count (poly (given s)) (given ballots)
+    ensures { λ reply. ⌜ Judged (votesTests (k .modulus) (k .ring) (plain k) (maskBoundOf k) count (poly (given s)) (given ballots)
         (given claims) (given shares0) (given shares1) (ofSide side (given shares0) (given shares1))) reply (given work) (left work) ⌝ }
 {
     let n = k.ring as usize;

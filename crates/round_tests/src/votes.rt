@@ -4,7 +4,7 @@ use sheet_numbers::Numbers;
 ghost use mathlib.Core.Path.{_≡_};
 ghost use Prim.Native.Nat.{_*_, _≤_};
 ghost use lib.ListN.{length};
-ghost use Rattle.round.specs.Vocabulary.{same, given, left, list, Below, poly, plain, maskOf, Usable, scratchLength, Polynomial, Tried};
+ghost use Rattle.round.specs.Vocabulary.{same, given, left, list, Below, poly, plain, maskBoundOf, Usable, scratchLength, Polynomial, Tried};
 ghost use Rattle.round.specs.Vocabulary.{Free};
 ghost use Rattle.bgv.specs.Scheme as scheme;
 ghost use Rattle.bgv.specs.Scheme.{rebuilt};
@@ -57,7 +57,7 @@ pub fn test_ballot(
         × Polynomial (k .ring) (k .modulus) (now v) × Polynomial (k .ring) (k .modulus) (now t0)
         × Polynomial (k .ring) (k .modulus) (now t1) × Polynomial (k .ring) (k .modulus) (now t) × (length (now work) ≡ scratchLength)
         × (length (now claim) ≡ k .ring) ⌝ }
-    ensures { λ reply. ⌜ Tried (voteTests (k .modulus) (k .ring) (plain k) (maskOf k) place (poly (given s)) (poly (given u))
+    ensures { λ reply. ⌜ Tried (voteTests (k .modulus) (k .ring) (plain k) (maskBoundOf k) place (poly (given s)) (poly (given u))
         (poly (given t)) (given claim) (poly (given v)) (poly (given t0)) (poly (given t1))) reply (given work) (left work) ⌝ }
 {
     let p = sheet_numbers::plain(k);

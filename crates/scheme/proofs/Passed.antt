@@ -10,7 +10,7 @@ use Rattle.codec.specs.declared.Reply.the-variants.{Taken}
 use Rattle.codec.proofs.Laws.{both}
 use Rattle.codec.specs.Lists.{list, allBelow}
 use Rattle.ring.specs.Slots.{poly}
-use Rattle.sheet_numbers.specs.Plain.{maskOf}
+use Rattle.sheet_numbers.specs.Plain.{maskBoundOf}
 use Rattle.sheet_numbers.specs.Internal.{Usable}
 use Rattle.sheet_numbers.specs.declared.Numbers.{Numbers}
 use Rattle.scratch.specs.Call.{bytesBelow, coefficientsBelow}
@@ -51,7 +51,7 @@ module _ (k : Numbers) (u : Usable k) where
   share-passed x v m d w i =
       let xs : List ℕ = length x ∷ length v ∷ length m ∷ length d ∷ length w ∷ [] in
       let ys : List ℕ = 8 * n ∷ 8 * n ∷ 8 * n ∷ 8 * n ∷ 1048576 ∷ [] in
-      let h = passed xs ys (coefficientsBelow q n (x ∷ v ∷ [])) (test 12 0 (not (within (maskOf k) n (lentMask m))) ∷ []) (sym i) in
+      let h = passed xs ys (coefficientsBelow q n (x ∷ v ∷ [])) (test 12 0 (not (within (maskBoundOf k) n (lentMask m))) ∷ []) (sym i) in
       let l = h .0 in
       (both-ranged x v (length-at xs ys 0 l) (length-at xs ys 1 l) (h .1), length-at xs ys 2 l, length-at xs ys 4 l, length-at xs ys 3 l)
 

@@ -9,7 +9,7 @@ use Rattle.codec.specs.Reply.{Test, test}
 use Rattle.codec.specs.Lists.{list}
 use Rattle.ring.specs.Slots.{coefficientBytes, poly, slot}
 use Rattle.ring.specs.Ternary.{ternary}
-use Rattle.sheet_numbers.specs.Plain.{plain, maskOf}
+use Rattle.sheet_numbers.specs.Plain.{plain, maskBoundOf}
 use Rattle.sheet_numbers.specs.declared.Numbers.{Numbers}
 use Rattle.scratch.specs.Call.{scratchLength, lengthTest, bytesBelow, coefficientsBelow, coefficients}
 use Rattle.bgv.specs.Scheme.{within, key, cipher-u, cipher-v, decrypted, other, lentMask, share, reconstructed}
@@ -47,7 +47,7 @@ module _ (k : Numbers) where
   shareTests key-share u mask t scratch =
       lengthTest (length key-share ∷ length u ∷ length mask ∷ length t ∷ length scratch ∷ []) (8 * k .ring ∷ 8 * k .ring ∷ 8 * k .ring ∷ 8 * k .ring ∷ scratchLength ∷ [])
       ∷ test 5 0 (not (coefficientsBelow (k .modulus) (k .ring) (key-share ∷ u ∷ [])))
-      ∷ test 12 0 (not (within (maskOf k) (k .ring) (lentMask mask)))
+      ∷ test 12 0 (not (within (maskBoundOf k) (k .ring) (lentMask mask)))
       ∷ []
 
   abbrev pub reconstructTests : (v t0 t1 vote scratch : Bytes) → List Test

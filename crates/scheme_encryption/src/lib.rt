@@ -91,7 +91,7 @@ pub fn decrypt(
         return codec::refused(5);
     }
     let p = sheet_numbers::plain(k);
-    bgv::opened(
+    bgv::noise(
         scratch,
         s,
         &ciphertext[0..8 * n],

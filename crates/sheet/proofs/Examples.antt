@@ -4,7 +4,7 @@ use mathlib.Core.List.{[], _∷_}
 use Rattle.codec.specs.Lists.{allBelow}
 use Rattle.codec.specs.Reply.{first}
 use Rattle.sheet_numbers.specs.Plain.{plain}
-use Rattle.sheet_numbers.specs.Bounds.{noise, mask, unknownCount, most, least, power}
+use Rattle.sheet_numbers.specs.Bounds.{noiseBound, maskBound, unknownCount, most, least, power}
 use Rattle.sheet_numbers.specs.Rules.{any, outside, unsound}
 use Rattle.sheet_lines.specs.Form.{decimal, listed, lines}
 use Rattle.sheet.specs.Form.{written}
@@ -23,7 +23,7 @@ unfolding reading first formed sheetOf rows line values step digit any outside u
 as-read = refl
 
 -- its D, B and L
-bounds : noise 2 4 ∷ mask 2 4 0 ∷ unknownCount 4 ∷ [] ≡ 19 ∷ 4 ∷ 56 ∷ []
+bounds : noiseBound 2 4 ∷ maskBound 2 4 0 ∷ unknownCount 4 ∷ [] ≡ 19 ∷ 4 ∷ 56 ∷ []
 bounds = refl
 
 -- document 01: 10 rounds give 17, 128 give 218

@@ -15,7 +15,7 @@ use Rattle.codec.proofs.Lists.{all-sound}
 use Rattle.modular.specs.Internal.{Coprime}
 use Rattle.modular.proofs.Division.{odd-coprime}
 use Rattle.sheet_numbers.specs.Bounds.{power, least}
-use Rattle.sheet_numbers.specs.Plain.{plain, noiseOf}
+use Rattle.sheet_numbers.specs.Plain.{plain, noiseBoundOf}
 use Rattle.sheet_numbers.specs.Internal.{Usable}
 use Rattle.sheet_numbers.specs.Ranges.{NumbersInRange, NumbersSound}
 use Rattle.sheet_numbers.specs.Rules.{any, ranges, outside, conditions, unsound}
@@ -173,7 +173,7 @@ sound-exactly k = (
   λ r. unfold unsound in
       none-of (conditions k) (
         ap not (eq-eqb ((k .modulus - 1) % (2 * k .ring)) 0 (r .divided)),
-        (ap not (lt-ltb ((1 + 2 ^ k .drown) * noiseOf k) ((k .modulus - 1) / 2) (r .noise-fits)), tt),
+        (ap not (lt-ltb ((1 + 2 ^ k .drown) * noiseBoundOf k) ((k .modulus - 1) / 2) (r .noise-fits)), tt),
       ),
 )
 
@@ -194,7 +194,7 @@ module _ (k : Numbers) (i : NumbersInRange k) (s : NumbersSound k) where
   -- D is below (q - 1)/2, and p at most D
   plain-below : plain k < q
   unfolding plain
-  plain-below = omega (arith, s .noise-fits, mul-le-mul {n₁ = 1} {m₁ = noiseOf k} {n₂ = 1 + 2 ^ k .drown} {m₂ = noiseOf k} (omega arith) (omega arith), one-mul (noiseOf k))
+  plain-below = omega (arith, s .noise-fits, mul-le-mul {n₁ = 1} {m₁ = noiseBoundOf k} {n₂ = 1 + 2 ^ k .drown} {m₂ = noiseBoundOf k} (omega arith) (omega arith), one-mul (noiseBoundOf k))
 
   pub usable : Usable k
   usable = record {

@@ -4,12 +4,12 @@ use Prim.Native.Nat.{ℕ, zero, suc, _+_, _*_, _-_, _/_, _^_}
 use lib.Dec.{leb, eqb}
 
 -- the noise bound D
-abbrev pub noise : ℕ → ℕ → ℕ
-noise p n = p * (2 * n + 1) + p - 1
+abbrev pub noiseBound : ℕ → ℕ → ℕ
+noiseBound p n = p * (2 * n + 1) + p - 1
 
 -- the mask bound B
-abbrev pub mask : ℕ → ℕ → ℕ → ℕ
-mask p n d = 2 ^ d * noise p n / (2 * p)
+abbrev pub maskBound : ℕ → ℕ → ℕ → ℕ
+maskBound p n d = 2 ^ d * noiseBound p n / (2 * p)
 
 -- the unknowns of the shortness argument, L
 abbrev pub unknownCount : ℕ → ℕ

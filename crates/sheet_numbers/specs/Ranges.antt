@@ -1,7 +1,7 @@
 -- What a sheet's numbers must be (document 01, "Ring and scheme", "Sheet" and the refusals 3 and 4) in plain propositions: no test stands in them. Assumes nothing.
 use mathlib.Core.Path.{_≡_}
 use Prim.Native.Nat.{ℕ, _+_, _*_, _-_, _/_, _%_, _^_, _≤_, _<_}
-use Rattle.sheet_numbers.specs.Plain.{plain, noiseOf}
+use Rattle.sheet_numbers.specs.Plain.{plain, noiseBoundOf}
 use Rattle.sheet_numbers.specs.declared.Numbers.{Numbers}
 
 -- 3: each number is in its range
@@ -23,4 +23,4 @@ pub record NumbersInRange (k : Numbers) : Type 0 where
 -- 4: 2N divides q - 1, and (1 + 2^d) D is below (q - 1)/2
 pub record NumbersSound (k : Numbers) : Type 0 where
   pub divided : (k .modulus - 1) % (2 * k .ring) ≡ 0
-  pub noise-fits : (1 + 2 ^ k .drown) * noiseOf k < (k .modulus - 1) / 2
+  pub noise-fits : (1 + 2 ^ k .drown) * noiseBoundOf k < (k .modulus - 1) / 2

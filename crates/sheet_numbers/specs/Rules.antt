@@ -4,7 +4,7 @@ use mathlib.Core.List.{List, [], _∷_}
 use Prim.Native.Nat.{_+_, _*_, _-_, _/_, _%_, _^_}
 use lib.Dec.{ltb, leb, eqb}
 use Rattle.sheet_numbers.specs.Bounds.{least, power}
-use Rattle.sheet_numbers.specs.Plain.{noiseOf}
+use Rattle.sheet_numbers.specs.Plain.{noiseBoundOf}
 use Rattle.sheet_numbers.specs.declared.Numbers.{Numbers}
 
 -- any of the tests holds
@@ -28,7 +28,7 @@ outside k = any (ranges k)
 abbrev pub conditions : Numbers → List Bool
 conditions k =
     not (eqb ((k .modulus - 1) % (2 * k .ring)) 0)
-    ∷ not (ltb ((1 + 2 ^ k .drown) * noiseOf k) ((k .modulus - 1) / 2)) ∷ []
+    ∷ not (ltb ((1 + 2 ^ k .drown) * noiseBoundOf k) ((k .modulus - 1) / 2)) ∷ []
 
 unfoldable pub unsound : Numbers → Bool
 unsound k = any (conditions k)

@@ -26,7 +26,7 @@ pub fn power(d: u64) -> u64
 // The noise bound D.
 pub fn noise_bound(k: Numbers) -> u64
     requires { ⌜ (k .ring ≤ 2048) × (2 ≤ here.plain k) × (here.plain k ≤ 251) ⌝ }
-    ensures { λ r. ⌜ (r ≡ here.noiseOf k) × (r ≤ 1028597) ⌝ }
+    ensures { λ r. ⌜ (r ≡ here.noiseBoundOf k) × (r ≤ 1028597) ⌝ }
 {
     let p = plain(k);
     p * (2 * k.ring + 1) + p - 1
@@ -35,7 +35,7 @@ pub fn noise_bound(k: Numbers) -> u64
 // The mask bound B.
 pub fn mask_bound(k: Numbers) -> u64
     requires { ⌜ (k .ring ≤ 2048) × (k .drown ≤ 40) × (2 ≤ here.plain k) × (here.plain k ≤ 251) ⌝ }
-    ensures { λ r. ⌜ r ≡ here.maskOf k ⌝ }
+    ensures { λ r. ⌜ r ≡ here.maskBoundOf k ⌝ }
 {
     power(k.drown) * noise_bound(k) / (2 * plain(k))
 }

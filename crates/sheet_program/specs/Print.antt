@@ -8,7 +8,7 @@ use lib.ListN.{length}
 use Rattle.codec.specs.Bytes.{Bytes, put}
 use Rattle.sheet_lines.specs.Form.{decimal}
 use Rattle.sheet_numbers.specs.Bounds.{unknownCount}
-use Rattle.sheet_numbers.specs.Plain.{noiseOf, maskOf}
+use Rattle.sheet_numbers.specs.Plain.{noiseBoundOf, maskBoundOf}
 use Rattle.sheet.specs.Sheet.{reading}
 use Rattle.sheet.specs.declared.Reading.{Reading}
 use Rattle.sheet.specs.declared.Reading.the-variants.{Taken, Refused}
@@ -37,7 +37,7 @@ unknownCount= = 117 ∷ 110 ∷ 107 ∷ 110 ∷ 111 ∷ 119 ∷ 110 ∷ 115 ∷ 
 -- verdict, N, D, B and L; a refusal prints the verdict line only
 unfoldable pub printedBy : Reading → Bytes
 printedBy (Taken k) =
-    printedLine verdict= 0 ++ printedLine ring= (k .ring) ++ printedLine noise= (noiseOf k) ++ printedLine mask= (maskOf k) ++ printedLine unknownCount= (unknownCount (k .ring))
+    printedLine verdict= 0 ++ printedLine ring= (k .ring) ++ printedLine noise= (noiseBoundOf k) ++ printedLine mask= (maskBoundOf k) ++ printedLine unknownCount= (unknownCount (k .ring))
 printedBy (Refused n) = printedLine verdict= n
 
 -- over 65,536 bytes: verdict 1

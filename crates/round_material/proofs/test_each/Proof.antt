@@ -3,7 +3,7 @@ use mathlib.Core.Path.{ap, _∙_}
 use mathlib.Core.List.{_++_}
 use borrow.Author.Needs.{needs}
 use Rattle.codec.specs.Bytes.{zeros}
-use Rattle.sheet_numbers.specs.Plain.{noiseOf, maskOf}
+use Rattle.sheet_numbers.specs.Plain.{noiseBoundOf, maskBoundOf}
 use Rattle.round.specs.Producer.{maskTests, permutationTests, noiseTests}
 use Rattle.round_material.proofs.Sequence.{both-decided}
 use Rattle.round_material.proofs.test_each.Statement.{statement}
@@ -15,9 +15,9 @@ test-noise-requires c κs = let p = c .before .before .before .before .before .b
 returns : tie.Need-returns
 returns c =
     let a = c .before .before .before .before .before .before .before .before .before .before .before .before .before .before .before .before .before .before .before .before .before .args in
-    let ms = maskTests (a .k .ring) (maskOf (a .k)) (a .count) (a .masks0 .now) (a .masks1 .now) in
+    let ms = maskTests (a .k .ring) (maskBoundOf (a .k)) (a .count) (a .masks0 .now) (a .masks1 .now) in
     let ps = permutationTests (a .k .ring) (a .k .repeats) (a .permutations .now) in
-    let ns = noiseTests (a .k .modulus) (a .k .ring) (noiseOf (a .k)) (a .count) (a .secrets .now) (a .ballots .now) in
+    let ns = noiseTests (a .k .modulus) (a .k .ring) (noiseBoundOf (a .k)) (a .count) (a .secrets .now) (a .ballots .now) in
     let m = c .before .before .before .before .before .before .before .before .before .before .before .before .before .before .test-masks in
     let p = c .before .before .before .before .before .before .before .before .before .before .before .before .test-permutations in
     let v = c .before .before .before .before .before .before .before .before .test-noise in

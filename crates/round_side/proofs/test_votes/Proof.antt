@@ -4,7 +4,7 @@ use Prim.Native.Nat.{_-_, _*_}
 use native.Mathlib.Omega.{arith}
 use borrow.Author.Needs.{needs}
 use Rattle.codec.specs.Reply.{first}
-use Rattle.sheet_numbers.specs.Plain.{plain, maskOf}
+use Rattle.sheet_numbers.specs.Plain.{plain, maskBoundOf}
 use Rattle.round.specs.Round.{ofSide}
 use Rattle.round_side.proofs.Parts.{lent-on, alike-s, votes-alike}
 use Rattle.round_side.proofs.test_votes.Statement.{statement}
@@ -23,7 +23,7 @@ returns c =
     let q = a .k .modulus in
     let t = c .before .before .test-ballots .ensures in
     record {
-      replied = t .replied ∙ ap first (votes-alike q n (plain (a .k)) (maskOf (a .k)) (a .count) (a .ballots .now) (a .claims .now) (a .shares0 .now) (a .shares1 .now) (ofSide (a .side) (a .shares0 .now) (a .shares1 .now)) (alike-s n q (a .opening .now) (c .before .before .before .before .before .before .before .before .before .before .before .pre .1) (8 * n - 0) (omega arith)));
+      replied = t .replied ∙ ap first (votes-alike q n (plain (a .k)) (maskBoundOf (a .k)) (a .count) (a .ballots .now) (a .claims .now) (a .shares0 .now) (a .shares1 .now) (ofSide (a .side) (a .shares0 .now) (a .shares1 .now)) (alike-s n q (a .opening .now) (c .before .before .before .before .before .before .before .before .before .before .before .pre .1) (8 * n - 0) (omega arith)));
       cleared = t .cleared;
     }
 

@@ -6,8 +6,8 @@ use borrow.Author.Needs.{needs}
 use lib.ListN.{take, drop}
 use Rattle.ring.specs.Slots.{poly}
 use Rattle.ring.specs.Ternary.{ternary}
-use Rattle.bgv.specs.Scheme.{centred, opened, within}
-use Rattle.bgv.proofs.Form.{opened-alike}
+use Rattle.bgv.specs.Scheme.{centred, noiseIn, within}
+use Rattle.bgv.proofs.Form.{noise-alike}
 use Rattle.stern.proofs.Answered.{lent-length}
 use Rattle.round.proofs.Compared.{lent-alike, lent-public, first-below, second-below}
 use Rattle.round_material.proofs.Quiet.{within-centred}
@@ -36,8 +36,8 @@ returns c =
     let v = lent-alike n (a .q) (a .ballots .now) (x + 8 * n) (x + 8 * n + 8 * n - (x + 8 * n)) (omega arith) (omega (arith, p .6)) in
     let e : n - 0 ≡ n = omega arith in (
       c .before .before .is-quiet .ensures .0
-          ∙ ap (λ (k : ℕ). within (a .bound) n (centred (a .q) (opened (a .q) n (ternary (a .q) (take k (a .secrets .now))) (poly (take (x + 8 * n - x) (drop x (a .ballots .now)))) (poly (take (x + 8 * n + 8 * n - (x + 8 * n)) (drop (x + 8 * n) (a .ballots .now))))))) e
-          ∙ within-centred (a .q) n (a .bound) (opened-alike (a .q) n _ u v),
+          ∙ ap (λ (k : ℕ). within (a .bound) n (centred (a .q) (noiseIn (a .q) n (ternary (a .q) (take k (a .secrets .now))) (poly (take (x + 8 * n - x) (drop x (a .ballots .now)))) (poly (take (x + 8 * n + 8 * n - (x + 8 * n)) (drop (x + 8 * n) (a .ballots .now))))))) e
+          ∙ within-centred (a .q) n (a .bound) (noise-alike (a .q) n _ u v),
       c .before .before .is-quiet .ensures .1,
     )
 

@@ -13,7 +13,7 @@ use Rattle.codec.proofs.Lists.{all-sound}
 use Rattle.ring.specs.Slots.{slot}
 use Rattle.ring.specs.Ternary.{ternary}
 use Rattle.ring.proofs.Ranges.{below-sound}
-use Rattle.bgv.specs.Scheme.{centred, opened, within}
+use Rattle.bgv.specs.Scheme.{centred, noiseIn, within}
 use Rattle.round.specs.Layout.{ballotLength, uAt}
 use Rattle.round.specs.Producer.{sIn, noiseTests}
 use Rattle.round.proofs.Walk.{Walked, walked-first, walked-more, walked-ends, walked-refused, walked-taken}
@@ -22,7 +22,7 @@ use Rattle.round_material.proofs.noise.test_noise.Tie as tie
 
 -- the noise of the ballot at a place
 abbrev quiet : (q n bound : ℕ) (secrets ballots : Bytes) (at : ℕ) → Bool
-quiet q n bound secrets ballots at = within bound n (centred q (opened q n (ternary q (sIn n secrets)) (slot ballots (at + 4)) (slot ballots (at + 4 + 8 * n))))
+quiet q n bound secrets ballots at = within bound n (centred q (noiseIn q n (ternary q (sIn n secrets)) (slot ballots (at + 4)) (slot ballots (at + 4 + 8 * n))))
 
 abbrev Inv-loop : tie.InvT-loop
 Inv-loop work₀ secrets ballots count n q bound j₀ at₀ work j at =

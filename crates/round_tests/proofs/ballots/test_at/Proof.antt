@@ -4,7 +4,7 @@ use Prim.Native.Nat.{_+_, _-_, _*_}
 use native.Mathlib.Omega.{arith}
 use borrow.Author.Needs.{needs}
 use Rattle.stern.proofs.Answered.{lent-length}
-use Rattle.sheet_numbers.specs.Plain.{plain, maskOf}
+use Rattle.sheet_numbers.specs.Plain.{plain, maskBoundOf}
 use Rattle.scratch.specs.Internal.{Polynomial}
 use Rattle.round.specs.Round.{ofSide}
 use Rattle.round.proofs.Compared.{lent-public, first-below, second-below}
@@ -38,7 +38,7 @@ returns c =
     let a = c .before .before .before .before .before .before .before .before .before .before .before .before .before .before .before .before .args in
     let b = c .before .before .before .before .before .before .before .before .before .before .before .before .before .before .before .before .pre .3 in
     let t = c .before .before .test-ballot .ensures in
-    record { replied = lent-tests (a .k .modulus) (a .k .ring) (plain (a .k)) (maskOf (a .k)) (a .s .now) (a .ballots .now) (a .claims .now) (a .side) (a .shares0 .now) (a .shares1 .now) (a .at) (a .claim) (a .share) (a .place) (b .ballot-ends) (b .ends0) (b .ends1) (b .ends) (c .before .before .before .before .before .before .before .before .before .opened-share .ensures ∙ b .opened) (t .replied); kept = t .kept }
+    record { replied = lent-tests (a .k .modulus) (a .k .ring) (plain (a .k)) (maskBoundOf (a .k)) (a .s .now) (a .ballots .now) (a .claims .now) (a .side) (a .shares0 .now) (a .shares1 .now) (a .at) (a .claim) (a .share) (a .place) (b .ballot-ends) (b .ends0) (b .ends1) (b .ends) (c .before .before .before .before .before .before .before .before .before .opened-share .ensures ∙ b .opened) (t .replied); kept = t .kept }
 
 pub test-at-spec : {M : Type 1} → statement M
 test-at-spec = tie.close (tie.spec (λ c. omega arith) (λ c. omega arith) (λ c κs. search needs) (λ c. omega arith) (λ c. omega arith) (λ c. omega arith) (λ c. omega arith) (λ c. omega arith) (λ c. omega arith) (λ c. omega arith) (λ c. omega arith) (λ c. omega arith) (λ c. omega arith) (λ c. omega arith) (λ c. omega arith) (λ c. omega arith) (λ c. omega arith) (λ c. omega arith) (λ c. c .before .before .before .before .before .before .before .before .before .pre .3 .ballot-ends) (λ c. omega arith) (λ c. omega arith) (λ c. omega arith) (λ c. c .before .before .before .before .before .before .before .before .before .before .pre .3 .claim-ends) (λ c. omega arith) (λ c. omega arith) (λ c. c .before .before .before .before .before .before .before .before .before .before .before .pre .3 .ends0) (λ c. omega arith) (λ c. omega arith) (λ c. c .before .before .before .before .before .before .before .before .before .before .before .before .pre .3 .ends1) test-ballot-requires (λ c. c .before .work .given) returns)
