@@ -27,7 +27,7 @@ use Rattle.session.specs.Machine.{check}
 use Rattle.session_image.specs.Image.{decode}
 use Rattle.session_image.specs.Images.{host, hostReply}
 use Rattle.session_histories.specs.Conditions.{SheetTaken}
-use Rattle.session_histories.specs.Examples.{all-rows}
+use Rattle.session_histories.specs.Examples.{all-comparisons}
 use Rattle.claims.specs.Papers.{Distributed, DecryptsTogether, DigestOfBits, TablesByRule}
 use Rattle.claims.specs.Calls.{SchemeCalls, RoundCalls, SessionCalls}
 use Rattle.claims.specs.HostClaims.{HostStaysOut, HostRollIsBatch, HostOwnRegister, HostRoundsChecked, HostEndedAccepted, HostBound, HostHonestAccepted, HostStaysValid, HostOnlyPhaseOrRound}
@@ -51,7 +51,7 @@ HonestBallots = (text : Bytes) → SheetTaken text
 
 -- worked examples A to K
 abbrev pub Examples : Type 0
-Examples = map (λ (x : Example). x .got) all-rows ≡ map (λ (x : Example). x .said) all-rows
+Examples = map (λ (x : Example). x .got) all-comparisons ≡ map (λ (x : Example). x .said) all-comparisons
 
 pub record Demand2 : Type 0 where
   -- each call is taken exactly under its conditions, the first case that holds in its order decides number and place, no refusal comes otherwise, and the number that C is answered tells so

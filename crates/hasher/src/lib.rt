@@ -1,5 +1,6 @@
 // SHA3-256 of a message that comes in parts: a hasher by value, and the same lent in place. The proofs of `make`, `state`, `update` and
-// `hash_parts` are written out step by step: the first two are all that reaches into a hasher's state, and the others lend a hasher by `&mut`.
+// `hash_parts` are written out step by step: the first two are all that reaches into a hasher's state, and the others lend a hasher by
+// `&mut`.
 ghost use mathlib.Core.Path.{_≡_};
 ghost use mathlib.Core.List.{[], _++_};
 ghost use Rattle.sha3.specs.Sponge.{sha3};

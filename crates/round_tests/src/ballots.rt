@@ -6,7 +6,8 @@ use sheet_numbers::Numbers;
 ghost use mathlib.Core.Path.{_≡_};
 ghost use Prim.Native.Nat.{_+_, _*_, _≤_, _<_};
 ghost use lib.ListN.{length};
-ghost use Rattle.round.specs.Vocabulary.{part, given, left, poly, slot, plain, maskBoundOf, Usable, scratchLength, Polynomial, Judged, Tried};
+ghost use Rattle.round.specs.Vocabulary.{part, given, left, poly, slot, plain, maskBoundOf, Usable};
+ghost use Rattle.round.specs.Vocabulary.{scratchLength, Polynomial, Judged, Tried};
 ghost use Rattle.round.specs.Vocabulary.{ofSide, votesTests, Batch, SharesLent};
 ghost use Rattle.round_tests.specs.Internal.{voteTests, BallotAt};
 

@@ -1,5 +1,5 @@
-// What the calls that are lent the sheet have in common: scratch and how it is zeroized, the tests of lengths and ranges, and a polynomial of
-// scratch written out.
+// What the calls that are lent the sheet have in common: scratch and how it is zeroized, the tests of lengths and ranges, and a polynomial
+// of scratch written out.
 ghost use mathlib.Core.Path.{_≡_};
 ghost use mathlib.Core.Bool.{_&&_};
 ghost use mathlib.Core.List.{[], _∷_};

@@ -10,17 +10,17 @@ use Rattle.register.specs.Register.{stateAt, standing, thousandths, turnout}
 abbrev twoEntries : Bytes
 twoEntries = zeros 4 ++ (1 ∷ zeros 39) ++ (2 ∷ zeros 35)
 
-abbrev row-K : Example
-row-K = record { got = pos (thousandths 1 16) ∷ pos (turnout twoEntries 2 16) ∷ []; said = pos 63 ∷ pos 63 ∷ [] }
+abbrev comparison-K : Example
+comparison-K = record { got = pos (thousandths 1 16) ∷ pos (turnout twoEntries 2 16) ∷ []; said = pos 63 ∷ pos 63 ∷ [] }
 
-pub all-rows : List Example
-all-rows = comparisons ++ (row-K ∷ [])
+pub all-comparisons : List Example
+all-comparisons = comparisons ++ (comparison-K ∷ [])
 
-fact-K : map (λ (x : Example). x .got) (row-K ∷ []) ≡ map (λ (x : Example). x .said) (row-K ∷ [])
+fact-K : map (λ (x : Example). x .got) (comparison-K ∷ []) ≡ map (λ (x : Example). x .said) (comparison-K ∷ [])
 unfolding stateAt standing thousandths turnout
 fact-K = refl
 
 -- each row is as the paper says
-pub all-examples : map (λ (x : Example). x .got) all-rows ≡ map (λ (x : Example). x .said) all-rows
-unfolding all-rows
-all-examples = map-append _ comparisons (row-K ∷ []) ∙ ap₂ _++_ examples fact-K ∙ sym (map-append _ comparisons (row-K ∷ []))
+pub all-examples : map (λ (x : Example). x .got) all-comparisons ≡ map (λ (x : Example). x .said) all-comparisons
+unfolding all-comparisons
+all-examples = map-append _ comparisons (comparison-K ∷ []) ∙ ap₂ _++_ examples fact-K ∙ sym (map-append _ comparisons (comparison-K ∷ []))
