@@ -19,7 +19,7 @@ use Rattle.session_progress.specs.Progress.{withEntry, withBatch, withClaims, w
 use Rattle.session_progress.specs.declared.Progress.{Progress}
 use Rattle.session.specs.declared.Session.{Session}
 use Rattle.session.specs.Session.{changed}
-use Rattle.session.specs.Steps.{Beginning, cleared, admittedBy, closedBy, claimedBy, committedBy, drawnBy, acceptedBy, refusedBy}
+use Rattle.session.specs.Steps.{Beginning, cleared, enteredBy, closedBy, claimedBy, committedBy, drawnBy, acceptedBy, refusedBy}
 use Rattle.session.specs.Machine.{Step, clear, admit, withdraw, close, claim, commit, draw, check, State, next, reply, after}
 use Rattle.session_image.specs.Image.{imageLength, fields, start, decode}
 use Rattle.session_image.specs.Internal.{Typed}
@@ -97,8 +97,8 @@ typed-cleared reg b c =
     }
 
 module _ (s : Session) (reg : Bytes) (t : Typed s) where
-  typed-admitted : (ballot : Bytes) → Admits s reg ballot → Typed (admittedBy s)
-  unfolding admittedBy
+  typed-admitted : (ballot : Bytes) → Admits s reg ballot → Typed (enteredBy s)
+  unfolding enteredBy
   typed-admitted ballot a =
       typed-changed s (withEntry (s .progress)) (s .closing) (s .claim) (s .seed) (s .trail) t (t .phase-fits) (omega (arith, a .room)) (t .closed-fits)
       (t .closing-long) (t .claim-long) (t .committed-fits) (t .seed-long) (t .checked-fits) (t .trail-long)

@@ -8,14 +8,14 @@ use native.Mathlib.Decide.{ℕ-discrete, decLe}
 use native.Mathlib.Omega.{arith}
 use borrow.Author.Tests.{ltb-true, ltb-false, lt-ltb, le-ltb, eqb-true, eqb-false, eq-eqb, ne-eqb}
 use lib.Dec.{eqb, ltb}
-use lib.ListN.{length, take, drop, set, length-append}
+use lib.ListN.{length, take, drop, set, length-append, length-replicate}
 use lib.Seq.{take-at, drop-at, drop-drop, take-all, getD-set-same, getD-set-other}
-use Rattle.codec.specs.Bytes.{Bytes, number, part, put}
+use Rattle.codec.specs.Bytes.{Bytes, bytes, number, part, put, zeros}
 use Rattle.codec.proofs.Laws.{length-part, length-put, part-part, part-put, part-put-before, part-put-after, put-one}
-use Rattle.codec.proofs.Numbers.{number-one}
+use Rattle.codec.proofs.Numbers.{length-bytes, number-one}
 use Rattle.sha3.specs.Sponge.{sha3}
 use Rattle.sha3.proofs.Squeezing.{length-sha3}
-use Rattle.register.specs.Register.{registerLength, capacity, markAt, stateAt, digestAt, find, standing, markOf, entry, admitted, withdrawn}
+use Rattle.register.specs.Register.{registerLength, capacity, markAt, stateAt, digestAt, find, standing, markOf, appended, admitted, withdrawn, withdrawnEarly}
 
 -- ---- search
 
@@ -126,73 +126,96 @@ standing-few reg (suc n) = go (ℕ-discrete (stateAt reg n) 1) (standing-few reg
     go (yes e) rest = omega (arith, standing-counted reg n e)
     go (no d) rest = omega (arith, standing-passed reg n d)
 
--- ---- admission: the entries before stay, and the new one is the ballot's
+-- ---- an entry more: the entries before stay, and the new one has its mark, state and digest
 
-module _ (reg : Bytes) (n : ℕ) (ballot : Bytes) (size : length reg ≡ registerLength) (room : n < capacity) (four : 4 ≤ length ballot) where
-  mark-length : length (part ballot 0 4) ≡ 4
-  mark-length = length-part ballot 0 4 (omega arith)
+pub record Appended (reg new : Bytes) (n mark state : ℕ) (digest : Bytes) : Type 0 where
+  pub sized : length new ≡ registerLength
+  pub marks : (i : ℕ) → i < n → markAt new i ≡ markAt reg i
+  pub states : (i : ℕ) → i < n → stateAt new i ≡ stateAt reg i
+  pub digests : (i : ℕ) → i < n → digestAt new i ≡ digestAt reg i
+  pub last-mark : markAt new n ≡ mark
+  pub last-state : stateAt new n ≡ state
+  pub last-digest : digestAt new n ≡ digest
 
-  entry-length : length (entry ballot) ≡ 40
-  unfolding entry
-  entry-length = simp length-append (omega (arith, mark-length, length-sha3 ballot))
+module _ (reg : Bytes) (n : ℕ) (mark : Bytes) (state : ℕ) (digest : Bytes) (size : length reg ≡ registerLength) (room : n < capacity) (four : length mark ≡ 4)
+    (long : length digest ≡ 32) where
+  abbrev entry : Bytes
+  entry = mark ++ ((state ∷ 0 ∷ 0 ∷ 0 ∷ []) ++ digest)
 
-  fits : 40 * n + length (entry ballot) ≤ length reg
+  abbrev new : Bytes
+  new = appended reg n mark state digest
+
+  entry-length : length entry ≡ 40
+  entry-length = simp length-append (omega arith)
+
+  fits : 40 * n + length entry ≤ length reg
   fits = omega (arith, entry-length)
 
   -- a part before the new entry, and one in it
-  earlier : (from k : ℕ) → from + k ≤ 40 * n → part (admitted reg n ballot) from k ≡ part reg from k
-  unfolding admitted
-  earlier from k h = part-put-before reg (40 * n) (entry ballot) from k fits h
+  earlier : (from k : ℕ) → from + k ≤ 40 * n → part new from k ≡ part reg from k
+  unfolding appended
+  earlier from k h = part-put-before reg (40 * n) entry from k fits h
 
-  inside : (from k : ℕ) → from + k ≤ 40 → part (admitted reg n ballot) (40 * n + from) k ≡ part (entry ballot) from k
-  unfolding admitted
+  inside : (from k : ℕ) → from + k ≤ 40 → part new (40 * n + from) k ≡ part entry from k
+  unfolding appended
   inside from k h =
-      sym (part-part (put reg (40 * n) (entry ballot)) (40 * n) (length (entry ballot)) from k (omega (arith, entry-length)))
-      ∙ ap (λ (s : Bytes). part s from k) (part-put reg (40 * n) (entry ballot) fits)
+      sym (part-part (put reg (40 * n) entry) (40 * n) (length entry) from k (omega (arith, entry-length)))
+      ∙ ap (λ (s : Bytes). part s from k) (part-put reg (40 * n) entry fits)
 
-  pub admitted-length : length (admitted reg n ballot) ≡ registerLength
-  unfolding admitted
-  admitted-length = length-put reg (40 * n) (entry ballot) fits ∙ size
+  new-length : length new ≡ registerLength
+  unfolding appended
+  new-length = length-put reg (40 * n) entry fits ∙ size
 
-  pub admitted-marks : (i : ℕ) → i < n → markAt (admitted reg n ballot) i ≡ markAt reg i
-  unfolding markAt
-  admitted-marks i h = ap number (earlier (40 * i) 4 (omega arith))
-
-  pub admitted-states : (i : ℕ) → i < n → stateAt (admitted reg n ballot) i ≡ stateAt reg i
+  old-states : (i : ℕ) → i < n → stateAt new i ≡ stateAt reg i
   unfolding stateAt
-  admitted-states i h =
-      sym (number-one (admitted reg n ballot) (40 * i + 4) (omega (arith, admitted-length)))
+  old-states i h =
+      sym (number-one new (40 * i + 4) (omega (arith, new-length)))
       ∙ ap number (earlier (40 * i + 4) 1 (omega arith)) ∙ number-one reg (40 * i + 4) (omega arith)
 
-  pub admitted-digests : (i : ℕ) → i < n → digestAt (admitted reg n ballot) i ≡ digestAt reg i
-  unfolding digestAt
-  admitted-digests i h = earlier (40 * i + 8) 32 (omega arith)
-
-  pub admitted-mark : markAt (admitted reg n ballot) n ≡ markOf ballot
-  unfolding markAt markOf entry
-  admitted-mark =
+  new-mark : markAt new n ≡ number mark
+  unfolding markAt
+  new-mark =
       let z : 40 * n ≡ 40 * n + 0 = omega arith in
-      ap number
-      (ap (λ (k : ℕ). part (admitted reg n ballot) k 4) z ∙ inside 0 4 (omega arith)
-      ∙ take-at (part ballot 0 4) ((1 ∷ 0 ∷ 0 ∷ 0 ∷ []) ++ sha3 ballot) 4 mark-length)
+      ap number (ap (λ (k : ℕ). part new k 4) z ∙ inside 0 4 (omega arith) ∙ take-at mark ((state ∷ 0 ∷ 0 ∷ 0 ∷ []) ++ digest) 4 four)
 
   -- the entry after its mark
-  behind : drop 4 (entry ballot) ≡ 1 ∷ 0 ∷ 0 ∷ 0 ∷ sha3 ballot
-  unfolding entry
-  behind = drop-at (part ballot 0 4) (1 ∷ 0 ∷ 0 ∷ 0 ∷ sha3 ballot) 4 mark-length
+  behind : drop 4 entry ≡ state ∷ 0 ∷ 0 ∷ 0 ∷ digest
+  behind = drop-at mark (state ∷ 0 ∷ 0 ∷ 0 ∷ digest) 4 four
 
-  pub admitted-state : stateAt (admitted reg n ballot) n ≡ 1
+  new-state : stateAt new n ≡ state
   unfolding stateAt number
-  admitted-state =
-      sym (number-one (admitted reg n ballot) (40 * n + 4) (omega (arith, admitted-length)))
-      ∙ ap number (inside 4 1 (omega arith) ∙ ap (take 1) behind)
+  new-state =
+      sym (number-one new (40 * n + 4) (omega (arith, new-length)))
+      ∙ ap number (inside 4 1 (omega arith) ∙ ap (take 1) behind) ∙ omega arith
 
-  pub admitted-digest : digestAt (admitted reg n ballot) n ≡ sha3 ballot
+  new-digest : digestAt new n ≡ digest
   unfolding digestAt
-  admitted-digest =
+  new-digest =
       inside 8 32 (omega arith)
-      ∙ ap (take 32) (sym (drop-drop 4 4 (entry ballot)) ∙ ap (drop 4) behind)
-      ∙ take-all 32 (sha3 ballot) (omega (arith, length-sha3 ballot))
+      ∙ ap (take 32) (sym (drop-drop 4 4 entry) ∙ ap (drop 4) behind)
+      ∙ take-all 32 digest (omega arith)
+
+  pub appended-entry : Appended reg new n (number mark) state digest
+  appended-entry = record {
+    sized = new-length;
+    marks = λ i h. unfold markAt in ap number (earlier (40 * i) 4 (omega arith));
+    states = old-states;
+    digests = λ i h. unfold digestAt in earlier (40 * i + 8) 32 (omega arith);
+    last-mark = new-mark;
+    last-state = new-state;
+    last-digest = new-digest;
+  }
+
+pub admitted-entry : (reg : Bytes) (n : ℕ) (ballot : Bytes) → length reg ≡ registerLength → n < capacity → 4 ≤ length ballot
+    → Appended reg (admitted reg n ballot) n (markOf ballot) 1 (sha3 ballot)
+unfolding admitted markOf
+admitted-entry reg n ballot size room four = appended-entry reg n (part ballot 0 4) 1 (sha3 ballot) size room (length-part ballot 0 4 (omega arith)) (length-sha3 ballot)
+
+-- a mark of 32 bits is the one that is written; of a larger number its low 32 bits are
+pub early-entry : (reg : Bytes) (n mark : ℕ) → length reg ≡ registerLength → n < capacity
+    → Appended reg (withdrawnEarly reg n mark) n (number (bytes 4 mark)) 2 (zeros 32)
+unfolding withdrawnEarly
+early-entry reg n mark size room = appended-entry reg n (bytes 4 mark) 2 (zeros 32) size room (length-bytes 4 mark) (length-replicate {A = ℕ} 32 0)
 
 -- ---- withdrawal: marks and digests stay, and the state of the one entry is 2
 

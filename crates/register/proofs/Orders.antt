@@ -38,17 +38,21 @@ module _ (reg : Bytes) (used mark : ℕ) {i m : ℕ} (at : i ≡ find reg m used
 
   -- ---- withdrawal
 
-  pub is-unknown : i ≡ used → first (withdrawalTests reg used mark) ≡ Refused 34 0
+  pub is-withdrawn-already : i < used → eqb (stateAt reg i) 1 ≡ false → first (withdrawalTests reg used mark) ≡ Refused 33 0
   unfolding first
-  is-unknown h = rw (← f, eq-eqb i used h)
+  is-withdrawn-already h g = rw (← f, lt-ltb i used h, g)
 
-  pub is-withdrawn-already : i ≢ used → eqb (stateAt reg i) 1 ≡ false → first (withdrawalTests reg used mark) ≡ Refused 33 0
+  pub is-standing-still : i < used → eqb (stateAt reg i) 1 ≡ true → first (withdrawalTests reg used mark) ≡ Taken
   unfolding first
-  is-withdrawn-already h g = rw (← f, ne-eqb i used h, g)
+  is-standing-still h g = rw (← f, lt-ltb i used h, g)
 
-  pub is-known : i ≢ used → eqb (stateAt reg i) 1 ≡ true → first (withdrawalTests reg used mark) ≡ Taken
+  pub is-unknown-full : used ≤ i → used ≡ capacity → first (withdrawalTests reg used mark) ≡ Refused 35 0
   unfolding first
-  is-known h g = rw (← f, ne-eqb i used h, g)
+  is-unknown-full h g = rw (← f, le-ltb i used h, eq-eqb used capacity g)
+
+  pub is-unknown-free : used ≤ i → used ≢ capacity → first (withdrawalTests reg used mark) ≡ Taken
+  unfolding first
+  is-unknown-free h g = rw (← f, le-ltb i used h, ne-eqb used capacity g)
 
 -- ---- a call that leaves lent bytes only
 

@@ -1,11 +1,11 @@
--- The register (document 01, "Register and session"): 4,096 entries of 40 bytes, used from the first on. An entry is mark (4 bytes), state (1 standing, otherwise
--- withdrawn), three zeros, and SHA3-256 of the ballot: mark, u, v. Entries count from 0. Assumes nothing.
-use mathlib.Core.Bool.{cond}
+-- The register (document 01, "Register and session"; document 02, L1): 4,096 entries of 40 bytes, used from the first on. An entry is mark (4 bytes), state (1 standing,
+-- otherwise withdrawn), three zeros, and SHA3-256 of the ballot: mark, u, v; or 32 zeros, where a mark was withdrawn before its ballot came. Entries count from 0. Assumes nothing.
+use mathlib.Core.Bool.{Bool, cond}
 use mathlib.Core.List.{List, [], _∷_, _++_, map}
 use Prim.Native.Nat.{ℕ, zero, suc, _+_, _*_, _/_}
 use lib.Dec.{eqb, ltb}
 use lib.ListN.{length, getD}
-use Rattle.codec.specs.Bytes.{Bytes, number, part, put}
+use Rattle.codec.specs.Bytes.{Bytes, bytes, number, part, put, zeros}
 use Rattle.sha3.specs.Sponge.{sha3}
 
 abbrev pub capacity : ℕ
@@ -32,6 +32,10 @@ unfoldable pub find : (reg : Bytes) (mark n : ℕ) → ℕ
 find reg mark zero = 0
 find reg mark (suc n) = cond (ltb (find reg mark n) n) (find reg mark n) (cond (eqb (markAt reg n) mark) n (suc n))
 
+-- whether one of them has it
+abbrev pub known : (reg : Bytes) (mark n : ℕ) → Bool
+known reg mark n = ltb (find reg mark n) n
+
 -- those that stand, in order of admission
 unfoldable pub standing : (reg : Bytes) (n : ℕ) → List ℕ
 standing reg zero = []
@@ -47,17 +51,25 @@ standingDigests reg n = map (digestAt reg) (standing reg n)
 unfoldable pub markOf : Bytes → ℕ
 markOf ballot = number (part ballot 0 4)
 
--- the entry of a ballot that is admitted
-unfoldable pub entry : Bytes → Bytes
-entry ballot = part ballot 0 4 ++ ((1 ∷ 0 ∷ 0 ∷ 0 ∷ []) ++ sha3 ballot)
+-- an entry written after n entries: its mark, state and digest
+unfoldable pub appended : (reg : Bytes) (n : ℕ) (mark : Bytes) (state : ℕ) (digest : Bytes) → Bytes
+appended reg n mark state digest = put reg (40 * n) (mark ++ ((state ∷ 0 ∷ 0 ∷ 0 ∷ []) ++ digest))
 
 -- a ballot admitted after n entries
 unfoldable pub admitted : (reg : Bytes) (n : ℕ) (ballot : Bytes) → Bytes
-admitted reg n ballot = put reg (40 * n) (entry ballot)
+admitted reg n ballot = appended reg n (part ballot 0 4) 1 (sha3 ballot)
 
 -- entry i withdrawn: state byte 2
 unfoldable pub withdrawn : (reg : Bytes) (i : ℕ) → Bytes
 withdrawn reg i = put reg (40 * i + 4) (2 ∷ [])
+
+-- "a withdrawn entry with the mark and 32 zero bytes for the digest", after n entries
+unfoldable pub withdrawnEarly : (reg : Bytes) (n mark : ℕ) → Bytes
+withdrawnEarly reg n mark = appended reg n (bytes 4 mark) 2 (zeros 32)
+
+-- a mark withdrawn, among n entries: the first that has it; where none has, it gets one
+unfoldable pub markWithdrawn : (reg : Bytes) (n mark : ℕ) → Bytes
+markWithdrawn reg n mark = cond (known reg mark n) (withdrawn reg (find reg mark n)) (withdrawnEarly reg n mark)
 
 -- ---- turnout
 

@@ -5,8 +5,8 @@ ghost use Prim.Native.Nat.{_+_, _*_, _≤_};
 ghost use lib.Dec.{eqb};
 ghost use lib.ListN.{length};
 ghost use Rattle.codec.specs.Slices.{given, left};
-ghost use Rattle.register.specs.Orders.{admissionTests, withdrawalTests};
-ghost use Rattle.register.specs.Internal.{Wrote};
+ghost use Rattle.register.specs.Orders.{admissionTests};
+ghost use Rattle.register.specs.Internal.{Wrote, Withdrew};
 ghost use Rattle.register.specs.Register as def;
 
 // The length of a register.
@@ -35,16 +35,24 @@ pub fn is_standing(reg: &[u8], i: usize) -> bool
     reg[40 * i + 4] == 1
 }
 
+// Writes an entry after n entries: its mark, state and digest.
+fn write_entry(reg: &mut [u8], n: usize, mark: &[u8], state: u8, digest: &[u8])
+    requires { ⌜ (40 * n + 40 ≤ length (now reg)) × (length (now mark) ≡ 4) × (length (now digest) ≡ 32) ⌝ }
+    ensures { λ _. ⌜ left reg ≡ def.appended (given reg) n (given mark) state (given digest) ⌝ }
+{
+    let at = 40 * n;
+    codec::copy(reg, at, mark);
+    codec::write32(reg, at + 4, state as u32);
+    codec::copy(reg, at + 8, digest);
+}
+
 // Writes the entry of a ballot after n entries.
-fn write_entry(reg: &mut [u8], n: usize, ballot: &[u8])
+fn write_admitted(reg: &mut [u8], n: usize, ballot: &[u8])
     requires { ⌜ (40 * n + 40 ≤ length (now reg)) × (4 ≤ length (now ballot)) ⌝ }
     ensures { λ _. ⌜ left reg ≡ def.admitted (given reg) n (given ballot) ⌝ }
 {
-    let at = 40 * n;
     let digest = sha3::hash(ballot);
-    codec::copy(reg, at, &ballot[0..4]);
-    codec::write32(reg, at + 4, 1);
-    codec::copy(reg, at + 8, &digest);
+    write_entry(reg, n, &ballot[0..4], 1, &digest);
 }
 
 // Admits a ballot after the used entries: 32, 33, 35.
@@ -72,7 +80,7 @@ pub fn admit(reg: &mut [u8], used: usize, ballot: &[u8]) -> Reply
             place: 0,
         };
     }
-    write_entry(reg, used, ballot);
+    write_admitted(reg, used, ballot);
     Reply::Taken
 }
 
@@ -84,27 +92,53 @@ fn write_withdrawn(reg: &mut [u8], i: usize)
     codec::write8(reg, 40 * i + 4, 2);
 }
 
-// Withdraws the first of the used entries that has the mark: 34, 33.
-pub fn withdraw(reg: &mut [u8], used: usize, mark: u32) -> Reply
-    requires { ⌜ (length (now reg) ≡ def.registerLength) × (used ≤ def.capacity) ⌝ }
-    ensures { λ r. ⌜ Wrote (withdrawalTests (given reg) used mark) (def.withdrawn (given reg) (def.find (given reg) mark used)) r
-        (given reg) (left reg) ⌝ }
+// Writes the entry of a mark that is withdrawn before its ballot came, after n entries.
+fn write_early(reg: &mut [u8], n: usize, mark: u32)
+    requires { ⌜ 40 * n + 40 ≤ length (now reg) ⌝ }
+    ensures { λ _. ⌜ left reg ≡ def.withdrawnEarly (given reg) n mark ⌝ }
 {
-    let i = find(reg, mark, used);
-    if i == used {
-        return Reply::Refused {
-            number: 34,
-            place: 0,
+    let mut bytes = [0u8; 4];
+    codec::write32(&mut bytes, 0, mark);
+    let digest = [0u8; 32];
+    write_entry(reg, n, &bytes, 2, &digest);
+}
+
+// What a withdrawal answers, and whether the mark got an entry.
+pub struct Withdrawal {
+    pub reply: Reply,
+    pub entered: bool,
+}
+
+// Withdraws a mark, which gets an entry after the used ones if it has none: 33, 35.
+pub fn withdraw(reg: &mut [u8], used: usize, mark: u32) -> Withdrawal
+    requires { ⌜ (length (now reg) ≡ def.registerLength) × (used ≤ def.capacity) ⌝ }
+    ensures { λ r. ⌜ Withdrew (given reg) used mark r (left reg) ⌝ }
+{
+    let at = find(reg, mark, used);
+    if at < used {
+        if !is_standing(reg, at) {
+            return Withdrawal {
+                reply: codec::refused(33),
+                entered: false,
+            };
+        }
+        write_withdrawn(reg, at);
+        return Withdrawal {
+            reply: Reply::Taken,
+            entered: false,
         };
     }
-    if !is_standing(reg, i) {
-        return Reply::Refused {
-            number: 33,
-            place: 0,
+    if at == 4096 {
+        return Withdrawal {
+            reply: codec::refused(35),
+            entered: false,
         };
     }
-    write_withdrawn(reg, i);
-    Reply::Taken
+    write_early(reg, used, mark);
+    Withdrawal {
+        reply: Reply::Taken,
+        entered: true,
+    }
 }
 
 // How many of the first n entries stand.

@@ -5,10 +5,10 @@ use Prim.Native.Nat.{ℕ}
 use Rattle.codec.specs.Bytes.{Bytes, zeros}
 use Rattle.codec.specs.Reply.{Test, first, leaves}
 use Rattle.codec.specs.declared.Reply.{Reply}
-use Rattle.register.specs.Register.{registerLength, find, admitted, withdrawn}
+use Rattle.register.specs.Register.{registerLength, admitted, markWithdrawn}
 use Rattle.session_check.specs.Stored.{Inputs}
 use Rattle.session.specs.declared.Session.{Session}
-use Rattle.session.specs.Steps.{Beginning, clearTests, cleared, admitTests, admittedBy, withdrawTests, closeTests, closedBy, claimTests, claimedBy, commitTests, committedBy, drawTests, drawnBy, checkEarly, checkTests, acceptedBy, refusedBy}
+use Rattle.session.specs.Steps.{Beginning, clearTests, cleared, admitTests, enteredBy, withdrawTests, withdrawnBy, closeTests, closedBy, claimTests, claimedBy, commitTests, committedBy, drawTests, drawnBy, checkEarly, checkTests, acceptedBy, refusedBy}
 
 -- a step, with what it is lent beside session and register
 pub data Step : Type 0 where
@@ -43,8 +43,8 @@ tests (check k x) st = checkTests (st .session) k x
 -- what a step that is taken leaves
 abbrev pub next : Step → State → State
 next (clear b) st = state (cleared b) (zeros registerLength)
-next (admit ballot) st = state (admittedBy (st .session)) (admitted (st .register) (st .session .progress .used) ballot)
-next (withdraw mark) st = state (st .session) (withdrawn (st .register) (find (st .register) mark (st .session .progress .used)))
+next (admit ballot) st = state (enteredBy (st .session)) (admitted (st .register) (st .session .progress .used) ballot)
+next (withdraw mark) st = state (withdrawnBy (st .session) (st .register) mark) (markWithdrawn (st .register) (st .session .progress .used) mark)
 next close st = state (closedBy (st .session) (st .register)) (st .register)
 next (claim claims) st = state (claimedBy (st .session) claims) (st .register)
 next (commit k head shares0 shares1) st = state (committedBy (st .session) k head shares0 shares1) (st .register)

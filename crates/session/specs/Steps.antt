@@ -1,6 +1,6 @@
 -- The steps of a session (document 01, "Register and session", and the orders under "Refused because of the state"): what each refuses, in its
 -- order, and what a step that is taken leaves. A step that is refused leaves everything, but for a check whose round is refused. Assumes nothing.
-use mathlib.Core.Bool.{Bool, not, _&&_, _||_}
+use mathlib.Core.Bool.{Bool, cond, not, _&&_, _||_}
 use mathlib.Core.List.{List, [], _∷_, _++_}
 use Prim.Native.Nat.{ℕ, _+_, _*_}
 use lib.Dec.{eqb, ltb}
@@ -17,7 +17,7 @@ use Rattle.sheet_numbers.specs.Plain.{plain}
 use Rattle.vector.specs.Vector.{vector}
 use Rattle.round.specs.Layout.{ballotLength, headLength}
 use Rattle.register.specs.Orders.{admissionTests, withdrawalTests}
-use Rattle.register.specs.Register.{registerLength, standing, standingDigests, markOf}
+use Rattle.register.specs.Register.{registerLength, known, standing, standingDigests, markOf}
 use Rattle.session_progress.specs.Progress.{gathering, closed, commitDue, drawDue, checkDue, challengesDue, initial, withEntry, withBatch, withClaims, withMessage, withSeed, withRefusal, withAcceptance}
 use Rattle.session_digests.specs.Digests.{closingDigest, claimDigest, roundDigest}
 use Rattle.session_digests.specs.Draw.{drawnSide, drawnChallenges}
@@ -65,15 +65,19 @@ admitTests s reg ballot =
     ∷ test 5 0 (not (allBelow (s .numbers .modulus) (vector (drop 4 ballot))))
     ∷ admissionTests reg (s .progress .used) (markOf ballot)
 
--- one entry more
-unfoldable pub admittedBy : Session → Session
-admittedBy s = changed s (withEntry (s .progress)) (s .closing) (s .claim) (s .seed) (s .trail)
+-- one entry more is used
+unfoldable pub enteredBy : Session → Session
+enteredBy s = changed s (withEntry (s .progress)) (s .closing) (s .claim) (s .seed) (s .trail)
 
--- ---- withdraw: 31, 1, 34, 33
+-- ---- withdraw: 31, 1, 33, 35
 
 unfoldable pub withdrawTests : Session → (reg : Bytes) (mark : ℕ) → List Test
 withdrawTests s reg mark =
     dueTest s (eqb (s .progress .phase) gathering) ∷ test 1 0 (not (eqb (length reg) registerLength)) ∷ withdrawalTests reg (s .progress .used) mark
+
+-- one entry more, where the mark had none
+unfoldable pub withdrawnBy : Session → (reg : Bytes) (mark : ℕ) → Session
+withdrawnBy s reg mark = cond (known reg mark (s .progress .used)) s (enteredBy s)
 
 -- ---- close: 31, 1, 36
 

@@ -77,7 +77,7 @@ impl Session {
         Stepped { session, reply }
     }
 
-    // Withdraws the ballot with a mark.
+    // Withdraws a mark, whether its ballot has come or not.
     pub fn withdraw(self, reg: &mut [u8], mark: u32) -> Stepped
         ensures { λ r. ⌜ Done (withdraw mark) (state self (given reg)) r (left reg) ⌝ }
     {
@@ -89,11 +89,14 @@ impl Session {
         if reg.len() != register::REGISTER {
             return self.refused(1);
         }
-        let reply = register::withdraw(reg, progress.used as usize, mark);
-        Stepped {
-            session: self,
-            reply,
+        let withdrawal = register::withdraw(reg, progress.used as usize, mark);
+        let reply = withdrawal.reply;
+        let mut session = self;
+        if withdrawal.entered {
+            let counted = progress.with_entry();
+            session.progress = counted;
         }
+        Stepped { session, reply }
     }
 
     // Closes the batch of the standing entries.

@@ -14,7 +14,7 @@ use Rattle.register.specs.Register.{registerLength, markAt, stateAt, markOf, ad
 use Rattle.register.proofs.Entries.{admitted-length, admitted-marks, admitted-states, admitted-mark, admitted-state}
 use Rattle.session_digests.specs.Digests.{ballotDigests}
 use Rattle.round.specs.Layout.{ballotLength}
-use Rattle.session.specs.Steps.{on, cleared, admittedBy, closedBy}
+use Rattle.session.specs.Steps.{on, cleared, enteredBy, closedBy}
 use Rattle.session.specs.Machine.{Step, admit, close, reply}
 use Rattle.session_histories.specs.Runs.{historyAfter, rollAfter}
 use Rattle.session_histories.specs.Internal.{OwnTrace, Begins, ownInitial, ownExtend, ownTrace}
@@ -68,7 +68,7 @@ module _ (sheet : Bytes) (m : ℕ) (ballot : ℕ → Bytes) (material : ℕ → 
       })
 
   admit-next : (n : ℕ) (t : OwnTrace) → n < m → Gathering n t → Gathering (suc n) (ownExtend (admit (ballot n)) t)
-  unfolding admittedBy historyAfter rollAfter list
+  unfolding enteredBy historyAfter rollAfter list
   admit-next n t l g =
       let reg = t .now .register in
       let u = t .now .session .progress .used in

@@ -24,7 +24,7 @@ use Rattle.session_digests.proofs.Laws.{length-roundDigest}
 use Rattle.session.specs.declared.Session.{Session}
 use Rattle.session_progress.specs.declared.Progress.{Progress}
 use Rattle.session.specs.Session.{changed}
-use Rattle.session.specs.Steps.{Beginning, cleared, admittedBy, closedBy, claimedBy, committedBy, drawnBy, acceptedBy, refusedBy}
+use Rattle.session.specs.Steps.{Beginning, cleared, enteredBy, closedBy, claimedBy, committedBy, drawnBy, acceptedBy, refusedBy}
 use Rattle.session.specs.Machine.{Step, clear, admit, withdraw, close, claim, commit, draw, check, State, state, next, reply, after}
 use Rattle.session_histories.specs.Runs.{Message, message, Call, History, emptyHistory, historyAfter}
 use Rattle.session_histories.specs.Internal.{Begins, Trace, extendTrace, trace, initialTrace, OwnTrace, ownInitial, ownExtend, ownTrace}
@@ -78,8 +78,8 @@ module _ (s : Session) (h : History) (k : Kept s h) where
   abbrev v : ValidSession s
   v = k .sound
 
-  kept-admit : (reg ballot : Bytes) → Admits s reg ballot → Kept (admittedBy s) h
-  unfolding admittedBy
+  kept-admit : (reg ballot : Bytes) → Admits s reg ballot → Kept (enteredBy s) h
+  unfolding enteredBy
   kept-admit reg ballot a =
       let room = a .room in
       record {

@@ -17,7 +17,7 @@ use Rattle.register.specs.Register.{digestAt, standing, standingDigests}
 use Rattle.register.proofs.Entries.{stands}
 use Rattle.session_digests.proofs.Laws.{Long}
 use Rattle.session.specs.declared.Session.{Session}
-use Rattle.session.specs.Steps.{Beginning, cleared, admittedBy, closedBy, claimedBy, committedBy, drawnBy, acceptedBy, refusedBy}
+use Rattle.session.specs.Steps.{Beginning, cleared, enteredBy, closedBy, claimedBy, committedBy, drawnBy, acceptedBy, refusedBy}
 use Rattle.session.specs.Machine.{Step, clear, admit, withdraw, close, claim, commit, draw, check, State, state, next, reply, after}
 use Rattle.session_histories.specs.Runs.{Message, message, Call, History, emptyHistory, historyAfter}
 use Rattle.session_histories.specs.Internal.{Begins, Trace, extendTrace, trace, initialTrace}
@@ -55,7 +55,7 @@ module _ (reg : Bytes) (s : Session) (h : History) (k : Kept s h) (m : Measured 
   st = state s reg
 
   measured-next : (x : Step) → reply x st ≡ Taken → Measured (next x st .session) (historyAfter x st h)
-  unfolding reply historyAfter admittedBy closedBy claimedBy committedBy drawnBy acceptedBy
+  unfolding reply historyAfter enteredBy closedBy claimedBy committedBy drawnBy acceptedBy
   measured-next (clear b) e = measured-clear b
   measured-next (admit ballot) e = record { batch = m .batch; firsts = λ l j g. let z = m .firsts l j g in record { head = z .head; shares0 = z .shares0 } }
   measured-next (withdraw mark) e = m

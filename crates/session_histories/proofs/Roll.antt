@@ -19,7 +19,7 @@ use Rattle.register.specs.Register.{markAt, stateAt, digestAt, find, standing, 
 use Rattle.register.proofs.Entries.{admitted-marks, admitted-states, admitted-digests, admitted-mark, admitted-state, admitted-digest, withdrawn-marks, withdrawn-digests, withdrawn-state, withdrawn-states}
 use Rattle.session_digests.proofs.Laws.{Long, ballotDigests-flatten}
 use Rattle.session.specs.declared.Session.{Session}
-use Rattle.session.specs.Steps.{cleared, admittedBy, closedBy, claimedBy, committedBy, drawnBy, acceptedBy, refusedBy}
+use Rattle.session.specs.Steps.{cleared, enteredBy, closedBy, claimedBy, committedBy, drawnBy, acceptedBy, refusedBy}
 use Rattle.session.specs.Machine.{Step, clear, admit, withdraw, close, claim, commit, draw, check, State, state, next, reply, after}
 use Rattle.session_histories.specs.Runs.{History, historyAfter, without, rollAfter}
 use Rattle.session_histories.specs.Internal.{OwnTrace, Trace, initialTrace, ownInitial, ownExtend, ownTrace, extendTrace, trace, calls, RollIsBatch, OwnRegister}
@@ -127,8 +127,8 @@ module _ (st : State) (h : History) (bs : List Bytes) (o : Own st h bs) where
   abbrev reg : Bytes
   reg = st .register
 
-  own-admit : (ballot : Bytes) → Admits s reg ballot → Own (state (admittedBy s) (admitted reg (s .progress .used) ballot)) h (bs ++ (ballot ∷ []))
-  unfolding admittedBy
+  own-admit : (ballot : Bytes) → Admits s reg ballot → Own (state (enteredBy s) (admitted reg (s .progress .used) ballot)) h (bs ++ (ballot ∷ []))
+  unfolding enteredBy
   own-admit ballot a =
       let was = a .phase in
       let four : 4 ≤ length ballot = omega (arith, a .ballot-size) in

@@ -15,7 +15,7 @@ use Rattle.round.proofs.Many.{last}
 use Rattle.session_check.specs.Stored.{Inputs}
 use Rattle.session.specs.declared.Session.{Session}
 use Rattle.session.specs.Session.{trailAt}
-use Rattle.session.specs.Steps.{Beginning, storedFor, cleared, admittedBy, closedBy, claimedBy, committedBy, drawnBy, acceptedBy, refusedBy}
+use Rattle.session.specs.Steps.{Beginning, storedFor, cleared, enteredBy, closedBy, claimedBy, committedBy, drawnBy, acceptedBy, refusedBy}
 use Rattle.session.specs.Machine.{Step, clear, admit, withdraw, close, claim, commit, draw, check, State, state, next, reply, after}
 use Rattle.session_histories.specs.Runs.{Call, call, clears}
 use Rattle.session_histories.specs.Internal.{Begins, Trace, lent, NoClear, extendTrace, trace, initialTrace, StepChecked}
@@ -45,7 +45,7 @@ module _ (s : Session) (reg : Bytes) (unchecked : s .progress .phase < 3 → s .
   early x t c n low = same c n (λ l k. absurd (omega (arith, unchecked low)))
 
   moved : (x : Step) → reply x st ≡ Taken → Move s reg x (next x st .session)
-  unfolding reply cleared admittedBy closedBy claimedBy committedBy drawnBy acceptedBy trailAt
+  unfolding reply cleared enteredBy closedBy claimedBy committedBy drawnBy acceptedBy trailAt
   moved (clear b) e = restarted refl
   moved (admit ballot) e = same refl refl (λ l k. refl)
   moved (withdraw mark) e = same refl refl (λ l k. refl)
@@ -66,7 +66,7 @@ abbrev Complete : Session → Type 0
 Complete s = s .progress .phase ≡ 5 → s .progress .checked ≡ s .numbers .rounds
 
 complete-next : (x : Step) (reg : Bytes) (s : Session) → Complete s → reply x (state s reg) ≡ Taken → Complete (next x (state s reg) .session)
-unfolding reply cleared admittedBy closedBy claimedBy committedBy drawnBy
+unfolding reply cleared enteredBy closedBy claimedBy committedBy drawnBy
 complete-next (clear b) reg s h e = λ l. absurd (omega arith)
 complete-next (admit ballot) reg s h e = h
 complete-next (withdraw mark) reg s h e = h

@@ -12,7 +12,7 @@ use Rattle.codec.specs.declared.Reply.{Reply}
 use Rattle.codec.specs.declared.Reply.the-variants.{Taken}
 use Rattle.register.specs.Register.{registerLength, markAt, stateAt, digestAt, find, standing, standingDigests, markOf, admitted, withdrawn}
 use Rattle.register.proofs.Entries.{stands, admitted-marks, admitted-states, admitted-mark, withdrawn-marks, withdrawn-state, withdrawn-states}
-use Rattle.session.specs.Steps.{Beginning, cleared, admittedBy, closedBy, claimedBy, committedBy, drawnBy, acceptedBy, refusedBy}
+use Rattle.session.specs.Steps.{Beginning, cleared, enteredBy, closedBy, claimedBy, committedBy, drawnBy, acceptedBy, refusedBy}
 use Rattle.session.specs.Machine.{Step, clear, admit, withdraw, close, claim, commit, draw, check, State, next, reply, after}
 use Rattle.session_histories.specs.Runs.{clears}
 use Rattle.session_histories.specs.Internal.{run}
@@ -59,7 +59,7 @@ module _ (P : Bytes → ℕ → Type 0) (st : State)
     where
       taken : (x : Step) → (clears x (reply x st) ≡ true → P (zeros registerLength) 0) → reply x st ≡ Taken → Here (next x st)
       taken (clear b) c e = unfold cleared in c (clears-taken b _ e)
-      taken (admit ballot) c e = unfold reply admittedBy in admits ballot (admitted-exactly (st .session) (st .register) ballot .0 e)
+      taken (admit ballot) c e = unfold reply enteredBy in admits ballot (admitted-exactly (st .session) (st .register) ballot .0 e)
       taken (withdraw mark) c e = unfold reply in withdraws mark (withdrawn-exactly (st .session) (st .register) mark .0 e)
       taken close c e = unfold closedBy in h
       taken (claim claims) c e = unfold claimedBy in h

@@ -63,7 +63,7 @@ challengesDue k g round = leb drawn (g .phase) && ltb round (k .rounds)
 abbrev pub initial : Progress
 initial = record { phase = gathering; used = 0; closed = 0; committed = 0; checked = 0 }
 
--- admit: one entry more
+-- admit, and a withdrawal of a mark that has no entry: one entry more
 abbrev pub withEntry : Progress → Progress
 withEntry g = record { phase = g .phase; used = g .used + 1; closed = g .closed; committed = g .committed; checked = g .checked }
 

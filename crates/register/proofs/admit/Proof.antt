@@ -21,7 +21,7 @@ returns-3 c = silent _ _ _ (is-full _ _ _ (c .before .before .find .ensures .0) 
 
 returns-4 : tie.Need-returns-4
 unfolding markOf
-returns-4 c = writes _ _ _ (is-free _ _ _ (c .before .before .before .before .before .before .find .ensures .0) (c .before .before .before .before .before .before .before .read32 .ensures) (c .before .before .before .before .before .if1 .left) (c .before .before .before .before .if3 .left)) (c .before .before .write-entry .ensures)
+returns-4 c = writes _ _ _ (is-free _ _ _ (c .before .before .before .before .before .before .find .ensures .0) (c .before .before .before .before .before .before .before .read32 .ensures) (c .before .before .before .before .before .if1 .left) (c .before .before .before .before .if3 .left)) (c .before .before .write-admitted .ensures)
 
 pub admit-spec : {M : Type 1} → statement M
 admit-spec = tie.close (tie.spec (λ c κs. search needs) (λ c κs. omega arith) (λ c κs. omega arith) (λ c. search needs) returns (λ c. search needs) returns-2 (λ c. search needs) returns-3 (λ c κs. (omega arith, c .before .before .before .before .before .before .before .before .pre .2)) (λ c. search needs) returns-4)

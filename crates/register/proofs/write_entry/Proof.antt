@@ -1,14 +1,12 @@
 -- `register::write_entry` meets its contract. Assumes nothing.
 use mathlib.Core.Path.{_≡_, refl, ap, _∙_}
 use mathlib.Core.List.{[], _∷_, _++_}
-use Prim.Native.Nat.{ℕ, _+_, _*_, _≤_}
+use Prim.Native.Nat.{ℕ, _+_, _*_, _/_, _%_, _≤_, _<_}
 use native.Mathlib.Omega.{arith}
 use borrow.Author.Needs.{needs}
 use lib.ListN.{length, length-append}
-use Rattle.codec.specs.Bytes.{Bytes, bytes, part, put}
-use Rattle.codec.proofs.Laws.{length-part, length-put, put-append}
-use Rattle.sha3.specs.Sponge.{sha3}
-use Rattle.sha3.proofs.Squeezing.{length-sha3}
+use Rattle.codec.specs.Bytes.{Bytes, bytes, put}
+use Rattle.codec.proofs.Laws.{length-put, put-append}
 use Rattle.register.specs.Register as def
 use Rattle.register.proofs.write_entry.Statement.{statement}
 use Rattle.register.proofs.write_entry.Tie as tie
@@ -23,17 +21,22 @@ three d at s t u e f h =
     ap (λ (i : ℕ). put (put (put d at s) (at + 4) t) i u) k ∙ put-append (put d at s) (at + 4) t u (omega arith)
     ∙ ap (λ (i : ℕ). put (put d at s) i (t ++ u)) m ∙ put-append d at s (t ++ u) (simp length-append (omega arith))
 
+-- the state byte and three zeros
+state-bytes : (v : ℕ) → v < 256 → bytes 4 v ≡ v ∷ 0 ∷ 0 ∷ 0 ∷ []
+unfolding bytes
+state-bytes v h =
+    let low : v % 256 ≡ v = omega arith in
+    let high : v / 256 ≡ 0 = omega arith in
+    rw (low, high)
+
 returns : tie.Need-returns
-unfolding def.admitted def.entry bytes
+unfolding def.appended
 returns c =
-    let a = c .before .before .before .before .before .before .before .before .before .before .before .before .before .before .before .before .before .args in
-    let r = a .reg .now in
-    let b = a .ballot .now in
-    let at = 40 * a .n in
-    let e = length-sha3 b in
-    let k = length-part b 0 4 (omega arith) in
-    rw (c .before .before .copy2 .ensures, c .before .before .before .before .before .before .before .write32 .ensures, c .before .before .before .before .before .before .before .before .before .before .before .copy .ensures, c .before .before .before .before .before .before .before .before .before .before .before .before .before .before .hash .ensures)
-    (three r at (part b 0 4) (1 ∷ 0 ∷ 0 ∷ 0 ∷ []) (sha3 b) k refl (omega arith))
+    let a = c .before .before .before .before .before .before .before .before .before .before .before .before .before .before .before .args in
+    rw (c .before .before .copy2 .ensures, c .before .before .before .before .before .before .write32 .ensures, c .before .before .before .before .before .before .before .before .before .before .copy .ensures, state-bytes (a .state) (omega arith))
+    (three (a .reg .now) (40 * a .n) (a .mark .now) (a .state ∷ 0 ∷ 0 ∷ 0 ∷ []) (a .digest .now) (c .before .before .before .before .before .before .before .before .before .before .before .before .before .before .before .pre .1) refl (omega arith))
 
 pub write-entry-spec : {M : Type 1} → statement M
-write-entry-spec = tie.close (tie.spec (λ c. search needs) (λ c κs. search needs) (λ c. search needs) (λ c. search needs) (λ c. search needs) (λ c κs. search needs) (λ c. search needs) (λ c κs. search needs) (λ c. search needs) (λ c. search needs) (λ c κs. search needs) (λ c. search needs) returns)
+write-entry-spec =
+    tie.close
+    (tie.spec (λ c. search needs) (λ c κs. search needs) (λ c. search needs) (λ c κs. search needs) (λ c. search needs) (λ c κs. search needs) (λ c. search needs) returns)

@@ -5,7 +5,7 @@ use borrow.Author.Needs.{needs}
 use borrow.Author.Tests.{not-true, not-false}
 use Rattle.codec.specs.Reply.{leaves}
 use Rattle.session_progress.proofs.Limits.{within-due, bounds}
-use Rattle.session.specs.Steps.{admittedBy}
+use Rattle.session.specs.Steps.{enteredBy}
 use Rattle.session.proofs.Stepping.{stays, decides}
 use Rattle.session.proofs.GatheringTests.{ranged, admit-phase, admit-register, admit-ballot, admit-range, admit-on}
 use Rattle.session.proofs.Session.admit.Statement.{statement}
@@ -40,7 +40,7 @@ with-entry-requires : tie.Need-with-entry-requires
 with-entry-requires c κs = within-due _ _ _ (sym (c .before .before .before .before .before .before .before .before .before .before .before .before .is-in .ensures) ∙ not-false _ (c .before .before .before .before .before .before .before .before .before .before .before .if1 .left)) .used
 
 returns-5 : tie.Need-returns-5
-unfolding admittedBy leaves
+unfolding enteredBy leaves
 returns-5 c =
     let a = c .before .before .before .before .before .before .before .before .before .before .before .before .before .before .before .before .before .before .args in
     let due = sym (c .before .before .before .before .before .before .before .before .before .before .before .before .before .is-in .ensures) ∙ not-false _ (c .before .before .before .before .before .before .before .before .before .before .before .before .if1 .left) in
