@@ -25,7 +25,8 @@ use Rattle.session_image.specs.Image.{imageLength, fields, start, decode}
 use Rattle.session_image.specs.Internal.{Typed}
 use Rattle.session_histories.specs.Conditions.{Clears, Admits, Closes, Commits, Draws}
 use Rattle.session_histories.proofs.Stepped.{stepped, taken-turn}
-use Rattle.session_histories.proofs.Exact.{cleared-exactly, admitted-exactly, closed-exactly, committed-exactly, drawn-exactly}
+use Rattle.session_histories.proofs.ExactGathering.{admitted-exactly, closed-exactly}
+use Rattle.session_histories.proofs.Exact.{cleared-exactly, committed-exactly, drawn-exactly}
 
 module _ (b : Bytes) (l : length b ≡ imageLength) (o : Octets b) where
   eight : (name : String) → start fields name + 8 ≤ length b → number (part b (start fields name) 8) < 2 ^ 64

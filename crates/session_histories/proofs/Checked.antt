@@ -17,7 +17,8 @@ use Rattle.session.specs.declared.Session.{Session}
 use Rattle.session.specs.Steps.{storedFor, checkEarly, checkLate, checkTests}
 use Rattle.session.specs.Machine.{Step, clear, admit, withdraw, close, claim, commit, draw, check, State, reply}
 use Rattle.session_histories.specs.Conditions.{Reaches, Checks, HeadIsBytes, Takes}
-use Rattle.session_histories.proofs.Exact.{cleared-exactly, admitted-exactly, withdrawn-exactly, closed-exactly, claimed-exactly, committed-exactly, drawn-exactly}
+use Rattle.session_histories.proofs.ExactGathering.{admitted-exactly, withdrawn-exactly, closed-exactly}
+use Rattle.session_histories.proofs.Exact.{cleared-exactly, claimed-exactly, committed-exactly, drawn-exactly}
 use Rattle.session_histories.proofs.Valid.{ready, is-ready, on-turn, is-turn, sheet-exactly}
 use Rattle.session_check.specs.Stored.{Inputs, drawnRound}
 

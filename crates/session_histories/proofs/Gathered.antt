@@ -11,7 +11,7 @@ use Rattle.codec.proofs.Lists.{length-list}
 use Rattle.sha3.specs.Sponge.{sha3}
 use Rattle.round.specs.Producer.{Material}
 use Rattle.register.specs.Register.{registerLength, markAt, stateAt, markOf, admitted}
-use Rattle.register.proofs.Entries.{admitted-length, admitted-marks, admitted-states, admitted-mark, admitted-state}
+use Rattle.register.proofs.Entries.{admitted-entry}
 use Rattle.session_digests.specs.Digests.{ballotDigests}
 use Rattle.round.specs.Layout.{ballotLength}
 use Rattle.session.specs.Steps.{on, cleared, enteredBy, closedBy}
@@ -19,7 +19,7 @@ use Rattle.session.specs.Machine.{Step, admit, close, reply}
 use Rattle.session_histories.specs.Runs.{historyAfter, rollAfter}
 use Rattle.session_histories.specs.Internal.{OwnTrace, Begins, ownInitial, ownExtend, ownTrace}
 use Rattle.session_histories.specs.Elections.{batchBytes, Countable}
-use Rattle.session_histories.proofs.Exact.{admitted-exactly, closed-exactly}
+use Rattle.session_histories.proofs.ExactGathering.{admitted-exactly, closed-exactly}
 use Rattle.session_histories.proofs.Kept.{kept-own}
 use Rattle.session_histories.proofs.Roll.{roll-is-batch}
 use Rattle.session_histories.proofs.Stages.{trace-append, trace-none, trace-next, extend-is, up-to, by-last, On, numbers, on-next, Closed}
@@ -58,13 +58,12 @@ module _ (sheet : Bytes) (m : ℕ) (ballot : ℕ → Bytes) (material : ℕ → 
       let used = g .used in
       let few = c .few in
       admitted-exactly s (t .now .register) (ballot n) .1 (record {
-        sound = g .on-sheet .kept .sound;
-        phase = g .phase;
-        register-size = g .size;
-        ballot-size = rw (numbers sheet t (g .on-sheet)) (c .ballot-size n l);
-        coefficients = rw (numbers sheet t (g .on-sheet)) (c .ballot-range n l);
-        unknown = λ i h e. c .marks i n (omega arith) l (sym (g .marks i (omega arith)) ∙ e);
-        room = omega arith;
+        presents = record {
+          gathers = record { sound = g .on-sheet .kept .sound; phase = g .phase; register-size = g .size };
+          ballot-size = rw (numbers sheet t (g .on-sheet)) (c .ballot-size n l);
+          coefficients = rw (numbers sheet t (g .on-sheet)) (c .ballot-range n l);
+        };
+        enters = record { unknown = λ i h e. c .marks i n (omega arith) l (sym (g .marks i (omega arith)) ∙ e); room = omega arith };
       })
 
   admit-next : (n : ℕ) (t : OwnTrace) → n < m → Gathering n t → Gathering (suc n) (ownExtend (admit (ballot n)) t)
@@ -75,19 +74,17 @@ module _ (sheet : Bytes) (m : ℕ) (ballot : ℕ → Bytes) (material : ℕ → 
       let used = g .used in
       let few = c .few in
       let room : u < 4096 = omega arith in
-      let four : 4 ≤ length (ballot n) = rw (c .ballot-size n l) (omega arith) in
+      let new = admitted-entry reg u (ballot n) (g .size) room (rw (c .ballot-size n l) (omega arith)) in
       let e = admits n t l g in
       subst (Gathering (suc n)) (sym (extend-is (admit (ballot n)) t e)) (record {
         on-sheet = on-next sheet (admit (ballot n)) t (g .on-sheet) e refl;
         phase = g .phase;
         used = omega arith;
-        size = admitted-length reg u (ballot n) (g .size) room four;
+        size = new .sized;
         marks = λ i h. by-last (λ j. markAt (admitted reg u (ballot n)) j ≡ markOf (ballot j)) n i h
-            (λ j. admitted-marks reg u (ballot n) (g .size) room four i (omega arith) ∙ g .marks i j)
-            (ap (markAt (admitted reg u (ballot n))) (sym used) ∙ admitted-mark reg u (ballot n) (g .size) room four);
+            (λ j. new .marks i (omega arith) ∙ g .marks i j) (ap (markAt (admitted reg u (ballot n))) (sym used) ∙ new .last-mark);
         states = λ i h. by-last (λ j. stateAt (admitted reg u (ballot n)) j ≡ 1) n i h
-            (λ j. admitted-states reg u (ballot n) (g .size) room four i (omega arith) ∙ g .states i j)
-            (ap (stateAt (admitted reg u (ballot n))) (sym used) ∙ admitted-state reg u (ballot n) (g .size) room four);
+            (λ j. new .states i (omega arith) ∙ g .states i j) (ap (stateAt (admitted reg u (ballot n))) (sym used) ∙ new .last-state);
         roll = ap (λ (bs : List Bytes). bs ++ (ballot n ∷ [])) (g .roll);
       })
 
@@ -114,7 +111,7 @@ module _ (sheet : Bytes) (m : ℕ) (ballot : ℕ → Bytes) (material : ℕ → 
       let used = g .used in
       let some = c .some in
       closed-exactly (gathered .now .session) (gathered .now .register) .1
-      (record { sound = g .on-sheet .kept .sound; phase = g .phase; register-size = g .size; at = 0; within = omega arith; stands = g .states 0 (omega arith) })
+      (record { gathers = record { sound = g .on-sheet .kept .sound; phase = g .phase; register-size = g .size }; at = 0; within = omega arith; stands = g .states 0 (omega arith) })
 
   abbrev pub shut : OwnTrace
   shut = ownExtend close gathered

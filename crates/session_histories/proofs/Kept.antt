@@ -28,10 +28,11 @@ use Rattle.session.specs.Steps.{Beginning, cleared, enteredBy, closedBy, claime
 use Rattle.session.specs.Machine.{Step, clear, admit, withdraw, close, claim, commit, draw, check, State, state, next, reply, after}
 use Rattle.session_histories.specs.Runs.{Message, message, Call, History, emptyHistory, historyAfter}
 use Rattle.session_histories.specs.Internal.{Begins, Trace, extendTrace, trace, initialTrace, OwnTrace, ownInitial, ownExtend, ownTrace}
-use Rattle.session_histories.specs.Conditions.{SheetTaken, ValidSession, Admits, Closes, Claims, Commits, Draws}
+use Rattle.session_histories.specs.Conditions.{SheetTaken, ValidSession, Closes, Claims, Commits, Draws}
 use Rattle.session_histories.proofs.Valid.{sheet-exactly}
 use Rattle.session_histories.proofs.Stepped.{taken-turn, stepped-with}
-use Rattle.session_histories.proofs.Exact.{cleared-exactly, admitted-exactly, closed-exactly, claimed-exactly, committed-exactly, drawn-exactly}
+use Rattle.session_histories.proofs.ExactGathering.{admitted-exactly, withdrawn-exactly, withdrawal, closed-exactly}
+use Rattle.session_histories.proofs.Exact.{cleared-exactly, claimed-exactly, committed-exactly, drawn-exactly}
 
 -- the digest of a first message
 abbrev pub messageDigest : Bytes → (k : ℕ) → Message → Bytes
@@ -78,22 +79,20 @@ module _ (s : Session) (h : History) (k : Kept s h) where
   abbrev v : ValidSession s
   v = k .sound
 
-  kept-admit : (reg ballot : Bytes) → Admits s reg ballot → Kept (enteredBy s) h
+  kept-entered : s .progress .used < 4096 → Kept (enteredBy s) h
   unfolding enteredBy
-  kept-admit reg ballot a =
-      let room = a .room in
-      record {
-        sound = record { phase = v .phase; inside = v .inside; sound = v .sound; used = omega arith; closed = v .closed; committed = v .committed; checked = v .checked };
-        origin = k .origin;
-        long = k .long;
-        counts = k .counts;
-        digests = k .digests;
-      }
+  kept-entered room = record {
+    sound = record { phase = v .phase; inside = v .inside; sound = v .sound; used = omega arith; closed = v .closed; committed = v .committed; checked = v .checked };
+    origin = k .origin;
+    long = k .long;
+    counts = k .counts;
+    digests = k .digests;
+  }
 
   kept-close : (reg : Bytes) → Closes s reg → Kept (closedBy s reg) (historyAfter close (state s reg) h)
   unfolding closedBy historyAfter standingDigests
   kept-close reg c =
-      let was = c .phase in
+      let was = c .gathers .phase in
       let few = standing-few reg (s .progress .used) in
       let used = v .used in
       record {
@@ -237,8 +236,8 @@ module _ (reg : Bytes) (s : Session) (h : History) (k : Kept s h) where
   kept-next : (x : Step) → reply x st ≡ Taken → Kept (next x st .session) (historyAfter x st h)
   unfolding reply historyAfter
   kept-next (clear b) e = kept-clear b (cleared-exactly reg b .0 e .sheet)
-  kept-next (admit ballot) e = kept-admit s h k reg ballot (admitted-exactly s reg ballot .0 e)
-  kept-next (withdraw mark) e = k
+  kept-next (admit ballot) e = kept-entered s h k (admitted-exactly s reg ballot .0 e .enters .room)
+  kept-next (withdraw mark) e = withdrawal s reg mark (λ (z : State). Kept (z .session) h) (withdrawn-exactly s reg mark .0 e) (λ f. k) (λ m. kept-entered s h k (m .room))
   kept-next close e = kept-close s h k reg (closed-exactly s reg .0 e)
   kept-next (claim claims) e = kept-claim s h k st claims (claimed-exactly s claims .0 e)
   kept-next (commit r head shares0 shares1) e = kept-commit s h k r head shares0 shares1 (committed-exactly s r head shares0 shares1 .0 e) st

@@ -2,6 +2,7 @@ pub mod Replies
 pub mod Sheets
 pub mod Valid
 pub mod Stepped
+pub mod ExactGathering
 pub mod Exact
 pub mod Checked
 pub mod Kept

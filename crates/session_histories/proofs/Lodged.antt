@@ -15,7 +15,8 @@ use Rattle.session.specs.Machine.{Step, clear, admit, withdraw, close, claim, c
 use Rattle.session_histories.specs.Runs.{History, historyAfter, rollAfter, clears}
 use Rattle.session_histories.specs.Internal.{OwnTrace, ownExtend, ownTrace}
 use Rattle.session_histories.proofs.Stepped.{Uncleared, none, more, stepped-all}
-use Rattle.session_histories.proofs.Exact.{admitted-exactly, withdrawn-exactly, closed-exactly, claimed-exactly, committed-exactly}
+use Rattle.session_histories.proofs.ExactGathering.{admitted-exactly, withdrawn-exactly, closed-exactly}
+use Rattle.session_histories.proofs.Exact.{claimed-exactly, committed-exactly}
 
 -- from a claim on, and with the first message of a round once it is committed
 pub record Stays (round : ℕ) (t : OwnTrace) (now : State) (history : History) (roll : List Bytes) : Type 0 where
@@ -46,9 +47,9 @@ module _ (round : ℕ) (t : OwnTrace) (late : 1 < t .now .session .progress .pha
   taken : (x : Step) → clears x Taken ≡ false → reply x (t .now) ≡ Taken → Stays round t (next x (t .now)) (historyAfter x (t .now) (t .history)) (rollAfter x (t .roll))
   unfolding reply historyAfter rollAfter committedBy drawnBy acceptedBy
   taken (clear b) n e = absurd (let z : _≡_ {A = ℕ} 0 1 = cc in omega arith)
-  taken (admit ballot) n e = let was = admitted-exactly s reg ballot .0 e .phase in absurd (omega arith)
-  taken (withdraw mark) n e = let was = withdrawn-exactly s reg mark .0 e .phase in absurd (omega arith)
-  taken close n e = let was = closed-exactly s reg .0 e .phase in absurd (omega arith)
+  taken (admit ballot) n e = let was = admitted-exactly s reg ballot .0 e .presents .gathers .phase in absurd (omega arith)
+  taken (withdraw mark) n e = let was = withdrawn-exactly s reg mark .0 e .gathers .phase in absurd (omega arith)
+  taken close n e = let was = closed-exactly s reg .0 e .gathers .phase in absurd (omega arith)
   taken (claim claims) n e = let was = claimed-exactly s claims .0 e .phase in absurd (omega arith)
   taken (commit k head shares0 shares1) n e =
       let c = committed-exactly s k head shares0 shares1 .0 e in

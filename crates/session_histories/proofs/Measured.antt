@@ -22,7 +22,8 @@ use Rattle.session.specs.Machine.{Step, clear, admit, withdraw, close, claim, c
 use Rattle.session_histories.specs.Runs.{Message, message, Call, History, emptyHistory, historyAfter}
 use Rattle.session_histories.specs.Internal.{Begins, Trace, extendTrace, trace, initialTrace}
 use Rattle.session_histories.proofs.Stepped.{taken-turn, stepped-with}
-use Rattle.session_histories.proofs.Exact.{closed-exactly, claimed-exactly, committed-exactly, drawn-exactly}
+use Rattle.session_histories.proofs.ExactGathering.{withdrawn-exactly, withdrawal, closed-exactly}
+use Rattle.session_histories.proofs.Exact.{claimed-exactly, committed-exactly, drawn-exactly}
 use Rattle.session_histories.proofs.Kept.{Kept, kept-step, kept}
 
 -- the head and the shares of side 0; those of side 1 are what is left
@@ -54,15 +55,19 @@ module _ (reg : Bytes) (s : Session) (h : History) (k : Kept s h) (m : Measured 
   abbrev st : State
   st = state s reg
 
+  measured-entered : Measured (enteredBy s) h
+  unfolding enteredBy
+  measured-entered = record { batch = m .batch; firsts = λ l j g. let z = m .firsts l j g in record { head = z .head; shares0 = z .shares0 } }
+
   measured-next : (x : Step) → reply x st ≡ Taken → Measured (next x st .session) (historyAfter x st h)
-  unfolding reply historyAfter enteredBy closedBy claimedBy committedBy drawnBy acceptedBy
+  unfolding reply historyAfter closedBy claimedBy committedBy drawnBy acceptedBy
   measured-next (clear b) e = measured-clear b
-  measured-next (admit ballot) e = record { batch = m .batch; firsts = λ l j g. let z = m .firsts l j g in record { head = z .head; shares0 = z .shares0 } }
-  measured-next (withdraw mark) e = m
+  measured-next (admit ballot) e = measured-entered
+  measured-next (withdraw mark) e = withdrawal s reg mark (λ (z : State). Measured (z .session) h) (withdrawn-exactly s reg mark .0 e) (λ f. m) (λ w. measured-entered)
   measured-next close e =
       let c = closed-exactly s reg .0 e in
-      let was = c .phase in
-      record { batch = long-standing reg (s .progress .used) (c .register-size) (k .sound .used); firsts = λ l. absurd (omega arith) }
+      let was = c .gathers .phase in
+      record { batch = long-standing reg (s .progress .used) (c .gathers .register-size) (k .sound .used); firsts = λ l. absurd (omega arith) }
   measured-next (claim claims) e =
       let was = claimed-exactly s claims .0 e .phase in
       record { batch = m .batch; firsts = λ l j g. let z = k .counts .uncommitted (omega arith) in absurd (omega arith) }

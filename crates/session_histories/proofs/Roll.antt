@@ -15,18 +15,19 @@ use Rattle.codec.specs.Reply.{leaves}
 use Rattle.codec.specs.declared.Reply.the-variants.{Taken}
 use Rattle.sha3.specs.Sponge.{sha3}
 use Rattle.round.specs.Layout.{ballotLength}
-use Rattle.register.specs.Register.{markAt, stateAt, digestAt, find, standing, standingDigests, markOf, admitted, withdrawn}
-use Rattle.register.proofs.Entries.{admitted-marks, admitted-states, admitted-digests, admitted-mark, admitted-state, admitted-digest, withdrawn-marks, withdrawn-digests, withdrawn-state, withdrawn-states}
+use Rattle.register.specs.Register.{markAt, stateAt, digestAt, find, standing, standingDigests, markOf, admitted, withdrawn, withdrawnEarly}
+use Rattle.register.proofs.Entries.{Appended, admitted-entry, early-entry, withdrawn-marks, withdrawn-digests, withdrawn-state, withdrawn-states}
 use Rattle.session_digests.proofs.Laws.{Long, ballotDigests-flatten}
 use Rattle.session.specs.declared.Session.{Session}
 use Rattle.session.specs.Steps.{cleared, enteredBy, closedBy, claimedBy, committedBy, drawnBy, acceptedBy, refusedBy}
 use Rattle.session.specs.Machine.{Step, clear, admit, withdraw, close, claim, commit, draw, check, State, state, next, reply, after}
 use Rattle.session_histories.specs.Runs.{History, historyAfter, without, rollAfter}
 use Rattle.session_histories.specs.Internal.{OwnTrace, Trace, initialTrace, ownInitial, ownExtend, ownTrace, extendTrace, trace, calls, RollIsBatch, OwnRegister}
-use Rattle.session_histories.specs.Conditions.{Admits, Withdraws, Claims, Draws}
+use Rattle.session_histories.specs.Conditions.{NoEntry, MarkStands, MayEnter, Admits, Withdraws, Claims, Draws}
 use Rattle.session_histories.proofs.Stepped.{taken-turn, stepped-all}
-use Rattle.session_histories.proofs.Exact.{here, admitted-exactly, withdrawn-exactly, claimed-exactly, drawn-exactly}
-use Rattle.session_histories.proofs.Withdrawn.{Single, single-none, single-step}
+use Rattle.session_histories.proofs.ExactGathering.{admitted-exactly, withdrawn-exactly, withdrawal}
+use Rattle.session_histories.proofs.Exact.{claimed-exactly, drawn-exactly}
+use Rattle.session_histories.proofs.Withdrawn.{OnlyFirst, only-first-none, no-other, only-first-step}
 
 -- the first n entries are those of the ballots, in order, and of others that do not stand
 data Rows (reg : Bytes) : ℕ → List Bytes → Type 0 where
@@ -83,20 +84,27 @@ module _ (reg : Bytes) (at mark : ℕ) (size : length reg ≡ 163840) (place : a
       let one : stateAt left-by at ≡ 1 = rw e at t in
       omega arith
 
-  rows-withdraw : {n : ℕ} {bs : List Bytes} → Rows reg n bs → ((i : ℕ) → i < n → i ≢ at → markAt reg i ≢ mark) → Rows left-by n (without mark bs)
+  rows-withdraw : {n : ℕ} {bs : List Bytes} → Rows reg n bs → ((i : ℕ) → i < n → i ≢ at → stateAt reg i ≡ 1 → markAt reg i ≢ mark) → Rows left-by n (without mark bs)
   rows-withdraw start u = unfold without in start
   rows-withdraw (up {n = n} {bs = bs} b r s m d) u = go (ℕ-discrete n at) (rows-withdraw r (λ i h. u i (omega arith)))
     where
       go : Dec (n ≡ at) → Rows left-by n (without mark bs) → Rows left-by (suc n) (without mark (bs ++ (b ∷ [])))
       go (yes e) rest = rw (without-it mark bs b (sym m ∙ ap (markAt reg) e ∙ marked)) (down rest (not-one n e))
       go (no e) rest =
-          rw (without-other mark bs b (λ f. u n (omega arith) e (m ∙ f)))
+          rw (without-other mark bs b (λ f. u n (omega arith) e s (m ∙ f)))
           (up b rest (withdrawn-states reg at size place n e ∙ s) (withdrawn-marks reg at size place n ∙ m) (withdrawn-digests reg at size place n ∙ d))
   rows-withdraw (down {n = n} {bs = bs} r s) u = down (rows-withdraw r (λ i h. u i (omega arith))) (go (ℕ-discrete n at))
     where
       go : Dec (n ≡ at) → stateAt left-by n ≢ 1
       go (yes e) = not-one n e
       go (no e) = λ t. s (sym (withdrawn-states reg at size place n e) ∙ t)
+
+-- a mark that no entry has is no ballot's
+without-none : {reg : Bytes} (mark : ℕ) {n : ℕ} {bs : List Bytes} → Rows reg n bs → NoEntry reg mark n → without mark bs ≡ bs
+without-none mark start u = unfold without in refl
+without-none mark (up {n = n} {bs = bs} b r s m d) u =
+    without-other mark bs b (λ f. u n (omega arith) (m ∙ f)) ∙ ap (λ (l : List Bytes). l ++ (b ∷ [])) (without-none mark r (λ i h. u i (omega arith)))
+without-none mark (down r s) u = without-none mark r (λ i h. u i (omega arith))
 
 -- ---- ballots of one length
 
@@ -127,36 +135,43 @@ module _ (st : State) (h : History) (bs : List Bytes) (o : Own st h bs) where
   abbrev reg : Bytes
   reg = st .register
 
+  -- the rows before a new entry
+  rows-before : {new digest : Bytes} {mark state : ℕ} → Appended reg new (s .progress .used) mark state digest → Rows new (s .progress .used) bs
+  rows-before e = rows-keep _ (o .rows) (λ i l. (e .states i l, e .marks i l, e .digests i l))
+
   own-admit : (ballot : Bytes) → Admits s reg ballot → Own (state (enteredBy s) (admitted reg (s .progress .used) ballot)) h (bs ++ (ballot ∷ []))
   unfolding enteredBy
   own-admit ballot a =
-      let was = a .phase in
-      let four : 4 ≤ length ballot = omega (arith, a .ballot-size) in
+      let was = a .presents .gathers .phase in
+      let size = a .presents .ballot-size in
+      let e = admitted-entry reg (s .progress .used) ballot (a .presents .gathers .register-size) (a .enters .room) (omega arith) in
       record {
-        rows = rw (add-one (s .progress .used)) (up ballot
-            (rows-keep _ (o .rows) (λ i l. (
-              admitted-states reg (s .progress .used) ballot (a .register-size) (a .room) four i l,
-              admitted-marks reg (s .progress .used) ballot (a .register-size) (a .room) four i l,
-              admitted-digests reg (s .progress .used) ballot (a .register-size) (a .room) four i l,
-            )))
-            (admitted-state reg (s .progress .used) ballot (a .register-size) (a .room) four)
-            (admitted-mark reg (s .progress .used) ballot (a .register-size) (a .room) four)
-            (admitted-digest reg (s .progress .used) ballot (a .register-size) (a .room) four));
-        long = long-more _ bs ballot (o .long) (a .ballot-size);
+        rows = rw (add-one (s .progress .used)) (up ballot (rows-before e) (e .last-state) (e .last-mark) (e .last-digest));
+        long = long-more _ bs ballot (o .long) size;
         noted = λ l. absurd (omega arith);
       }
 
-  own-withdraw : Single reg (s .progress .used) → (mark : ℕ) → Withdraws s reg mark → Own (state s (withdrawn reg (find reg mark (s .progress .used)))) h (without mark bs)
-  own-withdraw single mark w =
-      let was = w .phase in
-      let l = w .within in
-      let few = w .sound .used in
-      record {
-        rows = rw (here reg mark (w .at) (s .progress .used) (w .within) (w .marked) (w .earlier)) (rows-withdraw reg (w .at) mark (w .register-size) (omega arith) (w .marked) (o .rows)
-            (λ i hi ne m. ne (single .one i (w .at) hi l (m ∙ sym (w .marked)))));
-        long = long-without _ mark bs (o .long);
-        noted = λ l. absurd (omega arith);
-      }
+  own-withdraw : OnlyFirst reg (s .progress .used) → (mark : ℕ) → Withdraws s reg mark → Own (next (withdraw mark) (state s reg)) h (without mark bs)
+  own-withdraw only mark w = withdrawal s reg mark (λ (z : State). Own z h (without mark bs)) w found enters
+    where
+      found : (f : MarkStands reg mark (s .progress .used)) → Own (state s (withdrawn reg (f .at))) h (without mark bs)
+      found f =
+          let was = w .gathers .phase in
+          let l = f .within in
+          let few = w .gathers .sound .used in
+          record {
+            rows = rows-withdraw reg (f .at) mark (w .gathers .register-size) (omega arith) (f .marked) (o .rows) (no-other reg mark (s .progress .used) only f);
+            long = long-without _ mark bs (o .long);
+            noted = λ l. absurd (omega arith);
+          }
+
+      enters : MayEnter reg mark (s .progress .used) → Own (state (enteredBy s) (withdrawnEarly reg (s .progress .used) mark)) h (without mark bs)
+      enters m =
+          let was = w .gathers .phase in
+          let e = early-entry reg (s .progress .used) mark (w .gathers .register-size) (m .room) in
+          let two = e .last-state in
+          unfold enteredBy in rw (without-none mark (o .rows) (m .unknown))
+          (record { rows = rw (add-one (s .progress .used)) (down (rows-before e) (λ t. omega arith)); long = o .long; noted = λ l. absurd (omega arith) })
 
   own-close : Own (state (closedBy s reg) reg) (historyAfter close st h) bs
   unfolding closedBy historyAfter standingDigests
@@ -178,25 +193,25 @@ module _ (st : State) (h : History) (bs : List Bytes) (o : Own st h bs) where
   unfolding refusedBy
   own-ended was = record { rows = o .rows; long = o .long; noted = λ l. o .noted (omega arith) }
 
-  own-next : Single reg (s .progress .used) → (x : Step) → reply x st ≡ Taken → Own (next x st) (historyAfter x st h) (rollAfter x bs)
+  own-next : OnlyFirst reg (s .progress .used) → (x : Step) → reply x st ≡ Taken → Own (next x st) (historyAfter x st h) (rollAfter x bs)
   unfolding reply cleared committedBy historyAfter rollAfter
-  own-next single (clear b) e = record { rows = start; long = tt; noted = λ l. absurd (omega arith) }
-  own-next single (admit ballot) e = own-admit ballot (admitted-exactly s reg ballot .0 e)
-  own-next single (withdraw mark) e = own-withdraw single mark (withdrawn-exactly s reg mark .0 e)
-  own-next single close e = own-close
-  own-next single (claim claims) e = own-claim claims (claimed-exactly s claims .0 e)
-  own-next single (commit k head shares0 shares1) e = record { rows = o .rows; long = o .long; noted = o .noted }
-  own-next single (draw seed) e = own-draw seed (drawn-exactly s seed .0 e)
-  own-next single (check k x) e = own-checked (taken-turn s k x e .0)
+  own-next only (clear b) e = record { rows = start; long = tt; noted = λ l. absurd (omega arith) }
+  own-next only (admit ballot) e = own-admit ballot (admitted-exactly s reg ballot .0 e)
+  own-next only (withdraw mark) e = own-withdraw only mark (withdrawn-exactly s reg mark .0 e)
+  own-next only close e = own-close
+  own-next only (claim claims) e = own-claim claims (claimed-exactly s claims .0 e)
+  own-next only (commit k head shares0 shares1) e = record { rows = o .rows; long = o .long; noted = o .noted }
+  own-next only (draw seed) e = own-draw seed (drawn-exactly s seed .0 e)
+  own-next only (check k x) e = own-checked (taken-turn s k x e .0)
 
-  own-step : Single reg (s .progress .used) → (x : Step) → Own (after x st) (leaves (reply x st) (historyAfter x st h) h) (leaves (reply x st) (rollAfter x bs) bs)
-  own-step single x = stepped-all st Own x (own-next single x) (λ number place e. o) (λ number place e was low. own-ended was)
+  own-step : OnlyFirst reg (s .progress .used) → (x : Step) → Own (after x st) (leaves (reply x st) (historyAfter x st h) h) (leaves (reply x st) (rollAfter x bs) bs)
+  own-step only x = stepped-all st Own x (own-next only x) (λ number place e. o) (λ number place e was low. own-ended was)
 
-own-ownTrace : (xs : List Step) (t : OwnTrace) → Single (t .now .register) (t .now .session .progress .used) → Own (t .now) (t .history) (t .roll)
+own-ownTrace : (xs : List Step) (t : OwnTrace) → OnlyFirst (t .now .register) (t .now .session .progress .used) → Own (t .now) (t .history) (t .roll)
     → Own (ownTrace xs t .now) (ownTrace xs t .history) (ownTrace xs t .roll)
 unfolding ownTrace ownExtend
-own-ownTrace [] t single o = o
-own-ownTrace (x ∷ xs) t single o = own-ownTrace xs (ownExtend x t) (single-step (t .now) x single) (own-step (t .now) (t .history) (t .roll) o single x)
+own-ownTrace [] t only o = o
+own-ownTrace (x ∷ xs) t only o = own-ownTrace xs (ownExtend x t) (only-first-step (t .now) x only) (own-step (t .now) (t .history) (t .roll) o only x)
 
 -- each of them has that length
 each-long : (size : ℕ) (bs : List Bytes) → Long size bs → (b : Bytes) → List·Memᴰ b bs → length b ≡ size
@@ -211,7 +226,7 @@ pub roll-is-batch : RollIsBatch
 unfolding ownInitial cleared
 roll-is-batch b steps l =
     let t = ownTrace steps (ownInitial b) in
-    let o = own-ownTrace steps (ownInitial b) (single-none _) (record { rows = start; long = tt; noted = λ q. absurd (omega arith) }) in
+    let o = own-ownTrace steps (ownInitial b) (only-first-none _) (record { rows = start; long = tt; noted = λ q. absurd (omega arith) }) in
     (o .noted l, each-long _ (t .roll) (o .long), rw (o .noted l, length-map (t .roll) sha3) (ballotDigests-flatten _ (t .roll) (o .long)))
 
 -- ---- such a list is one of those in which each step is lent any register

@@ -20,7 +20,8 @@ use Rattle.session.specs.Machine.{Step, clear, admit, withdraw, close, claim, c
 use Rattle.session_histories.specs.Runs.{Call, call, clears}
 use Rattle.session_histories.specs.Internal.{Begins, Trace, lent, NoClear, extendTrace, trace, initialTrace, StepChecked}
 use Rattle.session_histories.proofs.Stepped.{clears-refused, stepped, taken-turn}
-use Rattle.session_histories.proofs.Exact.{closed-exactly, claimed-exactly, committed-exactly, drawn-exactly}
+use Rattle.session_histories.proofs.ExactGathering.{withdrawn-exactly, withdrawal, closed-exactly}
+use Rattle.session_histories.proofs.Exact.{claimed-exactly, committed-exactly, drawn-exactly}
 use Rattle.session_histories.proofs.Checked.{accepted-exactly}
 use Rattle.session_histories.proofs.Kept.{kept}
 
@@ -48,8 +49,9 @@ module _ (s : Session) (reg : Bytes) (unchecked : s .progress .phase < 3 → s .
   unfolding reply cleared enteredBy closedBy claimedBy committedBy drawnBy acceptedBy trailAt
   moved (clear b) e = restarted refl
   moved (admit ballot) e = same refl refl (λ l k. refl)
-  moved (withdraw mark) e = same refl refl (λ l k. refl)
-  moved close e = let was = closed-exactly s reg .0 e .phase in early close _ refl refl (omega arith)
+  moved (withdraw mark) e =
+      withdrawal s reg mark (λ (z : State). Move s reg (withdraw mark) (z .session)) (withdrawn-exactly s reg mark .0 e) (λ f. same refl refl (λ l k. refl)) (λ m. same refl refl (λ l k. refl))
+  moved close e = let was = closed-exactly s reg .0 e .gathers .phase in early close _ refl refl (omega arith)
   moved (claim claims) e = let was = claimed-exactly s claims .0 e .phase in early (claim claims) _ refl refl (omega arith)
   moved (commit k head shares0 shares1) e = let was = committed-exactly s k head shares0 shares1 .0 e .phase in early (commit k head shares0 shares1) _ refl refl (omega arith)
   moved (draw seed) e = let was = drawn-exactly s seed .0 e .phase in early (draw seed) _ refl refl (omega arith)
@@ -69,7 +71,7 @@ complete-next : (x : Step) (reg : Bytes) (s : Session) → Complete s → reply 
 unfolding reply cleared enteredBy closedBy claimedBy committedBy drawnBy
 complete-next (clear b) reg s h e = λ l. absurd (omega arith)
 complete-next (admit ballot) reg s h e = h
-complete-next (withdraw mark) reg s h e = h
+complete-next (withdraw mark) reg s h e = withdrawal s reg mark (λ (z : State). Complete (z .session)) (withdrawn-exactly s reg mark .0 e) (λ f. h) (λ m. h)
 complete-next close reg s h e = λ l. absurd (omega arith)
 complete-next (claim claims) reg s h e = λ l. absurd (omega arith)
 complete-next (commit k head shares0 shares1) reg s h e = λ l. let was = committed-exactly s k head shares0 shares1 .0 e .phase in absurd (omega arith)

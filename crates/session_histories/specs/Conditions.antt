@@ -1,7 +1,7 @@
--- When each step of a session is taken (document 01, the orders under "Refused because of the state"), in conditions to hold against the
+-- When each step of a session is taken (document 01, the orders under "Refused because of the state"; document 02, L1), in conditions to hold against the
 -- paper and not as its order again; the numbers beside them are those of the refusals that they exclude. Assumes nothing.
 use mathlib.Core.Path.{_≡_}
-use mathlib.Core.Logic.{_≢_}
+use mathlib.Core.Logic.{_≢_, _⊎_}
 use Prim.Native.Nat.{ℕ, _+_, _*_, _≤_, _<_}
 use lib.ListN.{length, drop}
 use Rattle.codec.specs.Bytes.{Bytes, Octets}
@@ -42,34 +42,60 @@ pub record Clears (reg : Bytes) (b : Beginning) : Type 0 where
   pub register-size : length reg ≡ 163840  -- 1
   pub sheet : SheetTaken (b .sheet)  -- 1 to 5
 
-pub record Admits (s : Session) (reg ballot : Bytes) : Type 0 where
+-- ---- while ballots are gathered
+
+-- a valid session that gathers, lent a register
+pub record Gathers (s : Session) (reg : Bytes) : Type 0 where
   pub sound : ValidSession s  -- 31
   pub phase : s .progress .phase ≡ gathering  -- 31
   pub register-size : length reg ≡ 163840  -- 1
+
+-- none of the first n entries has the mark
+abbrev pub NoEntry : (reg : Bytes) (mark n : ℕ) → Type 0
+NoEntry reg mark n = (i : ℕ) → i < n → markAt reg i ≢ mark
+
+-- `at` is the first of them that has it, and its state is as `Of` says
+pub record FirstEntry (reg : Bytes) (mark n : ℕ) (Of : ℕ → Type 0) : Type 0 where
+  pub at : ℕ
+  pub within : at < n
+  pub marked : markAt reg at ≡ mark
+  pub earlier : NoEntry reg mark at
+  pub state : Of (stateAt reg at)
+
+abbrev pub MarkStands : (reg : Bytes) (mark n : ℕ) → Type 0
+MarkStands reg mark n = FirstEntry reg mark n (λ state. state ≡ 1)
+
+abbrev pub MarkWithdrawn : (reg : Bytes) (mark n : ℕ) → Type 0
+MarkWithdrawn reg mark n = FirstEntry reg mark n (λ state. state ≢ 1)
+
+-- no entry has the mark, and one is free
+pub record MayEnter (reg : Bytes) (mark n : ℕ) : Type 0 where
+  pub unknown : NoEntry reg mark n
+  pub room : n < 4096  -- 35
+
+-- a ballot that is looked up in the register
+pub record Presents (s : Session) (reg ballot : Bytes) : Type 0 where
+  pub gathers : Gathers s reg  -- 31, 1
   pub ballot-size : length ballot ≡ 4 + 16 * s .numbers .ring  -- 1
   pub coefficients : EachBelow (s .numbers .modulus) (vector (drop 4 ballot))  -- 5, u and v
-  pub unknown : (i : ℕ) → i < s .progress .used → markAt reg i ≢ markOf ballot  -- 32, 33
-  pub room : s .progress .used < 4096  -- 35
 
--- `at` is the first entry with the mark
+pub record Admits (s : Session) (reg ballot : Bytes) : Type 0 where
+  pub presents : Presents s reg ballot  -- 31, 1, 5
+  pub enters : MayEnter reg (markOf ballot) (s .progress .used)  -- 32, 33, 35
+
+-- a mark is withdrawn that stands, or that has no entry yet
 pub record Withdraws (s : Session) (reg : Bytes) (mark : ℕ) : Type 0 where
-  pub sound : ValidSession s  -- 31
-  pub phase : s .progress .phase ≡ gathering  -- 31
-  pub register-size : length reg ≡ 163840  -- 1
-  pub at : ℕ
-  pub within : at < s .progress .used  -- 34
-  pub marked : markAt reg at ≡ mark  -- 34
-  pub earlier : (i : ℕ) → i < at → markAt reg i ≢ mark
-  pub stands : stateAt reg at ≡ 1  -- 33
+  pub gathers : Gathers s reg  -- 31, 1
+  pub marked : MarkStands reg mark (s .progress .used) ⊎ MayEnter reg mark (s .progress .used)  -- 33, 35
 
 -- `at` is an entry that stands
 pub record Closes (s : Session) (reg : Bytes) : Type 0 where
-  pub sound : ValidSession s  -- 31
-  pub phase : s .progress .phase ≡ gathering  -- 31
-  pub register-size : length reg ≡ 163840  -- 1
+  pub gathers : Gathers s reg  -- 31, 1
   pub at : ℕ
   pub within : at < s .progress .used  -- 36
   pub stands : stateAt reg at ≡ 1  -- 36
+
+-- ---- from closing on
 
 pub record Claims (s : Session) (claims : Bytes) : Type 0 where
   pub sound : ValidSession s  -- 31
