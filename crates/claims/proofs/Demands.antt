@@ -21,7 +21,8 @@ use Rattle.round.proofs.ExtractionOutput.{output, lowest}
 use Rattle.round.proofs.Refuses.{takes-accepted, lending}
 use Rattle.round_lengths.specs.Sheets.{ballotsIn}
 use Rattle.session_histories.specs.Examples.{all-examples}
-use Rattle.claims.proofs.HostClaims.{host-stays-out, host-roll-is-batch, host-own-register, host-rounds-checked, host-ended-accepted, host-bound, host-honest-accepted, host-stays-valid, host-only-phase-or-round}
+use Rattle.claims.proofs.HostClaims.{host-roll-is-batch, host-own-register, host-rounds-checked, host-ended-accepted, host-bound, host-honest-accepted, host-stays-valid, host-only-phase-or-round}
+use Rattle.claims.proofs.Withdrawals.{over-calls}
 use Rattle.claims.proofs.Papers.{sound, distributed, digest-of-bits, tables}
 use Rattle.claims.proofs.Together.{decrypts-together}
 use Rattle.claims.proofs.AnySession.{any-session}
@@ -97,7 +98,7 @@ demand2 = record {
   rounds-checked = host-rounds-checked;
   ended-accepted = host-ended-accepted;
   bound = host-bound;
-  withdrawn-stays-out = host-stays-out;
+  withdrawn-stays-out = over-calls .stays-out;
   refusal-ends = refusal-ends;
   clear-begins = begun;
   scratch-zeroed = scratch-zeroed;

@@ -27,7 +27,7 @@ use Rattle.session_histories.proofs.Ended.{refused-keeps, ended-refuses, refuse
 use Rattle.session_histories.proofs.Stepped.{after-taken}
 use Rattle.claims.specs.HostSteps.{hostTrace, HostNoClear}
 use Rattle.claims.specs.Endings.{Over, RefusalEnds, Begun, ScratchZeroed}
-use Rattle.claims.proofs.Images.{lent-exactly}
+use Rattle.claims.proofs.Images.{lent-exactly, not-1}
 use Rattle.claims.proofs.HostSteps.{Holds, bytes-hold, replies, image-left, register-left}
 
 -- the image that a call leaves
@@ -118,7 +118,7 @@ module _ (sheet : Bytes) (h : Host) (octets : Octets (h .image)) (taken : hostRe
 
   lent-taken : (length (h .image) ≡ imageLength) × (reply (clear (on sheet)) st ≡ Taken)
   unfolding hostReply
-  lent-taken = lent-exactly (h .image) (λ (z : Session). reply (clear (on sheet)) (state z (h .register))) .0 taken
+  lent-taken = lent-exactly (h .image) (λ (z : Session). reply (clear (on sheet)) (state z (h .register))) Taken not-1 .0 taken
 
   held : Holds (h .image) (decode (h .image))
   held = bytes-hold (h .image) (lent-taken .0) octets

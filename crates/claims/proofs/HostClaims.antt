@@ -8,13 +8,12 @@ use Rattle.sheet.specs.Reader.{sheetOf}
 use Rattle.session.specs.declared.Session.{Session}
 use Rattle.session_image.specs.Image.{decode}
 use Rattle.session.specs.Steps.{Beginning}
-use Rattle.session.specs.Machine.{Step, clear, withdraw, close, check, State, state, reply, after}
+use Rattle.session.specs.Machine.{Step, clear, check, State, state, reply, after}
 use Rattle.session_histories.specs.Runs.{History, emptyHistory, Call, call}
-use Rattle.session_histories.specs.Internal.{Begins, StepChecked, initialTrace, ownInitial, run, ownTrace, extendTrace, trace, calls}
+use Rattle.session_histories.specs.Internal.{Begins, StepChecked, initialTrace, ownInitial, ownTrace, extendTrace, trace, calls}
 use Rattle.session_histories.specs.Conditions.{ValidSession, Checks}
 use Rattle.session_histories.specs.Claims.{Undue}
 use Rattle.session_histories.specs.Bound.{Bound, BoundBytes}
-use Rattle.session_histories.proofs.Withdrawn.{withdrawn-stays-out}
 use Rattle.session_histories.proofs.Reach.{clear-taken, reachable-valid, only-phase-or-round}
 use Rattle.session_histories.proofs.Honest.{honest-accepted}
 use Rattle.session_histories.proofs.Rounds.{rounds-checked, ended-accepted}
@@ -22,9 +21,9 @@ use Rattle.session_histories.proofs.Roll.{roll-is-batch, own-register}
 use Rattle.session_histories.proofs.Bound.{checks-bound}
 use Rattle.session_histories.proofs.Hashed.{checks-hashed}
 use Rattle.session_image.specs.Images.{Host, host, hostReply, hostAfter}
-use Rattle.claims.specs.HostSteps.{hostTrace, hostHistory, hostRun, hostCalls, hostRoll, Starts}
-use Rattle.claims.specs.HostClaims.{HostStaysOut, HostRollIsBatch, HostOwnRegister, RoundChecked, HostRoundsChecked, HostEndedAccepted, HostBound, HostHonestAccepted, HostStaysValid, HostOnlyPhaseOrRound}
-use Rattle.claims.proofs.HostSteps.{Holds, bytes-hold, replies, image-left, trace-over, history-over, no-clear-over, Keeps, over-step, over-run, keeps-run, roll-over, calls-over, uncleared}
+use Rattle.claims.specs.HostSteps.{lastOf, hostTrace, hostHistory, hostRun, hostCalls, hostRoll, Starts}
+use Rattle.claims.specs.HostClaims.{HostRollIsBatch, HostOwnRegister, RoundChecked, HostRoundsChecked, HostEndedAccepted, HostBound, HostHonestAccepted, HostStaysValid, HostOnlyPhaseOrRound}
+use Rattle.claims.proofs.HostSteps.{Holds, bytes-hold, replies, image-left, trace-over, history-over, no-clear-over, Keeps, over-step, keeps-run, roll-over, calls-over}
 
 -- ---- from a clear that is taken
 
@@ -94,20 +93,8 @@ module _ (start : Host) (b : Beginning) (s : Starts start b) where
 
 -- ---- the claims
 
-pub host-stays-out : HostStaysOut
-host-stays-out start b before between mark s e u d =
-    let found = hostRun before (hostAfter (clear b) start) in
-    let last = hostRun between (hostAfter (withdraw mark) found) in
-    let there = run before (after (clear b) (st start b s)) in
-    let k : Keeps found there = over-run before (hostAfter (clear b) start) (after (clear b) (st start b s)) (newly start b s) in
-    let w = over-step (withdraw mark) found there k in
-    let l : Keeps last (run between (after (withdraw mark) there)) = over-run between (hostAfter (withdraw mark) found) (after (withdraw mark) there) (w .1) in
-    let c = over-step close last (run between (after (withdraw mark) there)) l in
-    let out = withdrawn-stays-out (st start b s) b before between mark (taken start b s) (sym (w .0) ∙ e) (uncleared between (hostAfter (withdraw mark) found) (after (withdraw mark) there) (w .1) u) (sym (c .0) ∙ d) in
-    rw (c .1 .image .session, l .register) out
-
 pub host-own-register : HostOwnRegister
-unfolding hostTrace hostCalls hostRun
+unfolding hostTrace hostCalls lastOf
 host-own-register [] h = refl
 host-own-register (x ∷ xs) h = host-own-register xs (hostAfter x h)
 

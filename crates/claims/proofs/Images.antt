@@ -1,6 +1,6 @@
 -- A call that is lent an image. Assumes nothing.
-use mathlib.Core.Path.{_≡_, refl}
-use mathlib.Core.Logic.{_↔_}
+use mathlib.Core.Path.{_≡_, refl, sym}
+use mathlib.Core.Logic.{_↔_, _≢_}
 use mathlib.Core.Bool.{Bool, true, false, cond}
 use lib.Dec.{eqb}
 use lib.ListN.{length}
@@ -13,16 +13,23 @@ use Rattle.session.specs.declared.Session.{Session}
 use Rattle.session_image.specs.Image.{imageLength, decode}
 use Rattle.session_image.specs.Images.{lentReply}
 
--- a call that is lent an image is taken exactly if the image has its length and the session in it is taken
-pub lent-exactly : (image : Bytes) (R : Session → Reply) → (lentReply image R ≡ Taken) ↔ ((length image ≡ imageLength) × (R (decode image) ≡ Taken))
-lent-exactly image R = (says (eqb (length image) imageLength) refl, λ h. rw (eq-eqb (length image) imageLength (h .0)) (h .1))
+-- a call that is lent an image answers what the session in it is answered exactly if the image has its length, where that is not 1
+pub lent-exactly : (image : Bytes) (R : Session → Reply) (q : Reply) → q ≢ Refused 1 0 → (lentReply image R ≡ q) ↔ ((length image ≡ imageLength) × (R (decode image) ≡ q))
+lent-exactly image R q other = (says (eqb (length image) imageLength) refl, λ h. rw (eq-eqb (length image) imageLength (h .0)) (h .1))
   where
-    says : (b : Bool) → eqb (length image) imageLength ≡ b → cond b (R (decode image)) (Refused 1 0) ≡ Taken → (length image ≡ imageLength) × (R (decode image) ≡ Taken)
+    says : (b : Bool) → eqb (length image) imageLength ≡ b → cond b (R (decode image)) (Refused 1 0) ≡ q → (length image ≡ imageLength) × (R (decode image) ≡ q)
     says true e t = (eqb-true (length image) imageLength e, t)
-    says false e t = not-taken 1 0 t
+    says false e t = absurd (other (sym t))
+
+pub not-1 : Taken ≢ Refused 1 0
+not-1 e = not-taken 1 0 (sym e)
 
 -- and so if what that asks holds
-pub over-image : (image : Bytes) (R : Session → Reply) {Holds : Type 0} → (R (decode image) ≡ Taken) ↔ Holds → (lentReply image R ≡ Taken) ↔ ((length image ≡ imageLength) × Holds)
-over-image image R exactly =
-    let l = lent-exactly image R in
+pub over-answer : (image : Bytes) (R : Session → Reply) (q : Reply) {Holds : Type 0} → q ≢ Refused 1 0 → (R (decode image) ≡ q) ↔ Holds
+    → (lentReply image R ≡ q) ↔ ((length image ≡ imageLength) × Holds)
+over-answer image R q other exactly =
+    let l = lent-exactly image R q other in
     (λ e. let h = l .0 e in (h .0, exactly .0 (h .1)), λ h. l .1 (h .0, exactly .1 (h .1)))
+
+pub over-image : (image : Bytes) (R : Session → Reply) {Holds : Type 0} → (R (decode image) ≡ Taken) ↔ Holds → (lentReply image R ≡ Taken) ↔ ((length image ≡ imageLength) × Holds)
+over-image image R exactly = over-answer image R Taken not-1 exactly

@@ -16,4 +16,6 @@ pub mod SomeElection
 pub mod Yields
 pub mod Replies
 pub mod Calls
+pub mod Withdrawals
 pub mod Demands
+pub mod Requests

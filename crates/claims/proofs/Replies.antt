@@ -1,10 +1,11 @@
 -- The one number that C is answered, of every exported call: each test of each order has a number of 1 to 255. Assumes nothing.
 use mathlib.Core.Path.{_≡_, refl, sym, ap₂}
+use mathlib.Core.Logic.{_≢_}
 use mathlib.Core.Bool.{Bool, true, false, cond, not, _&&_, _||_}
 use mathlib.Core.List.{List, [], _∷_, _++_}
 use Prim.Native.Nat.{ℕ, zero, suc, _*_, _/_, _%_, _<_}
 use native.Mathlib.Omega.{arith}
-use borrow.Author.Tests.{ltb-true}
+use borrow.Author.Tests.{ltb-true, eqb-false, not-true}
 use lib.Dec.{eqb, ltb}
 use lib.ListN.{length}
 use Rattle.codec.specs.Bytes.{Bytes}
@@ -30,7 +31,8 @@ use Rattle.session.specs.Session.{valid}
 use Rattle.session.specs.Steps.{clearTests, admitTests, withdrawTests, closeTests, claimTests, commitTests, drawTests, checkEarly, checkLate, checkTests, turnoutTests, turnoutBy}
 use Rattle.session_image.specs.Image.{imageLength, decode}
 use Rattle.session_image.specs.Images.{Host, lentReply, hostReply, turnoutReply, turnoutAnswer, countedAnswer}
-use Rattle.session.specs.Machine.{Step, clear, admit, withdraw, close, claim, commit, draw, check, State, state, reply}
+use Rattle.session.specs.Machine.{Step, clear, admit, withdraw, close, claim, commit, draw, check, State, state, tests, reply}
+use Rattle.session_histories.proofs.Replies.{Others, others}
 use Rattle.claims.specs.Calls.{Told}
 use Rattle.session_check.specs.Stored.{Inputs}
 
@@ -39,20 +41,32 @@ Packed reply = Told reply (packed reply)
 
 -- ---- orders
 
--- whether the number of each test is one of 1 to 255
+-- whether a number is one of 1 to 255 that documents 01 and 02 use: 34 is not
+abbrev inUse : ℕ → Bool
+inUse n = ltb 0 n && (ltb n 256 && not (eqb n 34))
+
+-- of each test
 abbrev pub numbered : List Test → Bool
 numbered [] = true
-numbered (t ∷ ts) = ltb 0 (t .number) && (ltb (t .number) 256 && numbered ts)
+numbered (t ∷ ts) = inUse (t .number) && numbered ts
 
 abbrev pub Numbered : List Test → Type 0
 Numbered ts = numbered ts ≡ true
 
 append : (rs ts : List Test) → Numbered rs → Numbered ts → Numbered (rs ++ ts)
 append [] ts a b = b
-append (r ∷ rs) ts a b =
-    let h = both (ltb 0 (r .number)) (ltb (r .number) 256 && numbered rs) a in
-    let k = both (ltb (r .number) 256) (numbered rs) (h .1) in
-    ap₂ _&&_ (h .0) (ap₂ _&&_ (k .0) (append rs ts (k .1) b))
+append (r ∷ rs) ts a b = let h = both (inUse (r .number)) (numbered rs) a in ap₂ _&&_ (h .0) (append rs ts (h .1) b)
+
+numbered-others : (ts : List Test) → Numbered ts → Others 34 ts
+numbered-others [] h = tt
+numbered-others (t ∷ ts) h =
+    let k = both (inUse (t .number)) (numbered ts) h in
+    let low = both (ltb 0 (t .number)) (ltb (t .number) 256 && not (eqb (t .number) 34)) (k .0) in
+    (eqb-false (t .number) 34 (not-true _ (both (ltb (t .number) 256) (not (eqb (t .number) 34)) (low .1) .1)), numbered-others ts (k .1))
+
+-- no order of such numbers answers 34
+not-34 : (ts : List Test) → Numbered ts → (place : ℕ) → first ts ≢ Refused 34 place
+not-34 ts h place = others 34 place ts (numbered-others ts h)
 
 of-each : (n : ℕ) (f : ℕ → List Test) → ((i : ℕ) → Numbered (f i)) → Numbered (joined n f)
 unfolding joined
@@ -75,9 +89,10 @@ pub told : (ts : List Test) → Numbered ts → Packed (first ts)
 unfolding first
 told [] h = told-taken 0
 told (t ∷ ts) h =
-    let low = both (ltb 0 (t .number)) (ltb (t .number) 256 && numbered ts) h in
-    let high = both (ltb (t .number) 256) (numbered ts) (low .1) in
-    go (t .holds) (told-refused (t .number) (t .place) (ltb-true 0 (t .number) (low .0)) (ltb-true (t .number) 256 (high .0))) (told ts (high .1))
+    let k = both (inUse (t .number)) (numbered ts) h in
+    let low = both (ltb 0 (t .number)) (ltb (t .number) 256 && not (eqb (t .number) 34)) (k .0) in
+    let high = both (ltb (t .number) 256) (not (eqb (t .number) 34)) (low .1) in
+    go (t .holds) (told-refused (t .number) (t .place) (ltb-true 0 (t .number) (low .0)) (ltb-true (t .number) 256 (high .0))) (told ts (k .1))
   where
     go : (b : Bool) → Packed (Refused (t .number) (t .place)) → Packed (first ts) → Packed (cond b (Refused (t .number) (t .place)) (first ts))
     go true refused rest = refused
@@ -148,16 +163,25 @@ in-check : (s : Session) (round : ℕ) (x : Inputs) → Numbered (checkTests s r
 unfolding checkTests checkEarly checkLate earlyTests lateTests storedTests
 in-check s round x = in-round (parametersOf (x .sheet)) (s .progress .closed) _
 
+-- every step's order has such numbers
+in-step : (x : Step) (st : State) → Numbered (tests x st)
+unfolding clearTests admitTests withdrawTests closeTests claimTests commitTests drawTests
+in-step (clear b) st = refl
+in-step (admit ballot) st = refl
+in-step (withdraw mark) st = refl
+in-step close st = refl
+in-step (claim claims) st = refl
+in-step (commit k head shares0 shares1) st = refl
+in-step (draw seed) st = refl
+in-step (check k x) st = in-check (st .session) k x
+
 step-told : (x : Step) (st : State) → Packed (reply x st)
-unfolding reply clearTests admitTests withdrawTests closeTests claimTests commitTests drawTests
-step-told (clear b) st = told (clearTests (st .register) b) refl
-step-told (admit ballot) st = told (admitTests (st .session) (st .register) ballot) refl
-step-told (withdraw mark) st = told (withdrawTests (st .session) (st .register) mark) refl
-step-told close st = told (closeTests (st .session) (st .register)) refl
-step-told (claim claims) st = told (claimTests (st .session) claims) refl
-step-told (commit k head shares0 shares1) st = told (commitTests (st .session) k head shares0 shares1) refl
-step-told (draw seed) st = told (drawTests (st .session) seed) refl
-step-told (check k x) st = told (checkTests (st .session) k x) (in-check (st .session) k x)
+unfolding reply
+step-told x st = told (tests x st) (in-step x st)
+
+pub step-not-34 : (x : Step) (st : State) (place : ℕ) → reply x st ≢ Refused 34 place
+unfolding reply
+step-not-34 x st place = not-34 (tests x st) (in-step x st) place
 
 pub host-told : (x : Step) (h : Host) → Packed (hostReply x h)
 unfolding hostReply

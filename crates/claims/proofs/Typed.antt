@@ -23,9 +23,9 @@ use Rattle.session.specs.Steps.{Beginning, cleared, enteredBy, closedBy, claime
 use Rattle.session.specs.Machine.{Step, clear, admit, withdraw, close, claim, commit, draw, check, State, next, reply, after}
 use Rattle.session_image.specs.Image.{imageLength, fields, start, decode}
 use Rattle.session_image.specs.Internal.{Typed}
-use Rattle.session_histories.specs.Conditions.{Clears, Admits, Closes, Commits, Draws}
+use Rattle.session_histories.specs.Conditions.{Clears, Closes, Commits, Draws}
 use Rattle.session_histories.proofs.Stepped.{stepped, taken-turn}
-use Rattle.session_histories.proofs.ExactGathering.{admitted-exactly, closed-exactly}
+use Rattle.session_histories.proofs.ExactGathering.{admitted-exactly, withdrawn-exactly, withdrawal, closed-exactly}
 use Rattle.session_histories.proofs.Exact.{cleared-exactly, committed-exactly, drawn-exactly}
 
 module _ (b : Bytes) (l : length b ≡ imageLength) (o : Octets b) where
@@ -98,17 +98,17 @@ typed-cleared reg b c =
     }
 
 module _ (s : Session) (reg : Bytes) (t : Typed s) where
-  typed-admitted : (ballot : Bytes) → Admits s reg ballot → Typed (enteredBy s)
+  typed-entered : s .progress .used < 4096 → Typed (enteredBy s)
   unfolding enteredBy
-  typed-admitted ballot a =
-      typed-changed s (withEntry (s .progress)) (s .closing) (s .claim) (s .seed) (s .trail) t (t .phase-fits) (omega (arith, a .room)) (t .closed-fits)
+  typed-entered room =
+      typed-changed s (withEntry (s .progress)) (s .closing) (s .claim) (s .seed) (s .trail) t (t .phase-fits) (omega arith) (t .closed-fits)
       (t .closing-long) (t .claim-long) (t .committed-fits) (t .seed-long) (t .checked-fits) (t .trail-long)
 
   typed-closed : Closes s reg → Typed (closedBy s reg)
   unfolding closedBy standingDigests
   typed-closed c =
       typed-changed s (withBatch _ (s .progress)) _ (s .claim) (s .seed) (s .trail) t (omega arith) (t .used-fits)
-      (rw (length-map (standing reg (s .progress .used)) (digestAt reg)) (omega (arith, standing-few reg (s .progress .used), c .sound .used))) (length-closingDigest (s .sheet) _) (t .claim-long) (t .committed-fits)
+      (rw (length-map (standing reg (s .progress .used)) (digestAt reg)) (omega (arith, standing-few reg (s .progress .used), c .gathers .sound .used))) (length-closingDigest (s .sheet) _) (t .claim-long) (t .committed-fits)
       (t .seed-long) (t .checked-fits) (t .trail-long)
 
   typed-claimed : (claims : Bytes) → Typed (claimedBy s claims)
@@ -161,8 +161,8 @@ module _ (st : State) (t : Typed (st .session)) where
   typed-next : (x : Step) → reply x st ≡ Taken → Typed (next x st .session)
   unfolding reply
   typed-next (clear b) e = typed-cleared reg b (cleared-exactly reg b .0 e)
-  typed-next (admit ballot) e = typed-admitted s reg t ballot (admitted-exactly s reg ballot .0 e)
-  typed-next (withdraw mark) e = t
+  typed-next (admit ballot) e = typed-entered s reg t (admitted-exactly s reg ballot .0 e .enters .room)
+  typed-next (withdraw mark) e = withdrawal s reg mark (λ (z : State). Typed (z .session)) (withdrawn-exactly s reg mark .0 e) (λ f. t) (λ m. typed-entered s reg t (m .room))
   typed-next close e = typed-closed s reg t (closed-exactly s reg .0 e)
   typed-next (claim claims) e = typed-claimed s reg t claims
   typed-next (commit k head shares0 shares1) e = typed-committed s reg t k head shares0 shares1 (committed-exactly s k head shares0 shares1 .0 e)

@@ -34,7 +34,7 @@ use Rattle.session_image.specs.Image.{decode}
 use Rattle.session.specs.Machine.{reply}
 use Rattle.session_image.specs.Images.{hostReply}
 use Rattle.session_histories.proofs.Valid.{ready, sheet-exactly}
-use Rattle.claims.proofs.Images.{lent-exactly}
+use Rattle.claims.proofs.Images.{lent-exactly, not-1}
 use Rattle.claims.proofs.Extracts.{lent-takes}
 use Rattle.claims.specs.Demands.{AcceptedCheck, checkedRound, AcceptedOpening, AcceptedAnswer}
 use Rattle.commitment.specs.Parameters.{Parameters, parametersOf}
@@ -66,7 +66,7 @@ passed : {text : Bytes} (x : Openings) (c : AcceptedCheck text) → OfLent x (ch
 unfolding hostReply reply
 passed {text} x c o =
     let s = decode (c .image) in
-    let taken = lent-exactly (c .image) (λ t. first (checkTests t (c .round) (c .inputs))) .0 (c .taken) .1 in
+    let taken = lent-exactly (c .image) (λ t. first (checkTests t (c .round) (c .inputs))) Taken not-1 .0 (c .taken) .1 in
     let held = subst (λ (t : Bytes). Passed t (s .progress .closed) (checkedRound c)) (c .sheet) (passed-by s (c .round) (c .inputs) taken) in
     let count : ballotsIn text (x .ballots) ≡ s .progress .closed = div-eq-of-eq-mul-right (omega arith) (sym (ap length (o .ballots)) ∙ held .lengths .ballots) in
     subst (λ (m : ℕ). Passed text m (checkedRound c)) (sym count) held

@@ -15,26 +15,15 @@ use Rattle.session_check.specs.Stored.{Inputs}
 use Rattle.session_progress.specs.Progress.{ended-accepted}
 use Rattle.session_image.specs.Image.{decode}
 use Rattle.session.specs.Steps.{Beginning, storedFor}
-use Rattle.session.specs.Machine.{Step, clear, withdraw, close, check}
+use Rattle.session.specs.Machine.{Step, clear, check}
 use Rattle.session_histories.specs.Runs.{emptyHistory, Call, call}
 use Rattle.session_histories.specs.Conditions.{ValidSession, Checks}
-use Rattle.session_histories.specs.Claims.{ClosedWithout, Turn, Undue}
+use Rattle.session_histories.specs.Claims.{Turn, Undue}
 use Rattle.session_histories.specs.Bound.{Bound, BoundBytes, LodgesAll, LentBytes}
 use Rattle.session_image.specs.Images.{Host, host, hostReply, hostAfter}
-use Rattle.claims.specs.HostSteps.{hostTrace, hostHistory, HostNoClear, hostRun, hostCalls, HostUncleared, hostRoll, Starts, FromClear}
+use Rattle.claims.specs.HostSteps.{hostTrace, hostHistory, HostNoClear, hostRun, hostCalls, hostRoll, Starts, FromClear}
 
 -- ---- each call is lent what the last one left
-
--- a mark whose withdrawal was taken is in no batch closed later, before the next clear taken
-abbrev pub HostStaysOut : Type 0
-HostStaysOut = (start : Host) (b : Beginning) (before between : List Step) (mark : ℕ) → Starts start b
-    → let found = hostRun before (hostAfter (clear b) start) in
-    let gone = hostAfter (withdraw mark) found in
-    let last = hostRun between gone in
-    hostReply (withdraw mark) found ≡ Taken
-    → HostUncleared between gone
-    → hostReply close last ≡ Taken
-    → ClosedWithout mark (last .register) (decode (hostAfter close last .image))
 
 -- the ballots admitted and not withdrawn are the batch: its digests are theirs, in order, and each has a ballot's length
 abbrev pub HostRollIsBatch : Type 0

@@ -6,8 +6,10 @@ pub mod Queries
 pub mod Calls
 pub mod HostSteps
 pub mod HostClaims
+pub mod Withdrawals
 pub mod AnySession
 pub mod Endings
 pub mod Orders
 pub mod FromCalls
 pub mod Demands
+pub mod Requests

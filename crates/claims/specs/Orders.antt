@@ -45,7 +45,7 @@ abbrev pub producerRefusals : (repeats m : ℕ) → List (ℕ × ℕ)
 producerRefusals repeats m =
     (1, 0) ∷ (5, 0) ∷ (14, 0) ∷ (joined m (λ j. (12, j) ∷ []) ++ (joined repeats (λ i. (9, i) ∷ []) ++ joined m (λ j. (15, j) ∷ [])))
 
--- "Sheet and clear: 1, 2, 3, 4, 5. Admit: 31, 1, 5, 32, 33, 35. Withdraw: 31, 1, 34, 33. Close: 31, 1, 36. Claim: 31, 1, 5. Commit, draw: 31, 1. Turnout (any phase): 31, 1, 3.
+-- "Sheet and clear: 1, 2, 3, 4, 5. Admit: 31, 1, 5, 32, 33, 35. Withdraw: 31, 1, 33, 35 (02, L1). Close: 31, 1, 36. Claim: 31, 1, 5. Commit, draw: 31, 1. Turnout (any phase): 31, 1, 3.
 -- Check: 31, the sheet's 1 to 5, 1, 16, 5, 6, 7, 8; then by repetition 9, 10, 11; then by ballot 12, 13. .. Remaining calls: 1, 5, 12." What 16 compares are five tests; of the remaining calls only
 -- jdn_share is lent a mask
 pub record OrdersAsWritten : Type 0 where
@@ -53,7 +53,7 @@ pub record OrdersAsWritten : Type 0 where
   -- the register's length, then the sheet
   pub clear : (b : Beginning) (st : State) → refusalNumbers (tests (clear b) st) ≡ 1 ∷ 1 ∷ 2 ∷ 3 ∷ 4 ∷ 5 ∷ []
   pub admit : (ballot : Bytes) (st : State) → refusalNumbers (tests (admit ballot) st) ≡ 31 ∷ 1 ∷ 5 ∷ 32 ∷ 33 ∷ 35 ∷ []
-  pub withdraw : (mark : ℕ) (st : State) → refusalNumbers (tests (withdraw mark) st) ≡ 31 ∷ 1 ∷ 34 ∷ 33 ∷ []
+  pub withdraw : (mark : ℕ) (st : State) → refusalNumbers (tests (withdraw mark) st) ≡ 31 ∷ 1 ∷ 33 ∷ 35 ∷ []
   pub close : (st : State) → refusalNumbers (tests close st) ≡ 31 ∷ 1 ∷ 36 ∷ []
   pub claim : (claims : Bytes) (st : State) → refusalNumbers (tests (claim claims) st) ≡ 31 ∷ 1 ∷ 5 ∷ []
   pub commit : (round : ℕ) (head shares0 shares1 : Bytes) (st : State) → refusalNumbers (tests (commit round head shares0 shares1) st) ≡ 31 ∷ 1 ∷ []

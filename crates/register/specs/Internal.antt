@@ -6,7 +6,7 @@ use Prim.Native.Nat.{ℕ}
 use Rattle.codec.specs.Bytes.{Bytes}
 use Rattle.codec.specs.Reply.{Test, first, leaves}
 use Rattle.codec.specs.declared.Reply.{Reply}
-use Rattle.register.specs.Register.{known, markWithdrawn}
+use Rattle.register.specs.Register.{known, afterWithdrawal}
 use Rattle.register.specs.Orders.{withdrawalTests}
 use Rattle.register.specs.declared.Withdrawal.{Withdrawal}
 
@@ -17,5 +17,5 @@ pub record Wrote (tests : List Test) (writes : Bytes) (reply : Reply) (out out' 
 
 -- what a withdrawal comes to, with whether the mark got an entry
 pub record Withdrew (reg : Bytes) (used mark : ℕ) (r : Withdrawal) (reg' : Bytes) : Type 0 where
-  pub wrote : Wrote (withdrawalTests reg used mark) (markWithdrawn reg used mark) (r .reply) reg reg'
+  pub wrote : Wrote (withdrawalTests reg used mark) (afterWithdrawal reg used mark) (r .reply) reg reg'
   pub entered : r .entered ≡ leaves (r .reply) (not (known reg mark used)) false

@@ -68,8 +68,8 @@ unfoldable pub withdrawnEarly : (reg : Bytes) (n mark : ℕ) → Bytes
 withdrawnEarly reg n mark = appended reg n (bytes 4 mark) 2 (zeros 32)
 
 -- a mark withdrawn, among n entries: the first that has it; where none has, it gets one
-unfoldable pub markWithdrawn : (reg : Bytes) (n mark : ℕ) → Bytes
-markWithdrawn reg n mark = cond (known reg mark n) (withdrawn reg (find reg mark n)) (withdrawnEarly reg n mark)
+unfoldable pub afterWithdrawal : (reg : Bytes) (n mark : ℕ) → Bytes
+afterWithdrawal reg n mark = cond (known reg mark n) (withdrawn reg (find reg mark n)) (withdrawnEarly reg n mark)
 
 -- ---- turnout
 

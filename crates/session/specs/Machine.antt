@@ -5,7 +5,7 @@ use Prim.Native.Nat.{ℕ}
 use Rattle.codec.specs.Bytes.{Bytes, zeros}
 use Rattle.codec.specs.Reply.{Test, first, leaves}
 use Rattle.codec.specs.declared.Reply.{Reply}
-use Rattle.register.specs.Register.{registerLength, admitted, markWithdrawn}
+use Rattle.register.specs.Register.{registerLength, admitted, afterWithdrawal}
 use Rattle.session_check.specs.Stored.{Inputs}
 use Rattle.session.specs.declared.Session.{Session}
 use Rattle.session.specs.Steps.{Beginning, clearTests, cleared, admitTests, enteredBy, withdrawTests, withdrawnBy, closeTests, closedBy, claimTests, claimedBy, commitTests, committedBy, drawTests, drawnBy, checkEarly, checkTests, acceptedBy, refusedBy}
@@ -44,7 +44,7 @@ tests (check k x) st = checkTests (st .session) k x
 abbrev pub next : Step → State → State
 next (clear b) st = state (cleared b) (zeros registerLength)
 next (admit ballot) st = state (enteredBy (st .session)) (admitted (st .register) (st .session .progress .used) ballot)
-next (withdraw mark) st = state (withdrawnBy (st .session) (st .register) mark) (markWithdrawn (st .register) (st .session .progress .used) mark)
+next (withdraw mark) st = state (withdrawnBy (st .session) (st .register) mark) (afterWithdrawal (st .register) (st .session .progress .used) mark)
 next close st = state (closedBy (st .session) (st .register)) (st .register)
 next (claim claims) st = state (claimedBy (st .session) claims) (st .register)
 next (commit k head shares0 shares1) st = state (committedBy (st .session) k head shares0 shares1) (st .register)

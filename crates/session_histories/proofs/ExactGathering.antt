@@ -1,5 +1,5 @@
 -- Admit, withdraw and close are taken exactly if their conditions hold; what a withdrawal leaves, in its two cases; and which entry decides a refusal. Assumes nothing.
-use mathlib.Core.Path.{_≡_, refl, ap, ap₂}
+use mathlib.Core.Path.{_≡_, refl, sym, ap, ap₂, subst}
 use mathlib.Core.Logic.{_↔_, _≢_, _⊎_, inl, inr}
 use mathlib.Core.Bool.{Bool, true, false, not, _&&_}
 use mathlib.Core.List.{List, [], _∷_, List·Memᴰ, List·Memᴰ·head, List·Memᴰ·not-nil}
@@ -16,7 +16,7 @@ use Rattle.codec.proofs.Replies.{taken-exactly}
 use Rattle.scratch.proofs.Order.{length-at}
 use Rattle.round.specs.Layout.{ballotLength}
 use Rattle.round.proofs.Ranged.{each-exactly}
-use Rattle.register.specs.Register.{registerLength, markAt, stateAt, find, known, standing, markOf, withdrawn, withdrawnEarly, markWithdrawn}
+use Rattle.register.specs.Register.{registerLength, markAt, stateAt, find, known, standing, markOf, withdrawn, withdrawnEarly, afterWithdrawal}
 use Rattle.register.proofs.Entries.{found, find-first, stands, stands-all}
 use Rattle.session.specs.declared.Session.{Session}
 use Rattle.session.specs.Session.{valid}
@@ -45,10 +45,10 @@ here reg mark at n within marked earlier = find-first reg mark at n (absent reg 
 
 -- ---- a session that gathers, and the register
 
-gathers : (s : Session) (reg : Bytes) → not (valid s && eqb (s .progress .phase) 0) ≡ false → length reg ≡ registerLength → Gathers s reg
+pub gathers : (s : Session) (reg : Bytes) → not (valid s && eqb (s .progress .phase) 0) ≡ false → length reg ≡ registerLength → Gathers s reg
 gathers s reg e size = let r = ready s _ e in record { sound = r .0; phase = eqb-true _ _ (r .1); register-size = size }
 
-gathering-now : {s : Session} {reg : Bytes} → Gathers s reg → not (valid s && eqb (s .progress .phase) 0) ≡ false
+pub gathering-now : {s : Session} {reg : Bytes} → Gathers s reg → not (valid s && eqb (s .progress .phase) 0) ≡ false
 gathering-now {s} g = is-ready s (g .sound) (eq-eqb (s .progress .phase) 0 (g .phase))
 
 -- which entry decides, by what the search finds
@@ -67,7 +67,7 @@ module _ (reg : Bytes) (mark n : ℕ) where
   pub is-unknown : NoEntry reg mark n → known reg mark n ≡ false
   is-unknown none = le-ltb (find reg mark n) n (omega (arith, absent reg mark n none))
 
-  not-found : known reg mark n ≡ false → NoEntry reg mark n
+  pub not-found : known reg mark n ≡ false → NoEntry reg mark n
   not-found e = let f = found reg mark n in let w = f .within in let l = ltb-false (find reg mark n) n e in f .absent (omega arith)
 
   may-enter : known reg mark n ≡ false → n ≤ 4096 → n ≢ 4096 → MayEnter reg mark n
@@ -156,14 +156,21 @@ module _ (s : Session) (reg : Bytes) (mark : ℕ) where
           (gathering-now (w .gathers), (numbers-pass (w .gathers .register-size), (rw (is-unknown reg mark used (m .unknown)), (rw (is-unknown reg mark used (m .unknown), free), tt))))
 
   -- what a withdrawal that is taken leaves, in its two cases
+  pub next-standing : (f : MarkStands reg mark used) → next (withdraw mark) (state s reg) ≡ state s (withdrawn reg (f .at))
+  unfolding withdrawnBy afterWithdrawal
+  next-standing f = rw (is-known reg mark used f, at-first reg mark used f)
+
+  pub next-early : NoEntry reg mark used → next (withdraw mark) (state s reg) ≡ state (enteredBy s) (withdrawnEarly reg used mark)
+  unfolding withdrawnBy afterWithdrawal
+  next-early none = rw (is-unknown reg mark used none)
+
   pub withdrawal : (P : State → Type 0) → Withdraws s reg mark → ((f : MarkStands reg mark used) → P (state s (withdrawn reg (f .at))))
       → (MayEnter reg mark used → P (state (enteredBy s) (withdrawnEarly reg used mark))) → P (next (withdraw mark) (state s reg))
-  unfolding withdrawnBy markWithdrawn
   withdrawal P w found enters = go (w .marked)
     where
       go : MarkStands reg mark used ⊎ MayEnter reg mark used → P (next (withdraw mark) (state s reg))
-      go (inl f) = rw (is-known reg mark used f, at-first reg mark used f) (found f)
-      go (inr m) = rw (is-unknown reg mark used (m .unknown)) (enters m)
+      go (inl f) = subst P (sym (next-standing f)) (found f)
+      go (inr m) = subst P (sym (next-early (m .unknown))) (enters m)
 
 pub withdrawn-exactly : (s : Session) (reg : Bytes) (mark : ℕ) → (first (withdrawTests s reg mark) ≡ Taken) ↔ Withdraws s reg mark
 withdrawn-exactly s reg mark = by-order _ (withdraws-says s reg mark) (withdraws-holds s reg mark)

@@ -3,6 +3,7 @@ pub mod Sheets
 pub mod Valid
 pub mod Stepped
 pub mod ExactGathering
+pub mod Refusals
 pub mod Exact
 pub mod Checked
 pub mod Kept

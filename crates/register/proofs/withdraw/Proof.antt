@@ -10,7 +10,7 @@ use Rattle.codec.specs.Reply.{first, leaves}
 use Rattle.codec.specs.declared.Reply.{Reply}
 use Rattle.codec.specs.declared.Reply.the-variants.{Taken, Refused}
 use Rattle.register.specs.declared.Withdrawal.{Withdrawal}
-use Rattle.register.specs.Register.{find, known, withdrawn, withdrawnEarly, markWithdrawn}
+use Rattle.register.specs.Register.{find, known, withdrawn, withdrawnEarly, afterWithdrawal}
 use Rattle.register.specs.Orders.{withdrawalTests}
 use Rattle.register.specs.Internal.{Withdrew}
 use Rattle.register.proofs.Orders.{is-withdrawn-already, is-standing-still, is-unknown-full, is-unknown-free, silent, writes}
@@ -22,19 +22,19 @@ module _ (reg : Bytes) (used mark : ℕ) {i : ℕ} (at : i ≡ find reg mark use
   refuses : {r : Withdrawal} {number : ℕ} → first (withdrawalTests reg used mark) ≡ Refused number 0 → r .reply ≡ Refused number 0 → r .entered ≡ false → Withdrew reg used mark r reg
   unfolding leaves
   refuses {r} {number} e f g = record {
-    wrote = rw f (silent (withdrawalTests reg used mark) (markWithdrawn reg used mark) reg e);
+    wrote = rw f (silent (withdrawalTests reg used mark) (afterWithdrawal reg used mark) reg e);
     entered = rw f g;
   }
 
   withdraws : {r : Withdrawal} {reg' : Bytes} → i < used → first (withdrawalTests reg used mark) ≡ Taken → r .reply ≡ Taken → r .entered ≡ false → reg' ≡ withdrawn reg i → Withdrew reg used mark r reg'
-  unfolding markWithdrawn leaves
+  unfolding afterWithdrawal leaves
   withdraws h e f g w =
       let k : known reg mark used ≡ true = rw (← at) (lt-ltb i used h) in
       record { wrote = rw f (writes (withdrawalTests reg used mark) _ reg e (rw k (w ∙ ap (withdrawn reg) at))); entered = rw (f, k) g }
 
   enters : {r : Withdrawal} {reg' : Bytes} → used ≤ i → first (withdrawalTests reg used mark) ≡ Taken → r .reply ≡ Taken → r .entered ≡ true → reg' ≡ withdrawnEarly reg used mark
       → Withdrew reg used mark r reg'
-  unfolding markWithdrawn leaves
+  unfolding afterWithdrawal leaves
   enters h e f g w =
       let k : known reg mark used ≡ false = rw (← at) (le-ltb i used h) in
       record { wrote = rw f (writes (withdrawalTests reg used mark) _ reg e (rw k w)); entered = rw (f, k) g }
