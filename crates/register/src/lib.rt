@@ -109,35 +109,36 @@ pub struct Withdrawal {
     pub entered: bool,
 }
 
-// Withdraws a mark, which gets an entry after the used ones if it has none: 33, 35.
+// Withdraws a mark, which gets an entry after the used ones if it has none: 33, 35. No mark meets both: a search that ends behind the last
+// entry found none with the mark, and none that is free.
 pub fn withdraw(reg: &mut [u8], used: usize, mark: u32) -> Withdrawal
     requires { ⌜ (length (now reg) ≡ def.registerLength) × (used ≤ def.capacity) ⌝ }
     ensures { λ r. ⌜ Withdrew (given reg) used mark r (left reg) ⌝ }
 {
     let at = find(reg, mark, used);
-    if at < used {
-        if !is_standing(reg, at) {
-            return Withdrawal {
-                reply: codec::refused(33),
-                entered: false,
-            };
-        }
-        write_withdrawn(reg, at);
-        return Withdrawal {
-            reply: Reply::Taken,
-            entered: false,
-        };
-    }
     if at == 4096 {
         return Withdrawal {
             reply: codec::refused(35),
             entered: false,
         };
     }
-    write_early(reg, used, mark);
+    if at == used {
+        write_early(reg, used, mark);
+        return Withdrawal {
+            reply: Reply::Taken,
+            entered: true,
+        };
+    }
+    if !is_standing(reg, at) {
+        return Withdrawal {
+            reply: codec::refused(33),
+            entered: false,
+        };
+    }
+    write_withdrawn(reg, at);
     Withdrawal {
         reply: Reply::Taken,
-        entered: true,
+        entered: false,
     }
 }
 

@@ -41,28 +41,60 @@ module _ (reg : Bytes) (used mark : ℕ) {i : ℕ} (at : i ≡ find reg mark use
 
 returns : tie.Need-returns
 returns c =
-    let f = c .before .before .before .before .before .find .ensures .0 in
-    refuses _ _ _ f (is-withdrawn-already _ _ _ f refl (c .before .before .before .before .if1 .taken) (sym (c .before .before .is-standing .ensures) ∙ not-true _ (c .before .if2 .taken))) (c .refused .ensures) refl
+    let f = c .before .before .find .ensures in
+    let whole : c .before .before .find .result ≡ 4096 = c .before .if1 .taken in
+    let most = c .before .before .before .before .before .pre .1 in
+    refuses _ _ _ (f .0) (is-unknown-full _ _ _ (f .0) refl (omega (arith, f .1)) (omega (arith, f .1))) (c .refused .ensures) refl
+
+write-early-requires : tie.Need-write-early-requires
+write-early-requires c κs =
+    let f = c .before .before .before .find .ensures .1 in
+    let size = c .before .before .before .before .before .before .pre .0 in
+    let at : c .before .before .before .find .result ≡ c .before .before .before .before .before .before .args .used = c .before .if2 .taken in
+    let free = c .before .before .if1 .left in
+    let most = c .before .before .before .before .before .before .pre .1 in
+    omega arith
 
 returns-2 : tie.Need-returns-2
 returns-2 c =
-    let f = c .before .before .before .before .before .before .before .before .find .ensures .0 in
-    withdraws _ _ _ f (c .before .before .before .before .before .before .before .if1 .taken) (is-standing-still _ _ _ f refl (c .before .before .before .before .before .before .before .if1 .taken) (sym (c .before .before .before .before .before .is-standing .ensures) ∙ not-false _ (c .before .before .before .before .if2 .left))) refl refl
-    (c .before .before .write-withdrawn .ensures)
+    let f = c .before .before .before .before .before .before .find .ensures in
+    let at : c .before .before .before .before .before .before .find .result ≡ c .before .before .before .before .before .before .before .before .before .args .used = c .before .before .before .before .if2 .taken in
+    let l : c .before .before .before .before .before .before .before .before .before .args .used ≤ c .before .before .before .before .before .before .find .result = omega arith in
+    enters _ _ _ (f .0) l (is-unknown-free _ _ _ (f .0) refl l (λ e. c .before .before .before .before .before .if1 .left (at ∙ e))) refl refl (c .before .before .write-early .ensures)
+
+is-standing-requires : tie.Need-is-standing-requires
+is-standing-requires c κs =
+    let f = c .before .before .before .find .ensures .1 in
+    let other = c .before .if2 .left in
+    let size = c .before .before .before .before .before .before .pre .0 in
+    let most = c .before .before .before .before .before .before .pre .1 in
+    omega arith
 
 returns-3 : tie.Need-returns-3
 returns-3 c =
-    let f = c .before .before .before .find .ensures in
-    refuses _ _ _ (f .0) (is-unknown-full _ _ _ (f .0) refl (c .before .before .if1 .left) (omega (arith, f .1, c .before .if3 .taken, c .before .before .if1 .left))) (c .refused2 .ensures) refl
+    let f = c .before .before .before .before .before .before .find .ensures in
+    let low = f .1 in
+    let other = c .before .before .before .before .if2 .left in
+    refuses _ _ _ (f .0) (is-withdrawn-already _ _ _ (f .0) refl (omega arith) (sym (c .before .before .is-standing .ensures) ∙ not-true _ (c .before .if3 .taken))) (c .refused2 .ensures) refl
+
+write-withdrawn-requires : tie.Need-write-withdrawn-requires
+write-withdrawn-requires c κs =
+    let f = c .before .before .before .before .before .before .find .ensures .1 in
+    let other = c .before .before .before .before .if2 .left in
+    let size = c .before .before .before .before .before .before .before .before .before .pre .0 in
+    let most = c .before .before .before .before .before .before .before .before .before .pre .1 in
+    omega arith
 
 returns-4 : tie.Need-returns-4
 returns-4 c =
-    let f = c .before .before .before .before .before .before .find .ensures in
-    enters _ _ _ (f .0) (c .before .before .before .before .before .if1 .left) (is-unknown-free _ _ _ (f .0) refl (c .before .before .before .before .before .if1 .left) (λ e. c .before .before .before .before .if3 .left (omega (arith, f .1, c .before .before .before .before .before .if1 .left)))) refl refl
-    (c .before .before .write-early .ensures)
+    let f = c .before .before .before .before .before .before .before .before .before .find .ensures in
+    let low = f .1 in
+    let other = c .before .before .before .before .before .before .before .if2 .left in
+    let l : c .before .before .before .before .before .before .before .before .before .find .result < c .before .before .before .before .before .before .before .before .before .before .before .before .args .used = omega arith in
+    withdraws _ _ _ (f .0) l (is-standing-still _ _ _ (f .0) refl l (sym (c .before .before .before .before .before .is-standing .ensures) ∙ not-false _ (c .before .before .before .before .if3 .left))) refl refl (c .before .before .write-withdrawn .ensures)
 
 pub withdraw-spec : {M : Type 1} → statement M
 withdraw-spec =
     tie.close
-    (tie.spec (λ c κs. omega arith) (λ c κs. omega arith) (λ c κs. search needs) (λ c. search needs) returns (λ c κs. omega arith) (λ c. search needs) returns-2 (λ c κs. search needs)
-    (λ c. search needs) returns-3 (λ c κs. omega (arith, c .before .before .before .find .ensures .1)) (λ c. search needs) returns-4)
+    (tie.spec (λ c κs. omega arith) (λ c κs. search needs) (λ c. search needs) returns write-early-requires (λ c. search needs) returns-2 is-standing-requires (λ c κs. search needs) (λ c. search needs) returns-3
+    write-withdrawn-requires (λ c. search needs) returns-4)
