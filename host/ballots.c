@@ -23,13 +23,6 @@ bool is_ballot_name(const char *name, uint32_t *mark) {
     return true;
 }
 
-/* The place of a mark among the first `count`, or `count`. */
-static size_t find_mark(const struct ballots *ballots, uint32_t mark, size_t count) {
-    size_t i = 0;
-    while (i < count && ballots->marks[i] != mark) i++;
-    return i;
-}
-
 /* Reads ballots.bin: whole ballots, at most 4,096, no mark twice. */
 static enum status read_whole(const struct election *election, struct ballots *ballots) {
     size_t length = ballot_length(&election->numbers);
@@ -40,12 +33,10 @@ static enum status read_whole(const struct election *election, struct ballots *b
         return REFUSED;
     }
     for (size_t i = 0; i < ballots->all.length / length; i++) {
-        ballots->marks[i] = read32(ballots->all.at + i * length);
-        if (find_mark(ballots, ballots->marks[i], i) < i) {
-            say("%s/ballots.bin has two ballots with the mark %u", election->folder.name, (unsigned)ballots->marks[i]);
-            return REFUSED;
-        }
-        ballots->count++;
+        uint32_t mark = read32(ballots->all.at + i * length);
+        if (marks_add(&ballots->marks, mark)) continue;
+        say("%s/ballots.bin has two ballots with the mark %u", election->folder.name, (unsigned)mark);
+        return REFUSED;
     }
     return DONE;
 }
@@ -65,8 +56,8 @@ enum status ballots_open(const struct election *election, struct ballots *ballot
 /* The ballot of a mark out of ballots.bin. */
 static enum status take_of_whole(const struct election *election, const struct ballots *ballots, uint32_t mark, struct bytes *ballot) {
     size_t length = ballot_length(&election->numbers);
-    size_t place = find_mark(ballots, mark, ballots->count);
-    if (place == ballots->count) {
+    size_t place = marks_find(&ballots->marks, mark);
+    if (place == ballots->marks.count) {
         say("%s/ballots.bin has no ballot with the mark %u", election->folder.name, (unsigned)mark);
         return TROUBLE;
     }
@@ -119,10 +110,10 @@ static enum status name_unlogged_files(const struct election *election) {
 
 enum status ballots_name_unlogged(const struct election *election, const struct ballots *ballots) {
     if (!ballots->whole) return name_unlogged_files(election);
-    for (size_t i = 0; i < ballots->count; i++)
-        if (entry_find(election, ballots->marks[i]) == election_used(election))
+    for (size_t i = 0; i < ballots->marks.count; i++)
+        if (entry_find(election, ballots->marks.at[i]) == election_used(election))
             say("%s/ballots.bin: the ballot with the mark %u is admitted by no line of log.txt, and is not counted", election->folder.name,
-                (unsigned)ballots->marks[i]);
+                (unsigned)ballots->marks.at[i]);
     return DONE;
 }
 

@@ -2,13 +2,13 @@
 #ifndef BALLOTS_H
 #define BALLOTS_H
 #include "election.h"
+#include "marks.h"
 
 /* Where ballots are found: one to a file in ballots/, or all in ballots.bin, which is then held whole with its marks. */
 struct ballots {
     bool whole;
     struct bytes all;
-    uint32_t marks[MOST_BALLOTS];
-    size_t count;
+    struct marks marks;
 };
 
 /* The closed batch, end to end as the library is lent it. */
