@@ -8,7 +8,7 @@
 
 PREFIX ?= /usr/local
 DESTDIR ?=
-version = 0.9
+version = 0.10
 
 ARCHIVE ?=
 library = $(if $(ARCHIVE),$(ARCHIVE),target/staticlib/libjackdawnail.a)

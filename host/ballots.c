@@ -91,27 +91,31 @@ enum status ballots_of_entry(const struct election *election, const struct ballo
     return REFUSED;
 }
 
-/* Whether a file of the folder of ballots is a ballot that no entry of the register names: one that is written under the name of no mark,
- * too. */
-static bool is_unlogged(const struct election *election, const char *name) {
-    uint32_t mark = 0;
-    return has_ballot_end(name) && (!is_ballot_name(name, &mark) || entry_find(election, mark) == election_used(election));
+/* Whether a line of the log is for a ballot with this mark. */
+static bool is_logged(const struct election *election, const struct marks *no_ballot, uint32_t mark) {
+    return has_entry(election, mark) && !marks_have(no_ballot, mark);
 }
 
-static enum status name_unlogged_files(const struct election *election) {
+/* Whether a file of the folder of ballots is a ballot that no line admits: one that is written under the name of no mark, too. */
+static bool is_unlogged_file(const struct election *election, const struct marks *no_ballot, const char *name) {
+    uint32_t mark = 0;
+    return has_ballot_end(name) && (!is_ballot_name(name, &mark) || !is_logged(election, no_ballot, mark));
+}
+
+static enum status name_unlogged_files(const struct election *election, const struct marks *no_ballot) {
     struct names names = {0};
     enum status status = folder_list(&election->folder, BALLOT_FOLDER, &names);
     for (size_t i = 0; i < names.count && !status; i++)
-        if (is_unlogged(election, names.at[i]))
+        if (is_unlogged_file(election, no_ballot, names.at[i]))
             say("%s/" BALLOT_FOLDER "/%s is admitted by no line of log.txt, and is not counted", election->folder.name, names.at[i]);
     names_free(&names);
     return status;
 }
 
-enum status ballots_name_unlogged(const struct election *election, const struct ballots *ballots) {
-    if (!ballots->whole) return name_unlogged_files(election);
+enum status ballots_name_unlogged(const struct election *election, const struct ballots *ballots, const struct marks *no_ballot) {
+    if (!ballots->whole) return name_unlogged_files(election, no_ballot);
     for (size_t i = 0; i < ballots->marks.count; i++)
-        if (entry_find(election, ballots->marks.at[i]) == election_used(election))
+        if (!is_logged(election, no_ballot, ballots->marks.at[i]))
             say("%s/ballots.bin: the ballot with the mark %u is admitted by no line of log.txt, and is not counted", election->folder.name,
                 (unsigned)ballots->marks.at[i]);
     return DONE;

@@ -23,8 +23,9 @@ enum status ballots_open(const struct election *election, struct ballots *ballot
 enum status ballots_take(const struct election *election, const struct ballots *ballots, uint32_t mark, struct bytes *ballot);
 /* The ballot of an entry of the register: the one that was admitted, by its digest. */
 enum status ballots_of_entry(const struct election *election, const struct ballots *ballots, size_t entry, struct bytes *ballot);
-/* Names every ballot that is there and that no line of the log, which is taken, admits: it is not counted. */
-enum status ballots_name_unlogged(const struct election *election, const struct ballots *ballots);
+/* Names every ballot that is there and that no line of the log, which is taken, admits: it is not counted. `no_ballot` are the marks that
+ * have an entry by a withdrawal alone. */
+enum status ballots_name_unlogged(const struct election *election, const struct ballots *ballots, const struct marks *no_ballot);
 void ballots_close(struct ballots *ballots);
 
 /* Closes the ballots: the entries that stand are the batch. */

@@ -66,18 +66,27 @@ static void add_marks(struct text *text, const struct transcript *transcript, si
     text_add(text, marks ? "\n" : " It marks no list.\n");
 }
 
+/* A mark with which no ballot was admitted. */
+static enum status add_none(struct text *text, const struct transcript *transcript, uint32_t mark) {
+    if (marks_have(&transcript->account.late, mark))
+        text_add(text, "The ballot with the mark %u came after its withdrawal, and is NOT COUNTED.\n\n", (unsigned)mark);
+    else if (marks_have(&transcript->account.no_ballot, mark))
+        text_add(text, "The mark %u was withdrawn, and no ballot came with it: NOT COUNTED.\n\n", (unsigned)mark);
+    else
+        text_add(text, "The ballot with the mark %u is in no line of the log, and is NOT COUNTED.\n\n", (unsigned)mark);
+    return REFUSED;
+}
+
 /* Finds a ballot by its mark. REFUSED where it is not counted. */
 static enum status add_ballot(struct text *text, const struct transcript *transcript, uint32_t mark) {
     const struct election *election = &transcript->election;
     size_t entry = entry_find(election, mark), place = 0;
-    if (entry == election_used(election)) {
-        text_add(text, "The ballot with the mark %u is in no line of the log, and is NOT COUNTED.\n\n", (unsigned)mark);
-        return REFUSED;
-    }
+    if (!has_entry(election, mark) || entry_is_early(election, entry)) return add_none(text, transcript, mark);
     text_add(text, "The ballot with the mark %u has the digest\n  ", (unsigned)mark);
     text_add_groups(text, entry_digest(election, entry));
     if (!entry_stands(election, entry)) {
-        text_add(text, "\nIt was withdrawn, and is NOT COUNTED.\n\n");
+        bool again = marks_have(&transcript->account.late, mark);
+        text_add(text, "\nIt was withdrawn, and is NOT COUNTED.%s\n\n", again ? " Nor is the one that came with this mark later." : "");
         return REFUSED;
     }
     for (size_t i = 0; i < entry; i++) place += entry_stands(election, i);
@@ -103,7 +112,7 @@ enum status check(const char *folder, const struct expected *expected) {
     enum status status = warn_secrets(folder);
     if (status) return status;
     status = transcript_read(&transcript, folder);
-    if (!status) status = ballots_name_unlogged(&transcript.election, &transcript.ballots);
+    if (!status) status = ballots_name_unlogged(&transcript.election, &transcript.ballots, &transcript.account.no_ballot);
     if (!status) status = compare_named(&transcript, expected);
     if (!status) status = transcript_check(&transcript);
     if (!status) status = result_make(&transcript, &result);

@@ -50,10 +50,10 @@ enum status keygen(const char *folder, const struct new_sheet *numbers, const st
 
 /* Makes a ballot for the named lists and adds its admission to the log. */
 enum status vote(const char *folder, uint32_t mark, char *const *names, size_t count, const struct origin *origin);
-/* Adds a withdrawal to the log. */
+/* Adds a withdrawal to the log, also one that comes before its ballot. */
 enum status withdraw(const char *folder, uint32_t mark);
 
-/* Makes a whole small election, ready to run: `ballots` to be counted, and one that is withdrawn. */
+/* Makes a whole small election, ready to run: `ballots` to be counted, one that is withdrawn, and one that comes after its withdrawal. */
 enum status sample(const char *folder, const struct new_sheet *numbers, size_t ballots, const struct origin *origin);
 
 #endif

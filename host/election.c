@@ -89,16 +89,19 @@ const uint8_t *entry_digest(const struct election *election, size_t entry) {
     return election->reg + ENTRY * entry + ENTRY_DIGEST;
 }
 
+bool entry_is_early(const struct election *election, size_t entry) {
+    static const uint8_t none[DIGEST];
+    return !entry_stands(election, entry) && !memcmp(entry_digest(election, entry), none, DIGEST);
+}
+
 size_t entry_find(const struct election *election, uint32_t mark) {
     size_t entry = 0, used = election_used(election);
     while (entry < used && entry_mark(election, entry) != mark) entry++;
     return entry;
 }
 
-size_t election_standing(const struct election *election) {
-    size_t standing = 0, used = election_used(election);
-    for (size_t i = 0; i < used; i++) standing += entry_stands(election, i);
-    return standing;
+bool has_entry(const struct election *election, uint32_t mark) {
+    return entry_find(election, mark) < election_used(election);
 }
 
 size_t ballot_length(const struct numbers *numbers) {

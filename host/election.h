@@ -77,15 +77,16 @@ const uint8_t *election_claim_digest(const struct election *election);
 const uint8_t *election_seed(const struct election *election);
 const uint8_t *election_round_digest(const struct election *election, size_t round);
 
-/* The entries of the register, in order of admission (docs/INTERFACE.md). */
+/* The entries of the register, in the order in which they were made (docs/INTERFACE.md). */
 uint32_t entry_mark(const struct election *election, size_t entry);
 bool entry_stands(const struct election *election, size_t entry);
+/* Whether a withdrawal made it, before any ballot came: it is withdrawn, and has zeros where the digest of a ballot would be. */
+bool entry_is_early(const struct election *election, size_t entry);
 /* SHA3-256 of the ballot. */
 const uint8_t *entry_digest(const struct election *election, size_t entry);
 /* The first entry of a mark, which decides; the number used where there is none. */
 size_t entry_find(const struct election *election, uint32_t mark);
-/* How many stand. */
-size_t election_standing(const struct election *election);
+bool has_entry(const struct election *election, uint32_t mark);
 
 /* Lengths of what is lent (document 01, "Layouts"). */
 size_t ballot_length(const struct numbers *numbers);

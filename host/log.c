@@ -7,10 +7,12 @@
 
 #include "say.h"
 
-/* 4,096 admissions and withdrawals are below this. */
+/* 4,096 admissions and withdrawals, and many more ballots that came after their withdrawal, are below this. */
 #define MOST_LOG 1048576
 /* How many lines are taken between two savings. A crash between them loses nothing: the lines are still in the log. */
 #define LINES_TO_SAVE 64
+/* The refusal of a ballot whose mark is withdrawn. */
+#define MARK_WITHDRAWN 33
 
 /* A line of the log. */
 struct line {
@@ -53,8 +55,15 @@ static enum status blank_ballot(const struct election *election, uint32_t mark, 
     return status;
 }
 
-/* Takes a line that reads. With no ballots a blank one is admitted. */
-static enum status line_take(struct election *election, const struct ballots *ballots, const struct line *line) {
+/* What the lines of a log are gone through with. */
+struct reading {
+    const struct bytes *log;
+    const struct ballots *ballots; /* with none, blank ones are admitted */
+    struct marks *late;            /* where the marks of the ballots go that are passed over; NULL where nobody asks */
+};
+
+/* Takes a line that reads, or passes its ballot over. */
+static enum status line_take(struct election *election, const struct reading *reading, const struct line *line) {
     unsigned long long number = (unsigned long long)election->log_lines + 1;
     struct bytes ballot = {0};
     uint64_t reply;
@@ -62,11 +71,14 @@ static enum status line_take(struct election *election, const struct ballots *ba
         reply = jdn_withdraw(election->image, JDN_IMAGE, election->reg, JDN_REGISTER, line->mark);
         return reply ? say_refused(reply, LOG ", line %llu, withdraw %u", number, (unsigned)line->mark) : DONE;
     }
-    enum status status = ballots ? ballots_take(election, ballots, line->mark, &ballot) : blank_ballot(election, line->mark, &ballot);
+    enum status status =
+        reading->ballots ? ballots_take(election, reading->ballots, line->mark, &ballot) : blank_ballot(election, line->mark, &ballot);
     if (status) return status;
     reply = jdn_admit(election->image, JDN_IMAGE, election->reg, JDN_REGISTER, LENT(ballot));
     bytes_free(&ballot);
-    return reply ? say_refused(reply, LOG ", line %llu, admit %u", number, (unsigned)line->mark) : DONE;
+    bool late = JDN_NUMBER(reply) == MARK_WITHDRAWN;
+    if (late && reading->late) marks_add(reading->late, line->mark);
+    return reply && !late ? say_refused(reply, LOG ", line %llu, admit %u", number, (unsigned)line->mark) : DONE;
 }
 
 /* Whether the log still begins with what was taken of it. */
@@ -95,16 +107,16 @@ static void line_pass(struct election *election, const struct line *line) {
 }
 
 /* Takes the next line of the log, which is not at its end. */
-static enum status log_step(struct election *election, const struct ballots *ballots, const struct bytes *log) {
-    struct line line = line_read(log, (size_t)election->log_length);
+static enum status log_step(struct election *election, const struct reading *reading) {
+    struct line line = line_read(reading->log, (size_t)election->log_length);
     if (line.fault) {
         say("%s/" LOG ", line %llu %s", election->folder.name, (unsigned long long)election->log_lines + 1, line.fault);
         return REFUSED;
     }
-    enum status status = line_take(election, ballots, &line);
+    enum status status = line_take(election, reading, &line);
     if (status) return status;
     line_pass(election, &line);
-    progress("Log, bytes", (size_t)election->log_length, log->length);
+    progress("Log, bytes", (size_t)election->log_length, reading->log->length);
     return DONE;
 }
 
@@ -114,8 +126,8 @@ static enum status log_save(struct election *election, const struct bytes *log) 
     return election_save(election);
 }
 
-/* Goes past a line that was refused, in a session that is thrown away. A ballot that is no good has a blank one in its place, so that a
- * line that withdraws it is not called wrong too. */
+/* Goes past a line that was refused, in a session that is thrown away. A ballot that is no good has a blank one in its place, so that the
+ * lines behind it are judged as they will be once it is put right. */
 static void skip_line(struct election *election, const struct bytes *log) {
     struct bytes blank = {0};
     struct line line = line_read(log, (size_t)election->log_length);
@@ -126,38 +138,43 @@ static void skip_line(struct election *election, const struct bytes *log) {
 }
 
 /* Names every wrong line behind one that was refused. */
-static void name_others(const struct election *election, const struct ballots *ballots, const struct bytes *log) {
+static void name_others(const struct election *election, const struct reading *reading) {
     struct election *other = malloc(sizeof *other);
     if (!other) return;
     *other = *election;
-    skip_line(other, log);
-    while (other->log_length < log->length)
-        if (log_step(other, ballots, log)) skip_line(other, log);
+    skip_line(other, reading->log);
+    while (other->log_length < reading->log->length)
+        if (log_step(other, reading)) skip_line(other, reading->log);
     explicit_bzero(other, sizeof *other);
     free(other);
 }
 
 /* Takes what is left of the log; the lines before one that is refused are taken all the same, and saved. */
-static enum status log_rest(struct election *election, const struct ballots *ballots, const struct bytes *log) {
+static enum status log_rest(struct election *election, const struct reading *reading) {
     enum status status = DONE, saved = DONE;
     uint64_t on_disk = election->log_lines;
-    while (!status && !saved && election->log_length < log->length) {
-        status = log_step(election, ballots, log);
+    while (!status && !saved && election->log_length < reading->log->length) {
+        status = log_step(election, reading);
         if (election->log_lines - on_disk < LINES_TO_SAVE) continue;
-        saved = log_save(election, log);
+        saved = log_save(election, reading->log);
         on_disk = election->log_lines;
     }
-    if (status) name_others(election, ballots, log);
+    if (status) name_others(election, reading);
     progress_end();
-    if (!saved && election->log_lines != on_disk) saved = log_save(election, log);
+    if (!saved && election->log_lines != on_disk) saved = log_save(election, reading->log);
     return status ? status : saved;
+}
+
+/* Reads the log, which still begins with what was taken of it. */
+static enum status log_open(const struct election *election, struct bytes *log) {
+    enum status status = file_read(&election->folder, LOG, ANY_LENGTH, MOST_LOG, log);
+    return status ? status : log_continues(election, log);
 }
 
 enum status log_take(struct election *election, const struct ballots *ballots) {
     struct bytes log = {0};
-    enum status status = file_read(&election->folder, LOG, ANY_LENGTH, MOST_LOG, &log);
-    if (!status) status = log_continues(election, &log);
-    if (!status) status = log_rest(election, ballots, &log);
+    enum status status = log_open(election, &log);
+    if (!status) status = log_rest(election, &(struct reading){.log = &log, .ballots = ballots});
     bytes_free(&log);
     return status;
 }
@@ -168,6 +185,22 @@ enum status log_rehearse(const struct election *election, struct election *after
     *after = *election;
     after->stored = false;
     return status || !there ? status : log_take(after, NULL);
+}
+
+enum status log_late(const struct election *election, struct marks *late) {
+    struct election again = {.folder = election->folder, .numbers = election->numbers};
+    struct bytes log = {0};
+    const struct reading reading = {.log = &log, .late = late};
+    late->count = 0;
+    if (!election->log_length) return DONE;
+    enum status status = log_open(election, &log);
+    uint64_t reply = jdn_clear(again.image, JDN_IMAGE, again.reg, JDN_REGISTER, LENT(election->sheet));
+    if (!status && reply) status = say_refused(reply, "sheet.txt");
+    while (!status && again.log_length < election->log_length) status = log_step(&again, &reading);
+    progress_end();
+    if (status) late->count = 0;
+    bytes_free(&log);
+    return status;
 }
 
 enum status log_add(const struct folder *folder, const char *word, uint32_t mark) {

@@ -93,7 +93,8 @@ static const struct command commands[] = {
      "Prints the digest of the ballot: with the mark it finds the ballot again in what is published. Where a ballot with this mark\n"
      "is there and in no line of the log, that one is admitted as it is. From the first ballot on lists.txt may not be changed.\n"
      "A list whose name begins with -- goes behind --.\n"},
-    {"withdraw", "FOLDER MARK", 2, 2, 0, do_withdraw, "adds a withdrawal to the log", "Possible until the ballots are closed.\n"},
+    {"withdraw", "FOLDER MARK", 2, 2, 0, do_withdraw, "adds a withdrawal to the log",
+     "Possible until the ballots are closed, and also before the ballot comes: one that comes later with this mark is not counted.\n"},
     {"gather", "FOLDER", 1, 1, TAKES_UNSAFE_SEED, do_gather, "takes the log so far, and names every ballot that is no good",
      "Reads and judges lists.txt and enrolled.txt too. The noise of the ballots is looked at where key/ is there, all else without it.\n"},
     {"commit", "FOLDER", 1, 1, TAKES_UNSAFE_SEED, do_commit,
@@ -115,7 +116,7 @@ static const struct command commands[] = {
     {"status", "FOLDER", 1, 1, 0, do_status, "tells where an election stands and what to do next", ""},
     {"sample", "FOLDER", 1, 1, TAKES_NUMBERS | TAKES_BALLOTS | TAKES_UNSAFE_SEED, do_sample,
      "makes a small election to try: its ring is too small for a real one",
-     "  --ballots K    12 by default, and one that is withdrawn\n"
+     "  --ballots K    12 by default. Two more are not counted: one is withdrawn, and one comes after its withdrawal\n"
      "and the options of keygen, with a ring of 64 and 2 rounds by default. To run it: election run --draw-here FOLDER\n"},
 };
 #define COMMANDS (sizeof commands / sizeof *commands)

@@ -54,11 +54,29 @@ static void page_votes(const struct result *result, struct text *text) {
 
 static void page_turnout(const struct result *result, struct text *text) {
     const struct paper *paper = &result->transcript->paper;
+    const struct account *account = &result->transcript->account;
+    struct account_list lists[ACCOUNT_LISTS];
+    size_t count = account_lists(account, lists);
     table_start(text, "Turnout", "What", "Number", " class=\"number\"");
     number_row(text, "Enrolled", paper->enrolment.number);
     number_row(text, "Ballots counted", result->counted);
-    number_row(text, "Ballots withdrawn", result->withdrawn);
+    number_row(text, "Ballots withdrawn", account->withdrawn);
+    for (size_t i = 0; i < count; i++) number_row(text, lists[i].words, lists[i].marks->count);
     number_row(text, "Turnout per thousand enrolled", paper->turnout);
+    text_add(text, "</tbody>\n</table>\n");
+}
+
+/* The marks of the ballot account, where it has any to tell. */
+static void page_marks(const struct account *account, struct text *text) {
+    struct account_list lists[ACCOUNT_LISTS];
+    size_t count = account_lists(account, lists);
+    if (!count) return;
+    table_start(text, "Withdrawals ahead of their ballots", "What", "Marks", "");
+    for (size_t i = 0; i < count; i++) {
+        text_add(text, "<tr><th scope=\"row\">%s</th><td>\n", lists[i].words);
+        text_add_marks(text, lists[i].marks);
+        text_add(text, "</td></tr>\n");
+    }
     text_add(text, "</tbody>\n</table>\n");
 }
 
@@ -111,6 +129,7 @@ void result_page(const struct result *result, struct text *text) {
              (unsigned long long)result->transcript->paper.turnout);
     page_votes(result, text);
     page_turnout(result, text);
+    page_marks(&result->transcript->account, text);
     page_assurance(&result->transcript->election.numbers, text);
     page_names(result, text);
     page_digests(result, text);

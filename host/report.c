@@ -1,6 +1,7 @@
 /* Where an election stands, and what is to be done next. */
 #include <string.h>
 
+#include "account.h"
 #include "commands.h"
 #include "election.h"
 #include "log.h"
@@ -38,11 +39,16 @@ static const struct {
 };
 
 /* Whether lists, enrolment and log are such that the election can go on; says what is wrong. `after` is the session with the whole log
- * taken. */
-static bool is_ready(const struct election *election, struct election *after) {
+ * taken, and this its account: without the lists where the log is not as it should be. */
+static bool is_ready(const struct election *election, struct election *after, struct account *account) {
     struct paper paper = {0};
     bool fresh = false;
-    bool ready = !log_rehearse(election, after) && !paper_read(election, &paper) && !lists_keep(after, &paper.lists, &fresh);
+    bool ready = !log_rehearse(election, after);
+    if (ready)
+        ready = !account_make(after, account);
+    else
+        account_count(after, account);
+    ready = ready && !paper_read(election, &paper) && !lists_keep(after, &paper.lists, &fresh);
     if (ready && election_phase(election) != GATHERING) ready = !enrolment_keep(after, &paper.enrolment, &fresh);
     paper_free(&paper);
     return ready;
@@ -64,14 +70,14 @@ static enum stand stand_of(const struct election *election, const struct found *
     }
 }
 
-static enum status print(const struct election *election, const struct election *after, enum stand stand, bool ready) {
+/* `waiting`: lines of the log that are not gathered yet. */
+static enum status print(const struct election *election, const struct account *account, uint64_t waiting, enum stand stand, bool ready) {
     struct text text = {0};
-    size_t standing = election_standing(after), rounds = election->numbers.rounds;
-    unsigned long long waiting = (unsigned long long)(after->log_lines - election->log_lines);
+    size_t rounds = election->numbers.rounds;
     text_add(&text, "Phase               %s\n", words[stand].phase);
     if (stand != PUBLISHED) {
-        text_add(&text, "Ballots standing    %zu\nBallots withdrawn   %zu\n", standing, election_used(after) - standing);
-        if (waiting) text_add(&text, "Lines of the log    %llu more than were gathered\n", waiting);
+        text_add_account(&text, account);
+        if (waiting) text_add(&text, "Lines of the log    %llu more than were gathered\n", (unsigned long long)waiting);
         text_add(&text, "Rounds committed    %zu of %zu\n", election_committed(election), rounds);
         text_add(&text, "Rounds checked      %zu of %zu\n", election_checked(election), rounds);
     }
@@ -81,6 +87,7 @@ static enum status print(const struct election *election, const struct election 
 
 enum status report(const char *folder) {
     struct election election, after = {0};
+    struct account account = {0};
     struct found found = {0};
     enum status status = election_look(&election, folder, &found.stored);
     if (!status) status = key_find(&election, &found.key);
@@ -89,8 +96,8 @@ enum status report(const char *folder) {
     if (!status) {
         enum stand stand = stand_of(&election, &found);
         after = election;
-        bool ready = stand == PUBLISHED || is_ready(&election, &after);
-        status = print(&election, &after, stand, ready);
+        bool ready = stand == PUBLISHED || is_ready(&election, &after, &account);
+        status = print(&election, &account, after.log_lines - election.log_lines, stand, ready);
     }
     explicit_bzero(&after, sizeof after);
     election_end(&election);

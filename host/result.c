@@ -28,7 +28,6 @@ enum status result_make(const struct transcript *transcript, struct result *resu
     const struct election *election = &transcript->election;
     *result = (struct result){.transcript = transcript};
     result->counted = election_closed(election);
-    result->withdrawn = election_used(election) - result->counted;
     if (election_phase(election) != ENDED_ACCEPTED) {
         say("%s: the session did not end accepted, and has no result", election->folder.name);
         return REFUSED;
@@ -94,10 +93,12 @@ static void text_assurance(const struct numbers *numbers, struct text *text) {
 
 void result_text(const struct result *result, struct text *text) {
     const struct paper *paper = &result->transcript->paper;
+    const struct account *account = &result->transcript->account;
     text_add(text, RESULT_FORM "\nResult of the election\n\n");
     text_add(text, "Enrolled            %llu\n", (unsigned long long)paper->enrolment.number);
     text_add(text, "Ballots counted     %zu\n", result->counted);
-    text_add(text, "Ballots withdrawn   %zu\n", result->withdrawn);
+    text_add(text, "Ballots withdrawn   %zu\n", account->withdrawn);
+    text_add_lists(text, account);
     text_add(text, "Turnout             %llu per thousand\n\nVotes\n", (unsigned long long)paper->turnout);
     for (size_t i = 0; i < paper->lists.count; i++) text_add(text, "%7zu  %s\n", result->votes[i], paper->lists.names[i]);
     if (result->elsewhere) text_add(text, "%7zu  marks for no list\n", result->elsewhere);
@@ -111,7 +112,7 @@ struct form {
     void (*write)(const struct result *, struct text *);
     const char *title;  /* what a file of this form begins with */
     const char *other;  /* what one of any other form of this kind begins with */
-    const char *before; /* what one of the release before began with, which named no form */
+    const char *before; /* what one of a release began with that named no form */
 };
 
 static const struct form text_form = {RESULT_TEXT, result_text, RESULT_FORM "\n", RESULT_TITLE, "Result of the election\n"};

@@ -6,16 +6,18 @@
 
 #define RESULT_TEXT "result.txt"
 #define RESULT_PAGE "result.html"
-/* The form, with its number: another one for every change of the text or the page. */
+/* The form, with its number: another one for every change in what is said of an election that a release with this number can count. The
+ * lists of the ballot account are no such change. They stand only in results of a log in which a ballot came after its withdrawal, or a
+ * withdrawal has no ballot; and the release that wrote form 2 without them, 0.9, refuses such a log. */
 #define RESULT_TITLE "jackdawnail result "
 #define RESULT_FORM RESULT_TITLE "2"
-/* What stands before the form in a page, and what a page of the release before, which named none, begins with. */
+/* What stands before the form in a page, and what a page of a release begins with that named none. */
 #define PAGE_START "<!DOCTYPE html>\n<!-- "
 #define PAGE_BEFORE "<!DOCTYPE html>\n<html lang=\"en\">\n"
 
 struct result {
     const struct transcript *transcript;
-    size_t counted, withdrawn;
+    size_t counted;
     size_t *votes;    /* of each list */
     size_t elsewhere; /* marks at coefficients that are no list's */
 };

@@ -2,6 +2,7 @@
  * after a crash the next run goes on from the last step that was saved. */
 #include <string.h>
 
+#include "account.h"
 #include "ballots.h"
 #include "commands.h"
 #include "drawn.h"
@@ -19,6 +20,7 @@ struct counting {
     const struct draw *draw;
     const struct origin *origin;
     struct ballots ballots;
+    struct account account;
     struct paper paper;
     struct key key; /* none where it is not needed, or not there while ballots are gathered */
     struct batch batch;
@@ -131,11 +133,20 @@ static enum status write_result(struct counting *counting) {
     return status;
 }
 
+/* A commitment shows nothing of the ballot account: what an officer would want to know is said beside it. */
+static void say_lists(const struct counting *counting) {
+    struct account_list lists[ACCOUNT_LISTS];
+    size_t count = account_lists(&counting->account, lists);
+    for (size_t i = 0; i < count; i++)
+        say("%s: %zu. `election status %s` tells which", lists[i].words, lists[i].marks->count, counting->election->folder.name);
+}
+
 /* What has to be public before the seed is drawn: no claim, no first message, no list and no enrolment can be changed after that. */
 static enum status print_committed(const struct counting *counting) {
     const struct election *election = counting->election;
     struct text text = {0};
     uint8_t commitment[DIGEST];
+    say_lists(counting);
     commitment_of(election, &counting->paper, commitment);
     text_add(&text, "Commitment  ");
     text_add_groups(&text, commitment);
@@ -149,23 +160,22 @@ static enum status print_committed(const struct counting *counting) {
     return text_print(&text);
 }
 
-static enum status print_gathered(const struct election *election) {
+static enum status print_gathered(const struct account *account) {
     struct text text = {0};
-    size_t standing = election_standing(election);
-    text_add(&text, "Ballots standing    %zu\nBallots withdrawn   %zu\n", standing, election_used(election) - standing);
+    text_add_account(&text, account);
     return text_print(&text);
 }
 
 /* Reads and judges lists and enrolment. The lists are kept from the first time on; the enrolment from the closing on, or, in an election
- * that the release before closed, from now on. */
+ * that a release closed which kept none, from now on. */
 static enum status hold_paper(struct counting *counting) {
     struct election *election = counting->election;
-    bool fresh = false, late = election_phase(election) != GATHERING;
+    bool fresh = false, closed = election_phase(election) != GATHERING;
     enum status status = paper_read(election, &counting->paper);
     if (!status) status = lists_keep(election, &counting->paper.lists, &fresh);
-    if (!status && late) status = enrolment_keep(election, &counting->paper.enrolment, &fresh);
-    if (!status && fresh && late)
-        say("the release before kept neither lists nor enrolment when the ballots closed: they are kept from now on");
+    if (!status && closed) status = enrolment_keep(election, &counting->paper.enrolment, &fresh);
+    if (!status && fresh && closed)
+        say("an earlier release closed the ballots, and kept neither lists nor enrolment then: they are kept from now on");
     return !status && fresh ? election_save(election) : status;
 }
 
@@ -190,7 +200,8 @@ static enum status gather(struct counting *counting, enum goal goal) {
     if (!status) status = ballots_open(election, &counting->ballots);
     if (status) return status;
     status = log_take(election, &counting->ballots);
-    if (!status) status = ballots_name_unlogged(election, &counting->ballots);
+    if (!status) status = account_make(election, &counting->account);
+    if (!status) status = ballots_name_unlogged(election, &counting->ballots, &counting->account.no_ballot);
     enum status looked = look_over(counting, goal);
     return status ? status : looked;
 }
@@ -221,7 +232,7 @@ enum status run(const char *folder, enum goal goal, const struct draw *draw, con
     enum status status = election_resume(&election, folder);
     if (!status) status = seed_may_be_named(&election, draw);
     if (!status) status = gather(&counting, goal);
-    if (!status && goal == GATHERED) status = print_gathered(&election);
+    if (!status && goal == GATHERED) status = print_gathered(&counting.account);
     if (!status && goal > GATHERED && election_phase(&election) == GATHERING) status = close_ballots(&counting);
     if (!status && goal > GATHERED) status = count(&counting, goal);
     bytes_free(&counting.claims);

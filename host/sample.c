@@ -1,4 +1,4 @@
-/* A whole small election to try things with: a key, lists, ballots with votes drawn at random, a withdrawal. */
+/* A whole small election to try things with: a key, lists, ballots with votes drawn at random, two withdrawals. */
 #include <stdio.h>
 #include <string.h>
 
@@ -37,17 +37,23 @@ static enum status cast_one(struct election *election, uint32_t mark, struct sou
     return status;
 }
 
-/* The ballots, and one more, the second, that is withdrawn after the third. */
+/* One withdrawal of a ballot that is there, the second, and one that comes before its ballot, the last. */
+static enum status withdraw_two(const struct folder *folder, size_t ballots) {
+    enum status status = log_add(folder, "withdraw", FIRST_MARK + 1);
+    return status ? status : log_add(folder, "withdraw", (uint32_t)(FIRST_MARK + ballots + 1));
+}
+
+/* The ballots, and two more that are not counted. The withdrawals come after the third ballot. */
 static enum status cast_all(struct election *election, size_t ballots, const struct origin *origin) {
     struct source votes;
     uint8_t seed[SEED];
     enum status status = origin_seed(origin, FOR_VOTES, 0, seed);
     if (status) return status;
     source_start(&votes, seed);
-    for (size_t i = 0; i <= ballots && !status; i++) {
-        progress("Ballots", i + 1, ballots + 1);
+    for (size_t i = 0; i < ballots + 2 && !status; i++) {
+        progress("Ballots", i + 1, ballots + 2);
         status = cast_one(election, (uint32_t)(FIRST_MARK + i), &votes, origin);
-        if (!status && i == (ballots < 2 ? ballots : 2)) status = log_add(&election->folder, "withdraw", FIRST_MARK + 1);
+        if (!status && i == (ballots < 2 ? ballots : 2)) status = withdraw_two(&election->folder, ballots);
     }
     progress_end();
     source_end(&votes);

@@ -36,8 +36,7 @@ static const struct refusal refusals[] = {
     {16, NOWHERE, "the sheet, the ballots, the claims or the first message are not those that the session holds by digest"},
     {31, NOWHERE, "this step is not due now, or the session is damaged"},
     {32, NOWHERE, "a ballot with this mark stands already"},
-    {33, NOWHERE, "the ballot with this mark was withdrawn"},
-    {34, NOWHERE, "no ballot with this mark was admitted"},
+    {33, NOWHERE, "this mark was withdrawn"},
     {35, NOWHERE, "the register is full: 4,096 entries are used"},
     {36, NOWHERE, "no ballot stands"},
 };

@@ -1,5 +1,5 @@
 /* The state file: the name of its form, the parts, and SHA3-256 of all that, so that a damaged file is not gone on from.
- * Form 1, of the release before, ends with the seeds; form 2 has what is kept of lists.txt and enrolled.txt, and how many entries were
+ * Form 1, of an earlier release, ends with the seeds; form 2 has what is kept of lists.txt and enrolled.txt, and how many entries were
  * looked at, behind them. */
 #include "state.h"
 

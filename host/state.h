@@ -6,7 +6,7 @@
 
 #define STATE "state.bin"
 
-/* Takes the state from disk, also one that the release before stored; REFUSED where the file is damaged or is of another sheet. The sheet
+/* Takes the state from disk, also one that an earlier release stored; REFUSED where the file is damaged or is of another sheet. The sheet
  * is read already. */
 enum status state_load(struct election *election);
 enum status state_save(const struct election *election);

@@ -13,6 +13,7 @@ static enum status gather(struct transcript *transcript) {
     struct election *election = &transcript->election;
     enum status status = ballots_open(election, &transcript->ballots);
     if (!status) status = log_take(election, &transcript->ballots);
+    if (!status) status = account_make(election, &transcript->account);
     return status ? status : batch_close(election);
 }
 

@@ -2,6 +2,7 @@
  * counting side says of itself is taken over. */
 #ifndef TRANSCRIPT_H
 #define TRANSCRIPT_H
+#include "account.h"
 #include "ballots.h"
 #include "election.h"
 #include "paper.h"
@@ -9,6 +10,7 @@
 struct transcript {
     struct election election;
     struct ballots ballots;
+    struct account account;
     struct paper paper;
     struct bytes claims;
     uint8_t commitment[DIGEST], fingerprint[DIGEST];

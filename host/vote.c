@@ -108,7 +108,7 @@ enum status vote(const char *folder, uint32_t mark, char *const *names, size_t c
     if (!status) status = takes_single(&election);
     if (!status) status = log_rehearse(&election, &after);
     if (!status) status = file_find(&election.folder, name, &there);
-    if (!status && there && entry_find(&after, mark) == election_used(&after))
+    if (!status && there && !has_entry(&after, mark))
         status = complete(&election, &after, mark, &ballot);
     else if (!status)
         status = make(&election, &after, &choice, &ballot);
@@ -119,16 +119,30 @@ enum status vote(const char *folder, uint32_t mark, char *const *names, size_t c
     return status;
 }
 
+/* Whether the register that the whole log gives takes this withdrawal. */
+static enum status would_withdraw(struct election *after, uint32_t mark) {
+    uint64_t reply = jdn_withdraw(after->image, JDN_IMAGE, after->reg, JDN_REGISTER, mark);
+    return reply ? say_refused(reply, "a withdrawal of the mark %u", (unsigned)mark) : DONE;
+}
+
+/* A withdrawal that comes before its ballot is no fault; but a mark that was mistyped looks the same. */
+static void say_early(const struct election *election, uint32_t mark) {
+    say("no ballot with the mark %u is admitted yet. The mark is withdrawn all the same: one that comes later will not be counted",
+        (unsigned)mark);
+    say("if that is the wrong mark, take the line `withdraw %u` out of %s/" LOG " before the log is gathered; it cannot be undone "
+        "after that. `election status %s` lists such marks",
+        (unsigned)mark, election->folder.name, election->folder.name);
+}
+
 enum status withdraw(const char *folder, uint32_t mark) {
     struct election election, after = {0};
     enum status status = election_resume(&election, folder);
     if (!status) status = still_open(&election);
     if (!status) status = log_rehearse(&election, &after);
-    if (!status) {
-        uint64_t reply = jdn_withdraw(after.image, JDN_IMAGE, after.reg, JDN_REGISTER, mark);
-        if (reply) status = say_refused(reply, "a withdrawal of the mark %u", (unsigned)mark);
-    }
+    bool early = !status && !has_entry(&after, mark);
+    if (!status) status = would_withdraw(&after, mark);
     if (!status) status = log_add(&election.folder, "withdraw", mark);
+    if (!status && early) say_early(&election, mark);
     explicit_bzero(&after, sizeof after);
     election_end(&election);
     return status;
