@@ -27,8 +27,8 @@ wrong_options() {
     wrong "--ring has no value behind it" sample --ring
     wrong "--ring x: that is no whole number" sample --ring x y
     wrong "--size is no option" sample --size 4 y
-    wrong "--ballots 4096: a whole number from 1 to 4095 is due" sample --ballots 4096 y
-    wrong "--ballots 0: a whole number from 1 to 4095 is due" sample y --ballots 0
+    wrong "--ballots 4095: a whole number from 1 to 4094 is due" sample --ballots 4095 y
+    wrong "--ballots 0: a whole number from 1 to 4094 is due" sample y --ballots 0
     wrong "--unsafe-test-seed: 64 hexadecimal digits are due" run --unsafe-test-seed 00 y
     wrong "--seed 00: 64 hexadecimal digits are due" run --seed 00 y
     wrong "--seed ${seed}0: 64 hexadecimal digits are due" run --seed "${seed}0" y

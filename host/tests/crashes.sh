@@ -33,6 +33,7 @@ every_cut_of_a_run() {
     cp -r "$room/cut_ready" "$room/cut_done"
     count=$(operations run "${unsafe[@]}" "$room/cut_done")
     succeed "a run has operations" test "$count" -gt 50
+    succeed "with a ballot that came after its withdrawal" grep -qx '  1004' "$room/cut_done/result.txt"
     for ((k = 1; k <= count; k++)); do
         rm -rf "$folder"
         cp -r "$room/cut_ready" "$folder"
@@ -87,9 +88,9 @@ done_is_on_disk() {
     succeed "its withdrawal" test "$(tail -n 1 "$folder/log.txt")" = "withdraw 77"
     cut_at 0 gather "$folder"
     succeed "a gathering" test $? -eq 0
-    # the register stands behind the title and the image; entry 3 is 77's, and its state byte is 2, withdrawn
-    succeed "its mark" test "$(byte_at "$folder/state.bin" $((16 + 4297 + 3 * 40)))" -eq 77
-    succeed "its withdrawal in the register" test "$(byte_at "$folder/state.bin" $((16 + 4297 + 3 * 40 + 4)))" -eq 2
+    # the register stands behind the title and the image; entry 4 is 77's, and its state byte is 2, withdrawn
+    succeed "its mark" test "$(byte_at "$folder/state.bin" $((16 + 4297 + 4 * 40)))" -eq 77
+    succeed "its withdrawal in the register" test "$(byte_at "$folder/state.bin" $((16 + 4297 + 4 * 40 + 4)))" -eq 2
     cut_at 0 run "${unsafe[@]}" "$folder"
     expect 0 "accepted" unwaited check "$folder"
 }
@@ -111,6 +112,28 @@ every_cut_of_a_vote() {
         grep -qx "admit 77" "$folder/log.txt" || expect 0 "Mark     77" unwaited vote "$folder" 77 Rook
         succeed "one line after cut $k" test "$(grep -cx "admit 77" "$folder/log.txt")" -eq 1
         expect 0 "Ballots counted     3" unwaited run --draw-here "$folder"
+    done
+}
+
+# A cut withdrawal has its line, whole, or none, and a retry says which: also one that comes before its ballot.
+every_cut_of_a_withdrawal() {
+    local folder=$room/cut count k
+    rm -rf "$folder"
+    cp -r "$room/cut_ready" "$folder"
+    count=$(operations withdraw "$folder" 77)
+    succeed "a withdrawal has operations" test "$count" -gt 2
+    for ((k = 1; k <= count; k++)); do
+        rm -rf "$folder"
+        cp -r "$room/cut_ready" "$folder"
+        cut_at "$k" withdraw "$folder" 77
+        succeed "cut $k of a withdrawal cuts" test $? -eq 137
+        if grep -qx "withdraw 77" "$folder/log.txt"; then
+            expect 1 "a withdrawal of the mark 77: refused 33" unwaited withdraw "$folder" 77
+        else
+            expect 0 "no ballot with the mark 77 is admitted yet" unwaited withdraw "$folder" 77
+        fi
+        succeed "one line after cut $k" test "$(grep -cx "withdraw 77" "$folder/log.txt")" -eq 1
+        expect 0 "Withdrawn marks with which no ballot came: 1" unwaited run --draw-here "$folder"
     done
 }
 
@@ -166,6 +189,7 @@ crashes() {
     two_cuts
     done_is_on_disk
     every_cut_of_a_vote
+    every_cut_of_a_withdrawal
     every_cut_of_a_commit
     every_cut_of_a_publication
 }

@@ -1,5 +1,6 @@
 # A published transcript, damaged in each file in turn: the check says what is wrong, in words, and its exit status is not 0.
-# N = 16, 2 rounds of 3 repetitions; the batch has the marks 1001, 1003, 1004, .. The seed is 32 times B, which draws
+# N = 16, 2 rounds of 3 repetitions; the batch has the marks 1001, 1003, 1004, .. 1013. 1002 is withdrawn, and 1014 comes after its
+# withdrawal, in the last line of the log. The seed is 32 times B, which draws
 #   for round 0 side 1 and the challenges 1, 2, 3; for round 1 side 0 and the challenges 3, 1, 2.
 coefficient=8 polynomial=128
 # where parts of a head begin: b0, the pairs of s0 and s1, the digests
@@ -53,12 +54,12 @@ drop_line() { # FILE LINE
 
 missing_and_lengths() {
     local name
-    for name in sheet.txt log.txt lists.txt enrolled.txt claims.bin seed.bin result.txt ballots/1005.ballot rounds/000/head.bin \
-        rounds/000/shares0.bin rounds/001/shares1.bin rounds/000/opening.bin rounds/001/answers.bin; do
+    for name in sheet.txt log.txt lists.txt enrolled.txt claims.bin seed.bin result.txt ballots/1005.ballot ballots/1014.ballot \
+        rounds/000/head.bin rounds/000/shares0.bin rounds/001/shares1.bin rounds/000/opening.bin rounds/001/answers.bin; do
         damaged 3 "damaged/$name is missing" rm "$name"
     done
-    for name in claims.bin seed.bin ballots/1005.ballot rounds/000/head.bin rounds/000/shares0.bin rounds/001/shares1.bin \
-        rounds/000/opening.bin rounds/001/answers.bin; do
+    for name in claims.bin seed.bin ballots/1005.ballot ballots/1014.ballot rounds/000/head.bin rounds/000/shares0.bin \
+        rounds/001/shares1.bin rounds/000/opening.bin rounds/001/answers.bin; do
         damaged 1 "damaged/$name: refused 1: it has $(($(size "$room/base/$name") + 1)) bytes where $(size "$room/base/$name") are due" \
             longer "$name"
         damaged 1 "damaged/$name: refused 1: it has 7 bytes" truncate -s 7 "$name"
@@ -89,25 +90,37 @@ sheets() {
 }
 
 logs() {
-    damaged 1 "log.txt, line 15 is not \`admit MARK\` or \`withdraw MARK\`" add_line log.txt "readmit 1002"
+    damaged 1 "log.txt, line 17 is not \`admit MARK\` or \`withdraw MARK\`" add_line log.txt "readmit 1002"
     damaged 1 "log.txt, line 1 has a mark that is no whole number from 0 to 4294967295" swap log.txt '^admit 1001' 'admit  1001'
     damaged 1 "log.txt, line 1 has a mark that is no whole number from 0 to 4294967295" swap log.txt '^admit 1001' 'admit 01001'
     damaged 1 "log.txt, line 1 has a mark that is no whole number from 0 to 4294967295" swap log.txt '^admit 1001' 'admit 4294967296'
-    damaged 1 "log.txt, line 14 has no line end" truncate -s -1 log.txt
+    damaged 1 "log.txt, line 16 has no line end" truncate -s -1 log.txt
     damaged 1 "log.txt, line 1 has a mark that is no whole number" swap log.txt '$' '\r'
-    damaged 1 "log.txt, line 15, admit 1004: refused 32: a ballot with this mark stands already" add_line log.txt "admit 1004"
-    damaged 1 "log.txt, line 15, admit 1002: refused 33: the ballot with this mark was withdrawn" add_line log.txt "admit 1002"
-    damaged 1 "log.txt, line 15, withdraw 1002: refused 33" add_line log.txt "withdraw 1002"
-    damaged 1 "log.txt, line 15, withdraw 77: refused 34: no ballot with this mark was admitted" add_line log.txt "withdraw 77"
+    damaged 1 "log.txt, line 17, admit 1004: refused 32: a ballot with this mark stands already" add_line log.txt "admit 1004"
+    damaged 1 "log.txt, line 17, withdraw 1002: refused 33: this mark was withdrawn" add_line log.txt "withdraw 1002"
+    damaged 1 "log.txt, line 17, withdraw 1014: refused 33: this mark was withdrawn" add_line log.txt "withdraw 1014"
     damaged 1 "claims.bin: refused 1: it has 192 bytes where 208 are due" drop_line log.txt "withdraw 1002"
+    damaged 1 "claims.bin: refused 1: it has 192 bytes where 208 are due" drop_line log.txt "withdraw 1014"
     damaged 1 "claims.bin: refused 1: it has 192 bytes where 176 are due" add_line log.txt "withdraw 1009"
     damaged 1 "closing the ballots: refused 36: no ballot stands" truncate -s 0 log.txt
+}
+
+# The same ballots are counted, but the log tells of other withdrawals, or in another order: that is another election.
+other_withdrawals() {
+    damaged 1 "result.txt is not the result of this transcript" add_line log.txt "admit 1002"
+    damaged 1 "result.txt is not the result of this transcript" add_line log.txt "admit 1014"
+    damaged 1 "result.txt is not the result of this transcript" add_line log.txt "withdraw 77"
+    damaged 1 "result.txt is not the result of this transcript" drop_line log.txt "admit 1014"
+    damaged 1 "result.txt is not the result of this transcript" eval 'sed -i /withdraw.1014/d log.txt; echo withdraw 1014 >>log.txt'
+    damaged 1 "result.txt is not the result of this transcript" eval 'sed -i "/^Ballots that came/d; /^  1014$/d" result.txt'
+    damaged 1 "result.txt is not the result of this transcript" swap result.txt '^  1014$' '  1013'
+    damaged 1 "result.html is not the result of this transcript" swap result.html '^  1014$' '  1013'
 }
 
 single_ballots() {
     local file=ballots/1004.ballot
     damaged 1 "$file has the mark 1005 inside" flip $file 0
-    damaged 1 "log.txt, line 5, admit 1004: refused 5: a number is out of range" poke $file $((4 + 7)) 255
+    damaged 1 "log.txt, line 6, admit 1004: refused 5: a number is out of range" poke $file $((4 + 7)) 255
     damaged 1 "round 0: refused 12: a mask is larger than the sheet allows (ballot 2 of the batch)" flip $file 4
     damaged 1 "ballot 2 of the batch has the mark 1004" flip $file 4
     damaged 1 "round 0: refused 13: the claimed vote is not what the shares decrypt to (ballot 2 of the batch)" \
@@ -119,7 +132,7 @@ one_file_of_ballots() {
     damaged 0 "accepted" eval "$together"
     damaged 1 "ballots.bin: refused 1: it is no whole number of ballots of 260 bytes" eval "$together; printf x >> ballots.bin"
     damaged 1 "ballots.bin has two ballots with the mark 1001" eval "$together; head -c 260 ballots.bin > one; cat one >> ballots.bin"
-    damaged 3 "ballots.bin has no ballot with the mark 1013" eval "$together; truncate -s -260 ballots.bin"
+    damaged 3 "ballots.bin has no ballot with the mark 1014" eval "$together; truncate -s -260 ballots.bin"
     damaged 1 "ballots.bin: refused 1: it has 0 bytes" eval "$together; truncate -s 0 ballots.bin"
     damaged 1 "ballots.bin: refused 1: it has 1065220 bytes where 260 to 1064960 are due" eval "$together; truncate -s 1065220 ballots.bin"
     damaged 3 "has both ballots/ and ballots.bin" eval 'cat ballots/*.ballot > ballots.bin'
@@ -190,6 +203,7 @@ damage() {
     missing_and_lengths
     sheets
     logs
+    other_withdrawals
     single_ballots
     one_file_of_ballots
     claimed

@@ -1,12 +1,12 @@
-# Folders that the release before stored, at several points of an election, are gone on with; and what it published is checked. They were
-# made by that release (host/tests/earlier): a folder is `base` with the files of its point over it. Of its state.bin the zeros of the
-# empty register are left out.
+# Folders that earlier releases stored, at several points of an election, are gone on with; and what they published is checked. They were
+# made by those releases (host/tests/earlier): a folder is `base` with the files of its point over it. Those of the release before, 0.9,
+# stand in a folder of its name. Of a state.bin the zeros of the empty register are left out.
 
 # The folder as it was stored.
 stored() { # POINT
     local from=host/tests/earlier
     rm -rf "$room/stored"
-    cp -r $from/base "$room/stored"
+    cp -r "$from/$(dirname "$1")/base" "$room/stored"
     cp -r "$from/$1/." "$room/stored"
     [ -e "$room/stored/state.head" ] || return
     # title, image and three entries; the rest of the register; then what stands behind it
@@ -14,7 +14,7 @@ stored() { # POINT
     rm "$room/stored"/state.{head,tail}
 }
 
-# The votes as the release before told them, and as a result of today tells them.
+# The votes as an earlier release told them, and as a result of today tells them.
 told() { # FILE
     sed -n '/^Enrolled/,/^Rounds/p' "$1"
 }
@@ -25,9 +25,12 @@ gone_on() { # POINT OPTION..
     stored "$point"
     cp -r "$room/stored" "$room/stored_before"
     expect 0 "All rounds accepted yes" "$program" run "$@" "$room/stored"
-    [ "$point" = gathered ] ||
-        said "the release before kept neither lists nor enrolment when the ballots closed: they are kept from now on"
-    succeed "the votes of $point" diff <(told "$room/stored/result.txt") <(told host/tests/earlier/counted/result.txt)
+    case $point in
+    gathered | 0.9/*) ;;
+    *) said "an earlier release closed the ballots, and kept neither lists nor enrolment then: they are kept from now on" ;;
+    esac
+    succeed "the votes of $point" \
+        diff <(told "$room/stored/result.txt") <(told "host/tests/earlier/$(dirname "$point")/counted/result.txt")
     succeed "its state is of the form of today" test "$(head -n 1 "$room/stored/state.bin" | tr -d '\0')" = "jackdawnail 2"
     publish "$room/stored" "$room/other"
     expect 0 "accepted" "$program" check "$room/other"
@@ -40,7 +43,8 @@ as_it_was() { # FILE..
     rm -rf "$room/stored_before"
 }
 
-earlier() {
+# Of a release whose state.bin is of form 1, and whose results name no form.
+earlier_form() {
     gone_on gathered --draw-here
     as_it_was log.txt ballots/1001.ballot
     gone_on half_committed --draw-here
@@ -65,4 +69,51 @@ earlier() {
     expect 0 "stored/result.txt is of another form than \`jackdawnail result 2\`, and was NOT COMPARED" "$program" check "$room/stored"
     said "stored/result.html is of another form than \`jackdawnail result 2\`, and was NOT COMPARED"
     said "accepted"
+}
+
+# Of the release before. It was gathering, with a line of the log not taken yet; or it had committed; or it had counted and published.
+release_before() {
+    local file
+    gone_on 0.9/gathered --draw-here
+    as_it_was log.txt ballots/1001.ballot
+    gone_on 0.9/committed --seed "$seed"
+    as_it_was claims.bin rounds/00{0,1}/{head,shares0,shares1}.bin
+    # the same draw gives the same count, and it is told in the same words
+    for file in result.txt result.html rounds/000/answers.bin; do
+        succeed "$file of the release before" cmp "$room/stored/$file" "host/tests/earlier/0.9/counted/$file"
+    done
+    # what it published is accepted, and its result is compared
+    stored 0.9/counted
+    rm -r "$room/stored/key"
+    expect 0 "accepted" "$program" check "$room/stored" --seed "$seed" --mark 1001
+    succeed "no warning" test "$(grep -c WARNING "$room/said")" -eq 0
+    said "Ballots withdrawn   1"
+    sed -i 's/>Rook</>Crow</' "$room/stored/result.html"
+    expect 1 "result.html is not the result of this transcript" "$program" check "$room/stored"
+    sed -i 's/  Rook/  Crow/' "$room/stored/result.txt"
+    expect 1 "result.txt is not the result of this transcript" "$program" check "$room/stored"
+}
+
+# A withdrawal that comes before its ballot reaches an election that the release before had begun.
+release_before_then_early() {
+    stored 0.9/gathered
+    rm -rf "$room/tablet"
+    cp -r "$room/stored" "$room/tablet"
+    expect 0 "Mark     7" "$program" vote "$room/tablet" 7 Rook
+    expect 0 "no ballot with the mark 7 is admitted yet" "$program" withdraw "$room/stored" 7
+    expect 0 "Mark     8" "$program" vote "$room/stored" 8 Rook
+    cp "$room/tablet/ballots/7.ballot" "$room/stored/ballots"
+    echo "admit 7" >>"$room/stored/log.txt"
+    expect 0 "Ballots that came after their withdrawal, not counted: 1" "$program" gather "$room/stored"
+    expect 0 "Ballots counted     3" "$program" run --draw-here "$room/stored"
+    said "Ballots withdrawn   1"
+    said "Ballots that came after their withdrawal, not counted: 1"
+    publish "$room/stored" "$room/other"
+    expect 1 "The ballot with the mark 7 came after its withdrawal, and is NOT COUNTED" "$program" check "$room/other" --mark 7
+}
+
+earlier() {
+    earlier_form
+    release_before
+    release_before_then_early
 }

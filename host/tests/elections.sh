@@ -13,7 +13,7 @@ by_hand() {
     expect 0 "" "$program" withdraw "$folder" 7
     expect 0 "" "$program" vote "$folder" 12 'Green & <Gold>'
     expect 0 "" "$program" vote "$folder" 13
-    expect 1 "a vote with the mark 7: refused 33: the ballot with this mark was withdrawn" "$program" vote "$folder" 7 Red
+    expect 1 "a vote with the mark 7: refused 33: this mark was withdrawn" "$program" vote "$folder" 7 Red
     expect 1 "a vote with the mark 12: refused 32: a ballot with this mark stands already" "$program" vote "$folder" 12 Red
     expect 1 "has no list with the name Purple" "$program" vote "$folder" 14 Purple
     expect 0 "Turnout             250 per thousand" "$program" run --draw-here "$folder"
@@ -87,7 +87,7 @@ in_parts() {
     head -c 32 /dev/zero | tr '\0' 's' >"$folder/seed.bin"
     expect 0 "Seed        7373-7373-7373-7373-7373-7373-7373-7373-7373-7373-7373-7373-7373-7373-7373-7373" "$program" run "$folder"
     expect 0 "Seed        7373" "$program" run "$folder"
-    succeed "the commitment in the result" grep -qxF "$(head -n 1 "$room/commitment")" "$folder/result.txt"
+    succeed "the commitment in the result" grep -qxF "$(grep '^Commitment' "$room/commitment")" "$folder/result.txt"
     accepted "$folder"
     expect 3 "ready is not accepted" "$program" check "$room/ready"
 }

@@ -74,13 +74,14 @@ without_key() {
     flip "$room/fault/ballots/1010.ballot" 0
     # a withdrawal of one of them is no fault of its own
     echo "withdraw 1004" >>"$room/fault/log.txt"
-    expect 1 "log.txt, line 5, admit 1004: refused 5: a number is out of range" "$program" gather "$room/fault"
+    expect 1 "log.txt, line 6, admit 1004: refused 5: a number is out of range" "$program" gather "$room/fault"
     said "ballots/1006.ballot: refused 1: it has 261 bytes where 260 are due"
     said "ballots/1008.ballot is missing"
     said "ballots/1010.ballot has the mark 1011 inside"
     said "key/ is not here"
     succeed "nothing else is named" test "$(grep -c "" "$room/said")" -eq 5
-    succeed "the lines before are taken" test "$(byte_at "$room/fault/state.bin" $((16 + 73)))" -eq 3
+    # three ballots, and the withdrawal that comes before its ballot
+    succeed "the lines before are taken" test "$(byte_at "$room/fault/state.bin" $((16 + 73)))" -eq 4
     # with the key, the noise of the lines before is found too
     readied base_ready ""
     poke "$room/fault/ballots/1001.ballot" $((4 + polynomial + 5)) 77
@@ -159,7 +160,7 @@ held() {
 
 # A refused line of the log stops there; once it is put right the run goes on from the line before.
 refused_lines() {
-    fault 1 "log.txt, line 15, admit 1001: refused 32" "" add_line log.txt "admit 1001"
+    fault 1 "log.txt, line 17, admit 1001: refused 32" "" add_line log.txt "admit 1001"
     succeed "nothing is closed" test "$(byte_at "$room/fault/state.bin" 16)" -eq 0
     sed -i '$d' "$room/fault/log.txt"
     expect 0 "Ballots counted     12" "$program" run --draw-here "$room/fault"

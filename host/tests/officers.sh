@@ -73,14 +73,13 @@ refused_with_reason() { # TEXT COMMAND..
 blocking_lines() {
     local i
     office
-    refused_with_reason "a withdrawal of the mark 2: refused 34: no ballot with this mark was admitted" withdraw "$room/office" 2
     expect 0 "" "$program" vote "$room/office" 2 Rook
     expect 0 "" "$program" withdraw "$room/office" 2
-    refused_with_reason "a withdrawal of the mark 2: refused 33: the ballot with this mark was withdrawn" withdraw "$room/office" 2
+    refused_with_reason "a withdrawal of the mark 2: refused 33: this mark was withdrawn" withdraw "$room/office" 2
     refused_with_reason "a vote with the mark 2: refused 33" vote "$room/office" 2 Rook
     # a line that the log has already and that blocks the election is named
-    echo "withdraw 77" >>"$room/office/log.txt"
-    refused_with_reason "log.txt, line 4, withdraw 77: refused 34" vote "$room/office" 3 Rook
+    echo "withdraw 2" >>"$room/office/log.txt"
+    refused_with_reason "log.txt, line 4, withdraw 2: refused 33" vote "$room/office" 3 Rook
     succeed "no ballot" test ! -e "$room/office/ballots/3.ballot"
     sed -i '$d' "$room/office/log.txt"
     printf 'admit 1' >>"$room/office/log.txt"
@@ -90,6 +89,10 @@ blocking_lines() {
     for ((i = 1000; i < 5094; i++)); do echo "admit $i"; done >>"$room/office/log.txt"
     refused_with_reason "a vote with the mark 3: refused 35: the register is full" vote "$room/office" 3 Rook
     succeed "no ballot" test ! -e "$room/office/ballots/3.ballot"
+    refused_with_reason "a withdrawal of the mark 3: refused 35: the register is full" withdraw "$room/office" 3
+    # a mark that has its entry needs no other one
+    expect 0 "" "$program" withdraw "$room/office" 5093
+    succeed "its line" test "$(tail -n 1 "$room/office/log.txt")" = "withdraw 5093"
     office
     expect 0 "Commitment" "$program" commit "$room/office"
     refused_with_reason "the ballots are closed: no ballot is taken and none is withdrawn any more" vote "$room/office" 3 Rook

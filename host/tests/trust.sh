@@ -140,7 +140,8 @@ names_exchanged() {
     expect 1 "the commitment is" "$program" check "$folder" --committed "$commitment" --seed "$draw"
 }
 
-# A log with a ballot more that was withdrawn counts the same, and tells another number of withdrawals: that is another election too.
+# A log with a ballot more that was withdrawn, or with a withdrawal more, counts the same, and tells of other withdrawals: that is another
+# election too.
 withdrawal_added() {
     local folder=$room/relogged
     rm -rf "$folder"
@@ -149,6 +150,13 @@ withdrawal_added() {
     printf 'admit 15\nwithdraw 15\n' >>"$folder/log.txt"
     tell_anew "$folder"
     expect 0 "Ballots withdrawn   2" "$program" check "$folder"
+    expect 1 "the fingerprint of the election is" "$program" check "$folder" --fingerprint "$(named "$room/walked" Fingerprint)"
+    expect 1 "the commitment is" "$program" check "$folder" --committed "$commitment" --seed "$draw"
+    cp "$room/walked/log.txt" "$folder"
+    echo "withdraw 15" >>"$folder/log.txt"
+    tell_anew "$folder"
+    expect 0 "Withdrawn marks with which no ballot came: 1" "$program" check "$folder"
+    said "relogged/ballots/15.ballot is admitted by no line of log.txt"
     expect 1 "the fingerprint of the election is" "$program" check "$folder" --fingerprint "$(named "$room/walked" Fingerprint)"
     expect 1 "the commitment is" "$program" check "$folder" --committed "$commitment" --seed "$draw"
 }
