@@ -125,6 +125,13 @@ static enum status would_withdraw(struct election *after, uint32_t mark) {
     return reply ? say_refused(reply, "a withdrawal of the mark %u", (unsigned)mark) : DONE;
 }
 
+/* A withdrawal may be the first that comes to an election: its ballots have their folder from then on, as they have from a vote on. */
+static enum status make_place(const struct folder *folder) {
+    bool whole = false;
+    enum status status = file_find(folder, "ballots.bin", &whole);
+    return status || whole ? status : folder_add(folder, BALLOT_FOLDER, FOR_ALL);
+}
+
 /* A withdrawal that comes before its ballot is no fault; but a mark that was mistyped looks the same. */
 static void say_early(const struct election *election, uint32_t mark) {
     say("no ballot with the mark %u is admitted yet. The mark is withdrawn all the same: one that comes later will not be counted",
@@ -141,6 +148,7 @@ enum status withdraw(const char *folder, uint32_t mark) {
     if (!status) status = log_rehearse(&election, &after);
     bool early = !status && !has_entry(&after, mark);
     if (!status) status = would_withdraw(&after, mark);
+    if (!status && early) status = make_place(&election.folder);
     if (!status) status = log_add(&election.folder, "withdraw", mark);
     if (!status && early) say_early(&election, mark);
     explicit_bzero(&after, sizeof after);

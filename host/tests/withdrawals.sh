@@ -172,6 +172,16 @@ still_refused() {
 
 # Withdrawals alone give nothing to count, nor does a ballot that comes after its own.
 nothing_stands() {
+    local folder=$room/first
+    rm -rf "$folder"
+    expect 0 "" "$program" keygen "$folder" --ring 4 --rounds 1
+    cp "$room/office"/{lists,enrolled}.txt "$folder"
+    # the first that comes to an election
+    expect 0 "no ballot with the mark 9 is admitted yet" "$program" withdraw "$folder" 9
+    expect 0 "Ballots standing    0" "$program" gather "$folder"
+    expect 1 "closing the ballots: refused 36: no ballot stands" "$program" commit "$folder"
+    expect 0 "Mark     8" "$program" vote "$folder" 8 Rook
+    expect 0 "Ballots counted     1" "$program" run --draw-here "$folder"
     office_and_tablet
     expect 0 "Mark     7" "$program" vote "$room/tablet" 7 Rook
     printf 'withdraw 7\nwithdraw 8\n' >"$room/office/log.txt"
