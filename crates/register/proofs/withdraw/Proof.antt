@@ -42,9 +42,10 @@ module _ (reg : Bytes) (used mark : ℕ) {i : ℕ} (at : i ≡ find reg mark use
 returns : tie.Need-returns
 returns c =
     let f = c .before .before .find .ensures in
-    let whole : c .before .before .find .result ≡ 4096 = c .before .if1 .taken in
+    let low = f .1 in
     let most = c .before .before .before .before .before .pre .1 in
-    refuses _ _ _ (f .0) (is-unknown-full _ _ _ (f .0) refl (omega (arith, f .1)) (omega (arith, f .1))) (c .refused .ensures) refl
+    let behind = c .before .if1 .taken in
+    refuses _ _ _ (f .0) (is-unknown-full _ _ _ (f .0) refl (omega arith) (omega arith)) (c .refused .ensures) refl
 
 write-early-requires : tie.Need-write-early-requires
 write-early-requires c κs =
@@ -58,9 +59,9 @@ write-early-requires c κs =
 returns-2 : tie.Need-returns-2
 returns-2 c =
     let f = c .before .before .before .before .before .before .find .ensures in
-    let at : c .before .before .before .before .before .before .find .result ≡ c .before .before .before .before .before .before .before .before .before .args .used = c .before .before .before .before .if2 .taken in
+    let at = c .before .before .before .before .if2 .taken in
     let l : c .before .before .before .before .before .before .before .before .before .args .used ≤ c .before .before .before .before .before .before .find .result = omega arith in
-    enters _ _ _ (f .0) l (is-unknown-free _ _ _ (f .0) refl l (λ e. c .before .before .before .before .before .if1 .left (at ∙ e))) refl refl (c .before .before .write-early .ensures)
+    enters _ _ _ (f .0) l (is-unknown-free _ _ _ (f .0) refl l (λ e. c .before .before .before .before .before .if1 .left (omega arith))) refl refl (c .before .before .write-early .ensures)
 
 is-standing-requires : tie.Need-is-standing-requires
 is-standing-requires c κs =
