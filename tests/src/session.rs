@@ -1,5 +1,7 @@
 //! The calls of a session over the C interface, against an independent session.
+mod crowded;
 mod damaged;
+mod early;
 mod election;
 mod faults;
 mod full;
@@ -33,16 +35,19 @@ pub fn run(tally: &mut Tally) {
     whole::run(tally, &mut trial, &mut random);
     damaged::run(tally, &mut trial, &mut random);
     full::run(tally, &mut trial, &mut random);
+    early::run(tally, &mut trial, &mut random);
+    crowded::run(tally, &mut trial, &mut random);
     lists::run(tally, &mut trial, &mut random);
     images::run(tally, &mut trial, &mut random);
     refusals::run(tally, &mut trial, &mut random);
 }
 
-/// Elections and refusals on the smallest ring.
+/// Elections, early withdrawals and refusals on the smallest ring.
 pub fn small(tally: &mut Tally) {
     let mut random = Random(31);
     let mut trial = Trial::default();
     lengths(tally);
     whole::small(tally, &mut trial, &mut random);
+    early::small(tally, &mut trial, &mut random);
     refusals::small(tally, &mut trial, &mut random);
 }

@@ -1,6 +1,8 @@
-//! What is expected of each call, from document 01's orders: in which step each slice's length is looked at, and what else can be wrong before and after.
+//! What is expected of each call, from document 01's orders and document 02's for withdraw: in which step each slice's length is looked
+//! at, and what else can be wrong before and after.
 use super::lent::{Lent, Slice, Way};
-use crate::round::faults::refused_sheets;
+use super::small::{UNKNOWN, WITHDRAWN};
+use crate::round::faults::{put, refused_sheets};
 use crate::session::image::{PHASE, USED};
 
 /// A step of a call's order.
@@ -101,7 +103,7 @@ pub struct Other {
 }
 
 /// After the lengths: for each call a byte of a slice or a plain number, and the refusal.
-const BYTES: [(&str, &str, usize, u8, u64); 14] = [
+const BYTES: [(&str, &str, usize, u8, u64); 15] = [
     ("jdn_keygen", "s", 0, 3, 5),
     ("jdn_encrypt", "m", 3, 2, 5),
     ("jdn_decrypt", "ciphertext", 0, 97, 5),
@@ -113,12 +115,17 @@ const BYTES: [(&str, &str, usize, u8, u64); 14] = [
     ("jdn_produce_first", "secrets", 55, 3, 5),
     ("jdn_produce_second", "vectors", 0, 97, 5),
     ("jdn_admit", "ballot", 4, 97, 5),
-    ("jdn_close", "reg", 4, 2, 36),
+    ("jdn_admit", "ballot", 0, WITHDRAWN as u8, 33),
+    ("jdn_close", "reg", 44, 2, 36),
     ("jdn_claim", "claims", 0, 2, 5),
     ("jdn_check", "head", 0, 97, 16),
 ];
-const NUMBERS: [(&str, &str, u64, u64); 4] =
-    [("jdn_produce_second", "side", 2, 5), ("jdn_extract", "repetition", 1, 5), ("jdn_withdraw", "mark", 8, 34), ("jdn_turnout", "enrolled", 0, 3)];
+const NUMBERS: [(&str, &str, u64, u64); 4] = [
+    ("jdn_produce_second", "side", 2, 5),
+    ("jdn_extract", "repetition", 1, 5),
+    ("jdn_withdraw", "mark", WITHDRAWN as u64, 33),
+    ("jdn_turnout", "enrolled", 0, 3),
+];
 
 /// All that is tried beside lengths with what is lent.
 pub fn others(order: &Order, lent: &mut Lent) -> Vec<Other> {
@@ -152,6 +159,14 @@ fn rest(call: &str, lent: &mut Lent, place: usize) -> Vec<Other> {
     for (_, name, value, number) in NUMBERS.into_iter().filter(|of| of.0 == call) {
         let apply = move |lent: &mut Lent| lent.set_number(name, value);
         all.push(Other { name: format!("{name} {value}"), rank: (place, number), whole: None, apply: Box::new(apply) });
+    }
+    if call == "jdn_withdraw" {
+        let apply = |lent: &mut Lent| {
+            put(&mut lent.slice("image").bytes, USED, 4096);
+            lent.set_number("mark", u64::from(UNKNOWN));
+        };
+        let name = format!("mark {UNKNOWN} and 4,096 entries used");
+        all.push(Other { name, rank: (place, 35), whole: None, apply: Box::new(apply) });
     }
     all
 }

@@ -1,7 +1,7 @@
 //! Right cases of a session on document 01's small ring: an election with the example's ballot, step by step through the independent session, and one that a host closed
 //! with no ballot.
 use super::cases::{scratch, zeroed, Right};
-use super::small::{ballot, material, text, MARK, NO_BALLOTS};
+use super::small::{ballot, material, text, MARK, NO_BALLOTS, UNKNOWN, WITHDRAWN};
 use crate::random::Random;
 use crate::round::whole::Whole;
 use crate::session::image::{Session, ACCEPTED};
@@ -31,7 +31,8 @@ impl Election {
         assert_eq!(left.number(), 0, "{} is refused", step.name());
         let numbers = match step {
             Step::Withdraw { mark } => vec![u64::from(*mark)],
-            Step::Commit { round: number, .. } | Step::Check { round: number, .. } | Step::Challenges { round: number, .. } | Step::Turnout { enrolled: number } => vec![*number],
+            Step::Commit { round, .. } | Step::Check { round, .. } | Step::Challenges { round, .. } => vec![*round],
+            Step::Turnout { enrolled } => vec![*enrolled],
             _ => Vec::new(),
         };
         let mut after = slices(&left.host, step, zeroed());
@@ -51,11 +52,15 @@ impl Election {
         Session::read(&self.host.image).unwrap_or_else(|| panic!("the image has another length"))
     }
 
-    /// Clear, admit, withdraw, turnout and close.
+    /// Clear, admit, withdraw, turnout and close. The first entry is that of an early withdrawal.
     fn gather(&mut self) {
         self.go(&Step::Clear { sheet: text() });
+        self.host = model::run(&self.host, &Step::Withdraw { mark: WITHDRAWN }).host;
         self.go(&Step::Admit { ballot: ballot() });
         self.right(&Step::Withdraw { mark: MARK });
+        self.what = " of a mark with no entry";
+        self.right(&Step::Withdraw { mark: UNKNOWN });
+        self.what = "";
         self.right(&Step::Turnout { enrolled: 16 });
         self.go(&Step::Close);
     }

@@ -32,6 +32,9 @@ const T1: [i64; 4] = [81, 74, 0, 90];
 /// The masks of both sides.
 const MASKS: [[i64; 4]; 2] = [[4, -4, 0, 1], [0, -1, 4, -4]];
 pub const MARK: u32 = 7;
+/// A mark that no ballot has and no entry, and one whose withdrawal was taken before its ballot came.
+pub const UNKNOWN: u32 = 8;
+pub const WITHDRAWN: u32 = 9;
 
 pub fn text() -> Vec<u8> {
     sheet().text().into_bytes()

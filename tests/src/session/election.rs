@@ -29,6 +29,11 @@ pub fn small(random: &mut Random, n: usize) -> Plan {
     Plan { n, ballots: 6, drown, rounds: 1 + random.below(3), more: 0, modulus, extreme: false }
 }
 
+/// Marks of which no two are the same: the factor is odd.
+pub fn distinct_mark(i: usize) -> u32 {
+    (i as u32).wrapping_mul(0x9E37_79B1)
+}
+
 impl Election {
     /// The first mark is 0, the second the largest, and the last is that of the third, on another ballot.
     pub fn new(random: &mut Random, plan: Plan) -> Election {

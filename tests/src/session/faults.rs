@@ -121,10 +121,9 @@ impl Faults {
         faults
     }
 
-    /// The register has the first three marks of the election, and the second is withdrawn.
+    /// The register has the first three marks of the election, of which the second is withdrawn, and the fifth, withdrawn early.
     pub fn admit(walk: &Walk) -> Faults {
         let (n, q) = (walk.election.setting.n(), walk.election.setting.q());
-        let marks = [0, 1, 2].map(|ballot| walk.election.mark(ballot).to_le_bytes());
         let mut faults = Faults::default();
         faults.image();
         faults.state(&[0]);
@@ -133,25 +132,29 @@ impl Faults {
         for (at, value) in [(4, q), (8 * n - 4, u64::MAX), (4 + 8 * n, q), (16 * n - 4, q + 1)] {
             faults.add(AFTER, 5, &format!("{value} at byte {at}"), move |case| put(slice(case, 0), at, value));
         }
-        for (number, mark) in [(32, marks[0]), (33, marks[1]), (32, marks[2])] {
-            faults.add(AFTER, number, "a mark that is there", move |case| slice(case, 0)[..4].copy_from_slice(&mark));
+        for (number, ballot) in [(32, 0), (33, 1), (32, 2), (33, 4)] {
+            let mark = walk.election.mark(ballot).to_le_bytes();
+            faults.add(AFTER, number, &format!("the mark of ballot {ballot}"), move |case| slice(case, 0)[..4].copy_from_slice(&mark));
         }
         faults.add(AFTER, 35, "4,096 entries used", |case| put(&mut case.host.image, USED, 4096));
         faults
     }
 
+    /// In the same register.
     pub fn withdraw(walk: &Walk) -> Faults {
-        let withdrawn = walk.election.mark(1);
         let mut faults = Faults::default();
         faults.image();
         faults.state(&[0]);
         faults.register();
-        let mut mark = |rank: u64, number: u64, other: u32| {
-            faults.add(rank, number, &format!("mark {other}"), move |case| case.step = Step::Withdraw { mark: other });
-        };
-        mark(AFTER, 34, 77);
-        mark(AFTER, 34, u32::MAX - 1);
-        mark(AFTER + 1, 33, withdrawn);
+        for mark in [1, 4].map(|ballot| walk.election.mark(ballot)) {
+            faults.add(AFTER, 33, &format!("mark {mark}"), move |case| case.step = Step::Withdraw { mark });
+        }
+        for mark in [77, u32::MAX - 1] {
+            faults.add(AFTER, 35, &format!("mark {mark} with 4,096 entries used"), move |case| {
+                put(&mut case.host.image, USED, 4096);
+                case.step = Step::Withdraw { mark };
+            });
+        }
         faults
     }
 

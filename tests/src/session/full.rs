@@ -1,19 +1,14 @@
 //! The register: as many entries as it has, withdrawn marks, several entries with one mark, and turnout at its boundaries.
-use super::election::{small, Election};
+use super::early::{crowd, struck};
+use super::election::{distinct_mark, small};
 use super::image::{Session, ACCEPTED, ENTRIES, PHASE, USED};
 use super::steps::{Host, Step, Trial};
 use super::walk::{Kind, Walk};
 use crate::random::Random;
+use crate::round::faults::put;
 use crate::round::lent::Refusal;
 use crate::round::material::{Modulus, Plan};
 use crate::tally::Tally;
-
-/// The ballot of an election with another mark.
-fn marked(election: &Election, ballot: usize, mark: u32) -> Step {
-    let mut ballot = election.ballots[ballot].clone();
-    ballot[..4].copy_from_slice(&mark.to_le_bytes());
-    Step::Admit { ballot }
-}
 
 fn state(host: &mut Host, entry: usize, byte: u8) {
     host.register[40 * entry + 4] = byte;
@@ -22,12 +17,9 @@ fn state(host: &mut Host, entry: usize, byte: u8) {
 /// An election whose 4,096 ballots are admitted.
 fn filled(trial: &mut Trial, random: &mut Random) -> Walk {
     let plan = Plan { n: 4, ballots: 4096, drown: 3, rounds: 1, more: 2, modulus: Modulus::Least, extreme: false };
-    let mut walk = Walk::new(random, plan);
-    walk.go(trial, random, Kind::Clear);
+    let mut walk = Walk::cleared(trial, random, plan);
     for ballot in 0..4096 {
-        // an odd factor, so that the marks differ
-        let mark = (ballot as u32).wrapping_mul(0x9E37_79B1);
-        walk.election.ballots[ballot][..4].copy_from_slice(&mark.to_le_bytes());
+        walk.election.ballots[ballot][..4].copy_from_slice(&distinct_mark(ballot).to_le_bytes());
         let step = Step::Admit { ballot: walk.election.ballots[ballot].clone() };
         trial.taken(&mut walk.host, &step, || format!("ballot {ballot}"));
     }
@@ -41,12 +33,29 @@ fn full(tally: &mut Tally, trial: &mut Trial, random: &mut Random) {
     let (standing, withdrawn) = (walk.election.mark(4095), walk.election.mark(17));
     trial.taken(&mut host, &Step::Withdraw { mark: withdrawn }, || "of 4,096".into());
     for (number, mark) in [(35, 1), (35, u32::MAX), (32, standing), (33, withdrawn), (32, 0)] {
-        trial.number(&mut host, &marked(&walk.election, 0, mark), number, || format!("mark {mark} in a full register"));
+        trial.number(&mut host, &walk.marked(0, mark), number, || format!("mark {mark} in a full register"));
     }
     let turnout = Refusal { number: 0, place: 4_095_000 };
     trial.refused(&mut host, &Step::Turnout { enrolled: 1 }, turnout, || "4,095 of 1".into());
     trial.claim(tally, "session: 4,096 entries are admitted, the next is refused 35, and a mark that is there 32 or 33 before that");
+    withdrawn_in_full(tally, trial, &walk);
     counted(tally, trial, random, &mut walk);
+}
+
+/// Each mark that stands is still withdrawn, wherever it is; only one with no entry finds none free.
+fn withdrawn_in_full(tally: &mut Tally, trial: &mut Trial, walk: &Walk) {
+    let mut host = walk.host.clone();
+    for entry in [4095, 0, 1, 17, 2047, 2048, 4094] {
+        let what = || format!("entry {entry} of a full register");
+        let withdraw = Step::Withdraw { mark: walk.election.mark(entry) };
+        trial.kept(&mut host, &Step::Withdraw { mark: u32::MAX }, 35, what);
+        let after = struck(&host, entry);
+        trial.withdrawn(&mut host, walk.election.mark(entry), &after, what);
+        trial.kept(&mut host, &withdraw, 33, what);
+        trial.kept(&mut host, &walk.marked(1, walk.election.mark(entry)), 33, what);
+    }
+    trial.refused(&mut host, &Step::Turnout { enrolled: 1 }, Refusal { number: 0, place: 4_089_000 }, || "4,089 of 1".into());
+    trial.claim(tally, "session: in a full register a standing mark is withdrawn, a withdrawn one refused 33, and one with no entry 35");
 }
 
 fn counted(tally: &mut Tally, trial: &mut Trial, random: &mut Random, walk: &mut Walk) {
@@ -62,33 +71,51 @@ fn counted(tally: &mut Tally, trial: &mut Trial, random: &mut Random, walk: &mut
 fn past_used(tally: &mut Tally, trial: &mut Trial, random: &mut Random) {
     let plan = small(random, 4);
     let walk = Walk::gathered(trial, random, plan);
-    for (used, standing) in [(0, 0), (1, 1), (2, 1), (3, 2), (100, 2), (4095, 2)] {
+    for (used, standing) in [(0, 0), (1, 1), (2, 1), (3, 2), (4, 2), (100, 2), (4095, 2)] {
         for fill in [1, 7, 128] {
             let what = || format!("{used} entries used, then bytes {fill}");
             let mut host = walk.host.clone();
-            host.image[USED..USED + 8].copy_from_slice(&(used as u64).to_le_bytes());
+            put(&mut host.image, USED, used as u64);
             host.register[40 * used..].fill(fill);
             let mark = u32::from_le_bytes([fill; 4]);
-            trial.number(&mut host, &Step::Withdraw { mark }, 34, what);
             trial.refused(&mut host, &Step::Turnout { enrolled: 1 }, Refusal { number: 0, place: 1000 * standing }, what);
             trial.number(&mut host.clone(), &Step::Close, if standing == 0 { 36 } else { 0 }, what);
-            trial.taken(&mut host, &marked(&walk.election, 3, mark), what);
-            trial.number(&mut host, &marked(&walk.election, 4, mark), 32, what);
+            let mut early = host.clone();
+            trial.taken(&mut early, &Step::Withdraw { mark }, what);
+            trial.kept(&mut early, &walk.marked(3, mark), 33, what);
+            trial.taken(&mut host, &walk.marked(3, mark), what);
+            trial.number(&mut host, &walk.marked(4, mark), 32, what);
         }
     }
     trial.claim(tally, "session: entries past those used are not looked at, and the next is written whole");
 }
 
-/// A blank entry has mark 0, which is a mark as any other.
+/// In a new register a mark has no entry, and gets one by its ballot or by its withdrawal.
+fn new_mark(trial: &mut Trial, walk: &Walk, mark: u32) {
+    let (admit, withdraw) = (walk.marked(0, mark), Step::Withdraw { mark });
+    let ballot_first = [(36, &Step::Close), (0, &admit), (32, &admit), (0, &withdraw)];
+    let withdrawal_first = [(36, &Step::Close), (0, &withdraw)];
+    let then = [(33, &admit), (33, &withdraw), (36, &Step::Close)];
+    for steps in [[&ballot_first[..], &then].concat(), [&withdrawal_first[..], &then].concat()] {
+        let mut host = walk.host.clone();
+        for (number, step) in steps {
+            trial.number(&mut host, step, number, || format!("mark {mark} in a new register"));
+        }
+    }
+}
+
+/// A blank entry has mark 0, which is a mark as any other, if it is used: it is withdrawn then. An unused one has no mark.
 fn mark_zero(tally: &mut Tally, trial: &mut Trial, random: &mut Random) {
     let plan = small(random, 8);
-    let mut walk = Walk::new(random, plan);
-    walk.go(trial, random, Kind::Clear);
-    let (admit, withdraw) = (marked(&walk.election, 0, 0), Step::Withdraw { mark: 0 });
-    for (number, step) in [(34, &withdraw), (36, &Step::Close), (0, &admit), (32, &admit), (0, &withdraw), (33, &admit), (33, &withdraw), (36, &Step::Close)] {
-        trial.number(&mut walk.host, step, number, || "mark 0 in a new register".into());
+    let walk = Walk::cleared(trial, random, plan);
+    [0, u32::MAX].into_iter().for_each(|mark| new_mark(trial, &walk, mark));
+    for (used, number) in [(0, 0), (1, 33), (4095, 33), (4096, 33)] {
+        let mut host = walk.host.clone();
+        put(&mut host.image, USED, used);
+        trial.number(&mut host, &Step::Withdraw { mark: 0 }, number, || format!("{used} blank entries"));
+        trial.kept(&mut host, &walk.marked(0, 0), 33, || format!("{used} blank entries"));
     }
-    trial.claim(tally, "session: mark 0 is unknown in a new register, admitted, and withdrawn");
+    trial.claim(tally, "session: marks 0 and 2^32 - 1 have no entry in a new register, and get one by their ballot or their withdrawal");
 }
 
 /// A withdrawn mark stays withdrawn, on its ballot and on others, whatever the host writes for its state but 1.
@@ -97,7 +124,7 @@ fn stays_withdrawn(trial: &mut Trial, walk: &mut Walk) {
     for byte in [2, 0, 3, 128, 255] {
         state(&mut walk.host, 1, byte);
         for ballot in [1, 3, 4] {
-            let step = marked(&walk.election, ballot, mark);
+            let step = walk.marked(ballot, mark);
             trial.number(&mut walk.host, &step, 33, || format!("a mark that was withdrawn, state byte {byte}"));
         }
         trial.number(&mut walk.host, &Step::Withdraw { mark }, 33, || format!("withdrawn twice, state byte {byte}"));
@@ -111,43 +138,49 @@ fn withdrawn(tally: &mut Tally, trial: &mut Trial, random: &mut Random) {
         let mut walk = Walk::gathered(trial, random, plan);
         let mark = walk.election.mark(1);
         stays_withdrawn(trial, &mut walk);
-        trial.number(&mut walk.host, &Step::Withdraw { mark: 77 }, 34, || "a mark that was never admitted".into());
+        trial.taken(&mut walk.host, &Step::Withdraw { mark: 77 }, || "a mark whose ballot never comes".into());
         walk.go(trial, random, Kind::Close);
         trial.comparison.same(|| "ballots closed".into(), walk.session().closed, 2);
         walk.go(trial, random, Kind::Clear);
-        let step = marked(&walk.election, 1, mark);
-        trial.taken(&mut walk.host, &step, || "after clear".into());
+        for mark in [mark, 77] {
+            let step = walk.marked(1, mark);
+            trial.taken(&mut walk.host, &step, || format!("mark {mark} after clear"));
+        }
     }
     trial.claim(tally, "session: a withdrawn mark is refused 33 until clear, and its ballot is in no batch");
 }
 
-/// Entries with one mark and these states: what each call makes of them.
-fn one_mark(trial: &mut Trial, walk: &Walk, states: [u8; 3]) {
+/// Entries with one mark and these states, in a register with entries free or none: what each call makes of them.
+fn one_mark(trial: &mut Trial, walk: &Walk, states: [u8; 3], entries: u64) {
     let mut host = walk.host.clone();
+    crowd(&mut host, entries);
     for (entry, byte) in states.into_iter().enumerate() {
         host.register[40 * entry..40 * entry + 4].copy_from_slice(&[9, 0, 0, 0]);
         state(&mut host, entry, byte);
     }
-    let what = || format!("one mark, states {states:?}");
+    let what = || format!("one mark, states {states:?}, {entries} entries");
     let (stands, standing) = (states[0] == 1, states.iter().filter(|byte| **byte == 1).count() as u64);
-    let admit = marked(&walk.election, 3, 9);
+    let admit = walk.marked(3, 9);
     trial.number(&mut host, &admit, if stands { 32 } else { 33 }, what);
     trial.refused(&mut host, &Step::Turnout { enrolled: 1 }, Refusal { number: 0, place: 1000 * standing }, what);
     let mut closed = host.clone();
     trial.number(&mut closed, &Step::Close, if standing == 0 { 36 } else { 0 }, what);
     let count = Session::read(&closed.image).map(|session| session.closed);
     trial.comparison.same(what, count, Some(standing));
-    trial.number(&mut host, &Step::Withdraw { mark: 9 }, if stands { 0 } else { 33 }, what);
-    trial.number(&mut host, &Step::Withdraw { mark: 9 }, 33, what);
-    trial.number(&mut host, &admit, 33, what);
+    if stands {
+        let after = struck(&host, 0);
+        trial.withdrawn(&mut host, 9, &after, what);
+    }
+    trial.kept(&mut host, &Step::Withdraw { mark: 9 }, 33, what);
+    trial.kept(&mut host, &admit, 33, what);
 }
 
-/// Of several entries with one mark the first decides; close and turnout go by each entry.
+/// Of several entries with one mark the first decides, so that a withdrawal makes no further one; close and turnout go by each entry.
 fn first_decides(tally: &mut Tally, trial: &mut Trial, random: &mut Random) {
     let plan = small(random, 4);
     let walk = Walk::gathered(trial, random, plan);
     for states in [[1, 1, 1], [1, 2, 1], [2, 1, 1], [0, 1, 2], [255, 255, 1], [1, 0, 0], [3, 2, 0]] {
-        one_mark(trial, &walk, states);
+        [4, 4095, 4096].into_iter().for_each(|entries| one_mark(trial, &walk, states, entries));
     }
     trial.claim(tally, "session: of several entries with one mark the first decides, and close and turnout go by each");
 }
@@ -179,7 +212,7 @@ const TURNOUTS: [(u64, u64, u64); 20] = [
 /// So many entries that stand, after others that do not; what is past those used stands too.
 fn standing(random: &mut Random, host: &mut Host, standing: u64) {
     let used = [standing, ENTRIES][random.below(2) as usize];
-    host.image[USED..USED + 8].copy_from_slice(&used.to_le_bytes());
+    put(&mut host.image, USED, used);
     for entry in 0..ENTRIES {
         let stands = entry >= used - standing;
         state(host, entry as usize, if stands { 1 } else { [0, 2, 3, 255][entry as usize % 4] });
@@ -188,8 +221,7 @@ fn standing(random: &mut Random, host: &mut Host, standing: u64) {
 
 fn turnout(tally: &mut Tally, trial: &mut Trial, random: &mut Random) {
     let plan = small(random, 8);
-    let mut walk = Walk::new(random, plan);
-    walk.go(trial, random, Kind::Clear);
+    let walk = Walk::cleared(trial, random, plan);
     for (count, enrolled, thousandths) in TURNOUTS {
         let mut host = walk.host.clone();
         standing(random, &mut host, count);

@@ -36,7 +36,10 @@ pub fn register(random: &mut Random, host: &mut Host) {
         8 => {
             // past the entries used
             let at = 40 * used as usize % REGISTER;
-            register.copy_within(i..i + 40, at);
+            match random.below(2) {
+                0 => register.copy_within(i..i + 40, at),
+                _ => register[at..at + 40].fill(0xA5),
+            }
         }
         9 => register.rotate_left(40),
         10 if random.below(4) == 0 => *register = random.bytes(REGISTER),

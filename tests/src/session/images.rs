@@ -9,17 +9,18 @@ use crate::round::faults::turn;
 use crate::round::material::Plan;
 use crate::tally::Tally;
 
-/// A point of an election: the host's bytes there, and a step of each kind.
+/// A point of an election: the host's bytes there, a step of each kind, and the withdrawal of a mark that no ballot has.
 struct Point {
     host: Host,
     steps: Vec<Step>,
 }
 
 fn point(random: &mut Random, walk: &mut Walk) -> Point {
-    Point { host: walk.host.clone(), steps: KINDS.into_iter().map(|kind| walk.step(random, kind)).collect() }
+    let early = Step::Withdraw { mark: random.next() as u32 };
+    Point { host: walk.host.clone(), steps: KINDS.into_iter().map(|kind| walk.step(random, kind)).chain([early]).collect() }
 }
 
-/// From a register with three entries through both ends: a check that is refused, and the last that is taken.
+/// From a register with four entries through both ends: a check that is refused, and the last that is taken.
 fn points(trial: &mut Trial, random: &mut Random, plan: Plan) -> Vec<Point> {
     let mut walk = Walk::gathered(trial, random, plan);
     let mut points = vec![point(random, &mut walk)];
@@ -88,7 +89,7 @@ fn fields(tally: &mut Tally, trial: &mut Trial, points: &[Point]) {
 fn some_fields(tally: &mut Tally, trial: &mut Trial, random: &mut Random, points: &[Point]) {
     for _ in 0..3000 {
         let point = &points[random.below(points.len() as u64) as usize];
-        let step = &point.steps[random.below(10) as usize];
+        let step = &point.steps[random.below(point.steps.len() as u64) as usize];
         let mut host = point.host.clone();
         (0..2 + random.below(2)).for_each(|_| hostile::image(random, &mut host.image));
         trial.step(&mut host, step, || "some fields changed".into());

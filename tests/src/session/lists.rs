@@ -89,7 +89,7 @@ fn walks(tally: &mut Tally, trial: &mut Trial, random: &mut Random) {
     ends(trial, &phases);
     trial.claim(tally, "session: lists with steps out of turn and steps that are wrong in a slice or a number");
 
-    let phases = lists(trial, random, 160, &Hostility { order: 60, steps: 20, registers: 150, asides: 100, images: 0 });
+    let phases = lists(trial, random, 160, &Hostility { order: 60, steps: 40, registers: 150, asides: 100, images: 0 });
     ends(trial, &phases);
     trial.claim(tally, "session: lists with registers that the host wrote");
 

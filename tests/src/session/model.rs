@@ -1,5 +1,5 @@
-//! The independent session, from document 01 ("Register and session" and both sections on refusals): each step tests in its order and writes only where it is taken,
-//! but for a check that is refused after 16, which ends the session refused.
+//! The independent session, from document 01 ("Register and session" and both sections on refusals) and document 02, L1: each step tests
+//! in its order and writes only where it is taken, but for a check that is refused after 16, which ends the session refused.
 use super::image::{Digest, Session, ACCEPTED, CLAIMED, CLOSED, DRAWN, ENTRIES, GATHERING, REFUSED, REGISTER};
 use super::steps::{Host, Left, Step};
 use crate::polynomials::words;
@@ -66,7 +66,7 @@ impl Session {
     }
 
     /// Of several entries with one mark the first decides: its place, and whether it stands.
-    fn find(&self, register: &[u8], mark: &[u8]) -> Option<(usize, bool)> {
+    pub fn find(&self, register: &[u8], mark: &[u8]) -> Option<(usize, bool)> {
         let place = self.entries(register).position(|entry| entry[..4] == *mark)?;
         Some((place, register[40 * place + 4] == 1))
     }
@@ -74,6 +74,13 @@ impl Session {
     /// The digests of the standing entries.
     pub fn standing(&self, register: &[u8]) -> Vec<Digest> {
         self.entries(register).filter(|entry| entry[4] == 1).map(|entry| entry[8..].try_into().unwrap()).collect()
+    }
+
+    /// Writes an entry after those used, which it then is one of.
+    fn enter(&mut self, register: &mut [u8], mark: &[u8], state: u8, digest: &Digest) {
+        let entry = [mark, &[state, 0, 0, 0], digest].concat();
+        register[40 * self.used as usize..][..40].copy_from_slice(&entry);
+        self.used += 1;
     }
 
     // ---- the digests
@@ -122,18 +129,22 @@ impl Session {
         unless(found.is_none_or(|(_, stands)| !stands), 32, 0)?;
         unless(found.is_none(), 33, 0)?;
         unless(self.used < ENTRIES, 35, 0)?;
-        let entry = [mark, &[1, 0, 0, 0], &digest(&[ballot])].concat();
-        register[40 * self.used as usize..][..40].copy_from_slice(&entry);
-        self.used += 1;
+        self.enter(register, mark, 1, &digest(&[ballot]));
         Ok(0)
     }
 
+    /// A mark with no entry gets a withdrawn one, with zeros for the digest: its ballot may still come. 35 is for such a mark only.
     fn withdraw(&mut self, register: &mut [u8], mark: u32) -> Taken {
         self.in_phase(&[GATHERING])?;
         unless(register.len() == REGISTER, 1, 0)?;
-        let (place, stands) = self.find(register, &mark.to_le_bytes()).ok_or(refusal(34))?;
-        unless(stands, 33, 0)?;
-        register[40 * place + 4] = 2;
+        let mark = mark.to_le_bytes();
+        let found = self.find(register, &mark);
+        unless(found.is_none_or(|(_, stands)| stands), 33, 0)?;
+        unless(found.is_some() || self.used < ENTRIES, 35, 0)?;
+        match found {
+            Some((place, _)) => register[40 * place + 4] = 2,
+            None => self.enter(register, &mark, 2, &[0; 32]),
+        }
         Ok(0)
     }
 
@@ -193,8 +204,7 @@ impl Session {
         unless(self.valid(), 31, 0)?;
         unless(register.len() == REGISTER, 1, 0)?;
         unless((1..=1_000_000).contains(&enrolled), 3, 0)?;
-        // the whole part of thousandths + 1/2
-        Ok((2000 * self.standing(register).len() as u64 + enrolled) / (2 * enrolled))
+        Ok(thousandths(self.standing(register).len() as u64, enrolled))
     }
 
     // ---- the check of a round
@@ -237,6 +247,11 @@ impl Session {
             && self.claim_digest(&lent["claims"]) == self.claim
             && self.round_digest(round, &first_message(lent)) == self.rounds[round as usize]
     }
+}
+
+/// So many of the enrolled, half up: the whole part of thousandths + 1/2.
+pub fn thousandths(standing: u64, enrolled: u64) -> u64 {
+    (2000 * standing + enrolled) / (2 * enrolled)
 }
 
 /// The three slices of a first message.

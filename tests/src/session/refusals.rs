@@ -10,11 +10,11 @@ use crate::scratch::SCRATCH;
 use crate::tally::{Comparison, Tally};
 use std::collections::BTreeSet;
 
-/// Document 01's orders.
+/// Document 01's orders; withdraw's is document 02's, L1.
 const ORDERS: [(&str, &[u64]); 10] = [
     ("clear", &[1, 2, 3, 4, 5]),
     ("admit", &[31, 1, 5, 32, 33, 35]),
-    ("withdraw", &[31, 1, 34, 33]),
+    ("withdraw", &[31, 1, 33, 35]),
     ("close", &[31, 1, 36]),
     ("claim", &[31, 1, 5]),
     ("commit", &[31, 1]),
@@ -67,7 +67,10 @@ fn before_draw(trial: &mut Trial, random: &mut Random, n: usize) {
     let case = |walk: &Walk, step: Step| Case { host: walk.host.clone(), step };
     all(trial, random, &case(&walk, Step::Clear { sheet: walk.election.sheet.clone() }), &Faults::clear(&walk));
     all(trial, random, &case(&walk, Step::Admit { ballot: walk.election.ballots[3].clone() }), &Faults::admit(&walk));
-    all(trial, random, &case(&walk, Step::Withdraw { mark: walk.election.mark(2) }), &Faults::withdraw(&walk));
+    // a mark that stands, and one that has no entry
+    for mark in [2, 3].map(|ballot| walk.election.mark(ballot)) {
+        all(trial, random, &case(&walk, Step::Withdraw { mark }), &Faults::withdraw(&walk));
+    }
     all(trial, random, &case(&walk, Step::Close), &Faults::close());
     walk.go(trial, random, Kind::Close);
     let claim = walk.step(random, Kind::Claim);
@@ -117,12 +120,22 @@ fn scratches(tally: &mut Tally, trial: &mut Trial, random: &mut Random) {
 fn table(tally: &mut Tally, trial: &Trial) {
     let mut c = Comparison::default();
     for (name, order) in ORDERS {
-        let reached: BTreeSet<u64> = trial.reached.iter().filter(|(call, _)| *call == name).map(|(_, number)| *number).collect();
+        let reached: BTreeSet<u64> = trial.replies.keys().filter(|(call, _)| *call == name).map(|(_, number)| *number).collect();
         let asked: BTreeSet<u64> = order.iter().copied().chain([0]).collect();
         order.iter().chain([&0]).for_each(|number| c.same(|| format!("{name} reached {number}"), reached.contains(number), true));
         c.same(|| format!("the replies of {name}"), reached, asked);
     }
     c.claim(tally, "session: every number of every call's order was reached, and no other");
+}
+
+/// "Refusal 34 no longer occurs", whatever was lent to whichever call.
+fn no_34(tally: &mut Tally, trial: &Trial) {
+    let mut c = Comparison::default();
+    for ((name, number), count) in &trial.replies {
+        c.same(|| format!("{name} gave it {count} times"), *number == 34, false);
+    }
+    let replies: usize = trial.replies.values().sum();
+    c.claim(tally, &format!("session: of {replies} replies none has the number 34"));
 }
 
 pub fn run(tally: &mut Tally, trial: &mut Trial, random: &mut Random) {
@@ -136,10 +149,12 @@ pub fn run(tally: &mut Tally, trial: &mut Trial, random: &mut Random) {
     trial.claim(tally, "session: what check, challenges and turnout refuse, each number at each place, and of two faults the earlier");
     scratches(tally, trial, random);
     table(tally, trial);
+    no_34(tally, trial);
 }
 
 pub fn small(tally: &mut Tally, trial: &mut Trial, random: &mut Random) {
     before_draw(trial, random, 4);
     after_draw(trial, random, 4);
     trial.claim(tally, "session: what the calls refuse, N of 4 alone");
+    no_34(tally, trial);
 }

@@ -5,7 +5,7 @@ use crate::random::Random;
 use crate::round::lent::{Lent, Refusal};
 use crate::scratch::Scratch;
 use crate::tally::{Comparison, Tally};
-use std::collections::BTreeSet;
+use std::collections::BTreeMap;
 
 /// What a host keeps between the steps.
 #[derive(Clone, PartialEq)]
@@ -18,6 +18,11 @@ impl Host {
     /// An image and a register that hold anything.
     pub fn any(random: &mut Random) -> Host {
         Host { image: random.bytes(IMAGE), register: random.bytes(REGISTER) }
+    }
+
+    /// The first byte of the image and of the register in which two hosts differ.
+    pub fn differs(&self, other: &Host) -> (Option<usize>, Option<usize>) {
+        (place(&self.image, &other.image), place(&self.register, &other.register))
     }
 }
 
@@ -100,10 +105,8 @@ fn difference(ours: &Left, theirs: &Left) -> Option<String> {
     if ours.reply != theirs.reply {
         return Some(format!("ours {}, theirs {}", words(ours), words(theirs)));
     }
-    let image = ("image", place(&ours.host.image, &theirs.host.image));
-    let register = ("register", place(&ours.host.register, &theirs.host.register));
-    let out = ("output", place(&ours.out, &theirs.out));
-    for (name, at) in [image, register, out] {
+    let (image, register) = ours.host.differs(&theirs.host);
+    for (name, at) in [("image", image), ("register", register), ("output", place(&ours.out, &theirs.out))] {
         if let Some(at) = at {
             return Some(format!("after {}: the {name} differs at byte {at}", words(ours)));
         }
@@ -111,11 +114,11 @@ fn difference(ours: &Left, theirs: &Left) -> Option<String> {
     (ours.scratch != theirs.scratch).then(|| format!("after {}: scratch is {:?}, theirs {:?}", words(ours), ours.scratch, theirs.scratch))
 }
 
-/// The comparisons of a claim, and the numbers that each call was brought to in all claims.
+/// The comparisons of a claim, and how often each call replied with each number in all claims.
 #[derive(Default)]
 pub struct Trial {
     pub comparison: Comparison,
-    pub reached: BTreeSet<(&'static str, u64)>,
+    pub replies: BTreeMap<(&'static str, u64), usize>,
 }
 
 impl Trial {
@@ -124,7 +127,7 @@ impl Trial {
         let ours = library::run(host, step);
         let theirs = model::run(host, step);
         self.comparison.same(|| format!("{}, {}", step.name(), what()), difference(&ours, &theirs), None);
-        self.reached.insert((step.name(), ours.number()));
+        *self.replies.entry((step.name(), ours.number())).or_default() += 1;
         *host = ours.host.clone();
         ours
     }
@@ -144,7 +147,20 @@ impl Trial {
         self.number(host, step, 0, what)
     }
 
-    /// Ends a claim. What was reached stays.
+    /// A withdrawal that is taken and leaves these bytes in image and register.
+    pub fn withdrawn(&mut self, host: &mut Host, mark: u32, after: &Host, what: impl Fn() -> String) {
+        self.taken(host, &Step::Withdraw { mark }, &what);
+        self.comparison.same(|| format!("the bytes after mark {mark} is withdrawn, {}", what()), host.differs(after), (None, None));
+    }
+
+    /// A step that is refused so, and leaves image and register as they were.
+    pub fn kept(&mut self, host: &mut Host, step: &Step, number: u64, what: impl Fn() -> String) {
+        let before = host.clone();
+        self.number(host, step, number, &what);
+        self.comparison.same(|| format!("the bytes that {} keeps, {}", step.name(), what()), host.differs(&before), (None, None));
+    }
+
+    /// Ends a claim. The replies stay.
     pub fn claim(&mut self, tally: &mut Tally, name: &str) {
         std::mem::take(&mut self.comparison).claim(tally, name);
     }

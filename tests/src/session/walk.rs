@@ -1,6 +1,6 @@
 //! A walk through an election: the host's bytes, and for each call a step that is right if the session is where it should be.
 use super::election::{Election, Round};
-use super::image::{Session, CLAIMED, CLOSED, DRAWN, GATHERING, IMAGE};
+use super::image::{Session, CLAIMED, CLOSED, DRAWN, ENTRIES, GATHERING, IMAGE};
 use super::steps::{Host, Left, Step, Trial};
 use crate::random::Random;
 use crate::round::material::Plan;
@@ -22,6 +22,12 @@ pub enum Kind {
 pub const KINDS: [Kind; 10] =
     [Kind::Clear, Kind::Admit, Kind::Withdraw, Kind::Close, Kind::Claim, Kind::Commit, Kind::Draw, Kind::Check, Kind::Challenges, Kind::Turnout];
 
+/// What may come before close: ballots and withdrawals as often as each other, so that either is the first of a mark.
+const GATHERED: [Kind; 12] = {
+    use Kind::{Admit as A, Close, Turnout, Withdraw as W};
+    [A, A, A, A, A, W, W, W, W, W, Turnout, Close]
+};
+
 pub struct Walk {
     pub election: Election,
     pub host: Host,
@@ -34,6 +40,13 @@ impl Walk {
     pub fn new(random: &mut Random, plan: Plan) -> Walk {
         let election = Election::new(random, plan);
         Walk { election, host: Host::any(random), batch: Vec::new(), rounds: Vec::new() }
+    }
+
+    /// The same, newly cleared.
+    pub fn cleared(trial: &mut Trial, random: &mut Random, plan: Plan) -> Walk {
+        let mut walk = Walk::new(random, plan);
+        walk.go(trial, random, Kind::Clear);
+        walk
     }
 
     /// The session as the host's image has it.
@@ -61,8 +74,8 @@ impl Walk {
         }
         match kind {
             Kind::Clear => Step::Clear { sheet: self.election.sheet.clone() },
-            Kind::Admit => Step::Admit { ballot: self.election.ballots[self.election.any(random)].clone() },
-            Kind::Withdraw => Step::Withdraw { mark: self.election.mark(self.election.any(random)) },
+            Kind::Admit => self.ballot(random),
+            Kind::Withdraw => Step::Withdraw { mark: self.mark(random) },
             Kind::Close => Step::Close,
             Kind::Claim => Step::Claim { claims: self.rounds[0].whole.claims.clone() },
             Kind::Commit => self.commit(session.committed),
@@ -73,6 +86,37 @@ impl Walk {
                 Step::Challenges { round, out: random.bytes(1 + session.repeats().min(300)) }
             }
             Kind::Turnout => Step::Turnout { enrolled: [1, 2, 3, 16, 2000, 1_000_000, 1 + random.below(1_000_000)][random.below(7) as usize] },
+        }
+    }
+
+    /// The mark of any entry that is used.
+    fn entry(&self, random: &mut Random) -> Option<u32> {
+        let used = self.session().used.min(ENTRIES);
+        let place = 40 * random.below(used.max(1)) as usize;
+        (used > 0).then(|| u32::from_le_bytes(self.host.register[place..place + 4].try_into().unwrap()))
+    }
+
+    /// A ballot of the election with another mark.
+    pub fn marked(&self, ballot: usize, mark: u32) -> Step {
+        let mut ballot = self.election.ballots[ballot].clone();
+        ballot[..4].copy_from_slice(&mark.to_le_bytes());
+        Step::Admit { ballot }
+    }
+
+    /// Any ballot of the election, and now and then one whose mark has an entry already.
+    fn ballot(&self, random: &mut Random) -> Step {
+        let ballot = self.election.any(random);
+        let mark = self.entry(random).filter(|_| random.below(8) == 0);
+        self.marked(ballot, mark.unwrap_or(self.election.mark(ballot)))
+    }
+
+    /// The mark of any ballot, whether it came or not, and now and then that of an entry or one that no ballot has.
+    fn mark(&self, random: &mut Random) -> u32 {
+        let ballot = self.election.mark(self.election.any(random));
+        match random.below(8) {
+            0 => self.entry(random).unwrap_or(ballot),
+            1 => random.next() as u32,
+            _ => ballot,
         }
     }
 
@@ -95,7 +139,7 @@ impl Walk {
     pub fn due(&self) -> &'static [Kind] {
         let session = self.session();
         match session.phase {
-            GATHERING => &[Kind::Admit, Kind::Admit, Kind::Admit, Kind::Admit, Kind::Withdraw, Kind::Close],
+            GATHERING => &GATHERED,
             CLOSED => &[Kind::Claim],
             CLAIMED if session.committed == session.round_count() => &[Kind::Draw],
             CLAIMED => &[Kind::Commit],
@@ -122,16 +166,18 @@ impl Walk {
         left
     }
 
-    /// A session with ballots admitted, of which one is withdrawn: the first three of the election, and the second of these.
+    /// A session with ballots admitted, of which one is withdrawn: the first three of the election, and the second of these. The mark of
+    /// the fifth is withdrawn before its ballot comes.
     pub fn gathered(trial: &mut Trial, random: &mut Random, plan: Plan) -> Walk {
-        let mut walk = Walk::new(random, plan);
-        walk.go(trial, random, Kind::Clear);
+        let mut walk = Walk::cleared(trial, random, plan);
         for ballot in 0..3 {
             let step = Step::Admit { ballot: walk.election.ballots[ballot].clone() };
             trial.taken(&mut walk.host, &step, || format!("ballot {ballot}"));
         }
-        let step = Step::Withdraw { mark: walk.election.mark(1) };
-        trial.taken(&mut walk.host, &step, || "the second of three".into());
+        for ballot in [1, 4] {
+            let step = Step::Withdraw { mark: walk.election.mark(ballot) };
+            trial.taken(&mut walk.host, &step, || format!("the mark of ballot {ballot}"));
+        }
         walk
     }
 
