@@ -5,6 +5,7 @@ mod early;
 mod election;
 mod faults;
 mod full;
+mod history;
 mod hostile;
 pub mod image;
 mod images;

@@ -1,7 +1,8 @@
-//! Withdrawals that arrive before their ballot (document 02, L1): the entry that they make, byte by byte, and what becomes of the
-//! ballot. What they are to leave is written here by hand.
+//! Withdrawals that arrive before their ballot (document 02, L1): the entry that they make, byte by byte, what becomes of the ballot, and
+//! the batch in every order of arrival. What they are to leave is written here by hand.
 use super::election::{distinct_mark, small as small_plan};
-use super::image::{PHASE, USED};
+use super::history::History;
+use super::image::{Session, PHASE, USED};
 use super::steps::{Host, Step, Trial};
 use super::walk::Walk;
 use crate::random::Random;
@@ -166,11 +167,44 @@ fn turnout(tally: &mut Tally, trial: &mut Trial, random: &mut Random) {
     trial.claim(tally, "session: turnout counts the standing entries and none that an early withdrawal made");
 }
 
+// ---- every order of arrival
+
+/// The things that come, in the k-th of their orders.
+fn order<T: Clone>(things: &[T], mut k: usize) -> Vec<T> {
+    let mut left = things.to_vec();
+    let one = |count: usize| {
+        let next = left.remove(k % count);
+        k /= count;
+        next
+    };
+    (1..=things.len()).rev().map(one).collect()
+}
+
+/// Four ballots and the withdrawals of two of them: whichever comes first, the other two are closed, in their order.
+fn either_order(tally: &mut Tally, trial: &mut Trial, random: &mut Random) {
+    let plan = small_plan(random, 4);
+    let walk = Walk::cleared(trial, random, plan);
+    let admit = |ballot: usize| Step::Admit { ballot: walk.election.ballots[ballot].clone() };
+    let withdraw = |ballot: usize| Step::Withdraw { mark: walk.election.mark(ballot) };
+    let came = [admit(0), withdraw(0), admit(1), withdraw(1), admit(2), admit(3)];
+    for k in 0..720 {
+        let (mut host, mut history) = (walk.host.clone(), History::new(&walk.election.sheet));
+        for step in order(&came, k).iter().chain([&Step::Close]) {
+            let left = trial.step(&mut host, step, || format!("order {k}"));
+            history.follow(trial, step, &left, || format!("order {k}"));
+        }
+        let closed = Session::read(&host.image).map(|session| (session.closed, session.used));
+        trial.comparison.same(|| format!("ballots closed and entries used, order {k}"), closed, Some((2, 4)));
+    }
+    trial.claim(tally, "session: a mark whose withdrawal was taken is out of the batch, in every order of arrival");
+}
+
 pub fn run(tally: &mut Tally, trial: &mut Trial, random: &mut Random) {
     entries(tally, trial, random, &[0, 1, 4, 100, 4095]);
     state_byte(tally, trial, random);
     late_ballots(tally, trial, random);
     turnout(tally, trial, random);
+    either_order(tally, trial, random);
 }
 
 /// The first entry and the last.

@@ -1,5 +1,6 @@
 //! Whole elections: every step is taken, the rounds of the library's producer and of the independent one by turns, until the session ends accepted.
-use super::election::{small as small_plan, Round};
+use super::election::{small as small_plan, Election, Round};
+use super::history::History;
 use super::image::ACCEPTED;
 use super::steps::{Step, Trial};
 use super::walk::{Kind, Walk, KINDS};
@@ -34,21 +35,31 @@ fn lent(random: &mut Random, round: &Round, library: bool, drawn: &[u8]) -> Lent
     lent
 }
 
-/// All ballots admitted, every third withdrawn again, and closed.
+/// What comes, and the number it is answered: all ballots, of which the second is withdrawn before it comes and the fifth after. The last
+/// of the small elections has a mark that stands. A mark that no ballot has is withdrawn too.
+fn arrivals(election: &Election) -> Vec<(u64, Step)> {
+    let withdraw = |mark: u32| (0, Step::Withdraw { mark });
+    let mut all = vec![withdraw(election.mark(1))];
+    for ballot in 0..election.ballots.len() {
+        let twice = (0..ballot).any(|other| election.mark(other) == election.mark(ballot));
+        all.push((if ballot == 1 { 33 } else if twice { 32 } else { 0 }, Step::Admit { ballot: election.ballots[ballot].clone() }));
+        all.extend((ballot == 2).then(|| withdraw(77)));
+        all.extend((ballot == 4).then(|| withdraw(election.mark(4))));
+    }
+    all
+}
+
+/// All that comes, and close: its batch is what the ballots and withdrawals that were taken leave standing.
 fn gather(trial: &mut Trial, random: &mut Random, walk: &mut Walk) {
     walk.go(trial, random, Kind::Clear);
-    let count = walk.election.ballots.len();
-    for ballot in 0..count {
-        let step = Step::Admit { ballot: walk.election.ballots[ballot].clone() };
-        // the last of the small elections has a mark that stands
-        let twice = (0..ballot).any(|other| walk.election.mark(other) == walk.election.mark(ballot));
-        trial.number(&mut walk.host, &step, if twice { 32 } else { 0 }, || format!("ballot {ballot}"));
-        if ballot % 3 == 1 {
-            let step = Step::Withdraw { mark: walk.election.mark(ballot) };
-            trial.taken(&mut walk.host, &step, || format!("ballot {ballot}"));
-        }
+    let mut history = History::new(&walk.election.sheet);
+    for (number, step) in arrivals(&walk.election) {
+        let left = trial.number(&mut walk.host, &step, number, || "before close".into());
+        history.follow(trial, &step, &left, || "before close".into());
     }
-    walk.go(trial, random, Kind::Close);
+    let left = walk.go(trial, random, Kind::Close);
+    history.follow(trial, &Step::Close, &left, || format!("{:?}", walk.election.plan));
+    trial.comparison.same(|| "the ballots of the rounds are those that stand".into(), walk.batch == history.batch().concat(), true);
 }
 
 /// Whether a round is written by the library.
