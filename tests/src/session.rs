@@ -1,4 +1,5 @@
 //! The calls of a session over the C interface, against an independent session.
+mod arrivals;
 mod crowded;
 mod damaged;
 mod early;

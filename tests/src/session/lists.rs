@@ -1,12 +1,18 @@
-//! Lists of steps, each given what the last one left or what a host wrote in between: after every step reply, image, register, output and scratch are the same.
+//! Lists of steps, each given what the last one left or what a host wrote in between: after every step reply, image, register, output and
+//! scratch are the same. Where no host wrote, replies and batch also follow from the steps that were taken.
+use super::early::crowd;
 use super::election::small;
+use super::history::History;
 use super::hostile;
-use super::image::{ACCEPTED, IMAGE, REFUSED};
-use super::steps::Trial;
+use super::image::{ACCEPTED, ENTRIES, IMAGE, REFUSED};
+use super::steps::{Step, Trial};
 use super::walk::{Kind, Walk, KINDS};
 use crate::random::Random;
 use crate::tally::Tally;
 use std::collections::BTreeSet;
+
+/// How often the lists of a claim meet each case of an early withdrawal or of a full register, at least.
+const OFTEN: usize = 20;
 
 /// How often in a thousand steps something is other than in an election.
 struct Hostility {
@@ -30,45 +36,94 @@ fn happens(random: &mut Random, in_a_thousand: u64) -> bool {
     random.below(1000) < in_a_thousand
 }
 
-/// One step of a list, and what comes before it.
-fn advance(trial: &mut Trial, random: &mut Random, walk: &mut Walk, hostility: &Hostility, what: &str) {
-    if happens(random, hostility.registers) {
-        hostile::register(random, &mut walk.host);
+impl Hostility {
+    /// Whether the host keeps other bytes than the last step left.
+    fn writes(&self) -> bool {
+        self.registers > 0 || self.images > 0
     }
-    if happens(random, hostility.images) {
-        hostile::image(random, &mut walk.host.image);
-    }
-    let stuck = !walk.session().valid() && random.below(2) == 0;
-    let any = happens(random, hostility.order);
-    let kind = if stuck { Kind::Clear } else { one(random, if any { &KINDS } else { walk.due() }) };
-    let mut step = walk.step(random, kind);
-    if happens(random, hostility.asides) {
-        let mut lent = walk.host.clone();
-        hostile::host(random, &mut lent);
-        trial.step(&mut lent, &step, || format!("{what}, with an image or a register of another's"));
-    }
-    if happens(random, hostility.steps) {
-        hostile::step(random, &mut step);
-    }
-    walk.take(trial, &step, || what.into());
 }
 
-/// A list of 60 steps over an election of its own, from any session. Says in which phases it stood.
+/// A list under way, and what was taken of it.
+struct List<'a> {
+    walk: Walk,
+    history: History,
+    hostility: &'a Hostility,
+}
+
+impl List<'_> {
+    /// Over an election of its own, from any session.
+    fn new<'a>(trial: &mut Trial, random: &mut Random, number: usize, hostility: &'a Hostility) -> List<'a> {
+        let plan = small(random, [4, 4, 8, 16][number / 2 % 4]);
+        let walk = Walk::new(random, plan);
+        let mut list = List { walk, history: History::default(), hostility };
+        let clear = list.walk.step(random, Kind::Clear);
+        list.take(trial, &clear, &format!("list {number}, from any session"));
+        if number % 2 == 1 {
+            list.crowd(trial, random);
+        }
+        list
+    }
+
+    /// Some ballots, and then early withdrawals as the host would keep them, until all entries are used but a few.
+    fn crowd(&mut self, trial: &mut Trial, random: &mut Random) {
+        for ballot in 0..random.below(6) as usize {
+            let step = Step::Admit { ballot: self.walk.election.ballots[ballot].clone() };
+            self.take(trial, &step, "before the crowd");
+        }
+        for mark in crowd(&mut self.walk.host, ENTRIES - random.below(3)) {
+            self.history.take(&Step::Withdraw { mark });
+        }
+    }
+
+    /// One step, and what comes before it.
+    fn advance(&mut self, trial: &mut Trial, random: &mut Random, what: &str) {
+        let (walk, hostility) = (&mut self.walk, self.hostility);
+        if happens(random, hostility.registers) {
+            hostile::register(random, &mut walk.host);
+        }
+        if happens(random, hostility.images) {
+            hostile::image(random, &mut walk.host.image);
+        }
+        let stuck = !walk.session().valid() && random.below(2) == 0;
+        let any = happens(random, hostility.order);
+        let kind = if stuck { Kind::Clear } else { one(random, if any { &KINDS } else { walk.due() }) };
+        let mut step = walk.step(random, kind);
+        if happens(random, hostility.asides) {
+            let mut lent = walk.host.clone();
+            hostile::host(random, &mut lent);
+            trial.step(&mut lent, &step, || format!("{what}, with an image or a register of another's"));
+        }
+        if happens(random, hostility.steps) {
+            hostile::step(random, &mut step);
+        }
+        self.take(trial, &step, what);
+    }
+
+    /// Where the host writes nothing, what the step leaves follows from what was taken.
+    fn take(&mut self, trial: &mut Trial, step: &Step, what: &str) {
+        let left = self.walk.take(trial, step, || what.into());
+        if !self.hostility.writes() {
+            self.history.follow(trial, step, &left, || what.into());
+        }
+    }
+}
+
+/// A list of 60 steps. Says in which phases it stood.
 fn list(trial: &mut Trial, random: &mut Random, number: usize, hostility: &Hostility) -> BTreeSet<u8> {
-    let plan = small(random, [4, 4, 8, 16][number % 4]);
-    let mut walk = Walk::new(random, plan);
-    let clear = walk.step(random, Kind::Clear);
-    walk.take(trial, &clear, || format!("list {number}, from any session"));
+    let mut list = List::new(trial, random, number, hostility);
     let mut phases = BTreeSet::new();
     for i in 0..60 {
-        advance(trial, random, &mut walk, hostility, &format!("list {number}, step {i}"));
-        phases.insert(walk.session().phase);
+        list.advance(trial, random, &format!("list {number}, step {i}"));
+        phases.insert(list.walk.session().phase);
     }
     phases
 }
 
+/// So many lists, which meet all that a withdrawal or a late ballot can.
 fn lists(trial: &mut Trial, random: &mut Random, count: usize, hostility: &Hostility) -> BTreeSet<u8> {
-    (0..count).flat_map(|number| list(trial, random, number, hostility)).collect()
+    let phases = (0..count).flat_map(|number| list(trial, random, number, hostility)).collect();
+    trial.often(OFTEN);
+    phases
 }
 
 /// The phases of a list that goes through an election to either end.
@@ -79,7 +134,7 @@ fn ends(trial: &mut Trial, phases: &BTreeSet<u8>) {
 }
 
 fn walks(tally: &mut Tally, trial: &mut Trial, random: &mut Random) {
-    let mut phases = lists(trial, random, 80, &Hostility { order: 0, steps: 0, registers: 0, asides: 0, images: 0 });
+    let mut phases = lists(trial, random, 160, &Hostility { order: 0, steps: 0, registers: 0, asides: 0, images: 0 });
     trial.comparison.same(|| "no honest list is refused".into(), phases.contains(&REFUSED), false);
     phases.insert(REFUSED);
     ends(trial, &phases);
@@ -93,7 +148,7 @@ fn walks(tally: &mut Tally, trial: &mut Trial, random: &mut Random) {
     ends(trial, &phases);
     trial.claim(tally, "session: lists with registers that the host wrote");
 
-    let phases = lists(trial, random, 160, &Hostility { order: 100, steps: 50, registers: 50, asides: 200, images: 60 });
+    let phases = lists(trial, random, 240, &Hostility { order: 100, steps: 50, registers: 50, asides: 200, images: 60 });
     trial.comparison.same(|| "a phase that is unknown".into(), phases.iter().any(|phase| *phase > ACCEPTED), true);
     ends(trial, &phases);
     trial.claim(tally, "session: lists with images that the host wrote");

@@ -1,4 +1,5 @@
 //! The calls of a session: what each is lent, what it leaves, and the comparison of the library with the independent session.
+use super::arrivals::{met, Arrival, ARRIVALS};
 use super::image::{IMAGE, REGISTER};
 use super::{library, model};
 use crate::random::Random;
@@ -114,10 +115,11 @@ fn difference(ours: &Left, theirs: &Left) -> Option<String> {
     (ours.scratch != theirs.scratch).then(|| format!("after {}: scratch is {:?}, theirs {:?}", words(ours), ours.scratch, theirs.scratch))
 }
 
-/// The comparisons of a claim, and how often each call replied with each number in all claims.
+/// The comparisons of a claim and what was met in it, and how often each call replied with each number in all claims.
 #[derive(Default)]
 pub struct Trial {
     pub comparison: Comparison,
+    arrivals: BTreeMap<Arrival, usize>,
     pub replies: BTreeMap<(&'static str, u64), usize>,
 }
 
@@ -128,6 +130,9 @@ impl Trial {
         let theirs = model::run(host, step);
         self.comparison.same(|| format!("{}, {}", step.name(), what()), difference(&ours, &theirs), None);
         *self.replies.entry((step.name(), ours.number())).or_default() += 1;
+        for arrival in met(host, step, ours.number()) {
+            *self.arrivals.entry(arrival).or_default() += 1;
+        }
         *host = ours.host.clone();
         ours
     }
@@ -160,8 +165,17 @@ impl Trial {
         self.comparison.same(|| format!("the bytes that {} keeps, {}", step.name(), what()), host.differs(&before), (None, None));
     }
 
+    /// Everything that a withdrawal or a late ballot can meet was met so often in this claim.
+    pub fn often(&mut self, least: usize) {
+        for arrival in ARRIVALS {
+            let count = self.arrivals.get(&arrival).copied().unwrap_or(0);
+            self.comparison.same(|| format!("{arrival:?} was met {count} times, and {least} are asked for"), count >= least, true);
+        }
+    }
+
     /// Ends a claim. The replies stay.
     pub fn claim(&mut self, tally: &mut Tally, name: &str) {
+        self.arrivals.clear();
         std::mem::take(&mut self.comparison).claim(tally, name);
     }
 }
