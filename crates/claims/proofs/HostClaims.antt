@@ -21,7 +21,7 @@ use Rattle.session_histories.proofs.Roll.{roll-is-batch, own-register}
 use Rattle.session_histories.proofs.Bound.{checks-bound}
 use Rattle.session_histories.proofs.Hashed.{checks-hashed}
 use Rattle.session_image.specs.Images.{Host, host, hostReply, hostAfter}
-use Rattle.claims.specs.HostSteps.{lastOf, hostTrace, hostHistory, hostRun, hostCalls, hostRoll, Starts}
+use Rattle.claims.specs.HostSteps.{afterAll, hostTrace, hostHistory, hostRun, hostCalls, hostRoll, Starts}
 use Rattle.claims.specs.HostClaims.{HostRollIsBatch, HostOwnRegister, RoundChecked, HostRoundsChecked, HostEndedAccepted, HostBound, HostHonestAccepted, HostStaysValid, HostOnlyPhaseOrRound}
 use Rattle.claims.proofs.HostSteps.{Holds, bytes-hold, replies, image-left, trace-over, history-over, no-clear-over, Keeps, over-step, keeps-run, roll-over, calls-over}
 
@@ -94,7 +94,7 @@ module _ (start : Host) (b : Beginning) (s : Starts start b) where
 -- ---- the claims
 
 pub host-own-register : HostOwnRegister
-unfolding hostTrace hostCalls lastOf
+unfolding hostTrace hostCalls afterAll
 host-own-register [] h = refl
 host-own-register (x ∷ xs) h = host-own-register xs (hostAfter x h)
 

@@ -17,7 +17,7 @@ use Rattle.session_histories.specs.Runs.{historyAfter, rollAfter, clears, Call,
 use Rattle.session_histories.specs.Internal.{Trace, OwnTrace, run, ownExtend, ownTrace, extendTrace, trace, NoClear, calls}
 use Rattle.session_histories.proofs.Stepped as steps
 use Rattle.session_histories.proofs.Stepped.{none, more}
-use Rattle.claims.specs.HostSteps.{lastOf, Uncleared, hostTrace, hostHistory, HostNoClear, hostRun, hostCalls, HostUncleared, hostRoll}
+use Rattle.claims.specs.HostSteps.{afterAll, NoClearTaken, hostTrace, hostHistory, HostNoClear, hostRun, hostCalls, HostUncleared, hostRoll}
 use Rattle.claims.proofs.Typed.{typed-decode, typed-after}
 
 -- an image of the right length that is read as this session, whose fields are as their types say
@@ -95,12 +95,12 @@ over-step x h st k =
     )
 
 pub over-run : (xs : List Step) (h : Host) (st : State) → Keeps h st → Keeps (hostRun xs h) (run xs st)
-unfolding lastOf run
+unfolding afterAll run
 over-run [] h st k = k
 over-run (x ∷ xs) h st k = over-run xs (hostAfter x h) (after x st) (over-step x h st k .1)
 
 pub keeps-run : (xs : List Step) (h : Host) (t : OwnTrace) → Keeps h (t .now) → Keeps (hostRun xs h) (ownTrace xs t .now)
-unfolding lastOf ownTrace ownExtend
+unfolding afterAll ownTrace ownExtend
 keeps-run [] h t k = k
 keeps-run (x ∷ xs) h t k = keeps-run xs (hostAfter x h) (ownExtend x t) (over-step x h (t .now) k .1)
 
@@ -121,7 +121,7 @@ calls-over (x ∷ xs) h st k =
     ∙ ap (λ (cs : List Call). call x (st .register) ∷ cs) (calls-over xs (hostAfter x h) (after x st) (over-step x h st k .1))
 
 pub uncleared : (xs : List Step) (h : Host) (st : State) → Keeps h st → HostUncleared xs h → steps.Uncleared xs st
-unfolding Uncleared
+unfolding NoClearTaken
 uncleared [] h st k u = none
 uncleared (x ∷ xs) h st k u =
     let e = over-step x h st k in

@@ -1,10 +1,10 @@
 -- A call that is lent an image. Assumes nothing.
 use mathlib.Core.Path.{_≡_, refl, sym}
-use mathlib.Core.Logic.{_↔_, _≢_}
+use mathlib.Core.Logic.{_↔_, _≢_, _⊎_, inl, inr}
 use mathlib.Core.Bool.{Bool, true, false, cond}
 use lib.Dec.{eqb}
 use lib.ListN.{length}
-use borrow.Author.Tests.{eqb-true, eq-eqb}
+use borrow.Author.Tests.{eqb-true, eqb-false, eq-eqb, ne-eqb}
 use Rattle.codec.specs.Bytes.{Bytes}
 use Rattle.codec.specs.declared.Reply.{Reply}
 use Rattle.codec.specs.declared.Reply.the-variants.{Taken, Refused}
@@ -23,6 +23,19 @@ lent-exactly image R q other = (says (eqb (length image) imageLength) refl, λ h
 
 pub not-1 : Taken ≢ Refused 1 0
 not-1 e = not-taken 1 0 (sym e)
+
+-- 1 also for an image of another length
+pub lent-1 : (image : Bytes) (R : Session → Reply) → (lentReply image R ≡ Refused 1 0) ↔ ((length image ≢ imageLength) ⊎ ((length image ≡ imageLength) × (R (decode image) ≡ Refused 1 0)))
+lent-1 image R = (says (eqb (length image) imageLength) refl, holds)
+  where
+    says : (b : Bool) → eqb (length image) imageLength ≡ b → cond b (R (decode image)) (Refused 1 0) ≡ Refused 1 0
+        → (length image ≢ imageLength) ⊎ ((length image ≡ imageLength) × (R (decode image) ≡ Refused 1 0))
+    says true e t = inr (eqb-true (length image) imageLength e, t)
+    says false e t = inl (eqb-false (length image) imageLength e)
+
+    holds : (length image ≢ imageLength) ⊎ ((length image ≡ imageLength) × (R (decode image) ≡ Refused 1 0)) → lentReply image R ≡ Refused 1 0
+    holds (inl n) = rw (ne-eqb (length image) imageLength n)
+    holds (inr h) = rw (eq-eqb (length image) imageLength (h .0)) (h .1)
 
 -- and so if what that asks holds
 pub over-answer : (image : Bytes) (R : Session → Reply) (q : Reply) {Holds : Type 0} → q ≢ Refused 1 0 → (R (decode image) ≡ q) ↔ Holds

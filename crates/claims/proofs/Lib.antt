@@ -16,6 +16,7 @@ pub mod SomeElection
 pub mod Yields
 pub mod Replies
 pub mod Calls
+pub mod SessionWithdrawals
 pub mod Withdrawals
 pub mod Demands
 pub mod Requests

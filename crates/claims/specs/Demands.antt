@@ -31,7 +31,7 @@ use Rattle.session_histories.specs.Examples.{all-comparisons}
 use Rattle.claims.specs.Papers.{Distributed, DecryptsTogether, DigestOfBits, TablesByRule}
 use Rattle.claims.specs.Calls.{SchemeCalls, RoundCalls, SessionCalls}
 use Rattle.claims.specs.HostClaims.{HostRollIsBatch, HostOwnRegister, HostRoundsChecked, HostEndedAccepted, HostBound, HostHonestAccepted, HostStaysValid, HostOnlyPhaseOrRound}
-use Rattle.claims.specs.HostSteps.{exportedCalls}
+use Rattle.claims.specs.HostSteps.{stepCalls}
 use Rattle.claims.specs.Withdrawals.{StaysOut}
 use Rattle.claims.specs.AnySession.{AnySession}
 use Rattle.claims.specs.Endings.{RefusalEnds, ClearBegins, ScratchZeroed}
@@ -65,7 +65,7 @@ pub record Demand2 : Type 0 where
   -- and a check that is taken was lent the sheet, ballots, claims and first message that were lodged, or the strings that hold them collide under SHA3-256
   pub bound : HostBound
   -- a mark whose withdrawal was taken is in no batch closed later, before the next clear taken
-  pub withdrawn-stays-out : StaysOut exportedCalls
+  pub withdrawn-stays-out : StaysOut stepCalls
   -- a check that is refused for its round ends the session, after which no step but clear is taken
   pub refusal-ends : RefusalEnds
   -- where a session starts, and what becomes of scratch

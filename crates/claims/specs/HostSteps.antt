@@ -1,4 +1,4 @@
--- Lists of the exported calls over images (document 01, "Register and session"). What one call answers and leaves, as its contract has it (jackdawnail, src/steps.rt), is in
+-- Lists of steps, of a session with its register and of the exported calls over images (document 01, "Register and session"). What one call answers and leaves, as its contract has it (jackdawnail, src/steps.rt), is in
 -- session_image, specs/Images.antt. What was lodged and the roll are read off the calls that were taken. Assumes nothing.
 use mathlib.Core.Path.{_≡_}
 use mathlib.Core.Bool.{false}
@@ -23,45 +23,53 @@ pub record Starts (h : Host) (b : Beginning) : Type 0 where
 
 -- ---- steps that are each given what the last one left
 
--- what takes steps: what is handed from one to the next, what a step answers and leaves, the session and the register in it, and how a clear that is taken begins
-pub record Machine : Type 1 where
+-- a way to take steps: what one step hands to the next, what a step answers and leaves, the session and the register in it, whether it has its length and is bytes, and when a
+-- clear is taken
+pub record Stepping : Type 1 where
   pub Kept : Type 0
   pub answer : Step → Kept → Reply
   pub left : Step → Kept → Kept
   pub session : Kept → Session
   pub register : Kept → Bytes
+  pub Sized : Kept → Type 0
+  pub InBytes : Kept → Type 0
   pub ClearTaken : Kept → Beginning → Type 0
 
--- sessions with their register
-abbrev pub sessions : Machine
-sessions = record {
+-- the steps of a session, with its register
+abbrev pub sessionSteps : Stepping
+sessionSteps = record {
   Kept = State;
   answer = reply;
   left = after;
   session = λ st. st .session;
   register = λ st. st .register;
+  Sized = λ st. Unit;
+  InBytes = λ st. Unit;
   ClearTaken = λ st b. reply (clear b) st ≡ Taken;
 }
 
 -- and the exported calls, over what a host keeps
-abbrev pub exportedCalls : Machine
-exportedCalls = record {
+abbrev pub stepCalls : Stepping
+stepCalls = record {
   Kept = Host;
   answer = hostReply;
   left = hostAfter;
   session = λ h. decode (h .image);
   register = λ h. h .register;
+  Sized = λ h. length (h .image) ≡ imageLength;
+  InBytes = λ h. Octets (h .image);
   ClearTaken = Starts;
 }
 
-unfoldable pub lastOf : (M : Machine) → List Step → M .Kept → M .Kept
-lastOf M [] k = k
-lastOf M (x ∷ xs) k = lastOf M xs (M .left x k)
+-- what is left after a list of steps
+unfoldable pub afterAll : (M : Stepping) → List Step → M .Kept → M .Kept
+afterAll M [] k = k
+afterAll M (x ∷ xs) k = afterAll M xs (M .left x k)
 
 -- no clear is taken
-unfoldable pub Uncleared : (M : Machine) → List Step → M .Kept → Type 0
-Uncleared M [] k = Unit
-Uncleared M (x ∷ xs) k = (clears x (M .answer x k) ≡ false) × Uncleared M xs (M .left x k)
+unfoldable pub NoClearTaken : (M : Stepping) → List Step → M .Kept → Type 0
+NoClearTaken M [] k = Unit
+NoClearTaken M (x ∷ xs) k = (clears x (M .answer x k) ≡ false) × NoClearTaken M xs (M .left x k)
 
 -- ---- each call is lent the image that the last one left, and any register
 
@@ -86,7 +94,7 @@ HostNoClear (c ∷ cs) image =
 -- ---- each call is lent the image and the register that the last one left
 
 abbrev pub hostRun : List Step → Host → Host
-hostRun = lastOf exportedCalls
+hostRun = afterAll stepCalls
 
 -- the same as calls, with the registers that they are lent
 unfoldable pub hostCalls : List Step → Host → List Call
@@ -94,7 +102,7 @@ hostCalls [] h = []
 hostCalls (x ∷ xs) h = call x (h .register) ∷ hostCalls xs (hostAfter x h)
 
 abbrev pub HostUncleared : List Step → Host → Type 0
-HostUncleared = Uncleared exportedCalls
+HostUncleared = NoClearTaken stepCalls
 
 -- the roll, which is the ballots admitted and not withdrawn
 unfoldable pub hostRoll : List Step → Host → List Bytes → List Bytes

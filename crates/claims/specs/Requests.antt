@@ -3,29 +3,25 @@ use mathlib.Core.Path.{_≡_}
 use mathlib.Core.Logic.{_≢_}
 use mathlib.Core.List.{[], _∷_}
 use Prim.Native.Nat.{ℕ, _%_}
-use Rattle.codec.specs.Bytes.{Octets}
 use Rattle.codec.specs.Reply.{packed}
-use Rattle.codec.specs.declared.Reply.the-variants.{Taken}
 use Rattle.session.specs.Machine.{Step, withdraw, State, tests}
 use Rattle.session_image.specs.Images.{Host, hostReply}
-use Rattle.claims.specs.HostSteps.{sessions, exportedCalls}
+use Rattle.claims.specs.HostSteps.{sessionSteps, stepCalls}
 use Rattle.claims.specs.HostClaims.{HostRollIsBatch, HostHonestAccepted}
 use Rattle.claims.specs.Orders.{refusalNumbers}
-use Rattle.claims.specs.Withdrawals.{OverLists, WithdrawnExactly, WithdrawalLeaves}
+use Rattle.claims.specs.Withdrawals.{WithdrawalClaims}
 
 -- ---- L1. Withdrawals that arrive before their ballot
 
 pub record L1 : Type 0 where
-  -- over lists of steps of a session, and of the exported calls: 34 is answered by none; a withdrawn mark is in no batch closed before the next clear taken, in either order of arrival;
-  -- the late ballot is refused 33; the entry that an early withdrawal makes never stands
-  pub over-sessions : OverLists sessions
-  pub over-calls : OverLists exportedCalls
+  -- of the steps of a session, and of the exported calls: none answers 34; when a withdrawal is taken and refused, and what it leaves; and over lists, a withdrawn mark is in no batch closed
+  -- before the next clear taken, in either order of arrival, the late ballot is refused 33, and the entry that an early withdrawal makes never stands
+  pub over-sessions : WithdrawalClaims sessionSteps
+  pub over-calls : WithdrawalClaims stepCalls
   -- nor is C told 34
   pub never-told-34 : (x : Step) (h : Host) → packed (hostReply x h) % 256 ≢ 34
   -- "The order for withdraw is now 31, 1, 33, 35"
   pub order : (mark : ℕ) (st : State) → refusalNumbers (tests (withdraw mark) st) ≡ 31 ∷ 1 ∷ 33 ∷ 35 ∷ []
-  pub exactly : (mark : ℕ) (h : Host) → WithdrawnExactly mark h
-  pub leaves : (mark : ℕ) (h : Host) (octets : Octets (h .image)) (taken : hostReply (withdraw mark) h ≡ Taken) → WithdrawalLeaves mark h octets taken
   -- with such withdrawals too the ballots admitted and not withdrawn are the batch, and a round of the producer's that is lodged is accepted at its turn
   pub roll-is-batch : HostRollIsBatch
   pub honest-accepted : HostHonestAccepted

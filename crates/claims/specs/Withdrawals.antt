@@ -1,82 +1,116 @@
--- Withdrawals, before their ballot or after it (the second demand; document 02, L1). What is said of lists is said of sessions with their register and of the exported calls alike.
--- Assumes nothing.
+-- Withdrawals, before their ballot or after it (the second demand; document 02, L1), said alike of the steps of a session and of the exported calls. Assumes nothing.
 use mathlib.Core.Path.{_≡_}
-use mathlib.Core.Logic.{_↔_, _≢_}
+use mathlib.Core.Logic.{_↔_, _≢_, _⊎_}
 use mathlib.Core.List.{List, [], _∷_, _++_, List·Memᴰ}
 use Prim.Native.Nat.{ℕ, _+_, _*_, _^_, _<_}
 use lib.ListN.{length}
-use Rattle.codec.specs.Bytes.{Bytes, Octets, bytes, put, zeros}
+use Rattle.codec.specs.Bytes.{Bytes, bytes, put, zeros}
 use Rattle.codec.specs.declared.Reply.the-variants.{Taken, Refused}
-use Rattle.register.specs.Register.{standing, markOf}
-use Rattle.session.specs.Steps.{Beginning, enteredBy}
+use Rattle.register.specs.Register.{stateAt, standing, markOf}
+use Rattle.session_progress.specs.Progress.{gathering}
+use Rattle.session.specs.declared.Session.{Session}
+use Rattle.session.specs.Steps.{Beginning}
 use Rattle.session.specs.Machine.{Step, clear, admit, withdraw, close}
-use Rattle.session_image.specs.Image.{imageLength, imageOf, decode}
-use Rattle.session_image.specs.Images.{Host, host, hostReply, hostAfter}
-use Rattle.session_histories.specs.Conditions.{Gathers, NoEntry, MarkStands, MarkWithdrawn, MayEnter, Presents, Withdraws}
+use Rattle.session_histories.specs.Conditions.{ValidSession, Gathers, NoEntry, MarkStands, MarkWithdrawn, Presents, Withdraws}
 use Rattle.session_histories.specs.Claims.{ClosedWithout}
-use Rattle.claims.specs.HostSteps.{Machine, lastOf, Uncleared}
+use Rattle.claims.specs.HostSteps.{Stepping, afterAll, NoClearTaken}
 
--- ---- over lists, from a clear that is taken on, each step given what the last one left
+-- one entry more is used, and everything else is as it was
+pub record OneEntryMore (before after : Session) : Type 0 where
+  pub used : after .progress .used ≡ before .progress .used + 1
+  pub phase : after .progress .phase ≡ before .progress .phase
+  pub counts : (after .progress .closed ≡ before .progress .closed) × (after .progress .committed ≡ before .progress .committed) × (after .progress .checked ≡ before .progress .checked)
+  pub sheet : (after .numbers ≡ before .numbers) × (after .sheet ≡ before .sheet)
+  pub digests : (after .closing ≡ before .closing) × (after .claim ≡ before .claim) × (after .trail ≡ before .trail)
+  pub seed : after .seed ≡ before .seed
 
-module _ (M : Machine) where
-  -- a withdrawal was taken and no clear since: `before` are the steps before it, back to a clear that was taken, `between` those behind it. Marks have 32 bits
-  pub record WithdrawnSince (mark : ℕ) : Type 0 where
-    pub low : mark < 2 ^ 32
-    pub start : M .Kept
-    pub beginning : Beginning
-    pub before : List Step
-    pub between : List Step
-    pub clear-taken : M .ClearTaken start beginning
-    pub taken : M .answer (withdraw mark) (lastOf M before (M .left (clear beginning) start)) ≡ Taken
-    pub uncleared : Uncleared M between (M .left (withdraw mark) (lastOf M before (M .left (clear beginning) start)))
+module _ (M : Stepping) where
+  -- ---- one step, for every session, register, mark and ballot
 
-  -- what the withdrawal was given, and what is there at the end
-  abbrev pub foundBy : {mark : ℕ} → WithdrawnSince mark → M .Kept
-  foundBy w = lastOf M (w .before) (M .left (clear (w .beginning)) (w .start))
+  module _ (k : M .Kept) where
+    abbrev s : Session
+    s = M .session k
 
-  abbrev pub lastBy : {mark : ℕ} → WithdrawnSince mark → M .Kept
-  lastBy {mark} w = lastOf M (w .between) (M .left (withdraw mark) (foundBy w))
+    abbrev reg : Bytes
+    reg = M .register k
 
-  -- "A mark whose withdrawal was taken is out of every closed batch, in either order of arrival, until clear": what a close leaves is of entries that do not have it
-  abbrev pub StaysOut : Type 0
-  StaysOut = (mark : ℕ) (w : WithdrawnSince mark) → M .answer close (lastBy w) ≡ Taken → ClosedWithout mark (M .register (lastBy w)) (M .session (M .left close (lastBy w)))
+    abbrev used : ℕ
+    used = s .progress .used
 
-  -- "the late ballot is refused 33": one with the mark that meets none of 31, 1, 5
-  abbrev pub LateRefused : Type 0
-  LateRefused = (ballot : Bytes) (w : WithdrawnSince (markOf ballot)) → Presents (M .session (lastBy w)) (M .register (lastBy w)) ballot → M .answer (admit ballot) (lastBy w) ≡ Refused 33 0
+    -- "The order for withdraw is now 31, 1, 33, 35, the last only for a mark with no entry", each in conditions and not as the order again
+    pub record WithdrawExactly (mark : ℕ) : Type 0 where
+      pub taken : (M .answer (withdraw mark) k ≡ Taken) ↔ (M .Sized k × Withdraws s reg mark)
+      pub undue : (M .answer (withdraw mark) k ≡ Refused 31 0) ↔ (M .Sized k × (ValidSession s × (s .progress .phase ≡ gathering) → ⊥))
+      pub unsized : (M .answer (withdraw mark) k ≡ Refused 1 0) ↔ ((M .Sized k → ⊥) ⊎ (M .Sized k × ((ValidSession s × (s .progress .phase ≡ gathering)) × (length reg ≢ 163840))))
+      pub already : (M .answer (withdraw mark) k ≡ Refused 33 0) ↔ (M .Sized k × (Gathers s reg × MarkWithdrawn reg mark used))
+      pub full : (M .answer (withdraw mark) k ≡ Refused 35 0) ↔ (M .Sized k × (Gathers s reg × (NoEntry reg mark used × (used ≡ 4096))))
 
-  -- the entry of a mark that was withdrawn before its ballot came never stands, so that it is in no batch
-  abbrev pub EarlyNeverStands : Type 0
-  EarlyNeverStands = (mark : ℕ) (w : WithdrawnSince mark)
-      → let entry = M .session (foundBy w) .progress .used in
-      NoEntry (M .register (foundBy w)) mark entry → List·Memᴰ entry (standing (M .register (lastBy w)) (M .session (lastBy w) .progress .used)) → ⊥
+    -- what a withdrawal that is taken leaves
+    pub record WithdrawalLeaves (mark : ℕ) : Type 0 where
+      -- of a mark that stands, the state byte of its first entry, and everything else as it was
+      pub stood : (f : MarkStands reg mark used) → (M .session (M .left (withdraw mark) k) ≡ s) × (M .register (M .left (withdraw mark) k) ≡ put reg (40 * f .at + 4) (2 ∷ []))
+      -- of a mark with no entry, "a withdrawn entry with the mark and 32 zero bytes for the digest" behind the used ones, all 40 bytes of it, and one entry more
+      pub early : NoEntry reg mark used
+          → OneEntryMore s (M .session (M .left (withdraw mark) k)) × (M .register (M .left (withdraw mark) k) ≡ put reg (40 * used) (bytes 4 mark ++ (2 ∷ zeros 35)))
+
+    -- a ballot that meets none of 31, 1, 5 is refused by its mark, or because the register is full
+    pub record AdmitExactly (ballot : Bytes) : Type 0 where
+      pub standing : (M .answer (admit ballot) k ≡ Refused 32 0) ↔ (M .Sized k × (Presents s reg ballot × MarkStands reg (markOf ballot) used))
+      pub withdrawn : (M .answer (admit ballot) k ≡ Refused 33 0) ↔ (M .Sized k × (Presents s reg ballot × MarkWithdrawn reg (markOf ballot) used))
+      pub full : (M .answer (admit ballot) k ≡ Refused 35 0) ↔ (M .Sized k × (Presents s reg ballot × (NoEntry reg (markOf ballot) used × (used ≡ 4096))))
+
+    -- a close is refused 36 where no entry stands, as after early withdrawals alone
+    abbrev pub CloseExactly : Type 0
+    CloseExactly = (M .answer close k ≡ Refused 36 0) ↔ (M .Sized k × (Gathers s reg × ((i : ℕ) → i < used → stateAt reg i ≢ 1)))
 
   -- "refusal 34 no longer occurs"
   abbrev pub Never34 : Type 0
   Never34 = (x : Step) (k : M .Kept) (place : ℕ) → M .answer x k ≢ Refused 34 place
 
-  pub record OverLists : Type 0 where
+  -- ---- over lists, from a clear that is taken on, each step given what the last one left
+
+  -- a withdrawal of the mark that was taken: `before` are the steps from a clear taken up to it, `since` those after it, among which no clear is taken. A mark has 32 bits
+  pub record WithdrawnSince (mark : ℕ) : Type 0 where
+    pub mark-size : mark < 2 ^ 32
+    pub start : M .Kept
+    pub beginning : Beginning
+    pub before : List Step
+    pub since : List Step
+    pub clear-taken : M .ClearTaken start beginning
+    pub taken : M .answer (withdraw mark) (afterAll M before (M .left (clear beginning) start)) ≡ Taken
+    pub uncleared : NoClearTaken M since (M .left (withdraw mark) (afterAll M before (M .left (clear beginning) start)))
+
+  module _ {mark : ℕ} (w : WithdrawnSince mark) where
+    -- what the withdrawal was given, and what is there at the end
+    abbrev pub atWithdrawal : M .Kept
+    atWithdrawal = afterAll M (w .before) (M .left (clear (w .beginning)) (w .start))
+
+    abbrev pub atEnd : M .Kept
+    atEnd = afterAll M (w .since) (M .left (withdraw mark) atWithdrawal)
+
+  -- "A mark whose withdrawal was taken is out of every closed batch, in either order of arrival, until clear": what a close leaves is of entries that do not have it
+  abbrev pub StaysOut : Type 0
+  StaysOut = (mark : ℕ) (w : WithdrawnSince mark) → M .answer close (atEnd w) ≡ Taken
+      → ClosedWithout mark (M .session (atEnd w) .progress .used) (M .register (atEnd w)) (M .session (M .left close (atEnd w)))
+
+  -- "the late ballot is refused 33": one with the mark that meets none of 31, 1, 5. It changes nothing
+  abbrev pub LateRefused : Type 0
+  LateRefused = (ballot : Bytes) (w : WithdrawnSince (markOf ballot)) → Presents (M .session (atEnd w)) (M .register (atEnd w)) ballot
+      → (M .answer (admit ballot) (atEnd w) ≡ Refused 33 0) × (M .session (M .left (admit ballot) (atEnd w)) ≡ M .session (atEnd w))
+      × (M .register (M .left (admit ballot) (atEnd w)) ≡ M .register (atEnd w))
+
+  -- until the next clear taken, the entry that an early withdrawal made does not stand, and so is in no batch
+  abbrev pub EarlyNeverStands : Type 0
+  EarlyNeverStands = (mark : ℕ) (w : WithdrawnSince mark)
+      → let entry = M .session (atWithdrawal w) .progress .used in
+      NoEntry (M .register (atWithdrawal w)) mark entry → List·Memᴰ entry (standing (M .register (atEnd w)) (M .session (atEnd w) .progress .used)) → ⊥
+
+  pub record WithdrawalClaims : Type 0 where
     pub never-34 : Never34
+    pub withdraw-exactly : (k : M .Kept) (mark : ℕ) → WithdrawExactly k mark
+    pub withdrawal-leaves : (k : M .Kept) (mark : ℕ) → M .InBytes k → M .answer (withdraw mark) k ≡ Taken → WithdrawalLeaves k mark
+    pub admit-exactly : (k : M .Kept) (ballot : Bytes) → AdmitExactly k ballot
+    pub close-exactly : (k : M .Kept) → CloseExactly k
     pub stays-out : StaysOut
     pub late-refused : LateRefused
     pub early-never-stands : EarlyNeverStands
-
--- ---- one call, for every image, register and mark
-
--- "31, 1, 33, 35, the last only for a mark with no entry", in conditions and not as the order again
-pub record WithdrawnExactly (mark : ℕ) (h : Host) : Type 0 where
-  -- a mark that stands, or that has no entry while one is free
-  pub taken : (hostReply (withdraw mark) h ≡ Taken) ↔ ((length (h .image) ≡ imageLength) × Withdraws (decode (h .image)) (h .register) mark)
-  pub withdrawn : (hostReply (withdraw mark) h ≡ Refused 33 0)
-      ↔ ((length (h .image) ≡ imageLength) × (Gathers (decode (h .image)) (h .register) × MarkWithdrawn (h .register) mark (decode (h .image) .progress .used)))
-  pub full : (hostReply (withdraw mark) h ≡ Refused 35 0)
-      ↔ ((length (h .image) ≡ imageLength)
-      × (Gathers (decode (h .image)) (h .register) × NoEntry (h .register) mark (decode (h .image) .progress .used) × (decode (h .image) .progress .used ≡ 4096)))
-
--- what a withdrawal that is taken leaves
-pub record WithdrawalLeaves (mark : ℕ) (h : Host) (octets : Octets (h .image)) (taken : hostReply (withdraw mark) h ≡ Taken) : Type 0 where
-  -- of a mark that stands, the state byte of its first entry, and everything else as it was
-  pub standing : (f : MarkStands (h .register) mark (decode (h .image) .progress .used)) → hostAfter (withdraw mark) h ≡ host (h .image) (put (h .register) (40 * f .at + 4) (2 ∷ []))
-  -- of a mark with no entry, 40 bytes after the entries used, and one entry more in the image: "a withdrawn entry with the mark and 32 zero bytes for the digest"
-  pub early : NoEntry (h .register) mark (decode (h .image) .progress .used)
-      → hostAfter (withdraw mark) h ≡ host (imageOf (enteredBy (decode (h .image)))) (put (h .register) (40 * decode (h .image) .progress .used) (bytes 4 mark ++ (2 ∷ zeros 35)))

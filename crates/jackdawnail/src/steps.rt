@@ -63,7 +63,7 @@ pub extern "C" fn jdn_admit(image: &mut [u8], reg: &mut [u8], ballot: &[u8]) -> 
     keep(stepped, image)
 }
 
-// Withdraws the ballot with a mark.
+// Withdraws a mark, whether its ballot has come or not.
 #[no_mangle]
 pub extern "C" fn jdn_withdraw(image: &mut [u8], reg: &mut [u8], mark: u32) -> u64
     ensures { λ answer. ⌜ StepCalled (withdraw mark) (host (given image) (given reg)) answer (host (left image) (left reg)) ⌝ }

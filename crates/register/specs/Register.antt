@@ -67,7 +67,7 @@ withdrawn reg i = put reg (40 * i + 4) (2 ∷ [])
 unfoldable pub withdrawnEarly : (reg : Bytes) (n mark : ℕ) → Bytes
 withdrawnEarly reg n mark = appended reg n (bytes 4 mark) 2 (zeros 32)
 
--- a mark withdrawn, among n entries: the first that has it; where none has, it gets one
+-- what a withdrawal that is taken leaves: the first of the n entries with the mark withdrawn; where none has it, a withdrawn entry more
 unfoldable pub afterWithdrawal : (reg : Bytes) (n mark : ℕ) → Bytes
 afterWithdrawal reg n mark = cond (known reg mark n) (withdrawn reg (find reg mark n)) (withdrawnEarly reg n mark)
 

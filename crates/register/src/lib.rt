@@ -109,8 +109,8 @@ pub struct Withdrawal {
     pub entered: bool,
 }
 
-// Withdraws a mark, which gets an entry after the used ones if it has none: 33, 35. No mark meets both: a search that ends behind the last
-// entry found none with the mark, and none that is free.
+// Withdraws a mark, which gets an entry after the used ones if it has none: 33, 35. 35 is asked first, which changes no answer: it needs a
+// mark with no entry, and 33 one with an entry. The search gives 4,096 only where all entries are used and none has the mark.
 pub fn withdraw(reg: &mut [u8], used: usize, mark: u32) -> Withdrawal
     requires { ⌜ (length (now reg) ≡ def.registerLength) × (used ≤ def.capacity) ⌝ }
     ensures { λ r. ⌜ Withdrew (given reg) used mark r (left reg) ⌝ }

@@ -1,4 +1,4 @@
--- Admit, withdraw and close are taken exactly if their conditions hold; what a withdrawal leaves, in its two cases; and which entry decides a refusal. Assumes nothing.
+-- Admit, withdraw and close are taken exactly if their conditions hold; what a withdrawal leaves, in its two cases. Their refusals: Refusals.antt. Assumes nothing.
 use mathlib.Core.Path.{_≡_, refl, sym, ap, ap₂, subst}
 use mathlib.Core.Logic.{_↔_, _≢_, _⊎_, inl, inr}
 use mathlib.Core.Bool.{Bool, true, false, not, _&&_}
@@ -6,13 +6,16 @@ use mathlib.Core.List.{List, [], _∷_, List·Memᴰ, List·Memᴰ·head, List·
 use Prim.Native.Nat.{ℕ, _≤_, _<_}
 use native.Mathlib.Decide.{decLt}
 use native.Mathlib.Omega.{arith}
-use lib.Dec.{eqb, ltb}
-use lib.ListN.{length, take}
+use lib.Dec.{eqb}
+use lib.ListN.{length, drop}
 use borrow.Author.Tests.{ltb-true, ltb-false, lt-ltb, le-ltb, eqb-true, eqb-false, eq-eqb, ne-eqb, not-false}
 use Rattle.codec.specs.Bytes.{Bytes, same}
-use Rattle.codec.specs.Reply.{Test, None, first}
-use Rattle.codec.specs.declared.Reply.the-variants.{Taken, Refused}
+use Rattle.codec.specs.Reply.{Test, test, None, first}
+use Rattle.codec.specs.declared.Reply.the-variants.{Taken}
+use Rattle.codec.specs.Lists.{allBelow}
 use Rattle.codec.proofs.Replies.{taken-exactly}
+use Rattle.vector.specs.Vector.{vector}
+use Rattle.session_progress.specs.Progress.{gathering}
 use Rattle.scratch.proofs.Order.{length-at}
 use Rattle.round.specs.Layout.{ballotLength}
 use Rattle.round.proofs.Ranged.{each-exactly}
@@ -20,9 +23,9 @@ use Rattle.register.specs.Register.{registerLength, markAt, stateAt, find, know
 use Rattle.register.proofs.Entries.{found, find-first, stands, stands-all}
 use Rattle.session.specs.declared.Session.{Session}
 use Rattle.session.specs.Session.{valid}
-use Rattle.session.specs.Steps.{admitTests, enteredBy, withdrawTests, withdrawnBy, closeTests}
+use Rattle.session.specs.Steps.{dueTest, admitTests, enteredBy, withdrawTests, withdrawnBy, closeTests}
 use Rattle.session.specs.Machine.{withdraw, State, state, next}
-use Rattle.session_histories.specs.Conditions.{Gathers, NoEntry, FirstEntry, MarkStands, MarkWithdrawn, MayEnter, Presents, Admits, Withdraws, Closes}
+use Rattle.session_histories.specs.Conditions.{Gathers, NoEntry, FirstEntry, MarkStands, MayEnter, Presents, Admits, Withdraws, Closes}
 use Rattle.session_histories.proofs.Valid.{numbers-match, numbers-pass, bytes-pass, ready, is-ready}
 
 -- an order that says what a proposition says
@@ -43,13 +46,21 @@ absent reg mark n none = go (decLt (find reg mark n) n)
 pub here : (reg : Bytes) (mark at n : ℕ) → at < n → markAt reg at ≡ mark → ((i : ℕ) → i < at → markAt reg i ≢ mark) → find reg mark n ≡ at
 here reg mark at n within marked earlier = find-first reg mark at n (absent reg mark at earlier) marked within
 
--- ---- a session that gathers, and the register
+-- ---- a session that gathers, and the entries
 
-pub gathers : (s : Session) (reg : Bytes) → not (valid s && eqb (s .progress .phase) 0) ≡ false → length reg ≡ registerLength → Gathers s reg
-gathers s reg e size = let r = ready s _ e in record { sound = r .0; phase = eqb-true _ _ (r .1); register-size = size }
+module _ (s : Session) (reg : Bytes) where
+  -- the tests before those of the entries, in the orders of withdraw and close
+  abbrev pub gatheringTests : List Test
+  gatheringTests = dueTest s (eqb (s .progress .phase) gathering) ∷ test 1 0 (not (eqb (length reg) registerLength)) ∷ []
 
-pub gathering-now : {s : Session} {reg : Bytes} → Gathers s reg → not (valid s && eqb (s .progress .phase) 0) ≡ false
-gathering-now {s} g = is-ready s (g .sound) (eq-eqb (s .progress .phase) 0 (g .phase))
+  gathers : not (valid s && eqb (s .progress .phase) gathering) ≡ false → length reg ≡ registerLength → Gathers s reg
+  gathers e size = let r = ready s _ e in record { sound = r .0; phase = eqb-true _ _ (r .1); register-size = size }
+
+  gathering-now : Gathers s reg → not (valid s && eqb (s .progress .phase) gathering) ≡ false
+  gathering-now g = is-ready s (g .sound) (eq-eqb (s .progress .phase) gathering (g .phase))
+
+  pub gathers-exactly : None gatheringTests ↔ Gathers s reg
+  gathers-exactly = (λ n. gathers (n .0) (numbers-match (n .1 .0)), λ g. (gathering-now g, (numbers-pass (g .register-size), tt)))
 
 -- which entry decides, by what the search finds
 module _ (reg : Bytes) (mark n : ℕ) where
@@ -85,39 +96,41 @@ module _ (s : Session) (reg ballot : Bytes) where
   abbrev wanted : List ℕ
   wanted = registerLength ∷ ballotLength (s .numbers .ring) ∷ []
 
+  -- the tests before those of the entries
+  abbrev pub presentTests : List Test
+  presentTests =
+      dueTest s (eqb (s .progress .phase) gathering) ∷ test 1 0 (not (same sizes wanted)) ∷ test 5 0 (not (allBelow (s .numbers .modulus) (vector (drop 4 ballot)))) ∷ []
+
+  presents-says : None presentTests → Presents s reg ballot
+  presents-says n =
+      let sized = not-false (same sizes wanted) (n .1 .0) in
+      record { gathers = gathers s reg (n .0) (length-at sizes wanted 0 sized); ballot-size = length-at sizes wanted 1 sized; coefficients = each-exactly _ _ .0 (not-false _ (n .1 .1 .0)) }
+
+  presents-holds : Presents s reg ballot → None presentTests
+  presents-holds p = (
+    gathering-now s reg (p .gathers),
+    (bytes-pass (ap₂ (λ (x y : ℕ). x ∷ y ∷ []) (p .gathers .register-size) (p .ballot-size)), (ap not (each-exactly _ _ .1 (p .coefficients)), tt)),
+  )
+
+  pub presents-exactly : None presentTests ↔ Presents s reg ballot
+  presents-exactly = (presents-says, presents-holds)
+
   admits-says : None (admitTests s reg ballot) → Admits s reg ballot
   unfolding admitTests
   admits-says n =
-      let sized = not-false (same sizes wanted) (n .1 .0) in
-      let g = gathers s reg (n .0) (length-at sizes wanted 0 sized) in
+      let p = presents-says (n .0, (n .1 .0, (n .1 .1 .0, tt))) in
       record {
-        presents = record { gathers = g; ballot-size = length-at sizes wanted 1 sized; coefficients = each-exactly _ _ .0 (not-false _ (n .1 .1 .0)) };
-        enters = may-enter reg (markOf ballot) (s .progress .used) (n .1 .1 .1 .1 .0) (g .sound .used) (eqb-false (s .progress .used) 4096 (n .1 .1 .1 .1 .1 .0));
+        presents = p;
+        enters = may-enter reg (markOf ballot) (s .progress .used) (n .1 .1 .1 .1 .0) (p .gathers .sound .used) (eqb-false (s .progress .used) 4096 (n .1 .1 .1 .1 .1 .0));
       }
-
-  -- what comes before the entries in its order
-  presented : Presents s reg ballot → None (take 3 (admitTests s reg ballot))
-  unfolding admitTests
-  presented p = (
-    gathering-now (p .gathers),
-    (bytes-pass (ap₂ (λ (x y : ℕ). x ∷ y ∷ []) (p .gathers .register-size) (p .ballot-size)), (ap not (each-exactly _ _ .1 (p .coefficients)), tt)),
-  )
 
   admits-holds : Admits s reg ballot → None (admitTests s reg ballot)
   unfolding admitTests
   admits-holds a =
-      let p = presented (a .presents) in
+      let p = presents-holds (a .presents) in
       let past = is-unknown reg (markOf ballot) (s .progress .used) (a .enters .unknown) in
       let room = a .enters .room in
       (p .0, (p .1 .0, (p .1 .1 .0, (ap (λ (b : Bool). b && eqb (stateAt reg place) 1) past, (past, (ne-eqb (s .progress .used) 4096 (λ e. omega arith), tt))))))
-
-  -- a ballot whose mark is withdrawn
-  pub withdrawn-refused : Presents s reg ballot → MarkWithdrawn reg (markOf ballot) (s .progress .used) → first (admitTests s reg ballot) ≡ Refused 33 0
-  unfolding admitTests first
-  withdrawn-refused p f =
-      let b = presented p in
-      let one : eqb (stateAt reg place) 1 ≡ false = rw (at-first reg (markOf ballot) (s .progress .used) f) (ne-eqb (stateAt reg (f .at)) 1 (f .state)) in
-      rw (b .0, b .1 .0, b .1 .1 .0, is-known reg (markOf ballot) (s .progress .used) f, one)
 
 pub admitted-exactly : (s : Session) (reg ballot : Bytes) → (first (admitTests s reg ballot) ≡ Taken) ↔ Admits s reg ballot
 admitted-exactly s reg ballot = by-order _ (admits-says s reg ballot) (admits-holds s reg ballot)
@@ -136,7 +149,7 @@ module _ (s : Session) (reg : Bytes) (mark : ℕ) where
   withdraws-says n = record { gathers = g; marked = go (known reg mark used) refl (n .1 .1 .0) (n .1 .1 .1 .0) }
     where
       g : Gathers s reg
-      g = gathers s reg (n .0) (numbers-match (n .1 .0))
+      g = gathers-exactly s reg .0 (n .0, (n .1 .0, tt))
 
       go : (k : Bool) → known reg mark used ≡ k → (k && not standing-found) ≡ false → (not k && eqb used 4096) ≡ false → MarkStands reg mark used ⊎ MayEnter reg mark used
       go true e f h = inl (first-entry reg mark used (ltb-true _ _ e) (numbers-match f))
@@ -149,11 +162,11 @@ module _ (s : Session) (reg : Bytes) (mark : ℕ) where
       go : MarkStands reg mark used ⊎ MayEnter reg mark used → None (withdrawTests s reg mark)
       go (inl f) =
           let stands : standing-found ≡ true = rw (at-first reg mark used f) (eq-eqb (stateAt reg (f .at)) 1 (f .state)) in
-          (gathering-now (w .gathers), (numbers-pass (w .gathers .register-size), (rw (is-known reg mark used f, stands), (rw (is-known reg mark used f), tt))))
+          (gathering-now s reg (w .gathers), (numbers-pass (w .gathers .register-size), (rw (is-known reg mark used f, stands), (rw (is-known reg mark used f), tt))))
       go (inr m) =
           let room = m .room in
           let free : eqb used 4096 ≡ false = ne-eqb used 4096 (λ e. omega arith) in
-          (gathering-now (w .gathers), (numbers-pass (w .gathers .register-size), (rw (is-unknown reg mark used (m .unknown)), (rw (is-unknown reg mark used (m .unknown), free), tt))))
+          (gathering-now s reg (w .gathers), (numbers-pass (w .gathers .register-size), (rw (is-unknown reg mark used (m .unknown)), (rw (is-unknown reg mark used (m .unknown), free), tt))))
 
   -- what a withdrawal that is taken leaves, in its two cases
   pub next-standing : (f : MarkStands reg mark used) → next (withdraw mark) (state s reg) ≡ state s (withdrawn reg (f .at))
@@ -177,11 +190,11 @@ withdrawn-exactly s reg mark = by-order _ (withdraws-says s reg mark) (withdraws
 
 -- ---- close
 
-some : (is : List ℕ) → length is ≢ 0 → (i : ℕ) × List·Memᴰ i is
+pub some : (is : List ℕ) → length is ≢ 0 → (i : ℕ) × List·Memᴰ i is
 some [] h = absurd (h refl)
 some (i ∷ is) h = (i, List·Memᴰ·head refl)
 
-not-empty : (i : ℕ) (is : List ℕ) → List·Memᴰ i is → length is ≢ 0
+pub not-empty : (i : ℕ) (is : List ℕ) → List·Memᴰ i is → length is ≢ 0
 not-empty i [] m e = List·Memᴰ·not-nil m
 not-empty i (j ∷ is) m e = omega arith
 
@@ -190,12 +203,12 @@ unfolding closeTests
 closes-says s reg n =
     let i = some (standing reg (s .progress .used)) (eqb-false _ _ (n .1 .1 .0)) in
     let t = stands reg (s .progress .used) (i .0) (i .1) in
-    record { gathers = gathers s reg (n .0) (numbers-match (n .1 .0)); at = i .0; within = t .0; stands = t .1 }
+    record { gathers = gathers-exactly s reg .0 (n .0, (n .1 .0, tt)); at = i .0; within = t .0; stands = t .1 }
 
 closes-holds : (s : Session) (reg : Bytes) → Closes s reg → None (closeTests s reg)
 unfolding closeTests
 closes-holds s reg c = (
-  gathering-now (c .gathers),
+  gathering-now s reg (c .gathers),
   (numbers-pass (c .gathers .register-size), (ne-eqb _ _ (not-empty (c .at) (standing reg (s .progress .used)) (stands-all reg (s .progress .used) (c .at) (c .within) (c .stands))), tt)),
 )
 

@@ -3,7 +3,7 @@ use mathlib.Core.Path.{_≡_, refl, sym, ap, _∙_}
 use mathlib.Core.Logic.{_≢_, _⊎_, inl, inr}
 use mathlib.Core.Bool.{Bool, true, false, cond}
 use mathlib.Core.List.{List, [], _∷_, _++_, map, map-append, append-nil, List·Memᴰ, List·Memᴰ·append-cases, List·Memᴰ·eq-of-singleton, List·Memᴰ·not-nil}
-use Prim.Native.Nat.{ℕ, zero, suc, _+_, _≤_, _<_}
+use Prim.Native.Nat.{ℕ, zero, suc, _+_, _<_}
 use native.Mathlib.Omega.{arith}
 use native.Mathlib.Numerals.{add-one}
 use native.Mathlib.Decide.{ℕ-discrete}
@@ -15,7 +15,7 @@ use Rattle.codec.specs.Reply.{leaves}
 use Rattle.codec.specs.declared.Reply.the-variants.{Taken}
 use Rattle.sha3.specs.Sponge.{sha3}
 use Rattle.round.specs.Layout.{ballotLength}
-use Rattle.register.specs.Register.{markAt, stateAt, digestAt, find, standing, standingDigests, markOf, admitted, withdrawn, withdrawnEarly}
+use Rattle.register.specs.Register.{markAt, stateAt, digestAt, standing, standingDigests, markOf, admitted, withdrawn, withdrawnEarly}
 use Rattle.register.proofs.Entries.{Appended, admitted-entry, early-entry, withdrawn-marks, withdrawn-digests, withdrawn-state, withdrawn-states}
 use Rattle.session_digests.proofs.Laws.{Long, ballotDigests-flatten}
 use Rattle.session.specs.declared.Session.{Session}

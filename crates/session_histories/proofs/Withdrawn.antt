@@ -1,7 +1,7 @@
 -- The second demand and document 02, L1: a mark whose withdrawal was taken stands in no batch closed later, before the next clear taken, whether its ballot came before or after;
 -- and a ballot that comes after is refused 33. Assumes nothing.
 use mathlib.Core.Path.{_≡_, refl, sym, ap, subst, _∙_}
-use mathlib.Core.Logic.{_≢_, ⊎-elim}
+use mathlib.Core.Logic.{_≢_}
 use mathlib.Core.Bool.{true, false}
 use mathlib.Core.List.{List, [], _∷_, List·Memᴰ}
 use Prim.Native.Nat.{ℕ, _+_, _^_, _≤_, _<_}
@@ -20,10 +20,11 @@ use Rattle.session.specs.Steps.{Beginning, cleared, enteredBy, closedBy, claime
 use Rattle.session.specs.Machine.{Step, clear, admit, withdraw, close, claim, commit, draw, check, State, next, reply, after}
 use Rattle.session_histories.specs.Runs.{clears}
 use Rattle.session_histories.specs.Internal.{run}
-use Rattle.session_histories.specs.Conditions.{Gathers, NoEntry, MarkStands, MarkWithdrawn, MayEnter, Presents, Admits, Withdraws}
+use Rattle.session_histories.specs.Conditions.{Gathers, NoEntry, MarkStands, MarkWithdrawn, MayEnter, Presents, Admits}
 use Rattle.session_histories.specs.Claims.{ClosedWithout}
 use Rattle.session_histories.proofs.Stepped.{Uncleared, none, more, stepped, after-taken}
-use Rattle.session_histories.proofs.ExactGathering.{first-entry, admitted-exactly, withdrawn-refused, withdrawn-exactly, withdrawal}
+use Rattle.session_histories.proofs.ExactGathering.{first-entry, admitted-exactly, withdrawn-exactly, withdrawal}
+use Rattle.session_histories.proofs.Refusals.{admit-33}
 
 clears-taken : (b : Beginning) (r : Reply) → r ≡ Taken → clears (clear b) r ≡ true
 clears-taken b r e = rw e
@@ -235,7 +236,7 @@ gone-run mark at (more {x = x} {st = st} c u) h = gone-run mark at u (gone-step 
 -- what close leaves, where no entry that stands has the mark
 closed-without : (mark : ℕ) (st : State) → reply close st ≡ Taken
     → ((i : ℕ) → List·Memᴰ i (standing (st .register) (st .session .progress .used)) → markAt (st .register) i ≢ mark)
-    → ClosedWithout mark (st .register) (after close st .session)
+    → ClosedWithout mark (st .session .progress .used) (st .register) (after close st .session)
 unfolding closedBy standingDigests
 closed-without mark st e others =
     let s = st .session in
@@ -260,15 +261,17 @@ module _ (start : State) (b : Beginning) (before between : List Step) (mark : �
         (first .0, gone-run mark (first .0) u (first .1))
 
     -- what a close taken then leaves is a batch without that mark
-    pub withdrawn-stays-out : reply close last ≡ Taken → ClosedWithout mark (last .register) (after close last .session)
+    pub withdrawn-stays-out : reply close last ≡ Taken → ClosedWithout mark (last .session .progress .used) (last .register) (after close last .session)
     withdrawn-stays-out d = closed-without mark last d (out last mark (gone .0) (gone .1))
 
-    -- and a ballot with it, where only the register decides, is refused 33
+    -- and a ballot with it that meets none of 31, 1, 5 is refused 33
     pub late-refused : (ballot : Bytes) → markOf ballot ≡ mark → Presents (last .session) (last .register) ballot → reply (admit ballot) last ≡ Refused 33 0
     unfolding reply
     late-refused ballot m p =
-        withdrawn-refused (last .session) (last .register) ballot p
-        (subst (λ (n : ℕ). MarkWithdrawn (last .register) n (last .session .progress .used)) (sym m) (first-down last mark (gone .0) (gone .1)))
+        admit-33 (last .session) (last .register) ballot .1 (
+          p,
+          subst (λ (n : ℕ). MarkWithdrawn (last .register) n (last .session .progress .used)) (sym m) (first-down last mark (gone .0) (gone .1)),
+        )
 
     -- of a mark that had no entry: the entry that it got does not stand
     pub early-down : NoEntry (found-by .register) mark (found-by .session .progress .used)

@@ -1,5 +1,5 @@
 -- What the claims about lists of calls speak of (the second and the third demand; document 01, the paragraph on demand 3's last sentence). The claims themselves: claims,
--- specs/HostClaims.antt. Assumes nothing.
+-- specs/HostClaims.antt and specs/Withdrawals.antt. Assumes nothing.
 use mathlib.Core.Path.{_≡_}
 use mathlib.Core.Logic.{_≢_, _⊎_}
 use mathlib.Core.List.{List·Memᴰ, map}
@@ -32,11 +32,11 @@ Undue (commit k head shares0 shares1) s = (s .progress .phase ≢ claimed) ⊎ (
 Undue (draw seed) s = (s .progress .phase ≢ claimed) ⊎ (s .progress .committed ≢ s .numbers .rounds)
 Undue (check k x) s = (s .progress .phase ≢ drawn) ⊎ (k ≢ s .progress .checked) ⊎ (s .numbers .rounds ≤ k)
 
--- a closed session, with the register that was closed: it holds the count and the closing digest of the entries that stand there, and none of them has the mark
-pub record ClosedWithout (mark : ℕ) (reg : Bytes) (s : Session) : Type 0 where
-  pub out : (i : ℕ) → List·Memᴰ i (standing reg (s .progress .used)) → markAt reg i ≢ mark
-  pub count : s .progress .closed ≡ length (standing reg (s .progress .used))
-  pub digest : s .closing ≡ closingDigest (s .sheet) (map (digestAt reg) (standing reg (s .progress .used)))
+-- a closed session, with the register that was closed and the entries used before: it holds the count and the closing digest of the entries that stand there, and none of them has the mark
+pub record ClosedWithout (mark used : ℕ) (reg : Bytes) (s : Session) : Type 0 where
+  pub out : (i : ℕ) → List·Memᴰ i (standing reg used) → markAt reg i ≢ mark
+  pub count : s .progress .closed ≡ length (standing reg used)
+  pub digest : s .closing ≡ closingDigest (s .sheet) (map (digestAt reg) (standing reg used))
 
 -- what the producer makes of material, as a check of round k is lent it: made for the parameters of a sheet, m ballots, and what a seed draws
 module _ (P : Parameters) (m : ℕ) (material : Material) (seed : Bytes) (k : ℕ) where

@@ -73,7 +73,7 @@ pub record MayEnter (reg : Bytes) (mark n : ℕ) : Type 0 where
   pub unknown : NoEntry reg mark n
   pub room : n < 4096  -- 35
 
--- a ballot that is looked up in the register
+-- a ballot that meets none of 31, 1, 5: its mark decides
 pub record Presents (s : Session) (reg ballot : Bytes) : Type 0 where
   pub gathers : Gathers s reg  -- 31, 1
   pub ballot-size : length ballot ≡ 4 + 16 * s .numbers .ring  -- 1
@@ -83,7 +83,7 @@ pub record Admits (s : Session) (reg ballot : Bytes) : Type 0 where
   pub presents : Presents s reg ballot  -- 31, 1, 5
   pub enters : MayEnter reg (markOf ballot) (s .progress .used)  -- 32, 33, 35
 
--- a mark is withdrawn that stands, or that has no entry yet
+-- a mark that stands, or that has no entry while one is free
 pub record Withdraws (s : Session) (reg : Bytes) (mark : ℕ) : Type 0 where
   pub gathers : Gathers s reg  -- 31, 1
   pub marked : MarkStands reg mark (s .progress .used) ⊎ MayEnter reg mark (s .progress .used)  -- 33, 35

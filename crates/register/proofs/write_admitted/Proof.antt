@@ -1,5 +1,4 @@
 -- `register::write_admitted` meets its contract. Assumes nothing.
-use native.Mathlib.Omega.{arith}
 use borrow.Author.Needs.{needs}
 use Rattle.codec.proofs.Laws.{length-part}
 use Rattle.sha3.proofs.Squeezing.{length-sha3}
