@@ -89,8 +89,9 @@ uint64_t jdn_clear(JDN_OUT(image), JDN_OUT(reg), JDN_IN(sheet));
 /* ballot: mark, u, v, 4 + 16N bytes. Refused 31, 1, 5 a coefficient, 32 the mark stands, 33 it was withdrawn, 35 4,096 entries are used. */
 uint64_t jdn_admit(JDN_OUT(image), JDN_OUT(reg), JDN_IN(ballot));
 /* Refused 31, 1, 33 the mark was withdrawn, 35 no entry has the mark and 4,096 are used. The mark's entry is withdrawn and keeps its place.
- * For a mark with none, whose ballot has not come yet, a withdrawn entry is made, with 32 zero bytes for the digest. Either way the mark
- * cannot be admitted before the next clear: its ballot is refused 33. */
+ * For a mark with none, whose ballot has not come yet, a withdrawn entry is made behind the used ones, with 32 zero bytes for the digest,
+ * and the image counts one more. Until the next clear, while each call is lent the image and the register that the last one left, a ballot
+ * with the mark that 31, 1 and 5 do not refuse is refused 33. */
 uint64_t jdn_withdraw(JDN_OUT(image), JDN_OUT(reg), uint32_t mark);
 /* The standing entries are the batch. Refused 31, 1, 36 none stands. */
 uint64_t jdn_close(JDN_OUT(image), JDN_IN(reg));
