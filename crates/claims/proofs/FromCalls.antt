@@ -37,10 +37,10 @@ use Rattle.claims.proofs.Produces.{first-exactly}
 use Rattle.claims.proofs.Calls.{session-calls}
 
 pub turns-come : TurnsCome
-turns-come sheet start m ballot material claims seed s c =
-    let steps = election sheet m ballot material claims seed in
+turns-come sheet start m ballot material claims seed e early s c =
+    let steps = election sheet m ballot material claims seed e early in
     let kept = keeps-run steps (hostAfter (clear (on sheet)) start) (ownInitial (on sheet)) (hosts.keeps-initial start (on sheet) s) in
-    ap (λ (z : Session). z .progress .phase) (kept .image .session) ∙ ends-accepted sheet m ballot material claims seed c (hosts.readable start (on sheet) s)
+    ap (λ (z : Session). z .progress .phase) (kept .image .session) ∙ ends-accepted sheet m ballot material claims seed e early c (hosts.readable start (on sheet) s)
 
 -- ---- from the producer's calls to the turn
 

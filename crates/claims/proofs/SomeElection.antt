@@ -33,6 +33,7 @@ use Rattle.round.specs.Layout.{joined}
 use Rattle.round.specs.Producer.{Material, MaterialSized, producerTests, producedClaims}
 use Rattle.round.proofs.Passed.{producer-exactly}
 use Rattle.round.proofs.Ranged.{each-exactly}
+use Rattle.register.specs.Register.{markOf}
 use Rattle.session.specs.Steps.{on}
 use Rattle.session.specs.Machine.{clear, state, reply}
 use Rattle.session_image.specs.Image.{imageLength}
@@ -119,10 +120,18 @@ size : length ballot ≡ 68
 unfolding words bytes
 size = refl
 
-countable : Countable sheet 1 (λ i. ballot) (λ k. material) (1 ∷ 0 ∷ 1 ∷ 1 ∷ []) (zeros 32)
+mark-zero : markOf ballot ≡ 0
+unfolding markOf number words bytes
+mark-zero = refl
+
+-- and the mark 7 is withdrawn, with which no ballot comes
+countable : Countable sheet 1 (λ i. ballot) (λ k. material) (1 ∷ 0 ∷ 1 ∷ 1 ∷ []) (zeros 32) 1 (λ i. 7)
 countable = record {
   some = omega arith;
   few = omega arith;
+  early-size = λ i l. omega arith;
+  early-marks = λ i j l h. absurd (omega arith);
+  apart = λ i j l h q. omega (arith, mark-zero, q);
   ballot-size = λ i l. rw ring size;
   ballot-range = λ i l. rw modulus (each-exactly 97 (vector (drop 4 ballot)) .0 in-range);
   marks = λ i j l h. absurd (omega arith);
@@ -152,6 +161,9 @@ some-election = record {
   material = λ k. material;
   claims = 1 ∷ 0 ∷ 1 ∷ 1 ∷ [];
   seed = zeros 32;
+  e = 1;
+  early = λ i. 7;
+  some-early = omega arith;
   starts = starts;
   countable = countable;
 }

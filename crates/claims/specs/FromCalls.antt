@@ -2,7 +2,7 @@
 -- writes no register: each call is lent the image and the register that the last one left. Assumes nothing.
 use mathlib.Core.Path.{_≡_}
 use mathlib.Core.List.{List, [], flatten}
-use Prim.Native.Nat.{ℕ}
+use Prim.Native.Nat.{ℕ, _<_}
 use lib.ListN.{length, getD, drop}
 use Rattle.codec.specs.Bytes.{Bytes}
 use Rattle.codec.specs.declared.Reply.the-variants.{Taken}
@@ -64,12 +64,12 @@ FromCalls = (sheet : Bytes) (start : Host) (before between later last : List Ste
     → hostReply
     (check round (inputsOf sheet (material .ballots) (wrote .claims) (wrote .head) (wrote .shares0) (wrote .shares1) (second-wrote .opening) (second-wrote .answers) scratch)) h ≡ Taken
 
--- and turns come, so that this is not empty: over ballots that can be admitted, and material over them for every round, the calls of an election (session_histories, specs/Elections.antt)
+-- and turns come, so that this is not empty: over marks that are withdrawn before any ballot, ballots that can be admitted, and material over them for every round, the calls of an election (session_histories, specs/Elections.antt)
 -- after a clear that is taken leave an image that says ended accepted
 abbrev pub TurnsCome : Type 0
-TurnsCome = (sheet : Bytes) (start : Host) (m : ℕ) (ballot : ℕ → Bytes) (material : ℕ → Material) (claims seed : Bytes) → Starts start (on sheet)
-    → Countable sheet m ballot material claims seed
-    → decode (hostRun (election sheet m ballot material claims seed) (hostAfter (clear (on sheet)) start) .image) .progress .phase ≡ phases.ended-accepted
+TurnsCome = (sheet : Bytes) (start : Host) (m : ℕ) (ballot : ℕ → Bytes) (material : ℕ → Material) (claims seed : Bytes) (e : ℕ) (early : ℕ → ℕ) → Starts start (on sheet)
+    → Countable sheet m ballot material claims seed e early
+    → decode (hostRun (election sheet m ballot material claims seed e early) (hostAfter (clear (on sheet)) start) .image) .progress .phase ≡ phases.ended-accepted
 
 -- and there is such an election, so that this claim is not empty either
 pub record SomeElection : Type 0 where
@@ -80,5 +80,8 @@ pub record SomeElection : Type 0 where
   pub material : ℕ → Material
   pub claims : Bytes
   pub seed : Bytes
+  pub e : ℕ
+  pub early : ℕ → ℕ
+  pub some-early : 0 < e
   pub starts : Starts start (on sheet)
-  pub countable : Countable sheet m ballot material claims seed
+  pub countable : Countable sheet m ballot material claims seed e early

@@ -22,6 +22,7 @@ pub record L1 : Type 0 where
   pub never-told-34 : (x : Step) (h : Host) → packed (hostReply x h) % 256 ≢ 34
   -- "The order for withdraw is now 31, 1, 33, 35"
   pub order : (mark : ℕ) (st : State) → refusalNumbers (tests (withdraw mark) st) ≡ 31 ∷ 1 ∷ 33 ∷ 35 ∷ []
-  -- with such withdrawals too the ballots admitted and not withdrawn are the batch, and a round of the producer's that is lodged is accepted at its turn
+  -- with such withdrawals too the ballots admitted and not withdrawn are the batch, and a round of the producer's that is lodged is accepted at its turn. That turns come in elections that begin
+  -- with withdrawals: `turns-come` and `some-election` of Demand3
   pub roll-is-batch : HostRollIsBatch
   pub honest-accepted : HostHonestAccepted

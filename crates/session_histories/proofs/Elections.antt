@@ -25,7 +25,7 @@ use Rattle.session_digests.specs.Draw.{drawnSide, drawnChallenges}
 use Rattle.session_digests.proofs.Range.{side-range, length-challenges, challenge-range}
 use Rattle.session_check.specs.Stored.{Inputs}
 use Rattle.session.specs.Steps.{on, claimedBy, committedBy, drawnBy, acceptedBy}
-use Rattle.session.specs.Machine.{Step, admit, close, claim, draw, reply}
+use Rattle.session.specs.Machine.{Step, admit, withdraw, close, claim, draw, reply}
 use Rattle.session_histories.specs.Runs.{historyAfter, Message, message}
 use Rattle.session_histories.specs.Internal.{Trace, OwnTrace, Begins, ownInitial, ownExtend, ownTrace}
 use Rattle.session_histories.specs.Conditions.{SheetTaken}
@@ -37,7 +37,8 @@ use Rattle.session_histories.proofs.Valid.{sheet-exactly}
 use Rattle.session_histories.proofs.Stages.{trace-append, trace-cons, trace-none, trace-next, extend-is, up-to, by-last, On, numbers, Closed, closed-next}
 use Rattle.session_histories.proofs.Gathered as gathering
 
-module _ (sheet : Bytes) (m : ℕ) (ballot : ℕ → Bytes) (material : ℕ → Material) (claims seed : Bytes) (c : Countable sheet m ballot material claims seed) (readable : Begins (on sheet)) where
+module _ (sheet : Bytes) (m : ℕ) (ballot : ℕ → Bytes) (material : ℕ → Material) (claims seed : Bytes) (e : ℕ) (early : ℕ → ℕ)
+    (c : Countable sheet m ballot material claims seed e early) (readable : Begins (on sheet)) where
   abbrev P : Parameters
   P = parametersOf sheet
 
@@ -53,18 +54,24 @@ module _ (sheet : Bytes) (m : ℕ) (ballot : ℕ → Bytes) (material : ℕ → 
   abbrev admitting : ℕ → Step
   admitting i = admit (ballot i)
 
-  -- admitted, and closed
+  abbrev withdrawing : ℕ → Step
+  withdrawing i = withdraw (early i)
+
+  -- withdrawn, admitted, and closed
+  abbrev warned : OwnTrace
+  warned = ownTrace (list e withdrawing) start
+
   abbrev gathered : OwnTrace
-  gathered = ownTrace (list m admitting) start
+  gathered = ownTrace (list m admitting) warned
 
   abbrev shut : OwnTrace
   shut = ownExtend close gathered
 
   shut-phase : shut .now .session .progress .phase ≡ 1
-  shut-phase = gathering.shut-phase sheet m ballot material claims seed c readable
+  shut-phase = gathering.shut-phase sheet m ballot material claims seed e early c readable
 
   shut-closed : Closed sheet m ballots shut
-  shut-closed = gathering.shut-closed sheet m ballot material claims seed c readable
+  shut-closed = gathering.shut-closed sheet m ballot material claims seed e early c readable
 
   shut-on : On sheet shut
   shut-on = shut-closed .on-sheet
@@ -278,11 +285,11 @@ module _ (sheet : Bytes) (m : ℕ) (ballot : ℕ → Bytes) (material : ℕ → 
 
   -- ---- all of it
 
-  whole : ownTrace (election sheet m ballot material claims seed) start ≡ ownTrace (list (k .rounds) checking) with-seed
+  whole : ownTrace (election sheet m ballot material claims seed e early) start ≡ ownTrace (list (k .rounds) checking) with-seed
   unfolding election
   whole =
-      trace-append (list m admitting) _ start ∙ trace-cons close _ gathered ∙ trace-cons (claim claims) _ shut ∙ trace-append (list (k .rounds) committing) _ with-claims
+      trace-append (list e withdrawing) _ start ∙ trace-append (list m admitting) _ warned ∙ trace-cons close _ gathered ∙ trace-cons (claim claims) _ shut ∙ trace-append (list (k .rounds) committing) _ with-claims
       ∙ trace-cons (draw seed) _ with-messages
 
-  pub ends-accepted : ownTrace (election sheet m ballot material claims seed) start .now .session .progress .phase ≡ 5
+  pub ends-accepted : ownTrace (election sheet m ballot material claims seed e early) start .now .session .progress .phase ≡ 5
   ends-accepted = ap (λ (t : OwnTrace). t .now .session .progress .phase) whole ∙ all-checked .done refl
