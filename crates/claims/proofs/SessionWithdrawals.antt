@@ -3,21 +3,18 @@ use mathlib.Core.Path.{_≡_, refl, sym, ap, subst, _∙_}
 use mathlib.Core.Logic.{_↔_, ⊎-elim, inr}
 use mathlib.Core.List.{List, [], _∷_, List·Memᴰ}
 use Prim.Native.Nat.{ℕ}
-use native.Mathlib.Omega.{arith}
 use Rattle.codec.specs.Bytes.{Bytes}
+use Rattle.codec.specs.Reply.{leaves}
 use Rattle.codec.specs.declared.Reply.the-variants.{Taken, Refused}
-use Rattle.codec.proofs.Replies.{not-taken}
 use Rattle.register.specs.Register.{standing, markOf, appended, withdrawn, withdrawnEarly}
 use Rattle.session.specs.declared.Session.{Session}
 use Rattle.session.specs.Steps.{enteredBy}
-use Rattle.session.specs.Machine.{Step, clear, admit, withdraw, close, claim, commit, draw, check, State, reply, after}
-use Rattle.session_check.specs.Stored.{Inputs}
+use Rattle.session.specs.Machine.{Step, clear, admit, withdraw, close, State, reply, after}
 use Rattle.session_histories.specs.Internal.{run}
 use Rattle.session_histories.specs.Conditions.{NoEntry, Presents}
 use Rattle.session_histories.specs.Claims.{ClosedWithout}
 use Rattle.session_histories.proofs.Stepped as steps
 use Rattle.session_histories.proofs.Stepped.{none, more, after-taken}
-use Rattle.session_histories.proofs.Ended.{refused-keeps}
 use Rattle.session_histories.proofs.ExactGathering.{withdrawn-exactly, next-standing, next-early}
 use Rattle.session_histories.proofs.Refusals.{withdraw-31, withdraw-1, withdraw-33, withdraw-35, admit-32, admit-33, admit-35, close-36}
 use Rattle.session_histories.proofs.Withdrawn as steps-withdrawn
@@ -95,20 +92,8 @@ abbrev Late : Bytes → State → Type 0
 Late ballot st = Presents (st .session) (st .register) ballot → (reply (admit ballot) st ≡ Refused 33 0) × (after (admit ballot) st ≡ st)
 
 pub late-kept : (ballot : Bytes) (st : State) → reply (admit ballot) st ≡ Refused 33 0 → after (admit ballot) st ≡ st
-late-kept ballot st e = refused-keeps st (admit ballot) (λ round x f. absurd (not-a-check f)) (λ t. not-taken 33 0 (sym e ∙ t))
-  where
-    number : Step → ℕ
-    number (clear b) = 0
-    number (admit ballot) = 1
-    number (withdraw mark) = 0
-    number close = 0
-    number (claim claims) = 0
-    number (commit k head shares0 shares1) = 0
-    number (draw seed) = 0
-    number (check k x) = 0
-
-    not-a-check : {round : ℕ} {x : Inputs} → admit ballot ≡ check round x → ⊥
-    not-a-check f = let z : _≡_ {A = ℕ} 1 0 = ap number f in omega arith
+unfolding after leaves
+late-kept ballot st e = rw e
 
 module _ (mark : ℕ) (w : WithdrawnSince sessionSteps mark) where
   abbrev begun : State

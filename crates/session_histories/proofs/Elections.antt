@@ -30,7 +30,7 @@ use Rattle.session_histories.specs.Runs.{historyAfter, Message, message}
 use Rattle.session_histories.specs.Internal.{Trace, OwnTrace, Begins, ownInitial, ownExtend, ownTrace}
 use Rattle.session_histories.specs.Conditions.{SheetTaken}
 use Rattle.session_histories.specs.Claims.{Produced, Turn}
-use Rattle.session_histories.specs.Elections.{roundsOf, batchBytes, Countable, inputsFor, commits, checks, election}
+use Rattle.session_histories.specs.Elections.{batchBytes, Countable, inputsFor, commits, checks, election}
 use Rattle.session_histories.proofs.Exact.{claimed-exactly, committed-exactly, drawn-exactly}
 use Rattle.session_histories.proofs.Honest.{reads, turn-accepted}
 use Rattle.session_histories.proofs.Valid.{sheet-exactly}
