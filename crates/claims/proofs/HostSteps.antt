@@ -17,7 +17,7 @@ use Rattle.session_histories.specs.Runs.{historyAfter, rollAfter, clears, Call,
 use Rattle.session_histories.specs.Internal.{Trace, OwnTrace, run, ownExtend, ownTrace, extendTrace, trace, NoClear, calls}
 use Rattle.session_histories.proofs.Stepped as steps
 use Rattle.session_histories.proofs.Stepped.{none, more}
-use Rattle.claims.specs.HostSteps.{afterAll, NoClearTaken, hostTrace, hostHistory, HostNoClear, hostRun, hostCalls, HostUncleared, hostRoll}
+use Rattle.claims.specs.HostSteps.{afterAll, NoClearTaken, rollOf, hostTrace, hostHistory, HostNoClear, hostRun, hostCalls, HostUncleared, hostRoll}
 use Rattle.claims.proofs.Typed.{typed-decode, typed-after}
 
 -- an image of the right length that is read as this session, whose fields are as their types say
@@ -106,7 +106,7 @@ keeps-run (x ∷ xs) h t k = keeps-run xs (hostAfter x h) (ownExtend x t) (over-
 
 -- the roll
 pub roll-over : (xs : List Step) (h : Host) (t : OwnTrace) → Keeps h (t .now) → hostRoll xs h (t .roll) ≡ ownTrace xs t .roll
-unfolding hostRoll ownTrace ownExtend
+unfolding rollOf ownTrace ownExtend
 roll-over [] h t k = refl
 roll-over (x ∷ xs) h t k =
     let e = over-step x h (t .now) k in

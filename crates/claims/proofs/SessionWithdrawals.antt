@@ -1,7 +1,7 @@
 -- The claims of specs/Withdrawals.antt over the steps of a session, from session_histories, proofs/Withdrawn.antt and proofs/Refusals.antt. Assumes nothing.
 use mathlib.Core.Path.{_≡_, refl, sym, ap, subst, _∙_}
-use mathlib.Core.Logic.{_↔_, ⊎-elim, inr}
-use mathlib.Core.List.{List, [], _∷_, List·Memᴰ}
+use mathlib.Core.Logic.{_↔_, _≢_, ⊎-elim, inr}
+use mathlib.Core.List.{List, [], _∷_, _++_, List·Memᴰ}
 use Prim.Native.Nat.{ℕ}
 use Rattle.codec.specs.Bytes.{Bytes}
 use Rattle.codec.specs.Reply.{leaves}
@@ -10,7 +10,8 @@ use Rattle.register.specs.Register.{standing, markOf, appended, withdrawn, with
 use Rattle.session.specs.declared.Session.{Session}
 use Rattle.session.specs.Steps.{enteredBy}
 use Rattle.session.specs.Machine.{Step, clear, admit, withdraw, close, State, reply, after}
-use Rattle.session_histories.specs.Internal.{run}
+use Rattle.session_histories.specs.Runs.{rollAfter}
+use Rattle.session_histories.specs.Internal.{run, OwnTrace, ownInitial, ownExtend, ownTrace}
 use Rattle.session_histories.specs.Conditions.{NoEntry, Presents}
 use Rattle.session_histories.specs.Claims.{ClosedWithout}
 use Rattle.session_histories.proofs.Stepped as steps
@@ -18,10 +19,10 @@ use Rattle.session_histories.proofs.Stepped.{none, more, after-taken}
 use Rattle.session_histories.proofs.ExactGathering.{withdrawn-exactly, next-standing, next-early}
 use Rattle.session_histories.proofs.Refusals.{withdraw-31, withdraw-1, withdraw-33, withdraw-35, admit-32, admit-33, admit-35, close-36}
 use Rattle.session_histories.proofs.Withdrawn as steps-withdrawn
-use Rattle.claims.specs.HostSteps.{sessionSteps, afterAll, NoClearTaken}
+use Rattle.session_histories.proofs.Reach.{clear-taken}
+use Rattle.session_histories.proofs.Roll.{off-the-roll}
+use Rattle.claims.specs.HostSteps.{sessionSteps, afterAll, NoClearTaken, rollOf}
 use Rattle.claims.specs.Withdrawals.{OneEntryMore, WithdrawExactly, WithdrawalLeaves, AdmitExactly, CloseExactly, WithdrawnSince, atWithdrawal, atEnd, WithdrawalClaims}
-use Rattle.claims.proofs.HostSteps.{uncleared}
-use Rattle.claims.proofs.HostClaims as hosts
 use Rattle.claims.proofs.Replies.{step-not-34}
 
 -- ---- one step of a session
@@ -80,6 +81,13 @@ unfolding NoClearTaken
 uncleared-run [] st u = none
 uncleared-run (x ∷ xs) st u = more (u .0) (uncleared-run xs (after x st) (u .1))
 
+-- the roll of a session's steps, from a clear that is taken
+own-roll : (xs : List Step) (st : State) (t : OwnTrace) → st ≡ t .now → rollOf sessionSteps xs st (t .roll) ≡ ownTrace xs t .roll
+unfolding rollOf ownTrace ownExtend
+own-roll [] st t e = refl
+own-roll (x ∷ xs) st t e =
+    ap (λ (z : State). rollOf sessionSteps xs (after x z) (leaves (reply x z) (rollAfter x (t .roll)) (t .roll))) e ∙ own-roll xs (after x (t .now)) (ownExtend x t) refl
+
 -- the entry of a mark that had none where s was, with this register, does not stand where t is
 abbrev pub NotStanding : (mark : ℕ) → Session → Bytes → Session → Bytes → Type 0
 NotStanding mark s reg t reg' = NoEntry reg mark (s .progress .used) → List·Memᴰ (s .progress .used) (standing reg' (t .progress .used)) → ⊥
@@ -122,6 +130,12 @@ module _ (mark : ℕ) (w : WithdrawnSince sessionSteps mark) where
       subst (λ (st : State). reply close st ≡ Taken → ClosedWithout mark (st .session .progress .used) (st .register) (after close st .session)) (sym at-last)
       (steps-withdrawn.withdrawn-stays-out (w .start) (w .beginning) (w .before) (w .since) mark (w .mark-size) (w .clear-taken) taken still)
 
+  session-off : (ballot : Bytes) → List·Memᴰ ballot (rollOf sessionSteps (w .before ++ (withdraw mark ∷ w .since)) begun []) → markOf ballot ≢ mark
+  unfolding ownInitial
+  session-off ballot m =
+      off-the-roll (w .start) (w .beginning) (w .before) (w .since) mark (w .mark-size) (w .clear-taken) taken still ballot
+      (subst (List·Memᴰ ballot) (own-roll (w .before ++ (withdraw mark ∷ w .since)) begun (ownInitial (w .beginning)) (clear-taken (w .start) (w .beginning) (w .clear-taken) .1)) m)
+
   session-late : (ballot : Bytes) → markOf ballot ≡ mark → Late ballot (atEnd sessionSteps w)
   session-late ballot m =
       subst (Late ballot) (sym at-last) (λ p.
@@ -141,6 +155,7 @@ over-sessions = record {
   admit-exactly = session-admit-exactly;
   close-exactly = session-close-exactly;
   stays-out = session-stays-out;
+  off-the-roll = session-off;
   late-refused = λ ballot w p.
       let l = session-late (markOf ballot) w ballot refl p in
       (l .0, ap (λ (st : State). st .session) (l .1), ap (λ (st : State). st .register) (l .1));

@@ -2,6 +2,7 @@
 use mathlib.Core.Path.{_≡_, refl, sym, ap, subst, _∙_}
 use mathlib.Core.Logic.{_↔_, _≢_, ⊎-elim, inl, inr}
 use mathlib.Core.Bool.{Bool, true, false, cond}
+use mathlib.Core.List.{[], _∷_, _++_, List·Memᴰ}
 use Prim.Native.Nat.{ℕ, _%_}
 use native.Mathlib.Omega.{arith}
 use lib.Dec.{eqb}
@@ -15,14 +16,15 @@ use Rattle.session.specs.declared.Session.{Session}
 use Rattle.session.specs.Machine.{Step, clear, admit, withdraw, close, State, state, reply, after}
 use Rattle.session_image.specs.Image.{imageLength, decode}
 use Rattle.session_image.specs.Images.{Host, hostReply, hostAfter}
-use Rattle.session_histories.specs.Internal.{run}
+use Rattle.session_histories.specs.Internal.{run, ownInitial}
 use Rattle.session_histories.specs.Conditions.{Presents}
 use Rattle.session_histories.specs.Claims.{ClosedWithout}
 use Rattle.session_histories.proofs.Stepped as steps
 use Rattle.session_histories.proofs.Withdrawn as steps-withdrawn
-use Rattle.claims.specs.HostSteps.{stepCalls}
+use Rattle.session_histories.proofs.Roll.{off-the-roll}
+use Rattle.claims.specs.HostSteps.{stepCalls, hostRoll}
 use Rattle.claims.specs.Withdrawals.{OneEntryMore, WithdrawExactly, WithdrawalLeaves, AdmitExactly, CloseExactly, Never34, WithdrawnSince, atWithdrawal, atEnd, WithdrawalClaims}
-use Rattle.claims.proofs.HostSteps.{bytes-hold, Keeps, over-step, over-run, uncleared}
+use Rattle.claims.proofs.HostSteps.{bytes-hold, Keeps, over-step, over-run, roll-over, uncleared}
 use Rattle.claims.proofs.HostClaims as hosts
 use Rattle.claims.proofs.Images.{lent-exactly, lent-1, not-1, over-answer}
 use Rattle.claims.proofs.Replies.{step-not-34, host-told}
@@ -124,6 +126,13 @@ module _ (mark : ℕ) (w : WithdrawnSince stepCalls mark) where
       rw (c .1 .image .session, last-keeps .image .session, last-keeps .register)
       (steps-withdrawn.withdrawn-stays-out from (w .beginning) (w .before) (w .since) mark (w .mark-size) begins withdrawn-there uncleared-there (sym (c .0) ∙ d))
 
+  host-off : (ballot : Bytes) → List·Memᴰ ballot (hostRoll (w .before ++ (withdraw mark ∷ w .since)) (hostAfter (clear (w .beginning)) (w .start)) []) → markOf ballot ≢ mark
+  unfolding ownInitial
+  host-off ballot m =
+      off-the-roll from (w .beginning) (w .before) (w .since) mark (w .mark-size) begins withdrawn-there uncleared-there ballot
+      (subst (List·Memᴰ ballot) (roll-over (w .before ++ (withdraw mark ∷ w .since)) (hostAfter (clear (w .beginning)) (w .start)) (ownInitial (w .beginning))
+      (hosts.keeps-initial (w .start) (w .beginning) (w .clear-taken))) m)
+
   host-late : (ballot : Bytes) → markOf ballot ≡ mark → Presents (decode (last .image)) (last .register) ballot
       → (hostReply (admit ballot) last ≡ Refused 33 0) × (decode (hostAfter (admit ballot) last .image) ≡ decode (last .image)) × (hostAfter (admit ballot) last .register ≡ last .register)
   host-late ballot m p =
@@ -157,6 +166,7 @@ over-calls = record {
   admit-exactly = call-admit-exactly;
   close-exactly = call-close-exactly;
   stays-out = host-stays-out;
+  off-the-roll = host-off;
   late-refused = λ ballot w. host-late (markOf ballot) w ballot refl;
   early-never-stands = host-early;
 }

@@ -71,6 +71,11 @@ unfoldable pub NoClearTaken : (M : Stepping) → List Step → M .Kept → Type 
 NoClearTaken M [] k = Unit
 NoClearTaken M (x ∷ xs) k = (clears x (M .answer x k) ≡ false) × NoClearTaken M xs (M .left x k)
 
+-- the roll, which is the ballots admitted and not withdrawn
+unfoldable pub rollOf : (M : Stepping) → List Step → M .Kept → List Bytes → List Bytes
+rollOf M [] k roll = roll
+rollOf M (x ∷ xs) k roll = rollOf M xs (M .left x k) (leaves (M .answer x k) (rollAfter x roll) roll)
+
 -- ---- each call is lent the image that the last one left, and any register
 
 unfoldable pub hostTrace : List Call → (image : Bytes) → Bytes
@@ -104,10 +109,8 @@ hostCalls (x ∷ xs) h = call x (h .register) ∷ hostCalls xs (hostAfter x h)
 abbrev pub HostUncleared : List Step → Host → Type 0
 HostUncleared = NoClearTaken stepCalls
 
--- the roll, which is the ballots admitted and not withdrawn
-unfoldable pub hostRoll : List Step → Host → List Bytes → List Bytes
-hostRoll [] h roll = roll
-hostRoll (x ∷ xs) h roll = hostRoll xs (hostAfter x h) (leaves (hostReply x h) (rollAfter x roll) roll)
+abbrev pub hostRoll : List Step → Host → List Bytes → List Bytes
+hostRoll = rollOf stepCalls
 
 -- ---- from a clear that is taken
 

@@ -13,7 +13,7 @@ use Rattle.session.specs.Steps.{Beginning}
 use Rattle.session.specs.Machine.{Step, clear, admit, withdraw, close}
 use Rattle.session_histories.specs.Conditions.{ValidSession, Gathers, NoEntry, MarkStands, MarkWithdrawn, Presents, Withdraws}
 use Rattle.session_histories.specs.Claims.{ClosedWithout}
-use Rattle.claims.specs.HostSteps.{Stepping, afterAll, NoClearTaken}
+use Rattle.claims.specs.HostSteps.{Stepping, afterAll, NoClearTaken, rollOf}
 
 -- one entry more is used, and everything else is as it was
 pub record OneEntryMore (before after : Session) : Type 0 where
@@ -93,6 +93,11 @@ module _ (M : Stepping) where
   StaysOut = (mark : ℕ) (w : WithdrawnSince mark) → M .answer close (atEnd w) ≡ Taken
       → ClosedWithout mark (M .session (atEnd w) .progress .used) (M .register (atEnd w)) (M .session (M .left close (atEnd w)))
 
+  -- and said of ballots: none on the roll, which is the batch, has the mark
+  abbrev pub OffTheRoll : Type 0
+  OffTheRoll = (mark : ℕ) (w : WithdrawnSince mark) (ballot : Bytes)
+      → List·Memᴰ ballot (rollOf M (w .before ++ (withdraw mark ∷ w .since)) (M .left (clear (w .beginning)) (w .start)) []) → markOf ballot ≢ mark
+
   -- "the late ballot is refused 33": one with the mark that meets none of 31, 1, 5. It changes nothing
   abbrev pub LateRefused : Type 0
   LateRefused = (ballot : Bytes) (w : WithdrawnSince (markOf ballot)) → Presents (M .session (atEnd w)) (M .register (atEnd w)) ballot
@@ -112,5 +117,6 @@ module _ (M : Stepping) where
     pub admit-exactly : (k : M .Kept) (ballot : Bytes) → AdmitExactly k ballot
     pub close-exactly : (k : M .Kept) → CloseExactly k
     pub stays-out : StaysOut
+    pub off-the-roll : OffTheRoll
     pub late-refused : LateRefused
     pub early-never-stands : EarlyNeverStands

@@ -1,9 +1,9 @@
 -- Without host writing, the ballots admitted and not withdrawn are the batch that close found standing. Assumes nothing.
-use mathlib.Core.Path.{_≡_, refl, sym, ap, _∙_}
+use mathlib.Core.Path.{_≡_, refl, sym, ap, subst, _∙_}
 use mathlib.Core.Logic.{_≢_, _⊎_, inl, inr}
 use mathlib.Core.Bool.{Bool, true, false, cond}
 use mathlib.Core.List.{List, [], _∷_, _++_, map, map-append, append-nil, List·Memᴰ, List·Memᴰ·append-cases, List·Memᴰ·eq-of-singleton, List·Memᴰ·not-nil}
-use Prim.Native.Nat.{ℕ, zero, suc, _+_, _<_}
+use Prim.Native.Nat.{ℕ, zero, suc, _+_, _^_, _<_}
 use native.Mathlib.Omega.{arith}
 use native.Mathlib.Numerals.{add-one}
 use native.Mathlib.Decide.{ℕ-discrete}
@@ -19,15 +19,16 @@ use Rattle.register.specs.Register.{markAt, stateAt, digestAt, standing, standi
 use Rattle.register.proofs.Entries.{Appended, admitted-entry, early-entry, withdrawn-marks, withdrawn-digests, withdrawn-state, withdrawn-states}
 use Rattle.session_digests.proofs.Laws.{Long, ballotDigests-flatten}
 use Rattle.session.specs.declared.Session.{Session}
-use Rattle.session.specs.Steps.{cleared, enteredBy, closedBy, claimedBy, committedBy, drawnBy, acceptedBy, refusedBy}
+use Rattle.session.specs.Steps.{Beginning, cleared, enteredBy, closedBy, claimedBy, committedBy, drawnBy, acceptedBy, refusedBy}
 use Rattle.session.specs.Machine.{Step, clear, admit, withdraw, close, claim, commit, draw, check, State, state, next, reply, after}
 use Rattle.session_histories.specs.Runs.{History, historyAfter, without, rollAfter}
-use Rattle.session_histories.specs.Internal.{OwnTrace, Trace, initialTrace, ownInitial, ownExtend, ownTrace, extendTrace, trace, calls, RollIsBatch, OwnRegister}
+use Rattle.session_histories.specs.Internal.{run, OwnTrace, Trace, initialTrace, ownInitial, ownExtend, ownTrace, extendTrace, trace, calls, RollIsBatch, OwnRegister}
 use Rattle.session_histories.specs.Conditions.{NoEntry, MarkStands, MayEnter, Admits, Withdraws, Claims, Draws}
-use Rattle.session_histories.proofs.Stepped.{taken-turn, stepped-all}
+use Rattle.session_histories.proofs.Stepped.{Uncleared, taken-turn, stepped-all}
 use Rattle.session_histories.proofs.ExactGathering.{admitted-exactly, withdrawn-exactly, withdrawal}
 use Rattle.session_histories.proofs.Exact.{claimed-exactly, drawn-exactly}
-use Rattle.session_histories.proofs.Withdrawn.{OnlyFirst, only-first-none, no-other, only-first-step}
+use Rattle.session_histories.proofs.Withdrawn.{OnlyFirst, only-first-none, no-other, only-first-step, none-stands}
+use Rattle.session_histories.proofs.Reach.{clear-taken}
 
 -- the first n entries are those of the ballots, in order, and of others that do not stand
 data Rows (reg : Bytes) : ℕ → List Bytes → Type 0 where
@@ -222,12 +223,57 @@ each-long size (c ∷ cs) h b m = go (List·Memᴰ·append-cases (c ∷ []) m) (
     go (inl n) rest = let e = List·Memᴰ·eq-of-singleton n in rw e (h .0)
     go (inr n) rest = rest n
 
-pub roll-is-batch : RollIsBatch
+own-kept : (b : Beginning) (steps : List Step) → let t = ownTrace steps (ownInitial b) in Own (t .now) (t .history) (t .roll)
 unfolding ownInitial cleared
+own-kept b steps = own-ownTrace steps (ownInitial b) (only-first-none _) (record { rows = start; long = tt; noted = λ q. absurd (omega arith) })
+
+pub roll-is-batch : RollIsBatch
 roll-is-batch b steps l =
     let t = ownTrace steps (ownInitial b) in
-    let o = own-ownTrace steps (ownInitial b) (only-first-none _) (record { rows = start; long = tt; noted = λ q. absurd (omega arith) }) in
+    let o = own-kept b steps in
     (o .noted l, each-long _ (t .roll) (o .long), rw (o .noted l, length-map (t .roll) sha3) (ballotDigests-flatten _ (t .roll) (o .long)))
+
+-- ---- no ballot of the roll has a withdrawn mark
+
+-- a ballot of the roll has an entry that stands, with its mark
+pub record Entered (y reg : Bytes) (n : ℕ) : Type 0 where
+  pub at : ℕ
+  pub within : at < n
+  pub up-there : stateAt reg at ≡ 1
+  pub marked : markAt reg at ≡ markOf y
+
+rows-entered : {reg : Bytes} {n : ℕ} {bs : List Bytes} (y : Bytes) → Rows reg n bs → List·Memᴰ y bs → Entered y reg n
+rows-entered y start m = absurd (List·Memᴰ·not-nil m)
+rows-entered {reg} y (up {n = n} {bs = bs} b r s k d) m = go (List·Memᴰ·append-cases bs m) (λ l. rows-entered y r l)
+  where
+    go : List·Memᴰ y bs ⊎ List·Memᴰ y (b ∷ []) → (List·Memᴰ y bs → Entered y reg n) → Entered y reg (suc n)
+    go (inl l) rest = let e = rest l in let w = e .within in record { at = e .at; within = omega arith; up-there = e .up-there; marked = e .marked }
+    go (inr l) rest = record { at = n; within = omega arith; up-there = s; marked = k ∙ ap markOf (sym (List·Memᴰ·eq-of-singleton l)) }
+rows-entered y (down r s) m = let e = rows-entered y r m in let w = e .within in record { at = e .at; within = omega arith; up-there = e .up-there; marked = e .marked }
+
+own-now : (xs : List Step) (t : OwnTrace) → ownTrace xs t .now ≡ run xs (t .now)
+unfolding ownTrace ownExtend run
+own-now [] t = refl
+own-now (x ∷ xs) t = own-now xs (ownExtend x t)
+
+run-append : (xs ys : List Step) (st : State) → run (xs ++ ys) st ≡ run ys (run xs st)
+unfolding run
+run-append [] ys st = refl
+run-append (x ∷ xs) ys st = run-append xs ys (after x st)
+
+-- run any steps after a clear taken, then a withdrawal that is taken, then any steps among which no clear is taken
+pub off-the-roll : (from : State) (b : Beginning) (before since : List Step) (mark : ℕ) → mark < 2 ^ 32 → reply (clear b) from ≡ Taken
+    → reply (withdraw mark) (run before (after (clear b) from)) ≡ Taken → Uncleared since (after (withdraw mark) (run before (after (clear b) from)))
+    → (y : Bytes) → List·Memᴰ y (ownTrace (before ++ (withdraw mark ∷ since)) (ownInitial b) .roll) → markOf y ≢ mark
+off-the-roll from b before since mark low c e u y m same =
+    let steps = before ++ (withdraw mark ∷ since) in
+    let rows = own-kept b steps .rows in
+    let r = rows-entered y rows m in
+    let last = run since (after (withdraw mark) (run before (after (clear b) from))) in
+    let now : ownTrace steps (ownInitial b) .now ≡ last =
+    own-now steps (ownInitial b) ∙ ap (run steps) (sym (clear-taken from b c .1)) ∙ run-append before (withdraw mark ∷ since) (after (clear b) from) ∙ (unfold run in refl) in
+    let there : Entered y (last .register) (last .session .progress .used) = subst (λ (st : State). Entered y (st .register) (st .session .progress .used)) now r in
+    none-stands from b before since mark low c e u (there .at) (there .within) (there .marked ∙ same) (there .up-there)
 
 -- ---- such a list is one of those in which each step is lent any register
 

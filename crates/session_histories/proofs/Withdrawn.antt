@@ -260,6 +260,10 @@ module _ (start : State) (b : Beginning) (before between : List Step) (mark : �
         let first = gone-after found-by mark low (only-first-run before (after (clear b) start) (only-first-clear start b c)) e in
         (first .0, gone-run mark (first .0) u (first .1))
 
+    -- no entry that has it stands
+    pub none-stands : (i : ℕ) → i < last .session .progress .used → markAt (last .register) i ≡ mark → stateAt (last .register) i ≢ 1
+    none-stands = gone .1 .down
+
     -- what a close taken then leaves is a batch without that mark
     pub withdrawn-stays-out : reply close last ≡ Taken → ClosedWithout mark (last .session .progress .used) (last .register) (after close last .session)
     withdrawn-stays-out d = closed-without mark last d (out last mark (gone .0) (gone .1))
