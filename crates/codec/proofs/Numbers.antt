@@ -2,9 +2,10 @@
 use mathlib.Core.Path.{_≡_, refl, sym, ap, ap₂, _∙_}
 use mathlib.Core.List.{List, [], _∷_, _++_, append-nil, append-assoc}
 use Prim.Native.Nat.{ℕ, zero, suc, _+_, _*_, _/_, _%_, _^_, _≤_, _<_}
-use native.Mathlib.Nat.{pow-suc, pow-succ', one-le-pow, zero-add, suc-add, div-one, div-div-eq-div-mul}
+use native.Mathlib.Nat.{add-comm, mul-comm, pow-suc, pow-succ', one-le-pow, zero-add, suc-add, div-one, div-div-eq-div-mul}
 use native.Mathlib.Omega.{arith}
 use lib.Arith.{mod-mul}
+use lib.Bits.{bitOr, or-shifted-r}
 use lib.ListN.{length, getD, length-append}
 use lib.Seq.{drop-cons}
 use Rattle.codec.specs.Bytes.{Bytes, Octets, bytes, words, number, part, put}
@@ -73,6 +74,42 @@ number-append (b ∷ s) t = rw (number-append s t, pow-suc) (omega arith)
 -- the number in k + m bytes, by the number in k bytes and that in the m bytes after them
 pub number-join : (s : Bytes) (at k m : ℕ) → at + k ≤ length s → number (part s at (k + m)) ≡ number (part s at k) + 256 ^ k * number (part s (at + k) m)
 number-join s at k m h = rw (part-append s at k m, number-append (part s at k) (part s (at + k) m), length-part s at k h)
+
+-- a number below 2^k with another above its bits
+or-above : (k a b : ℕ) → a < 2 ^ k → bitOr a (b * 2 ^ k) ≡ a + 2 ^ k * b
+or-above k a b h = or-shifted-r b k a h ∙ add-comm (b * 2 ^ k) a ∙ ap (λ (n : ℕ). a + n) (mul-comm b (2 ^ k))
+
+-- eight bytes joined by their bits are the number that they hold
+pub number-eight : (s : Bytes) (at : ℕ) → at + 8 ≤ length s → {a b c d e f g h : ℕ}
+    → (a ≡ getD s at 0) × (a < 256) → (b ≡ getD s (at + 1) 0) × (b < 256) → (c ≡ getD s (at + 2) 0) × (c < 256) → (d ≡ getD s (at + 3) 0) × (d < 256)
+    → (e ≡ getD s (at + 4) 0) × (e < 256) → (f ≡ getD s (at + 5) 0) × (f < 256) → (g ≡ getD s (at + 6) 0) × (g < 256) → (h ≡ getD s (at + 7) 0) × (h < 256)
+    → bitOr (bitOr (bitOr (bitOr (bitOr (bitOr (bitOr a (b * 256)) (c * 65536)) (d * 16777216)) (e * 4294967296)) (f * 1099511627776)) (g * 281474976710656)) (h * 72057594037927936) ≡ number (part s at 8)
+number-eight s at l {a} {b} {c} {d} {e} {f} {g} {h} ka kb kc kd ke kf kg kh =
+    let v1 : ℕ = a + 256 * b in
+    let v2 : ℕ = v1 + 65536 * c in
+    let v3 : ℕ = v2 + 16777216 * d in
+    let v4 : ℕ = v3 + 4294967296 * e in
+    let v5 : ℕ = v4 + 1099511627776 * f in
+    let v6 : ℕ = v5 + 281474976710656 * g in
+    rw (or-above 8 a b (ka .1), or-above 16 v1 c (omega arith), or-above 24 v2 d (omega arith), or-above 32 v3 e (omega arith), or-above 40 v4 f (omega arith), or-above 48 v5 g (omega arith), or-above 56 v6 h (omega arith))
+    (omega (
+      arith,
+      number-join s at 1 1 (omega arith),
+      number-join s at 2 1 (omega arith),
+      number-join s at 3 1 (omega arith),
+      number-join s at 4 1 (omega arith),
+      number-join s at 5 1 (omega arith),
+      number-join s at 6 1 (omega arith),
+      number-join s at 7 1 (omega arith),
+      number-one s at (omega arith),
+      number-one s (at + 1) (omega arith),
+      number-one s (at + 2) (omega arith),
+      number-one s (at + 3) (omega arith),
+      number-one s (at + 4) (omega arith),
+      number-one s (at + 5) (omega arith),
+      number-one s (at + 6) (omega arith),
+      number-one s (at + 7) (omega arith),
+    ))
 
 pub bytes-append : (j k v : ℕ) → bytes j (v % 256 ^ j) ++ bytes k (v / 256 ^ j) ≡ bytes (j + k) v
 unfolding bytes

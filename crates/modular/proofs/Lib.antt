@@ -5,3 +5,4 @@ pub mod Near
 pub mod Digits
 pub mod SignedNumbers
 pub mod WholeNumbers
+pub mod Correction

@@ -6,15 +6,24 @@ ghost use Rattle.modular.specs.Modulo.{centre, remainder};
 ghost use Rattle.modular.specs.Division.{multiplier, divide};
 ghost use Rattle.modular.specs.Internal.{Coprime};
 
-// a + b. Whether q is subtracted is computed, as a branch on it is mispredicted half the time: s + 2^62 - q is at least 2^62 where s
-// is at least q, and only there, so that `over` is 1 there and else 0. What is divided by 2^62 is shifted.
+// x modulo q, of an x below 2q. Whether q is subtracted is computed, as a branch on it is mispredicted half the time: x + 2^62 - q is at
+// least 2^62 where x is at least q, and only there, so that `over` is 1 there and else 0, and the mask has all bits or none. What is
+// divided by 2^62 is shifted, and a mask is cheaper than a product by 0 or 1 where several numbers are corrected at a time.
+pub fn corrected(x: u64, q: u64) -> u64
+    requires { ⌜ (0 < q) × (q < 2 ^ 56) × (x < q + q) ⌝ }
+    ensures { λ r. ⌜ (r ≡ x % q) × (r < q) ⌝ }
+{
+    let over = (x + 4611686018427387904 - q) / 4611686018427387904;
+    let mask = std::num::wrapping_sub_u64(0, over);
+    x - (mask & q)
+}
+
+// a + b.
 pub fn add(a: u64, b: u64, q: u64) -> u64
     requires { ⌜ (a < q) × (b < q) × (q < 2 ^ 56) ⌝ }
     ensures { λ r. ⌜ r ≡ (a + b) % q ⌝ }
 {
-    let s = a + b;
-    let over = (s + 4611686018427387904 - q) / 4611686018427387904;
-    s - over * q
+    corrected(a + b, q)
 }
 
 // a - b.
@@ -22,7 +31,7 @@ pub fn subtract(a: u64, b: u64, q: u64) -> u64
     requires { ⌜ (a < q) × (b < q) × (q < 2 ^ 56) ⌝ }
     ensures { λ r. ⌜ r ≡ (a + (q - 1) * b) % q ⌝ }
 {
-    (a + (q - b)) % q
+    corrected(a + (q - b), q)
 }
 
 // -a.
@@ -30,7 +39,7 @@ pub fn negate(a: u64, q: u64) -> u64
     requires { ⌜ (a < q) × (q < 2 ^ 56) ⌝ }
     ensures { λ r. ⌜ r ≡ (q - 1) * a % q ⌝ }
 {
-    (q - a) % q
+    corrected(q - a, q)
 }
 
 // x * 2^28, by steps that fit 64 bits.
