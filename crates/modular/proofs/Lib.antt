@@ -6,3 +6,4 @@ pub mod Digits
 pub mod SignedNumbers
 pub mod WholeNumbers
 pub mod Correction
+pub mod Powers

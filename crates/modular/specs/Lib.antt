@@ -1,3 +1,4 @@
 pub mod Modulo
 pub mod Division
+pub mod Roots
 pub mod Internal

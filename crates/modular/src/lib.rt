@@ -3,6 +3,7 @@ ghost use mathlib.Core.Path.{_≡_};
 ghost use Prim.Native.Nat.{_+_, _-_, _*_, _%_, _^_, _<_, _≤_};
 ghost use lib.IntN.{natAbs};
 ghost use Rattle.modular.specs.Modulo.{centre, remainder};
+ghost use Rattle.modular.specs.Roots.{isRoot};
 ghost use Rattle.modular.specs.Division.{multiplier, divide};
 ghost use Rattle.modular.specs.Internal.{Coprime};
 
@@ -73,6 +74,41 @@ pub fn multiply(a: u64, b: u64, q: u64) -> u64
     let b0 = b % 268435456;
     let b1 = b / 268435456;
     from_digits(a0 * b0, a0 * b1 + a1 * b0, a1 * b1, 0, q)
+}
+
+// r, or r * b where the lowest bit of e is set.
+fn with_bit(r: u64, b: u64, e: u64, q: u64) -> u64
+    requires { ⌜ (r < q) × (b < q) × (q < 2 ^ 56) ⌝ }
+    ensures { λ x. ⌜ (x ≡ r * b ^ (e % 2) % q) × (x < q) ⌝ }
+{
+    if e % 2 == 1 { multiply(r, b, q) } else { r }
+}
+
+// w^e, by squaring: r * b^left is w^e all the time.
+pub fn power(w: u64, e: u64, q: u64) -> u64
+    requires { ⌜ (1 < q) × (w < q) × (q < 2 ^ 56) ⌝ }
+    ensures { λ r. ⌜ (r ≡ w ^ e % q) × (r < q) ⌝ }
+{
+    let mut r: u64 = 1;
+    let mut b = w;
+    let mut left = e;
+    while 0 < left {
+        r = with_bit(r, b, left, q);
+        b = multiply(b, b, q);
+        left = left / 2;
+    }
+    r
+}
+
+// Whether w is a root of X^n + 1 modulo q.
+pub fn is_root(w: u64, n: u64, q: u64) -> bool
+    requires { ⌜ (1 < q) × (q < 2 ^ 56) ⌝ }
+    ensures { λ r. ⌜ r ≡ isRoot q n w ⌝ }
+{
+    if q <= w {
+        return false;
+    }
+    power(w, n, q) == q - 1
 }
 
 // The centred form.
