@@ -1,16 +1,14 @@
 -- The test of a root is that of its two conditions. Assumes nothing.
 use mathlib.Core.Path.{_≡_, sym, _∙_}
-use mathlib.Core.Bool.{true, _&&_}
+use mathlib.Core.Bool.{true}
 use Prim.Native.Nat.{ℕ, _-_, _%_, _^_, _<_}
 use native.Mathlib.Nat.{mod-eq-of-lt}
 use native.Mathlib.Omega.{arith}
 use borrow.Author.Tests.{ltb-true, lt-ltb, eqb-true, eq-eqb}
 use lib.Dec.{eqb, ltb}
+use Rattle.codec.proofs.Laws.{both}
 use Rattle.modular.specs.Modulo.{Same}
 use Rattle.modular.specs.Roots.{Root, isRoot}
-
-both : (a b : mathlib.Core.Bool.Bool) → (a && b) ≡ true → (a ≡ true) × (b ≡ true)
-both true b e = (mathlib.Core.Path.refl, e)
 
 -- -1 is below q
 last : (q : ℕ) → 0 < q → (q - 1) % q ≡ q - 1

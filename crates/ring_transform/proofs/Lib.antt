@@ -1,0 +1,6 @@
+pub mod Vectors
+pub mod Convolve
+pub mod Inverse
+pub mod Values
+pub mod Whole
+pub mod Roots

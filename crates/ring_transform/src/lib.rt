@@ -1,0 +1,2 @@
+// Products by transforms.
+pub fn nothing() {}
