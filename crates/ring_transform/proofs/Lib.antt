@@ -4,3 +4,5 @@ pub mod Inverse
 pub mod Values
 pub mod Whole
 pub mod Roots
+pub mod Places
+pub mod Pairs

@@ -84,6 +84,7 @@ pub record Transformable (q N w : ℕ) : Type 0 where
   pub modulus-low : 1 < q
   pub modulus-high : q < 2 ^ 56
   pub odd : q % 2 ≡ 1
+  pub ring-low : 2 ≤ N
   pub ring-high : N ≤ 2048
   pub ring-power : (j : ℕ) × (N ≡ 2 ^ j)
   pub root : Root q N w
