@@ -6,3 +6,5 @@ pub mod Whole
 pub mod Roots
 pub mod Places
 pub mod Pairs
+pub mod Steps
+pub mod Nodes

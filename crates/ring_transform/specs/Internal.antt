@@ -7,6 +7,7 @@ use lib.ListN.{length, getD, take, drop}
 use Rattle.codec.specs.Bytes.{Bytes}
 use Rattle.codec.specs.Lists.{list}
 use Rattle.modular.specs.Roots.{Root}
+use Rattle.montgomery.specs.Internal.{Modulus}
 use Rattle.ring.specs.Slots.{slot}
 
 -- ---- lists of numbers
@@ -78,6 +79,17 @@ untransform q w N (suc l) e s =
 pub record Powers (q w n : ℕ) (p : List ℕ) : Type 0 where
   pub long : n ≤ length p
   pub each : (k : ℕ) → k < n → getD p k 0 ≡ w ^ k * 72057594037927936 % q
+
+-- what the transform modulo X^m - w^e of the m numbers at a place of scratch asks, and its inverse: m is 2^l, and the table goes up to w^n
+pub record Node (q i w n m l e : ℕ) (p : List ℕ) (scratch : Bytes) (at : ℕ) : Type 0 where
+  pub modulus : Modulus q i
+  pub table : Powers q w (n + 1) p
+  pub ring-high : n ≤ 2048
+  pub power : e < n + n
+  pub deep : 1 ≤ l
+  pub size : m ≡ twoTo l
+  pub fits : at + 8 * m ≤ length scratch
+  pub below : Vec q m (numbers m scratch at)
 
 -- a modulus, a ring size and a root by which a product is made
 pub record Transformable (q N w : ℕ) : Type 0 where

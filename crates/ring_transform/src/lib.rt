@@ -8,7 +8,7 @@ ghost use Rattle.montgomery.specs.Internal.{Modulus, unit};
 ghost use Rattle.ring.specs.Poly.{mul, Below};
 ghost use Rattle.ring.specs.Slots.{poly, slot, encode};
 ghost use Rattle.ring.specs.Internal.{store, Slots};
-ghost use Rattle.ring_transform.specs.Internal.{Vec, numbers, twoTo, level, united, Powers, Transformable};
+ghost use Rattle.ring_transform.specs.Internal.{Vec, numbers, twoTo, level, united, Powers, Node, Transformable};
 ghost use Rattle.ring_transform.specs.Internal.{transform as transformed, untransform as untransformed};
 
 // ---- the table of powers
@@ -74,8 +74,7 @@ fn transform(
     i: u64,
     q: u64,
 )
-    requires { ⌜ Modulus q i × Powers q w (n + 1) (now p) × (e < n + n) × (n ≤ 2048) × (1 ≤ l) × (m ≡ twoTo l)
-        × (at + 8 * m ≤ length (now work)) × Vec q m (numbers m (now work) at) ⌝ }
+    requires { ⌜ Node q i w n m l e (now p) (now work) at ⌝ }
     ensures { λ _. ⌜ now (work .exit) ≡ put (now (work .entry)) at (words (transformed q w n l e (numbers m (now (work .entry)) at))) ⌝ }
 {
     let h = m / 2;
@@ -122,8 +121,7 @@ fn untransform(
     i: u64,
     q: u64,
 )
-    requires { ⌜ Modulus q i × Powers q w (n + 1) (now p) × (e < n + n) × (n ≤ 2048) × (1 ≤ l) × (m ≡ twoTo l)
-        × (at + 8 * m ≤ length (now work)) × Vec q m (numbers m (now work) at) ⌝ }
+    requires { ⌜ Node q i w n m l e (now p) (now work) at ⌝ }
     ensures { λ _. ⌜ now (work .exit) ≡ put (now (work .entry)) at (words (untransformed q w n l e (numbers m (now (work .entry)) at))) ⌝ }
 {
     let h = m / 2;
