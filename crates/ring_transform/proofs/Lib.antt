@@ -8,3 +8,6 @@ pub mod Places
 pub mod Pairs
 pub mod Steps
 pub mod Nodes
+pub mod Tables
+pub mod Stages
+pub mod Ends

@@ -33,7 +33,8 @@ pub record Halves (w : Bytes) (at m : ℕ) (f g : Poly) (d : Bytes) (j : ℕ) : 
 pub halves-none : {w : Bytes} {at m : ℕ} {f g : Poly} → Halves w at m f g w 0
 unfolding halved
 halves-none {w} {at} {m} {f} {g} = record {
-  within = omega arith; sized = refl;
+  within = omega arith;
+  sized = refl;
   is = sym (ap₂ (λ (s t : Bytes). put (put w at s) (at + 8 * m) t) (encode-none f) (encode-none g) ∙ put-none (put w at _) (at + 8 * m) ∙ put-none w at);
 }
 
@@ -61,12 +62,13 @@ module _ {w : Bytes} {at m : ℕ} {f g : Poly} {d : Bytes} {j : ℕ} (s : Halves
   unfolding halved
   halves-more {d'} {d''} {u} {v} eu ev z e' e'' =
       let lower : d' ≡ put (put w at (encode (j + 1) f)) (at + 8 * m) (encode j g) =
-          e' ∙ ap (λ (t : Bytes). put t (at + 8 * j) (bytes 8 u)) (s .is)
-          ∙ put-comm (put w at (encode j f)) (at + 8 * m) (encode j g) (at + 8 * j) (bytes 8 u) (omega (arith, length-bytes 8 u)) (omega (arith, low-length, length-encode j g))
-          ∙ ap (λ (t : Bytes). put t (at + 8 * m) (encode j g)) (next w at f j u eu (omega arith)) in
+      e' ∙ ap (λ (t : Bytes). put t (at + 8 * j) (bytes 8 u)) (s .is)
+      ∙ put-comm (put w at (encode j f)) (at + 8 * m) (encode j g) (at + 8 * j) (bytes 8 u) (omega (arith, length-bytes 8 u)) (omega (arith, low-length, length-encode j g))
+      ∙ ap (λ (t : Bytes). put t (at + 8 * m) (encode j g)) (next w at f j u eu (omega arith)) in
       let place : at + 8 * (m + j) ≡ at + 8 * m + 8 * j = omega arith in
       record {
-        within = omega arith; sized = z ∙ s .sized;
+        within = omega arith;
+        sized = z ∙ s .sized;
         is =
             e'' ∙ ap₂ (λ (t : Bytes) (k : ℕ). put t k (bytes 8 v)) lower place
             ∙ next (put w at (encode (j + 1) f)) (at + 8 * m) g j v ev (omega (arith, length-put w at (encode (j + 1) f) (omega (arith, length-encode (j + 1) f))));

@@ -4,6 +4,7 @@ ghost use mathlib.Core.Path.{_≡_};
 ghost use Prim.Native.Nat.{_+_, _-_, _*_, _%_, _^_, _≤_, _<_};
 ghost use lib.ListN.{length};
 ghost use Rattle.codec.specs.Bytes.{put, zeros, words};
+ghost use Rattle.modular.specs.Roots.{Root};
 ghost use Rattle.montgomery.specs.Internal.{Modulus, unit};
 ghost use Rattle.ring.specs.Poly.{mul, Below};
 ghost use Rattle.ring.specs.Slots.{poly, slot, encode};
@@ -181,8 +182,34 @@ fn exponent(n: usize) -> usize
     l
 }
 
+// The product of two slots into the first, by the table p; the transform of the second is left in it. The products of the values come
+// divided by 2^56 and the inverse times n, for which h makes up.
+fn multiply_slots(
+    work: &mut [u8],
+    at: usize,
+    room: usize,
+    h: u64,
+    p: &[u64],
+    n: usize,
+    l: usize,
+    w: u64,
+    i: u64,
+    q: u64,
+)
+    requires { ⌜ Node q i w n n l n (now p) (now work) at × Node q i w n n l n (now p) (now work) room × (at + 8 * n ≤ room)
+        × Root q n w × (h ≡ 2 ^ (112 - l) % q) × (l ≤ 11) ⌝ }
+    ensures { λ _. ⌜ now (work .exit) ≡ put (store q n (now (work .entry)) at (mul q n (slot (now (work .entry)) at)
+        (slot (now (work .entry)) room))) room (words (transformed q w n l n (numbers n (now (work .entry)) room))) ⌝ }
+{
+    transform(work, at, n, l, n, p, n, w, i, q);
+    transform(work, room, n, l, n, p, n, w, i, q);
+    points(work, at, room, n, i, q);
+    untransform(work, at, n, l, n, p, n, w, i, q);
+    scaled(work, at, h, n, i, q);
+}
+
 // Multiplies a slot by a lent polynomial modulo X^n + 1, by a root w. The room has the length of a slot and lies behind the slot; it is zero
-// afterwards. The products of the values come divided by 2^56 and the inverse times n, for which 2^(112 - l) makes up.
+// afterwards.
 pub fn multiply(work: &mut [u8], at: usize, room: usize, a: &[u8], n: usize, w: u64, q: u64)
     requires { ⌜ Transformable q n w × (at + 8 * n ≤ room) × (room + 8 * n ≤ length (now work)) × (8 * n ≤ length (now a)) ⌝ }
     requires { ⌜ Below q n (slot (now work) at) × Below q n (poly (now a)) ⌝ }
@@ -195,10 +222,6 @@ pub fn multiply(work: &mut [u8], at: usize, room: usize, a: &[u8], n: usize, w: 
     let h = montgomery::power_of_two(112 - l, q);
     powers(&mut p, n, w, i, q);
     codec::copy(work, room, &a[..8 * n]);
-    transform(work, at, n, l, n, &p, n, w, i, q);
-    transform(work, room, n, l, n, &p, n, w, i, q);
-    points(work, at, room, n, i, q);
-    untransform(work, at, n, l, n, &p, n, w, i, q);
-    scaled(work, at, h, n, i, q);
+    multiply_slots(work, at, room, h, &p, n, l, w, i, q);
     codec::wipe(&mut work[room..room + 8 * n]);
 }

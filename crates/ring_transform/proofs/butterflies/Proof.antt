@@ -36,7 +36,6 @@ b-below c =
     let a = c .before .before .before .before .before .before .before .args in
     rw (b-is c) (vec-at (a .work .now) (a .at) (c .before .before .before .before .before .before .before .pre .3) (a .m + c .before .before .before .before .before .loop .j) (omega arith))
 
-
 product-requires : tie.Need-product-requires Inv-loop μ-loop
 product-requires c κs = let p = c .before .before .before .before .before .before .before .pre in (p .0, b-below c, p .1)
 

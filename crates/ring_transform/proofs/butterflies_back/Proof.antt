@@ -36,7 +36,6 @@ v-below c =
     let a = c .before .before .before .before .before .before .before .args in
     rw (v-is c) (vec-at (a .work .now) (a .at) (c .before .before .before .before .before .before .before .pre .3) (a .m + c .before .before .before .before .before .loop .j) (omega arith))
 
-
 add-corrected : tie.Need-add-corrected Inv-loop μ-loop
 add-corrected c = let p = c .before .before .before .before .before .before .before .pre in omega (arith, p .0 .small, u-below (c .before .before), v-below c)
 
