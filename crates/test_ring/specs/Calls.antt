@@ -1,6 +1,6 @@
--- What the calls for tests answer: 0 taken, 1 a slice of wrong length, 5 a number out of range; a number that is answered stands above the low byte.
+-- What the calls for tests answer: 0 taken, 1 a slice of wrong length, 5 a number out of range, 37 no root; a number that is answered stands above the low byte.
 -- Assumes nothing.
-use mathlib.Core.Bool.{cond, not}
+use mathlib.Core.Bool.{Bool, cond, not, _&&_}
 use mathlib.Core.List.{[], _∷_, _++_}
 use Prim.Native.Nat.{ℕ, _+_, _-_, _*_, _/_, _%_, _^_}
 use lib.Dec.{eqb, leb, ltb}
@@ -12,6 +12,7 @@ use Rattle.codec.specs.declared.Reply.{Reply}
 use Rattle.codec.specs.Lists.{list, allBelow}
 use Rattle.modular.specs.Modulo.{centre, remainder}
 use Rattle.modular.specs.Division.{multiplier}
+use Rattle.modular.specs.Roots.{isRoot}
 use Rattle.ring.specs.Poly.{Poly, mul, plus, minus}
 use Rattle.ring.specs.Slots.{coefficientBytes, poly}
 
@@ -72,6 +73,27 @@ polynomialsReply operation n q w a b =
 unfoldable pub polynomialsOut : (operation n q : ℕ) → Bytes → Bytes → Bytes → Bytes
 polynomialsOut operation n q w a b =
     leaves (polynomialsReply operation n q w a b) (coefficientBytes q n (onPolynomials operation n q (poly a) (poly b)) ++ zeros (24 * n)) w
+
+-- n is a power of two of 4 to 2048, and q is odd, above 1 and below 2^56
+unfoldable pub suited : (n q : ℕ) → Bool
+suited n q = not (ltb n 4) && not (ltb 2048 n) && eqb (2048 % n) 0 && not (ltb q 3) && not (leb (2 ^ 56) q) && eqb (q % 2) 1
+
+-- two polynomials of n coefficients modulo an odd q, a root, and scratch of two slots
+unfoldable pub transformReply : (n root q : ℕ) → Bytes → Bytes → Bytes → Reply
+transformReply n root q w a b =
+    first
+    (test 5 0 (not (suited n q))
+    ∷ test 1 0 (not (eqb (length w) (16 * n)))
+    ∷ test 1 0 (not (eqb (length a) (8 * n)))
+    ∷ test 1 0 (not (eqb (length b) (8 * n)))
+    ∷ test 37 0 (not (isRoot q n root))
+    ∷ test 5 0 (not (allBelow q (list (length a / 8) (poly a))))
+    ∷ test 5 0 (not (allBelow q (list (length b / 8) (poly b))))
+    ∷ [])
+
+-- the product in the first slot, and zeros in the other
+unfoldable pub transformOut : (n root q : ℕ) → Bytes → Bytes → Bytes → Bytes
+transformOut n root q w a b = leaves (transformReply n root q w a b) (coefficientBytes q n (mul q n (poly a) (poly b)) ++ zeros (8 * n)) w
 
 -- ternary bytes modulo q, and scratch of one slot
 unfoldable pub ternaryReply : ℕ → Bytes → Bytes → Reply

@@ -1,5 +1,5 @@
 // Calls over `modular` and `ring` for tests and benchmarks outside the proof: plain numbers and byte slices, nothing asked of the caller.
-// A refusal is 1 for a slice of wrong length and 5 for a number out of range, and leaves every byte as it was. A call that writes answers 0
+// A refusal is 1 for a slice of wrong length, 5 for a number out of range and 37 for a number that is no root, and leaves every byte as it was. A call that writes answers 0
 // where it is taken; one that answers a number has it above the low byte, as 256 * value. Two answer a plain number: `modular_centred`,
 // whose refusal is 2^62, and `ring_count`, which refuses nothing. In C a slice is `uint8_t *, size_t`, and `const` where it is lent to be
 // read.
@@ -18,7 +18,7 @@ ghost use Rattle.ring.specs.Poly.{Below};
 ghost use Rattle.ring.specs.Slots.{coefficientBytes, poly, encode};
 ghost use Rattle.ring.specs.Ternary.{ternary, count};
 ghost use Rattle.test_ring.specs.Calls.{answer, onNumbers, numbersReply, divideReply, onPolynomials, polynomialsReply};
-ghost use Rattle.test_ring.specs.Calls.{polynomialsOut, ternaryReply};
+ghost use Rattle.test_ring.specs.Calls.{polynomialsOut, ternaryReply, suited, transformReply, transformOut};
 
 // ---- numbers
 
@@ -227,5 +227,79 @@ pub extern "C" fn ring_polynomials(
         return refusal;
     }
     compute(operation, work, a, b, n, q);
+    0
+}
+
+// ---- the product by transforms
+
+// Whether a ring and a modulus are such that a product may be made by a root.
+fn suits(n: usize, q: u64) -> bool
+    ensures { λ r. ⌜ r ≡ suited n q ⌝ }
+{
+    if n < 4 {
+        return false;
+    }
+    if 2048 < n {
+        return false;
+    }
+    if 2048 % n != 0 {
+        return false;
+    }
+    if q < 3 {
+        return false;
+    }
+    if 72057594037927936 <= q {
+        return false;
+    }
+    q % 2 == 1
+}
+
+fn judge_transform(work: &[u8], a: &[u8], b: &[u8], n: usize, root: u64, q: u64) -> u64
+    ensures { λ r. ⌜ r ≡ packed (transformReply n root q (given work) (given a) (given b)) ⌝ }
+{
+    if !suits(n, q) {
+        return 5;
+    }
+    if work.len() != 16 * n {
+        return 1;
+    }
+    if a.len() != 8 * n {
+        return 1;
+    }
+    if b.len() != 8 * n {
+        return 1;
+    }
+    if !modular::is_root(root, n as u64, q) {
+        return 37;
+    }
+    if !ring::in_range(a, q) {
+        return 5;
+    }
+    if !ring::in_range(b, q) {
+        return 5;
+    }
+    0
+}
+
+// uint64_t ring_by_transform(uint8_t *work, size_t, const uint8_t *a, size_t, const uint8_t *b, size_t, size_t n, uint64_t root, uint64_t q);
+// a * b modulo X^n + 1 by the transform, into the first 8n of the 16n bytes of work, for a power of two n of 4 to 2048 and an odd q.
+#[no_mangle]
+pub extern "C" fn ring_by_transform(
+    work: &mut [u8],
+    a: &[u8],
+    b: &[u8],
+    n: usize,
+    root: u64,
+    q: u64,
+) -> u64
+    ensures { λ r. ⌜ (r ≡ packed (transformReply n root q (given work) (given a) (given b)))
+        × (left work ≡ transformOut n root q (given work) (given a) (given b)) ⌝ }
+{
+    let refusal = judge_transform(work, a, b, n, root, q);
+    if refusal != 0 {
+        return refusal;
+    }
+    codec::copy(work, 0, a);
+    ring_transform::multiply(work, 0, 8 * n, b, n, root, q);
     0
 }
