@@ -69,14 +69,12 @@ module _ (n root q : ℕ) (w a b : Bytes) (e : packed (transformReply n root q w
   pub shown : Shown n root q w a b
   unfolding transformReply
   shown =
-      let f = none _ (omega arith, (omega arith, (omega arith, (omega arith, (omega arith, (omega arith, (omega arith, tt))))))) e in
+      let f = none _ (omega arith, (omega arith, (omega arith, (omega arith, (omega arith, (omega arith, tt)))))) e in
       let s = suited-sound n q (not-false _ (f .0)) in
       let la : length a ≡ 8 * n = eqb-true (length a) (8 * n) (not-false _ (f .1 .1 .0)) in
       let lb : length b ≡ 8 * n = eqb-true (length b) (8 * n) (not-false _ (f .1 .1 .1 .0)) in
-      let na : length a / 8 ≡ n = omega arith in
-      let nb : length b / 8 ≡ n = omega arith in
-      let ba : allBelow q (list (length a / 8) (poly a)) ≡ true = not-false _ (f .1 .1 .1 .1 .1 .0) in
-      let bb : allBelow q (list (length b / 8) (poly b)) ≡ true = not-false _ (f .1 .1 .1 .1 .1 .1 .0) in
+      let bs = both (allBelow q (list n (poly a))) _ (not-false _ (f .1 .1 .1 .1 .1 .0)) in
+      let bb = both (allBelow q (list n (poly b))) true (bs .1) in
       record {
         suits = s;
         transformable = record {
@@ -91,14 +89,14 @@ module _ (n root q : ℕ) (w a b : Bytes) (e : packed (transformReply n root q w
         work = eqb-true (length w) (16 * n) (not-false _ (f .1 .0));
         left = la;
         right = lb;
-        below-left = below-sound q n (poly a) (rw na at ba);
-        below-right = below-sound q n (poly b) (rw nb at bb);
+        below-left = below-sound q n (poly a) (bs .0);
+        below-right = below-sound q n (poly b) (bb .0);
       }
 
   pub taken : {A : Type 0} (x y : A) → x ≡ leaves (transformReply n root q w a b) x y
   unfolding transformReply leaves
   taken x y =
-      let f = none _ (omega arith, (omega arith, (omega arith, (omega arith, (omega arith, (omega arith, (omega arith, tt))))))) e in
+      let f = none _ (omega arith, (omega arith, (omega arith, (omega arith, (omega arith, (omega arith, tt)))))) e in
       ap (λ (r : Reply). leaves r x y) (sym (taken-exactly _ .1 f))
 
 -- the product in the first of two slots, and the other zero

@@ -15,6 +15,7 @@ use Rattle.modular.specs.Division.{multiplier}
 use Rattle.modular.specs.Roots.{isRoot}
 use Rattle.ring.specs.Poly.{Poly, mul, plus, minus}
 use Rattle.ring.specs.Slots.{coefficientBytes, poly}
+use Rattle.scratch.specs.Call.{coefficientsBelow}
 
 -- a number that is answered, or its refusal
 unfoldable pub answer : Reply → ℕ → ℕ
@@ -87,8 +88,7 @@ transformReply n root q w a b =
     ∷ test 1 0 (not (eqb (length a) (8 * n)))
     ∷ test 1 0 (not (eqb (length b) (8 * n)))
     ∷ test 37 0 (not (isRoot q n root))
-    ∷ test 5 0 (not (allBelow q (list (length a / 8) (poly a))))
-    ∷ test 5 0 (not (allBelow q (list (length b / 8) (poly b))))
+    ∷ test 5 0 (not (coefficientsBelow q n (a ∷ b ∷ [])))
     ∷ [])
 
 -- the product in the first slot, and zeros in the other

@@ -272,10 +272,7 @@ fn judge_transform(work: &[u8], a: &[u8], b: &[u8], n: usize, root: u64, q: u64)
     if !modular::is_root(root, n as u64, q) {
         return 37;
     }
-    if !ring::in_range(a, q) {
-        return 5;
-    }
-    if !ring::in_range(b, q) {
+    if !scratch::both_in_range(a, b, n, q) {
         return 5;
     }
     0

@@ -44,15 +44,11 @@ returns-5 c = rw (sym (c .before .before .before .before .before .before .suits 
 
 returns-6 : tie.Need-returns-6
 unfolding transformReply first
-returns-6 c = rw (sym (c .before .before .before .before .before .before .before .before .suits .ensures), not-false (c .before .before .before .before .before .before .before .before .suits .result) (c .before .before .before .before .before .before .before .if1 .left), sym (c .before .before .before .is-root .ensures), not-false (c .before .before .before .is-root .result) (c .before .before .if5 .left), sym (c .before .in-range .ensures), not-true (c .before .in-range .result) (c .if6 .taken)) (search order)
+returns-6 c = rw (sym (c .before .before .before .before .before .before .before .before .suits .ensures), not-false (c .before .before .before .before .before .before .before .before .suits .result) (c .before .before .before .before .before .before .before .if1 .left), sym (c .before .before .before .is-root .ensures), not-false (c .before .before .before .is-root .result) (c .before .before .if5 .left), sym (c .before .both-in-range .ensures), not-true (c .before .both-in-range .result) (c .if6 .taken)) (search order)
 
 returns-7 : tie.Need-returns-7
 unfolding transformReply first
-returns-7 c = rw (sym (c .before .before .before .before .before .before .before .before .before .before .suits .ensures), not-false (c .before .before .before .before .before .before .before .before .before .before .suits .result) (c .before .before .before .before .before .before .before .before .before .if1 .left), sym (c .before .before .before .before .before .is-root .ensures), not-false (c .before .before .before .before .before .is-root .result) (c .before .before .before .before .if5 .left), sym (c .before .before .before .in-range .ensures), not-false (c .before .before .before .in-range .result) (c .before .before .if6 .left), sym (c .before .in-range2 .ensures), not-true (c .before .in-range2 .result) (c .if7 .taken)) (search order)
-
-returns-8 : tie.Need-returns-8
-unfolding transformReply first
-returns-8 c = rw (sym (c .before .before .before .before .before .before .before .before .before .before .suits .ensures), not-false (c .before .before .before .before .before .before .before .before .before .before .suits .result) (c .before .before .before .before .before .before .before .before .before .if1 .left), sym (c .before .before .before .before .before .is-root .ensures), not-false (c .before .before .before .before .before .is-root .result) (c .before .before .before .before .if5 .left), sym (c .before .before .before .in-range .ensures), not-false (c .before .before .before .in-range .result) (c .before .before .if6 .left), sym (c .before .in-range2 .ensures), not-false (c .before .in-range2 .result) (c .if7 .left)) (search order)
+returns-7 c = rw (sym (c .before .before .before .before .before .before .before .before .suits .ensures), not-false (c .before .before .before .before .before .before .before .before .suits .result) (c .before .before .before .before .before .before .before .if1 .left), sym (c .before .before .before .is-root .ensures), not-false (c .before .before .before .is-root .result) (c .before .before .if5 .left), sym (c .before .both-in-range .ensures), not-false (c .before .both-in-range .result) (c .if6 .left)) (search order)
 
 pub judge-transform-spec : {M : Type 1} → statement M
-judge-transform-spec = tie.close (tie.spec (λ c κs. search needs) returns mul-if2 returns-2 mul-if3 returns-3 mul-if4 returns-4 is-root-requires returns-5 (λ c κs. search needs) returns-6 (λ c κs. search needs) returns-7 returns-8)
+judge-transform-spec = tie.close (tie.spec (λ c κs. search needs) returns mul-if2 returns-2 mul-if3 returns-3 mul-if4 returns-4 is-root-requires returns-5 (λ c κs. search needs) returns-6 returns-7)
