@@ -10,10 +10,13 @@ use Rattle.codec.specs.Bytes.{Bytes, part, put, same, zeros}
 use Rattle.codec.specs.Reply.{Test, first}
 use Rattle.codec.specs.declared.Reply.the-variants.{Taken}
 use Rattle.codec.proofs.Laws.{part-put-before}
+use Rattle.modular.specs.Roots.{isRoot}
 use Rattle.ring.specs.Poly.{Poly, mul, Below}
 use Rattle.ring.specs.Slots.{coefficientBytes, poly, slot}
 use Rattle.ring.specs.Internal.{store}
 use Rattle.ring.proofs.Polynomials.{alike-refl, alike-mul}
+use Rattle.ring_transform.specs.Internal.{Transformable}
+use Rattle.ring_transform.proofs.Roots.{root-sound}
 use Rattle.sheet_numbers.specs.Internal.{Usable}
 use Rattle.sheet_numbers.specs.declared.Numbers.{Numbers}
 use Rattle.scratch.specs.Call.{coefficientsBelow}
@@ -80,3 +83,16 @@ unfolding productWrites
 product-written k x y d w f more h copied made out went =
     let s = handed (product-stands (f .one) w (f .scratch) copied (poly y) more h made) out in
     worked-taken went refl (one-written (k .modulus) (k .ring) _ d _ (f .room) (s .written)) (s .cleared)
+
+-- ---- what the method by transforms asks of the sheet's numbers and a root that passed its test
+
+pub transformable : (k : Numbers) → Usable k → (root : ℕ) {tested : Bool} → tested ≡ isRoot (k .modulus) (k .ring) root → not tested ≡ false → Transformable (k .modulus) (k .ring) root
+transformable k u root {tested} e f = record {
+  modulus-low = omega (arith, u .in-range .modulus-low);
+  modulus-high = u .in-range .modulus-high;
+  odd = u .odd;
+  ring-low = omega (arith, u .in-range .ring-low);
+  ring-high = u .in-range .ring-high;
+  ring-power = u .in-range .ring-power;
+  root = root-sound (k .modulus) (k .ring) root (omega (arith, u .in-range .modulus-low)) (sym e ∙ not-false tested f);
+}
