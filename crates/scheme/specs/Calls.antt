@@ -65,7 +65,7 @@ module _ (k : Numbers) where
       ∷ test 5 0 (not (bytesBelow 3 (r ∷ []) && coefficientsBelow (k .modulus) (k .ring) (m ∷ [])))
       ∷ []
 
-  -- x and y in range, and room for a product of theirs
+  -- of a product x y, by either method: its lengths and its ranges
   abbrev productLengths : (x y product scratch : Bytes) → Test
   productLengths x y product scratch =
       lengthTest (length x ∷ length y ∷ length product ∷ length scratch ∷ []) (8 * k .ring ∷ 8 * k .ring ∷ 8 * k .ring ∷ scratchLength ∷ [])
