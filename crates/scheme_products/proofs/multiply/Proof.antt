@@ -3,7 +3,6 @@ use Prim.Native.Nat.{_*_}
 use native.Mathlib.Omega.{arith}
 use borrow.Author.Needs.{needs}
 use Rattle.codec.specs.Bytes.{same}
-use Rattle.ring.specs.Slots.{poly}
 use Rattle.scratch.proofs.Order.{length-asked, stops, follows}
 use Rattle.scratch.proofs.Zeroizing.{worked-refused}
 use Rattle.scheme.proofs.Passed.{done}
@@ -37,13 +36,13 @@ multiply-requires c κs =
     let a = c .before .before .before .before .before .before .before .before .before .before .before .before .before .before .before .args in
     let f = factors (a .k) (c .before .before .before .before .before .before .before .before .before .before .before .before .before .before .before .pre) (a .x .now) (a .y .now) (a .product .now) (a .scratch .now) (c .before .before .before .before .before .before .before .before .before .before .sized .ensures) (c .before .before .before .before .before .before .before .before .before .if1 .left) (c .before .before .before .before .before .before .both-in-range .ensures) (c .before .before .before .before .before .if3 .left) in
     let l = factor-length (f .one) (a .scratch .now) (f .scratch) (c .before .before .before .copy .ensures) in
-    ((transformable (a .k) (c .before .before .before .before .before .before .before .before .before .before .before .before .before .before .before .pre) (a .root) (c .before .before .before .before .before .before .before .before .is-root .ensures) (c .before .before .before .before .before .before .before .if2 .left), omega arith, omega (arith, l, f .one .ring-high), omega (arith, f .other .sized)), (factor-below (f .one) (a .scratch .now) (f .scratch) (c .before .before .before .copy .ensures), f .other .below))
+    ((transformable (a .k) (c .before .before .before .before .before .before .before .before .before .before .before .before .before .before .before .pre) (a .root) (c .before .before .before .before .before .before .before .before .is-root .ensures) (c .before .before .before .before .before .before .before .if2 .left), omega arith, omega (arith, l, f .one .ring-high), omega (arith, f .one .sized, f .other .sized)), (factor-below (f .one) (a .scratch .now) (f .scratch) (c .before .before .before .copy .ensures), let one = f .one .below in let other = f .other .below in search needs))
 
 hand-out-requires : tie.Need-hand-out-requires
 hand-out-requires c κs =
     let a = c .before .before .before .before .before .before .before .before .before .before .before .before .before .before .before .before .before .before .before .before .args in
     let f = factors (a .k) (c .before .before .before .before .before .before .before .before .before .before .before .before .before .before .before .before .before .before .before .before .pre) (a .x .now) (a .y .now) (a .product .now) (a .scratch .now) (c .before .before .before .before .before .before .before .before .before .before .before .before .before .before .before .sized .ensures) (c .before .before .before .before .before .before .before .before .before .before .before .before .before .before .if1 .left) (c .before .before .before .before .before .before .before .before .before .before .before .both-in-range .ensures) (c .before .before .before .before .before .before .before .before .before .before .if3 .left) in
-    let s = product-stands (f .one) (a .scratch .now) (f .scratch) (c .before .before .before .before .before .before .before .before .copy .ensures) (poly (a .y .now)) (8 * a .k .ring) (omega arith) (c .before .before .before .before .multiply .ensures) in
+    let s = product-stands (f .one) (a .scratch .now) (f .scratch) (c .before .before .before .before .before .before .before .before .copy .ensures) _ (8 * a .k .ring) (omega arith) (c .before .before .before .before .multiply .ensures) in
     (omega (arith, f .room), omega (arith, s .sized, f .scratch, f .one .ring-high))
 
 returns-4 : tie.Need-returns-4
