@@ -30,7 +30,7 @@ use Rattle.session_histories.proofs.Valid.{numbers-match, numbers-pass, sheet-e
 use Rattle.session_histories.proofs.Checked.{step-exactly}
 use Rattle.claims.specs.Calls.{Decided, OrderedCall, sizeTest, Thousandths, SchemeCalls, RoundCalls, SessionCalls}
 use Rattle.claims.proofs.Images.{over-image}
-use Rattle.claims.proofs.Scheme.{keygen-exactly, encrypt-exactly, decrypt-exactly, split-exactly, share-exactly, reconstruct-exactly, commitment-exactly}
+use Rattle.claims.proofs.Scheme.{keygen-exactly, encrypt-exactly, decrypt-exactly, split-exactly, share-exactly, reconstruct-exactly, commitment-exactly, product-exactly, multiply-exactly}
 use Rattle.claims.proofs.Produces.{first-exactly, second-call-exactly}
 use Rattle.claims.proofs.Extracts.{extractor-exactly}
 use Rattle.claims.proofs.Queries.{challenges-exactly, turnout-exactly, opened-there, opened-absent}
@@ -71,6 +71,8 @@ scheme-calls = record {
   share = λ text half u mask t scratch. ordered text _ refl (share-exactly text half u mask t scratch);
   reconstruct = λ text v t0 t1 vote scratch. ordered text _ refl (reconstruct-exactly text v t0 t1 vote scratch);
   commitment = λ text m r pair scratch. ordered text _ refl (commitment-exactly text m r pair scratch);
+  product = λ text x y product scratch. ordered text _ refl (product-exactly text x y product scratch);
+  multiply = λ text x y w product scratch. ordered text _ refl (multiply-exactly text x y product scratch w);
 }
 
 pub round-calls : RoundCalls

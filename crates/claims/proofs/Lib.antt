@@ -18,5 +18,6 @@ pub mod Replies
 pub mod Calls
 pub mod SessionWithdrawals
 pub mod Withdrawals
+pub mod Products
 pub mod Demands
 pub mod Requests

@@ -103,4 +103,6 @@ orders-as-written = record {
   share = λ k half u mask t scratch. refl;
   reconstruct = λ k v t0 t1 vote scratch. refl;
   commitment = λ k m r pair scratch. refl;
+  product = λ k x y product scratch. refl;
+  multiply = λ k x y w product scratch. refl;
 }

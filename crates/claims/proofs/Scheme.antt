@@ -1,9 +1,9 @@
--- The calls of encryption, shares and commitment are taken exactly under the conditions of specs/Scheme.antt. Assumes nothing.
+-- The calls of encryption, shares, commitment and products are taken exactly under the conditions of specs/Scheme.antt. Assumes nothing.
 use mathlib.Core.Path.{_≡_, refl, ap, ap₂}
 use mathlib.Core.Logic.{_↔_, Iff·trans}
 use mathlib.Core.Bool.{Bool, true, not, _&&_}
 use mathlib.Core.List.{List, [], _∷_, _++_}
-use Prim.Native.Nat.{ℕ, _*_}
+use Prim.Native.Nat.{ℕ, _*_, _<_}
 use native.Mathlib.Omega.{arith}
 use lib.ListN.{length}
 use borrow.Author.Tests.{not-false}
@@ -12,9 +12,11 @@ use Rattle.codec.specs.Reply.{Test, test, first, None}
 use Rattle.codec.specs.declared.Reply.the-variants.{Taken}
 use Rattle.codec.proofs.Laws.{both, same-equal}
 use Rattle.codec.proofs.Replies.{taken-exactly}
+use Rattle.modular.specs.Roots.{isRoot, Root}
 use Rattle.ring.specs.Poly.{Below}
 use Rattle.ring.specs.Slots.{poly}
 use Rattle.ring.proofs.Ranges.{below-sound, below-complete}
+use Rattle.ring_transform.proofs.Roots.{root-sound, root-complete}
 use Rattle.sheet.specs.Sheet.{order}
 use Rattle.scratch.specs.Call.{scratchLength, lengthTest, bytesBelow, coefficientsBelow}
 use Rattle.bgv.specs.Scheme.{within, lentMask}
@@ -23,10 +25,10 @@ use Rattle.round.specs.Accepted.{EachBelow}
 use Rattle.round.proofs.Many.{append-none, none-append}
 use Rattle.round.proofs.Ranged.{each-exactly}
 use Rattle.round.proofs.Tests.{within-sound, within-complete}
-use Rattle.scheme.specs.Orders.{keygenOrder, encryptOrder, decryptOrder, splitOrder, shareOrder, reconstructOrder, commitmentOrder}
+use Rattle.scheme.specs.Orders.{keygenOrder, encryptOrder, decryptOrder, splitOrder, shareOrder, reconstructOrder, commitmentOrder, productOrder, multiplyOrder}
 use Rattle.session_histories.specs.Conditions.{SheetTaken}
 use Rattle.session_histories.proofs.Valid.{bytes-pass, sheet-exactly}
-use Rattle.claims.specs.Scheme.{Keygens, Encrypts, Decrypts, Splits, Shares, Reconstructs, CommitsTo}
+use Rattle.claims.specs.Scheme.{Keygens, Encrypts, Decrypts, Splits, Shares, Reconstructs, CommitsTo, Products, Multiplies}
 
 -- ---- ranges of several slices
 
@@ -69,18 +71,28 @@ matched [] (y ∷ ys) h = absurd h
 matched (x ∷ xs) [] h = absurd h
 matched (x ∷ xs) (y ∷ ys) h = ap₂ (λ (n : ℕ) (l : List ℕ). n ∷ l) (h .0) (matched xs ys (h .1))
 
--- ---- a call that is lent the sheet: its lengths, its ranges, and what comes after them
+-- ---- a call that is lent the sheet: its lengths, and what comes after them
 
+pub sized-exactly : (text : Bytes) (xs ys : List ℕ) (ts : List Test) → None (order text ++ (lengthTest xs ys ∷ ts)) ↔ (SheetTaken text × Match xs ys × None ts)
+sized-exactly text xs ys ts =
+    let own = lengthTest xs ys ∷ ts in (
+      λ n. let h = append-none (order text) own n in (sheet-exactly text .0 (h .0), match-says xs ys (same-equal xs ys (not-false (same xs ys) (h .1 .0))), h .1 .1),
+      λ h. none-append (order text) own (sheet-exactly text .1 (h .0)) (bytes-pass (matched xs ys (h .1)), h .2),
+    )
+
+-- its ranges next
 sheet-call : (text : Bytes) (xs ys : List ℕ) {ranged : Bool} {Ranges : Type 0} → (ranged ≡ true) ↔ Ranges → (ts : List Test)
     → (first (order text ++ (lengthTest xs ys ∷ test 5 0 (not ranged) ∷ ts)) ≡ Taken) ↔ (SheetTaken text × Match xs ys × Ranges × None ts)
 sheet-call text xs ys {ranged} ranges ts =
-    let own = lengthTest xs ys ∷ test 5 0 (not ranged) ∷ ts in
+    let sized = sized-exactly text xs ys (test 5 0 (not ranged) ∷ ts) in
     Iff·trans (taken-exactly _) (
-      λ n.
-          let h = append-none (order text) own n in
-          (sheet-exactly text .0 (h .0), match-says xs ys (same-equal xs ys (not-false (same xs ys) (h .1 .0))), ranges .0 (not-false ranged (h .1 .1 .0)), h .1 .1 .1),
-      λ h. none-append (order text) own (sheet-exactly text .1 (h .0)) (bytes-pass (matched xs ys (h .1)), (ap not (ranges .1 (h .2)), h .3)),
+      λ n. let h = sized .0 n in (h .0, h .1, ranges .0 (not-false ranged (h .2 .0)), h .2 .1),
+      λ h. sized .1 (h .0, h .1, (ap not (ranges .1 (h .2)), h .3)),
     )
+
+-- the test of a root
+pub root-exactly : (q N w : ℕ) → 0 < q → (isRoot q N w ≡ true) ↔ Root q N w
+root-exactly q N w h = (root-sound q N w h, root-complete q N w h)
 
 module _ (text : Bytes) where
   open Parameters (parametersOf text) using (q, N, p, B)
@@ -189,3 +201,36 @@ module _ (text : Bytes) where
         },
         λ w. (w .served .sheet, (w .message .size, (w .random .size, (w .pair-size, (w .served .scratch-size, tt)))), ((w .random .below, tt), (w .message .below, tt)), tt),
       )
+
+  module _ (x y product scratch : Bytes) where
+    abbrev pub lent : List ℕ
+    lent = length x ∷ length y ∷ length product ∷ length scratch ∷ []
+
+    abbrev pub wanted : List ℕ
+    wanted = 8 * N ∷ 8 * N ∷ 8 * N ∷ scratchLength ∷ []
+
+    pub product-exactly : (first (productOrder text x y product scratch) ≡ Taken) ↔ Products text x y product scratch
+    product-exactly = Iff·trans (sheet-call text lent wanted (coefficients-exactly q N (x ∷ y ∷ [])) []) (
+      λ h. record {
+        served = record { sheet = h .0; scratch-size = h .1 .1 .1 .1 .0 };
+        one = record { size = h .1 .0; below = h .2 .0 };
+        other = record { size = h .1 .1 .0; below = h .2 .1 .0 };
+        product-size = h .1 .1 .1 .0;
+      },
+      λ p. (p .served .sheet, (p .one .size, (p .other .size, (p .product-size, (p .served .scratch-size, tt)))), (p .one .below, (p .other .below, tt)), tt),
+    )
+
+    module _ (w : ℕ) where
+      -- taken exactly if the plain method is, with a root
+      pub multiply-as-product : (first (multiplyOrder text x y w product scratch) ≡ Taken) ↔ ((first (productOrder text x y product scratch) ≡ Taken) × Root q N w)
+      multiply-as-product =
+          let ranges = test 5 0 (not (coefficientsBelow q N (x ∷ y ∷ []))) ∷ [] in
+          let both = sized-exactly text lent wanted (test 37 0 (not (isRoot q N w)) ∷ ranges) in
+          let plain = sized-exactly text lent wanted ranges in
+          let rooted : SheetTaken text → (isRoot q N w ≡ true) ↔ Root q N w = λ s. root-exactly q N w (omega (arith, s .inside .modulus-low)) in (
+            λ e. let h = both .0 (taken-exactly _ .0 e) in (taken-exactly _ .1 (plain .1 (h .0, h .1, h .2 .1)), rooted (h .0) .0 (not-false _ (h .2 .0))),
+            λ t. let h = plain .0 (taken-exactly _ .0 (t .0)) in taken-exactly _ .1 (both .1 (h .0, h .1, (ap not (rooted (h .0) .1 (t .1)), h .2))),
+          )
+
+      pub multiply-exactly : (first (multiplyOrder text x y w product scratch) ≡ Taken) ↔ Multiplies text x y w product scratch
+      multiply-exactly = Iff·trans multiply-as-product (λ h. record { products = product-exactly .0 (h .0); root = h .1 }, λ m. (product-exactly .1 (m .products), m .root))

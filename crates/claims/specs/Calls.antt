@@ -22,7 +22,7 @@ use Rattle.round_lengths.specs.Calls.{firstTests, secondTests, openingsTests}
 use Rattle.round_lengths.specs.Sheets.{ballotsIn}
 use Rattle.round_tests.specs.Opened.{openedReply}
 use Rattle.commitment.specs.Parameters.{parametersOf}
-use Rattle.scheme.specs.Orders.{keygenOrder, encryptOrder, decryptOrder, splitOrder, shareOrder, reconstructOrder, commitmentOrder}
+use Rattle.scheme.specs.Orders.{keygenOrder, encryptOrder, decryptOrder, splitOrder, shareOrder, reconstructOrder, commitmentOrder, productOrder, multiplyOrder}
 use Rattle.round_produce.specs.Replies.{firstReply, secondReply}
 use Rattle.round_extract.specs.Extraction.{answered}
 use Rattle.round_extract.specs.Replies.{extractReply, extractFound}
@@ -31,7 +31,7 @@ use Rattle.session.specs.Machine.{Step, state, tests}
 use Rattle.session_image.specs.Image.{imageLength, decode}
 use Rattle.session_image.specs.Images.{host, hostReply, challengesReply, turnoutReply, turnoutAnswer}
 use Rattle.session_histories.specs.Conditions.{SheetTaken, HeadIsBytes, Takes}
-use Rattle.claims.specs.Scheme.{Keygens, Encrypts, Decrypts, Splits, Shares, Reconstructs, CommitsTo}
+use Rattle.claims.specs.Scheme.{Keygens, Encrypts, Decrypts, Splits, Shares, Reconstructs, CommitsTo, Products, Multiplies}
 use Rattle.claims.specs.Produces.{WritesFirst, WritesSecond}
 use Rattle.claims.specs.Extracts.{TakesOpenings}
 use Rattle.claims.specs.Queries.{TellsChallenges, Counts, ShareThere}
@@ -66,7 +66,7 @@ OrderedCall ts Conditions = PackedCall (first ts) ts Conditions
 abbrev pub sizeTest : ℕ → Bytes → Test
 sizeTest n lent = test 1 0 (not (eqb (length lent) n))
 
--- ---- digest, sheet, encryption, shares, commitment
+-- ---- digest, sheet, encryption, shares, commitment, products
 
 pub record SchemeCalls : Type 0 where
   pub digest : (out : Bytes) → PackedCall (digestReply out) (sizeTest 32 out ∷ []) (length out ≡ 32)
@@ -78,6 +78,8 @@ pub record SchemeCalls : Type 0 where
   pub share : (text half u mask t scratch : Bytes) → OrderedCall (shareOrder text half u mask t scratch) (Shares text half u mask t scratch)
   pub reconstruct : (text v t0 t1 vote scratch : Bytes) → OrderedCall (reconstructOrder text v t0 t1 vote scratch) (Reconstructs text v t0 t1 vote scratch)
   pub commitment : (text m r pair scratch : Bytes) → OrderedCall (commitmentOrder text m r pair scratch) (CommitsTo text m r pair scratch)
+  pub product : (text x y product scratch : Bytes) → OrderedCall (productOrder text x y product scratch) (Products text x y product scratch)
+  pub multiply : (text x y : Bytes) (w : ℕ) (product scratch : Bytes) → OrderedCall (multiplyOrder text x y w product scratch) (Multiplies text x y w product scratch)
 
 -- ---- a round: producer, extractor, opened share
 

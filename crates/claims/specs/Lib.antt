@@ -10,6 +10,7 @@ pub mod Withdrawals
 pub mod AnySession
 pub mod Endings
 pub mod Orders
+pub mod Products
 pub mod FromCalls
 pub mod Demands
 pub mod Requests

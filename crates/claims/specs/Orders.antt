@@ -8,7 +8,7 @@ use Rattle.codec.specs.Bytes.{Bytes}
 use Rattle.codec.specs.Reply.{Test}
 use Rattle.sheet.specs.Sheet.{order}
 use Rattle.sheet_numbers.specs.declared.Numbers.{Numbers}
-use Rattle.scheme.specs.Calls.{keygenTests, encryptTests, decryptTests, splitTests, shareTests, reconstructTests, commitmentTests}
+use Rattle.scheme.specs.Calls.{keygenTests, encryptTests, decryptTests, splitTests, shareTests, reconstructTests, commitmentTests, productTests, multiplyTests}
 use Rattle.commitment.specs.Parameters.{Parameters}
 use Rattle.round.specs.Layout.{joined}
 use Rattle.round.specs.Round.{Round, challengeAt, roundTests}
@@ -47,7 +47,7 @@ producerRefusals repeats m =
 
 -- "Sheet and clear: 1, 2, 3, 4, 5. Admit: 31, 1, 5, 32, 33, 35. Withdraw: 31, 1, 33, 35 (02, L1). Close: 31, 1, 36. Claim: 31, 1, 5. Commit, draw: 31, 1. Turnout (any phase): 31, 1, 3.
 -- Check: 31, the sheet's 1 to 5, 1, 16, 5, 6, 7, 8; then by repetition 9, 10, 11; then by ballot 12, 13. .. Remaining calls: 1, 5, 12." What 16 compares are five tests; of the remaining calls only
--- jdn_share is lent a mask
+-- jdn_share is lent a mask. Multiply (02, L2): 37 "after 1 and before 5"
 pub record OrdersAsWritten : Type 0 where
   pub sheet : (text : Bytes) → refusalNumbers (order text) ≡ 1 ∷ 2 ∷ 3 ∷ 4 ∷ 5 ∷ []
   -- the register's length, then the sheet
@@ -77,3 +77,5 @@ pub record OrdersAsWritten : Type 0 where
   pub share : (k : Numbers) (half u mask t scratch : Bytes) → refusalNumbers (shareTests k half u mask t scratch) ≡ 1 ∷ 5 ∷ 12 ∷ []
   pub reconstruct : (k : Numbers) (v t0 t1 vote scratch : Bytes) → refusalNumbers (reconstructTests k v t0 t1 vote scratch) ≡ 1 ∷ 5 ∷ []
   pub commitment : (k : Numbers) (m r pair scratch : Bytes) → refusalNumbers (commitmentTests k m r pair scratch) ≡ 1 ∷ 5 ∷ []
+  pub product : (k : Numbers) (x y product scratch : Bytes) → refusalNumbers (productTests k x y product scratch) ≡ 1 ∷ 5 ∷ []
+  pub multiply : (k : Numbers) (x y : Bytes) (w : ℕ) (product scratch : Bytes) → refusalNumbers (multiplyTests k x y w product scratch) ≡ 1 ∷ 37 ∷ 5 ∷ []

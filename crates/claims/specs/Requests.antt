@@ -3,6 +3,7 @@ use mathlib.Core.Path.{_≡_}
 use mathlib.Core.Logic.{_≢_}
 use mathlib.Core.List.{[], _∷_}
 use Prim.Native.Nat.{ℕ, _%_}
+use Rattle.codec.specs.Bytes.{Bytes}
 use Rattle.codec.specs.Reply.{packed}
 use Rattle.session.specs.Machine.{Step, withdraw, State, tests}
 use Rattle.session_image.specs.Images.{Host, hostReply}
@@ -10,6 +11,7 @@ use Rattle.claims.specs.HostSteps.{sessionSteps, stepCalls}
 use Rattle.claims.specs.HostClaims.{HostRollIsBatch, HostHonestAccepted}
 use Rattle.claims.specs.Orders.{refusalNumbers}
 use Rattle.claims.specs.Withdrawals.{WithdrawalClaims}
+use Rattle.claims.specs.Products.{TransformClaims, PlainClaims, SameBytes, RootClaims, ProductOrders, SomeProduct}
 
 -- ---- L1. Withdrawals that arrive before their ballot
 
@@ -26,3 +28,18 @@ pub record L1 : Type 0 where
   -- with withdrawals: `turns-come` and `some-election` of Demand3
   pub roll-is-batch : HostRollIsBatch
   pub honest-accepted : HostHonestAccepted
+
+-- ---- L2. Multiplying by transform
+
+pub record L2 : Type 0 where
+  -- "a call that multiplies two lent polynomials .. with a lent root w for which w^N is -1 modulo q": when it is taken, and what it leaves; that it is taken exactly where the plain method is and
+  -- w is a root; and that it answers 37 exactly where w is none
+  pub by-transforms : (text x y product scratch : Bytes) (w : ℕ) → TransformClaims text x y product scratch w
+  -- "the plain method, which remains for callers without a root"
+  pub plain : (text x y product scratch : Bytes) → PlainClaims text x y product scratch
+  -- "It gives the same polynomial as the plain method on all inputs, for every N and every odd q of the sheet, prime or not"
+  pub same-bytes : (text x y : Bytes) → SameBytes text x y
+  pub roots : RootClaims
+  -- "37, .. tested after 1 and before 5"
+  pub orders : ProductOrders
+  pub some : SomeProduct

@@ -1,9 +1,10 @@
--- When the calls of encryption, shares and commitment are taken (document 01, "Ring and scheme", and the order of the remaining calls after the sheet's), in conditions to hold against
--- the paper: no test stands in them, and the numbers beside them are those of the refusals that they exclude. Assumes nothing.
+-- When the calls of encryption, shares, commitment and products are taken (document 01, "Ring and scheme", and the order of the remaining calls after the sheet's; document 02, L2), in
+-- conditions to hold against the paper: no test stands in them, and the numbers beside them are those of the refusals that they exclude. Assumes nothing.
 use mathlib.Core.Path.{_≡_}
 use Prim.Native.Nat.{ℕ, _*_}
 use lib.ListN.{length}
 use Rattle.codec.specs.Bytes.{Bytes}
+use Rattle.modular.specs.Roots.{Root}
 use Rattle.ring.specs.Poly.{Below}
 use Rattle.ring.specs.Slots.{poly}
 use Rattle.scratch.specs.Call.{scratchLength}
@@ -88,3 +89,15 @@ module _ (text : Bytes) where
     pub message : Coefficients q N m  -- 1, 5
     pub random : SmallBytes 3 (3 * N) r  -- 1, 5
     pub pair-size : length pair ≡ 16 * N  -- 1
+
+  -- x y by the plain method
+  pub record Products (x y product scratch : Bytes) : Type 0 where
+    pub served : Served scratch  -- the sheet's own 1 to 5, 1
+    pub one : Coefficients q N x  -- 1, 5
+    pub other : Coefficients q N y  -- 1, 5
+    pub product-size : length product ≡ 8 * N  -- 1
+
+  -- and by transforms, with a lent w
+  pub record Multiplies (x y : Bytes) (w : ℕ) (product scratch : Bytes) : Type 0 where
+    pub products : Products x y product scratch  -- the sheet's own 1 to 5, 1, 5
+    pub root : Root q N w  -- 37

@@ -1,5 +1,5 @@
 -- The promises of an exported call that is lent a sheet: refused with the sheet, or answered by its part after the sheet. Assumes nothing.
-use mathlib.Core.Path.{_≡_, sym, ap, _∙_}
+use mathlib.Core.Path.{_≡_, sym, ap, subst, _∙_}
 use mathlib.Core.List.{List, _++_}
 use Prim.Native.Nat.{ℕ}
 use lib.ListN.{replicate}
@@ -12,10 +12,13 @@ use Rattle.sheet.specs.Sheet.{order, reading}
 use Rattle.sheet.specs.Internal.{loaded}
 use Rattle.sheet.specs.declared.Reading.{Reading}
 use Rattle.sheet.specs.declared.Reading.the-variants.{Taken, Refused}
+use Rattle.sheet.proofs.Taken.{taken}
 use Rattle.sheet_numbers.specs.declared.Numbers.{Numbers}
+use Rattle.sheet_numbers.specs.Internal.{Usable}
+use Rattle.sheet_numbers.proofs.Ranges.{usable}
 use Rattle.scratch.specs.Call.{zeroized}
 use Rattle.scratch.specs.Internal.{Computed, refusal}
-use Rattle.scratch.proofs.Lent.{lent, order-taken, order-refused}
+use Rattle.scratch.proofs.Lent.{order-taken, order-refused}
 use Rattle.scratch.proofs.Zeroizing.{leaves-refused, zeroized-worked}
 use Rattle.commitment.specs.Parameters.{Parameters, parameters, parametersOf}
 use Rattle.commitment.proofs.Sheets.{parameters-are}
@@ -38,14 +41,23 @@ call-refused text {ts} {x} {w} {n = n} {r = r} f e ended packs =
     answered packs (is ∙ order-refused text ts f e) (leaves-refused r n 0 x is) (ended .1 ∙ ap (λ (a : Reply). zeroized a w) (sym (ended .0)))
 
 -- it is taken: the rest of the order decides, and scratch is zeroized
+module _ (text : Bytes) {k : Numbers} (said : reading text ≡ Taken k) where
+  pub read-usable : Usable k
+  read-usable = let t = taken text said in usable k (t .ranged) (t .sound)
+
+  -- of a call that needs the sheet's numbers alone
+  pub call-read : (tests : Numbers → List Test) (writes : Numbers → Bytes) {r r' : Reply} {out out' w w' w'' : Bytes} {answer : ℕ} → Computed (tests k) (writes k) r out out' w w'
+      → (r' ≡ r) × (w'' ≡ zeroized r w') → answer ≡ packed r' → CallReplied (order text ++ tests (sheetOf text .numbers)) (writes (sheetOf text .numbers)) answer out out' w w''
+  call-read tests writes {r} {out = out} {w = w} {w' = w'} made ended packs =
+      let m = sym (taken text said .numbers) in
+      answered (packs ∙ ap packed (ended .0)) (order-taken text (tests (sheetOf text .numbers)) said (made .replied ∙ ap (λ (n : Numbers). first (tests n)) m))
+      (made .written ∙ ap (λ (n : Numbers). leaves r (writes n) out) m) (ended .1 ∙ zeroized-worked r w w' (made .cleared))
+
+-- and its polynomials
 module _ (text : Bytes) {public : Bytes} {s : Reading} {k : Numbers} (load : (s ≡ reading text) × (public ≡ loaded text (replicate 81920 0))) (e : s ≡ Taken k) where
   pub call-taken : (tests : Numbers → List Test) (writes : Numbers → Parameters → Bytes) {r r' : Reply} {out out' w w' w'' : Bytes} {answer : ℕ}
       → Computed (tests k) (writes k (parameters k public)) r out out' w w' → (r' ≡ r) × (w'' ≡ zeroized r w') → answer ≡ packed r'
       → CallReplied (order text ++ tests (sheetOf text .numbers)) (writes (sheetOf text .numbers) (parametersOf text)) answer out out' w w''
-  call-taken tests writes {r} {out = out} {w = w} {w' = w'} made ended packs =
-      let h = lent text load e in
-      let m = sym (h .numbers) in
-      let ts = tests (sheetOf text .numbers) in
-      answered (packs ∙ ap packed (ended .0)) (order-taken text ts (h .said) (made .replied ∙ ap (λ (n : Numbers). first (tests n)) m))
-      (made .written ∙ ap (λ (P : Parameters). leaves r (writes k P) out) (parameters-are text load e) ∙ ap (λ (n : Numbers). leaves r (writes n (parametersOf text)) out) m)
-      (ended .1 ∙ zeroized-worked r w w' (made .cleared))
+  call-taken tests writes {r} {out = out} {out' = out'} {w = w} {w' = w'} made =
+      call-read text (sym (load .0) ∙ e) tests (λ n. writes n (parametersOf text))
+      (subst (λ (P : Parameters). Computed (tests k) (writes k P) r out out' w w') (parameters-are text load e) made)

@@ -1,12 +1,14 @@
--- The calls of encryption, shares and commitment once the sheet is taken: what each refuses after the sheet's own order (document 01, "Refused because of the input"), by the sheet's numbers k,
--- and what it writes where it is taken, by the numbers or by all that the sheet gives. A ternary slice has N bytes and a polynomial 8N. Assumes nothing.
+-- The calls of encryption, shares, commitment and products once the sheet is taken: what each refuses after the sheet's own order (document 01, "Refused because of the input"; of products
+-- document 02, L2), by the sheet's numbers k, and what it writes where it is taken, by the numbers or by all that the sheet gives. A ternary slice has N bytes and a polynomial 8N. Assumes nothing.
 use mathlib.Core.Bool.{not, _&&_}
 use mathlib.Core.List.{List, [], _∷_, _++_}
-use Prim.Native.Nat.{_*_}
+use Prim.Native.Nat.{ℕ, _*_}
 use lib.ListN.{length}
 use Rattle.codec.specs.Bytes.{Bytes}
 use Rattle.codec.specs.Reply.{Test, test}
 use Rattle.codec.specs.Lists.{list}
+use Rattle.modular.specs.Roots.{isRoot}
+use Rattle.ring.specs.Poly.{mul}
 use Rattle.ring.specs.Slots.{coefficientBytes, poly, slot}
 use Rattle.ring.specs.Ternary.{ternary}
 use Rattle.sheet_numbers.specs.Plain.{plain, maskBoundOf}
@@ -63,6 +65,26 @@ module _ (k : Numbers) where
       ∷ test 5 0 (not (bytesBelow 3 (r ∷ []) && coefficientsBelow (k .modulus) (k .ring) (m ∷ [])))
       ∷ []
 
+  -- of a product x y, by either method: its lengths and its ranges
+  abbrev productLengths : (x y product scratch : Bytes) → Test
+  productLengths x y product scratch =
+      lengthTest (length x ∷ length y ∷ length product ∷ length scratch ∷ []) (8 * k .ring ∷ 8 * k .ring ∷ 8 * k .ring ∷ scratchLength ∷ [])
+
+  abbrev productRanges : (x y : Bytes) → Test
+  productRanges x y = test 5 0 (not (coefficientsBelow (k .modulus) (k .ring) (x ∷ y ∷ [])))
+
+  -- by the plain method
+  abbrev pub productTests : (x y product scratch : Bytes) → List Test
+  productTests x y product scratch = productLengths x y product scratch ∷ productRanges x y ∷ []
+
+  -- and by transforms, with a lent root: 37 "tested after 1 and before 5"
+  abbrev pub multiplyTests : (x y : Bytes) (root : ℕ) (product scratch : Bytes) → List Test
+  multiplyTests x y root product scratch =
+      productLengths x y product scratch
+      ∷ test 37 0 (not (isRoot (k .modulus) (k .ring) root))
+      ∷ productRanges x y
+      ∷ []
+
 -- ---- what is written, by the sheet's numbers alone
 
 module _ (k : Numbers) where
@@ -78,6 +100,10 @@ module _ (k : Numbers) where
   -- the vote of two shares
   unfoldable pub reconstructWrites : (v t0 t1 : Bytes) → Bytes
   reconstructWrites v t0 t1 = list (k .ring) (reconstructed (k .modulus) (plain k) (poly v) (poly t0) (poly t1))
+
+  -- x y, by either method
+  unfoldable pub productWrites : (x y : Bytes) → Bytes
+  productWrites x y = coefficientBytes (k .modulus) (k .ring) (mul (k .modulus) (k .ring) (poly x) (poly y))
 
 -- ---- and by its polynomials too
 

@@ -1,13 +1,14 @@
--- The calls of encryption, shares and commitment over the sheet and lent bytes: the order of each, which is the sheet's own and then that of the call (document 01, "Refused because of the input"), and
--- what each writes where it is taken. Assumes nothing.
+-- The calls of encryption, shares, commitment and products over the sheet and lent bytes: the order of each, which is the sheet's own and then that of the call (document 01, "Refused because of the
+-- input"; document 02, L2), and what each writes where it is taken. Assumes nothing.
 use mathlib.Core.List.{List, _++_}
+use Prim.Native.Nat.{ℕ}
 use Rattle.codec.specs.Bytes.{Bytes}
 use Rattle.codec.specs.Reply.{Test}
 use Rattle.sheet.specs.Reader.{sheetOf}
 use Rattle.sheet.specs.Sheet.{order}
 use Rattle.commitment.specs.Parameters.{parametersOf}
-use Rattle.scheme.specs.Calls.{keygenTests, encryptTests, decryptTests, splitTests, shareTests, reconstructTests, commitmentTests}
-use Rattle.scheme.specs.Calls.{keygenWrites, encryptWrites, decryptWrites, splitWrites, shareWrites, reconstructWrites, commitmentWrites}
+use Rattle.scheme.specs.Calls.{keygenTests, encryptTests, decryptTests, splitTests, shareTests, reconstructTests, commitmentTests, productTests, multiplyTests}
+use Rattle.scheme.specs.Calls.{keygenWrites, encryptWrites, decryptWrites, splitWrites, shareWrites, reconstructWrites, commitmentWrites, productWrites}
 
 module _ (text : Bytes) where
   abbrev pub keygenOrder : (s e b scratch : Bytes) → List Test
@@ -31,6 +32,12 @@ module _ (text : Bytes) where
   abbrev pub commitmentOrder : (m r pair scratch : Bytes) → List Test
   commitmentOrder m r pair scratch = order text ++ commitmentTests (sheetOf text .numbers) m r pair scratch
 
+  abbrev pub productOrder : (x y product scratch : Bytes) → List Test
+  productOrder x y product scratch = order text ++ productTests (sheetOf text .numbers) x y product scratch
+
+  abbrev pub multiplyOrder : (x y : Bytes) (root : ℕ) (product scratch : Bytes) → List Test
+  multiplyOrder x y root product scratch = order text ++ multiplyTests (sheetOf text .numbers) x y root product scratch
+
   abbrev pub keyOf : (s e : Bytes) → Bytes
   keyOf s e = keygenWrites (parametersOf text) s e
 
@@ -51,3 +58,6 @@ module _ (text : Bytes) where
 
   abbrev pub commitmentOf : (m r : Bytes) → Bytes
   commitmentOf m r = commitmentWrites (parametersOf text) m r
+
+  abbrev pub productOf : (x y : Bytes) → Bytes
+  productOf x y = productWrites (sheetOf text .numbers) x y

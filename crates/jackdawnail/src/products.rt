@@ -1,0 +1,45 @@
+// The calls that multiply two lent polynomials (document 02, L2): by transforms with a lent root, and by the plain method.
+ghost use Rattle.codec.specs.Slices.{given, left};
+ghost use Rattle.scheme.specs.Orders.{productOrder, multiplyOrder, productOf};
+ghost use Rattle.jackdawnail.specs.Answers.{CallReplied};
+
+// Writes x y, by transforms with a root w of X^N + 1: w^N is -1 modulo q.
+#[no_mangle]
+pub extern "C" fn jdn_multiply(
+    sheet: &[u8],
+    x: &[u8],
+    y: &[u8],
+    root: u64,
+    product: &mut [u8],
+    scratch: &mut [u8],
+) -> u64
+    ensures { λ answer. ⌜ CallReplied (multiplyOrder (given sheet) (given x) (given y) root (given product) (given scratch))
+        (productOf (given sheet) (given x) (given y)) answer (given product) (left product) (given scratch) (left scratch) ⌝ }
+{
+    let reading = sheet::read(sheet);
+    let sheet::Reading::Taken(k) = reading else {
+        return codec::pack(scratch::refuse(reading, scratch));
+    };
+    let reply = scheme_products::multiply(k, x, y, root, product, scratch);
+    codec::pack(scratch::finish(reply, scratch))
+}
+
+// Writes x y, by the plain method, for callers without a root.
+#[no_mangle]
+pub extern "C" fn jdn_product(
+    sheet: &[u8],
+    x: &[u8],
+    y: &[u8],
+    product: &mut [u8],
+    scratch: &mut [u8],
+) -> u64
+    ensures { λ answer. ⌜ CallReplied (productOrder (given sheet) (given x) (given y) (given product) (given scratch))
+        (productOf (given sheet) (given x) (given y)) answer (given product) (left product) (given scratch) (left scratch) ⌝ }
+{
+    let reading = sheet::read(sheet);
+    let sheet::Reading::Taken(k) = reading else {
+        return codec::pack(scratch::refuse(reading, scratch));
+    };
+    let reply = scheme_products::product(k, x, y, product, scratch);
+    codec::pack(scratch::finish(reply, scratch))
+}
