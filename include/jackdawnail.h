@@ -46,8 +46,8 @@ uint64_t jdn_share(JDN_IN(sheet), JDN_IN(key_share), JDN_IN(u), JDN_IN(mask), JD
 uint64_t jdn_reconstruct(JDN_IN(sheet), JDN_IN(v), JDN_IN(t0), JDN_IN(t1), JDN_OUT(vote), JDN_OUT(scratch));
 /* m: a polynomial. r: r1, r2, r3, 3N ternary bytes. pair: r1 + k1 r2 + k2 r3, then r2 + k3 r3 + m, 16N bytes. */
 uint64_t jdn_commitment(JDN_IN(sheet), JDN_IN(m), JDN_IN(r), JDN_OUT(pair), JDN_OUT(scratch));
-/* x, y: polynomials. product: x y, 8N bytes. By number-theoretic transform, with a lent root for which root^N is -1 modulo q; between 1 and 5 it is
- * refused 37 where root is not below q or root^N is not -1. A modulus may have no root: then every one is refused. */
+/* x, y: polynomials. product: x y, 8N bytes. By number-theoretic transform, with a root for which root^N is -1 modulo q; between 1 and 5 it
+ * is refused 37 where root is not below q or root^N is not -1. A modulus may have no root: then every one is refused. */
 uint64_t jdn_multiply(JDN_IN(sheet), JDN_IN(x), JDN_IN(y), uint64_t root, JDN_OUT(product), JDN_OUT(scratch));
 /* The same polynomial by the plain method, for callers without a root. */
 uint64_t jdn_product(JDN_IN(sheet), JDN_IN(x), JDN_IN(y), JDN_OUT(product), JDN_OUT(scratch));
