@@ -78,8 +78,8 @@ static void row(const char *what, const double *ms, int ours) {
 /* The row of two of ours; whether the second is as many times as fast as it has to be. */
 static bool limited(const char *what, const double *ms, int slow, int fast, double limit) {
     double ratio = ms[slow] / ms[fast];
-    printf("%s, 2048 coefficients: by transform %.2f ms, plain %.2f ms, ratio %.2f (limit %.1f, or more)\n", what, ms[fast], ms[slow], ratio,
-           limit);
+    printf("%s, 2048 coefficients: by transform %.2f ms, plain %.2f ms, ratio %.2f (limit %.1f, or more)\n", what, ms[fast], ms[slow],
+           ratio, limit);
     if (ratio < limit) puts("the ratio is below its limit");
     return ratio >= limit;
 }
