@@ -22,6 +22,7 @@ mod sheets;
 mod stern;
 mod stern_refusals;
 mod tally;
+mod transforms;
 
 use tally::Tally;
 

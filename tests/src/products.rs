@@ -158,11 +158,13 @@ fn every(c: &mut Comparison, random: &mut Random, n: u64, modulus: &Factored) {
     scheme::compare(c, &PRODUCT, &lent.text, &lent.inputs, &lent.out, SCRATCH);
 }
 
-/// What is lent with one slice longer, shorter or empty, or another scratch.
+/// A slice a byte longer, a byte shorter, and empty.
+pub const OTHER_LENGTHS: [fn(&mut Vec<u8>); 3] = [|slice| slice.push(0), |slice| slice.truncate(slice.len() - 1), Vec::clear];
+
+/// What is lent with one slice of another length, or another scratch.
 fn other_lengths(lent: &Lent) -> Vec<Lent> {
-    let ways: [fn(&mut Vec<u8>); 3] = [|slice| slice.push(0), |slice| slice.truncate(slice.len() - 1), Vec::clear];
     let mut all: Vec<Lent> = [0, 1, SCRATCH - 1, SCRATCH + 1].map(|scratch| Lent { scratch, ..lent.clone() }).into();
-    for way in ways {
+    for way in OTHER_LENGTHS {
         for i in 0..3 {
             let mut other = lent.clone();
             way(if i < 2 { &mut other.inputs[i] } else { &mut other.out });

@@ -1,6 +1,7 @@
 //! Numbers modulo q and polynomials modulo X^n + 1, over the calls of `test_ring`, against plain 128-bit arithmetic.
 use crate::random::Random;
 use crate::tally::{Comparison, Tally};
+use crate::transforms;
 
 extern "C" {
     fn modular_numbers(operation: u64, x: u64, y: u64, q: u64) -> u64;
@@ -273,4 +274,5 @@ pub fn run(tally: &mut Tally) {
     ternary(tally, &mut random);
     polynomials(tally, &mut random);
     refusals(tally, &mut random);
+    transforms::run(tally, &mut random);
 }
