@@ -1,55 +1,100 @@
-/* The product of two polynomials modulo X^2048 + 1, q near 2^55: ours, and NTL's `mul` followed by `rem`, interleaved in one run, by the best round of each. */
-#include <NTL/ZZ_pX.h>
-#include <cstddef>
-#include <cstdint>
+/* The product of two polynomials modulo X^2048 + 1, q near 2^55: ours by the plain method and by transform, and NTL's, `mul` followed by
+ * `rem` or folded by hand; and the two exported calls, which read a sheet and test what they are lent. All run interleaved, by the best
+ * round of each. */
+#include <algorithm>
 #include <cstdio>
-#include <vector>
 
+#include "../include/jackdawnail.h"
 #include "clock.h"
+#include "lent.h"
 
-extern "C" uint64_t ring_polynomials(uint64_t operation, uint8_t *work, size_t work_length, const uint8_t *a, size_t a_length, const uint8_t *b,
-                                     size_t b_length, size_t n, uint64_t q);
+using theirs::n;
+using theirs::q;
+using theirs::Words;
 
-static const size_t n = 2048;
-static const uint64_t q = 36028797018820609; /* a prime below 2^55 with 4096 dividing q - 1 */
+extern "C" uint64_t ring_polynomials(uint64_t operation, JDN_OUT(work), JDN_IN(a), JDN_IN(b), size_t ring, uint64_t modulus);
+extern "C" uint64_t ring_by_transform(JDN_OUT(work), JDN_IN(a), JDN_IN(b), size_t ring, uint64_t w, uint64_t modulus);
+
+static const uint64_t root = 15999091420952219; /* its 2048th power is -1 modulo q */
+static const double method_limit = 8, call_limit = 4;
+
+enum { plain, transform, with_rem, with_fold, plain_call, transform_call, kinds };
 
 /* Coefficients that look random and are the same in each run. */
-static std::vector<uint8_t> coefficients(uint64_t seed, NTL::ZZ_pX &p) {
-    std::vector<uint8_t> bytes;
-    for (size_t i = 0; i < n; i++) {
+static Words coefficients() {
+    static uint64_t seed = 1;
+    Words x(n);
+    for (uint64_t &c : x) {
         seed ^= seed << 13, seed ^= seed >> 7, seed ^= seed << 17;
-        uint64_t c = seed % q;
-        for (int k = 0; k < 8; k++) bytes.push_back((uint8_t)(c >> (8 * k)));
-        NTL::SetCoeff(p, (long)i, NTL::conv<NTL::ZZ_p>((long)c));
+        c = seed % q;
     }
-    return bytes;
+    return x;
+}
+
+/* What is multiplied, and the room that each kind writes its product to. */
+struct Setup {
+    Words x, y, product, rooms[kinds];
+    std::string sheet;
+    std::vector<uint8_t> scratch;
+    bool wrong;
+};
+
+static Setup setup() {
+    Setup s = {coefficients(), coefficients(), {}, {}, "", std::vector<uint8_t>(JDN_SCRATCH), false};
+    const Words a = coefficients(), b = coefficients(), k1 = coefficients(), k2 = coefficients(), k3 = coefficients();
+    s.sheet = sheet_text(40, 1, 1, {&a, &b, &k1, &k2, &k3});
+    theirs::folded = false;
+    s.product = theirs::times(s.x, s.y);
+    s.rooms[plain].resize(4 * n), s.rooms[transform].resize(2 * n), s.rooms[plain_call].resize(n), s.rooms[transform_call].resize(n);
+    return s;
+}
+
+static uint64_t multiply(Setup &s, int kind) {
+    Words &room = s.rooms[kind];
+    if (kind == plain) return ring_polynomials(2, OUT(room), IN(s.x), IN(s.y), n, q);
+    if (kind == transform) return ring_by_transform(OUT(room), IN(s.x), IN(s.y), n, root, q);
+    if (kind == plain_call) return jdn_product(IN(s.sheet), IN(s.x), IN(s.y), OUT(room), OUT(s.scratch));
+    if (kind == transform_call) return jdn_multiply(IN(s.sheet), IN(s.x), IN(s.y), root, OUT(room), OUT(s.scratch));
+    theirs::folded = kind == with_fold;
+    room = theirs::times(s.x, s.y);
+    return 0;
+}
+
+/* The seconds of one product, which is then compared with NTL's. */
+static double measured(Setup &s, int kind) {
+    double start = seconds();
+    uint64_t reply = multiply(s, kind);
+    double taken = seconds() - start;
+    s.wrong |= reply != 0 || !std::equal(s.product.begin(), s.product.end(), s.rooms[kind].begin());
+    std::fill(s.rooms[kind].begin(), s.rooms[kind].end(), 0);
+    return taken;
+}
+
+static void row(const char *what, const double *ms, int ours) {
+    printf("%s, 2048 coefficients: ours %.2f ms, NTL %.2f ms, ratio %.2f, folded by hand %.2f ms, ratio %.2f\n", what, ms[ours],
+           ms[with_rem], ms[with_rem] / ms[ours], ms[with_fold], ms[with_fold] / ms[ours]);
+}
+
+/* The row of two of ours; whether the second is as many times as fast as it has to be. */
+static bool limited(const char *what, const double *ms, int slow, int fast, double limit) {
+    double ratio = ms[slow] / ms[fast];
+    printf("%s, 2048 coefficients: by transform %.2f ms, plain %.2f ms, ratio %.2f (limit %.1f, or more)\n", what, ms[fast], ms[slow],
+           ratio, limit);
+    if (ratio < limit) puts("the ratio is below its limit");
+    return ratio >= limit;
 }
 
 int main() {
-    NTL::ZZ_p::init(NTL::conv<NTL::ZZ>((long)q));
-    NTL::ZZ_pX left, right, modulus, product, theirs;
-    std::vector<uint8_t> a = coefficients(1, left), b = coefficients(2, right), work(32 * n);
-    NTL::SetCoeff(modulus, 0, 1);
-    NTL::SetCoeff(modulus, (long)n, 1);
-    double best_ours = 1e9, best_theirs = 1e9;
-    uint64_t reply = 0;
-    for (int round = 0; round < 40; round++) {
-        double start = seconds();
-        reply |= ring_polynomials(2, work.data(), work.size(), a.data(), a.size(), b.data(), b.size(), n, q);
-        double middle = seconds();
-        NTL::mul(product, left, right);
-        NTL::rem(theirs, product, modulus);
-        double end = seconds();
-        best_ours = least(best_ours, middle - start);
-        best_theirs = least(best_theirs, end - middle);
-    }
-    bool wrong = reply != 0;
-    for (size_t i = 0; i < n; i++) {
-        uint64_t c = 0;
-        for (int k = 7; k >= 0; k--) c = c << 8 | work[8 * i + (size_t)k];
-        wrong |= NTL::rep(NTL::coeff(theirs, (long)i)) != NTL::conv<NTL::ZZ>((long)c);
-    }
-    printf("ring product, 2048 coefficients: ours %.2f ms, NTL %.2f ms, ratio %.2f\n", best_ours * 1e3, best_theirs * 1e3, best_theirs / best_ours);
-    if (wrong) puts("the products differ");
-    return wrong;
+    NTL::zz_p::init((long)q);
+    Setup s = setup();
+    double ms[kinds];
+    for (double &best : ms) best = 1e9;
+    for (int round = 0; round < 40; round++)
+        for (int kind = 0; kind < kinds; kind++) ms[kind] = least(ms[kind], 1e3 * measured(s, kind));
+    row("ring product", ms, plain);
+    row("ring product by transform", ms, transform);
+    bool kept = limited("the two methods", ms, plain, transform, method_limit);
+    kept &= limited("the two calls, jdn_multiply and jdn_product", ms, plain_call, transform_call, call_limit);
+    if (s.wrong) puts("a call was refused, or the products differ");
+    return s.wrong || !kept;
 }

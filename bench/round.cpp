@@ -5,6 +5,7 @@
 
 #include "../include/jackdawnail.h"
 #include "clock.h"
+#include "lent.h"
 #include "round_other.h"
 
 using theirs::Bytes;
@@ -75,11 +76,6 @@ struct Setup {
     std::vector<Round> ours, other;
 };
 
-static void line(std::string &text, const char *name, const Words &list) {
-    for (size_t i = 0; i < list.size(); i++) text += (i ? "," : std::string(name) + "=") + std::to_string(list[i]);
-    text += "\n";
-}
-
 static Setup setup(size_t ballots, size_t repeats) {
     Setup x;
     theirs::Sheet &t = x.sheet;
@@ -88,10 +84,7 @@ static Setup setup(size_t ballots, size_t repeats) {
     for (Words &k : t.k) k = coefficients(n);
     t.b = theirs::key(t, theirs::short_words(&key[0], n), theirs::short_words(&key[n], n));
     t.mask_bound = (theirs::noise << drown) / 4;
-    const std::pair<const char *, uint64_t> numbers[5] = {{"ring", n}, {"modulus", q}, {"drown", drown}, {"rounds", rounds}, {"repeats", repeats}};
-    for (const auto &number : numbers) line(x.text, number.first, {number.second});
-    const std::pair<const char *, const Words *> lists[5] = {{"a", &t.a}, {"b", &t.b}, {"k1", &t.k[0]}, {"k2", &t.k[1]}, {"k3", &t.k[2]}};
-    for (const auto &list : lists) line(x.text, list.first, *list.second);
+    x.text = sheet_text(drown, rounds, repeats, {&t.a, &t.b, &t.k[0], &t.k[1], &t.k[2]});
     for (size_t j = 0; j < ballots; j++) encrypted(cast, t);
     for (size_t k = 0; k < rounds; k++) {
         Material m = {key, cast, coefficients(n), coefficients(n), {masks(n * ballots, t.mask_bound), masks(n * ballots, t.mask_bound)}, {}};
@@ -110,9 +103,6 @@ template <class T> static Bytes joined(const std::vector<Drawn> &all, std::vecto
     for (const Drawn &d : all) theirs::append(x, (d.*part).data(), (d.*part).size());
     return x;
 }
-
-#define IN(x) (const uint8_t *)(x).data(), sizeof((x)[0]) * (x).size()
-#define OUT(x) (uint8_t *)(x).data(), sizeof((x)[0]) * (x).size()
 
 /* The seconds of both calls. */
 static double produced(Setup &x) {

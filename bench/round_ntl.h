@@ -1,25 +1,21 @@
 /* A round's producer and checker over NTL and OpenSSL, as document 01 has them: what bench/round.cpp measures ours beside. Polynomials and vectors are 64-bit words; NTL
- * multiplies, and reduces either by its own `rem` or folded, the upper half subtracted from the lower by hand, which is faster; OpenSSL hashes. */
+ * multiplies (ntl.h), OpenSSL hashes. */
 #ifndef BENCH_ROUND_NTL_H
 #define BENCH_ROUND_NTL_H
-#include <NTL/lzz_pX.h>
 #include <openssl/evp.h>
 
-#include <cstdint>
 #include <cstdlib>
 #include <cstring>
 #include <utility>
-#include <vector>
+
+#include "ntl.h"
 
 namespace theirs {
 
 typedef std::vector<uint8_t> Bytes;
-typedef std::vector<uint64_t> Words;
 
-static const size_t n = 2048, unknowns = 14 * n, entries = 3 * unknowns, ballot_length = 4 + 16 * n;
-static const uint64_t q = 36028797018820609; /* a prime below 2^55 with 4096 dividing q - 1 */
+static const size_t unknowns = 14 * n, entries = 3 * unknowns, ballot_length = 4 + 16 * n;
 static const uint64_t noise = 2 * (2 * n + 1) + 1;
-static bool folded = false;
 
 struct Sheet {
     uint64_t mask_bound;
@@ -49,7 +45,6 @@ struct Round {
 /* ---- polynomials */
 
 static uint64_t add(uint64_t x, uint64_t y) { return x + y < q ? x + y : x + y - q; }
-static uint64_t subtract(uint64_t x, uint64_t y) { return x < y ? x + q - y : x - y; }
 
 static Words plus(const Words &x, const Words &y) {
     Words z(x.size());
@@ -60,26 +55,6 @@ static Words plus(const Words &x, const Words &y) {
 static Words minus(const Words &x, const Words &y) {
     Words z(x.size());
     for (size_t i = 0; i < z.size(); i++) z[i] = subtract(x[i], y[i]);
-    return z;
-}
-
-static NTL::zz_pX loaded(const Words &x) {
-    NTL::zz_pX f;
-    f.rep.SetLength((long)n);
-    for (size_t i = 0; i < n; i++) f.rep[(long)i].LoopHole() = (long)x[i];
-    f.normalize();
-    return f;
-}
-
-static Words times(const Words &x, const Words &y) {
-    static const NTL::zz_pX modulus = NTL::zz_pX(NTL::INIT_MONO, (long)n) + 1;
-    NTL::zz_pX product = loaded(x) * loaded(y);
-    Words z(n, 0);
-    if (!folded) NTL::rem(product, product, modulus);
-    for (long i = 0; i <= NTL::deg(product); i++) {
-        uint64_t c = (uint64_t)NTL::rep(product.rep[i]);
-        z[(size_t)i % n] = i < (long)n ? c : subtract(z[(size_t)i % n], c);
-    }
     return z;
 }
 

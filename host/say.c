@@ -16,7 +16,7 @@ struct refusal {
     const char *sentence;
 };
 
-/* The numbers of document 01 ("Refused because of the input", "Refused because of the state"). */
+/* The numbers of document 01 ("Refused because of the input", "Refused because of the state") and, from 37 on, of document 02. */
 static const struct refusal refusals[] = {
     {1, NOWHERE, "something has the wrong length"},
     {2, NOWHERE, "the sheet does not have the form of ten lines, from ring= to k3="},
@@ -39,6 +39,7 @@ static const struct refusal refusals[] = {
     {33, NOWHERE, "this mark was withdrawn"},
     {35, NOWHERE, "the register is full: 4,096 entries are used"},
     {36, NOWHERE, "no ballot stands"},
+    {37, NOWHERE, "the root does not fit the sheet: it is not below q, or its N-th power is not -1 modulo q"},
 };
 
 /* The longest line that is said; a longer one is cut off. */

@@ -3,7 +3,7 @@
  * Every byte slice is a pointer and a length. Nothing is kept between calls and nothing is allocated.
  * A call answers one number: reply = number + 256 * value.
  *   number 0: taken. value is 0 unless the call says what it carries.
- *   any other number: refused, as document 01 numbers it (docs/INTERFACE.md has the list); value is the place.
+ *   any other number: refused, as documents 01 and 02 number it (docs/INTERFACE.md has the list); value is the place.
  * Any pointer may be null where its length is 0. Slices that are written must not overlap others.
  */
 #ifndef JACKDAWNAIL_H
@@ -46,6 +46,11 @@ uint64_t jdn_share(JDN_IN(sheet), JDN_IN(key_share), JDN_IN(u), JDN_IN(mask), JD
 uint64_t jdn_reconstruct(JDN_IN(sheet), JDN_IN(v), JDN_IN(t0), JDN_IN(t1), JDN_OUT(vote), JDN_OUT(scratch));
 /* m: a polynomial. r: r1, r2, r3, 3N ternary bytes. pair: r1 + k1 r2 + k2 r3, then r2 + k3 r3 + m, 16N bytes. */
 uint64_t jdn_commitment(JDN_IN(sheet), JDN_IN(m), JDN_IN(r), JDN_OUT(pair), JDN_OUT(scratch));
+/* x, y: polynomials. product: x y, 8N bytes. By number-theoretic transform, with a root for which root^N is -1 modulo q; between 1 and 5 it
+ * is refused 37 where root is not below q or root^N is not -1. A modulus may have no root: then every one is refused. */
+uint64_t jdn_multiply(JDN_IN(sheet), JDN_IN(x), JDN_IN(y), uint64_t root, JDN_OUT(product), JDN_OUT(scratch));
+/* The same polynomial by the plain method, for callers without a root. */
+uint64_t jdn_product(JDN_IN(sheet), JDN_IN(x), JDN_IN(y), JDN_OUT(product), JDN_OUT(scratch));
 
 /* The calls of a round: scratch, and outputs on a refusal, are as above. Ballots are whole, 4 + 16N bytes each (mark, u, v), 4,096 at most. Ballots and repetitions count
  * from 0. After the sheet each call refuses 1 and then what is said.

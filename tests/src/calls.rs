@@ -1,4 +1,4 @@
-//! The calls of encryption, decryption shares and commitment: what each is lent, and what it writes by plain 128-bit arithmetic.
+//! The calls of encryption, decryption shares, commitment and products: what each is lent, and what it writes by plain 128-bit arithmetic.
 use crate::polynomials::{encode, list, poly, signed, ternary, words, Poly, Ring};
 use crate::random::Random;
 use crate::sheets::Sheet;
@@ -25,6 +25,35 @@ calls! {
     jdn_share(key_share, u, mask) as share;
     jdn_reconstruct(v, t0, t1) as reconstruct;
     jdn_commitment(m, r) as commitment;
+    jdn_product(x, y) as product;
+}
+
+extern "C" {
+    fn jdn_multiply(
+        sheet: *const u8,
+        sheet_length: usize,
+        x: *const u8,
+        x_length: usize,
+        y: *const u8,
+        y_length: usize,
+        root: u64,
+        product: *mut u8,
+        product_length: usize,
+        scratch: *mut u8,
+        scratch_length: usize,
+    ) -> u64;
+}
+
+/// What `product` writes, by transform: it is lent a root as a plain number beside the slices.
+pub fn multiply(sheet: &[u8], inputs: &[Vec<u8>], root: u64, out: &mut [u8], scratch: &mut [u8]) -> u64 {
+    let [x, y] = inputs else { panic!("the call has other slices") };
+    let (sheet, sheet_length) = (sheet.as_ptr(), sheet.len());
+    // All slices are live and apart for the call.
+    unsafe {
+        jdn_multiply(
+            sheet, sheet_length, x.as_ptr(), x.len(), y.as_ptr(), y.len(), root, out.as_mut_ptr(), out.len(), scratch.as_mut_ptr(), scratch.len(),
+        )
+    }
 }
 
 /// What a slice of a call holds.
@@ -111,7 +140,7 @@ pub struct Call {
 
 const P: i128 = 2;
 
-pub const CALLS: [Call; 7] = [
+pub const CALLS: [Call; 8] = [
     Call {
         name: "keygen",
         kinds: &[Kind::Ternary(1), Kind::Ternary(1)],
@@ -181,4 +210,13 @@ pub const CALLS: [Call; 7] = [
             encode(z, vec![row, z.sum(&z.sum(&r2, &z.times(&k3, &r3), 1), &m, 1)])
         },
     },
+    PRODUCT,
 ];
+
+pub const PRODUCT: Call = Call {
+    name: "product",
+    kinds: &[Kind::Polynomials(1), Kind::Polynomials(1)],
+    out: 8,
+    run: product,
+    writes: |z, _, x| encode(z, vec![z.times(&poly(&x[0]), &poly(&x[1]))]),
+};

@@ -7,9 +7,11 @@ mod digest;
 mod documents;
 mod empty;
 mod polynomials;
+mod products;
 mod random;
 mod reading;
 mod ring;
+mod roots;
 mod round;
 mod scheme;
 mod scratch;
@@ -20,12 +22,13 @@ mod sheets;
 mod stern;
 mod stern_refusals;
 mod tally;
+mod transforms;
 
 use tally::Tally;
 
 type Part = (&'static str, fn(&mut Tally));
 
-const PARTS: [Part; 11] = [
+const PARTS: [Part; 12] = [
     ("documents", documents::run),
     ("reading", reading::run),
     ("sha3", sha3::run),
@@ -33,6 +36,7 @@ const PARTS: [Part; 11] = [
     ("ring", ring::run),
     ("sheet", sheet::run),
     ("scheme", scheme::run),
+    ("products", products::run),
     ("stern", stern::run),
     ("empty", empty::run),
     ("round", round::run),

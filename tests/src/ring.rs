@@ -1,6 +1,7 @@
 //! Numbers modulo q and polynomials modulo X^n + 1, over the calls of `test_ring`, against plain 128-bit arithmetic.
 use crate::random::Random;
 use crate::tally::{Comparison, Tally};
+use crate::transforms;
 
 extern "C" {
     fn modular_numbers(operation: u64, x: u64, y: u64, q: u64) -> u64;
@@ -30,7 +31,7 @@ const MULTIPLY: u64 = 2;
 const MODULI: [u64; 4] = [97, 81, 36_028_797_018_820_609, (1 << 56) - 4095];
 
 /// The independent implementation.
-fn times(x: u64, y: u64, q: u64) -> u64 {
+pub fn times(x: u64, y: u64, q: u64) -> u64 {
     (u128::from(x) * u128::from(y) % u128::from(q)) as u64
 }
 
@@ -47,7 +48,7 @@ fn on_numbers(operation: u64, x: u64, y: u64, q: u64) -> u64 {
 }
 
 /// 1 / p modulo q by Euclid's algorithm, or nothing where they have a common factor.
-fn inverse(p: u64, q: u64) -> Option<u64> {
+pub fn inverse(p: u64, q: u64) -> Option<u64> {
     let (mut a, mut b) = (i128::from(p), i128::from(q));
     let (mut s, mut t) = (1, 0);
     while b != 0 {
@@ -273,4 +274,5 @@ pub fn run(tally: &mut Tally) {
     ternary(tally, &mut random);
     polynomials(tally, &mut random);
     refusals(tally, &mut random);
+    transforms::run(tally, &mut random);
 }

@@ -1,4 +1,5 @@
-//! The calls of encryption, decryption shares and commitment against plain 128-bit arithmetic: what each writes, and each refusal in its order.
+//! The calls of encryption, decryption shares, commitment and the plain product against plain 128-bit arithmetic: what each writes, and each
+//! refusal in its order.
 use crate::calls::{decrypt, encrypt, keygen, reconstruct, share, split, Call, Kind, CALLS};
 use crate::polynomials::{signed, words, Ring};
 use crate::random::Random;
@@ -7,7 +8,7 @@ use crate::sheets::{self, Sheet};
 use crate::tally::{Comparison, Tally};
 
 /// The number, and what the output holds.
-fn expected(call: &Call, text: &[u8], inputs: &[Vec<u8>], out: &[u8], scratch: usize) -> (u64, Vec<u8>) {
+pub fn expected(call: &Call, text: &[u8], inputs: &[Vec<u8>], out: &[u8], scratch: usize) -> (u64, Vec<u8>) {
     let (sheet, [n, _, bound, _]) = match sheets::read(text) {
         Err(number) => return (number, out.to_vec()),
         Ok(taken) => taken,
@@ -27,7 +28,7 @@ fn expected(call: &Call, text: &[u8], inputs: &[Vec<u8>], out: &[u8], scratch: u
     (0, (call.writes)(&ring, &sheet, inputs))
 }
 
-fn compare(c: &mut Comparison, call: &Call, text: &[u8], inputs: &[Vec<u8>], out: &[u8], scratch: usize) -> u64 {
+pub fn compare(c: &mut Comparison, call: &Call, text: &[u8], inputs: &[Vec<u8>], out: &[u8], scratch: usize) -> u64 {
     let (number, output) = expected(call, text, inputs, out, scratch);
     let mut written = out.to_vec();
     let (reply, state) = with_scratch(scratch, |room| (call.run)(text, inputs, &mut written, room));
@@ -36,7 +37,7 @@ fn compare(c: &mut Comparison, call: &Call, text: &[u8], inputs: &[Vec<u8>], out
 }
 
 /// One slice longer or shorter, one byte or number out of range, another scratch, or another sheet.
-fn damage(random: &mut Random, call: &Call, text: &mut Vec<u8>, inputs: &mut [Vec<u8>], out: &mut Vec<u8>, scratch: &mut usize, sheet: &Sheet, bound: u64) {
+pub fn damage(random: &mut Random, call: &Call, text: &mut Vec<u8>, inputs: &mut [Vec<u8>], out: &mut Vec<u8>, scratch: &mut usize, sheet: &Sheet, bound: u64) {
     let q = sheet.numbers[1];
     let i = random.below(inputs.len() as u64) as usize;
     match random.below(8) {

@@ -117,6 +117,11 @@ pub fn right(random: &mut Random, n: u64) -> Sheet {
     let least = 2 * (1 + (1_u128 << d)) * noise(n) + 2;
     let steps = (u128::from(random.next()) % 1_000).min(((1 << 56) - 1 - least) / u128::from(2 * n) - 1);
     let q = ((least / u128::from(2 * n) + 1 + steps) * u128::from(2 * n) + 1) as u64;
+    with(random, n, q, d)
+}
+
+/// A sheet with these numbers.
+pub fn with(random: &mut Random, n: u64, q: u64, d: u64) -> Sheet {
     let rounds = 1 + random.below(128);
     let repeats = least_repeats(rounds) + random.below(257 - least_repeats(rounds));
     Sheet {

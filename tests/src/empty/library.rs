@@ -41,7 +41,7 @@ macro_rules! calls {
         extern "C" {
             $(fn $name($($($read: *const u8, _: usize,)? $($write: *mut u8, _: usize,)? $($number: $type,)?)+) -> u64;)+
         }
-        pub static CALLS: [Call; 23] = [$(Call {
+        pub static CALLS: [Call; 25] = [$(Call {
             name: stringify!($name),
             parameters: &[$($(Parameter::Read(stringify!($read)))? $(Parameter::Written(stringify!($write)))? $(Parameter::Number(stringify!($number)))?),+],
             // Every slice with a length has that many bytes, live and apart from the others for the call.
@@ -66,6 +66,8 @@ calls! {
     jdn_share(read sheet, read key_share, read u, read mask, write t, write scratch);
     jdn_reconstruct(read sheet, read v, read t0, read t1, write vote, write scratch);
     jdn_commitment(read sheet, read m, read r, write pair, write scratch);
+    jdn_multiply(read sheet, read x, read y, number root: u64, write product, write scratch);
+    jdn_product(read sheet, read x, read y, write product, write scratch);
     jdn_produce_first(
         read sheet, read secrets, read s0, read e0, read masks0, read masks1, read vectors, read permutations, read salts, read ballots,
         write head, write shares0, write shares1, write claims, write scratch

@@ -1,7 +1,7 @@
-//! What is expected of each call, from document 01's orders and document 02's for withdraw: in which step each slice's length is looked
-//! at, and what else can be wrong before and after.
+//! What is expected of each call, from document 01's orders and document 02's for withdraw and multiply: in which step each slice's length
+//! is looked at, and what else can be wrong before and after.
 use super::lent::{Lent, Slice, Way};
-use super::small::{UNKNOWN, WITHDRAWN};
+use super::small::{ROOT, UNKNOWN, WITHDRAWN};
 use crate::round::faults::{put, refused_sheets};
 use crate::session::image::{PHASE, USED};
 
@@ -14,11 +14,13 @@ pub enum Step {
     State,
     /// the sheet's own order: 1 where it is empty or too long, then 2 to 5
     Sheet,
-    /// what comes after the lengths
+    /// 37
+    Root,
+    /// what comes after the lengths, and after the root
     Rest,
 }
 
-use Step::{Lengths, Rest, Sheet, State};
+use Step::{Lengths, Rest, Root, Sheet, State};
 
 /// A slice that no step names may have any length.
 pub struct Order {
@@ -32,7 +34,7 @@ const fn order(call: &'static str, steps: &'static [Step]) -> Order {
 
 const IMAGE: Step = Lengths(&["image"]);
 
-pub static ORDERS: [Order; 23] = [
+pub static ORDERS: [Order; 25] = [
     order("jdn_digest", &[Lengths(&["out"])]),
     order("jdn_sheet", &[Lengths(&["out"]), Sheet]),
     order("jdn_keygen", &[Sheet, Lengths(&["s", "e", "b", "scratch"]), Rest]),
@@ -42,6 +44,8 @@ pub static ORDERS: [Order; 23] = [
     order("jdn_share", &[Sheet, Lengths(&["key_share", "u", "mask", "t", "scratch"]), Rest]),
     order("jdn_reconstruct", &[Sheet, Lengths(&["v", "t0", "t1", "vote", "scratch"]), Rest]),
     order("jdn_commitment", &[Sheet, Lengths(&["m", "r", "pair", "scratch"]), Rest]),
+    order("jdn_multiply", &[Sheet, Lengths(&["x", "y", "product", "scratch"]), Root, Rest]),
+    order("jdn_product", &[Sheet, Lengths(&["x", "y", "product", "scratch"]), Rest]),
     order("jdn_produce_first", &[
         Sheet,
         Lengths(&["secrets", "s0", "e0", "masks0", "masks1", "vectors", "permutations", "salts", "ballots", "head", "shares0", "shares1", "claims", "scratch"]),
@@ -103,7 +107,7 @@ pub struct Other {
 }
 
 /// After the lengths: for each call a byte of a slice or a plain number, and the refusal.
-const BYTES: [(&str, &str, usize, u8, u64); 15] = [
+const BYTES: [(&str, &str, usize, u8, u64); 18] = [
     ("jdn_keygen", "s", 0, 3, 5),
     ("jdn_encrypt", "m", 3, 2, 5),
     ("jdn_decrypt", "ciphertext", 0, 97, 5),
@@ -112,6 +116,9 @@ const BYTES: [(&str, &str, usize, u8, u64); 15] = [
     ("jdn_share", "mask", 0, 5, 12),
     ("jdn_reconstruct", "t1", 24, 97, 5),
     ("jdn_commitment", "r", 11, 3, 5),
+    ("jdn_multiply", "x", 0, 97, 5),
+    ("jdn_multiply", "y", 24, 97, 5),
+    ("jdn_product", "y", 24, 97, 5),
     ("jdn_produce_first", "secrets", 55, 3, 5),
     ("jdn_produce_second", "vectors", 0, 97, 5),
     ("jdn_admit", "ballot", 4, 97, 5),
@@ -143,10 +150,28 @@ pub fn others(order: &Order, lent: &mut Lent) -> Vec<Other> {
             all.push(Other { name: name.into(), rank: (place, number), whole: Some("sheet"), apply: Box::new(apply) });
         }
     }
+    if let Some(place) = order.place(|step| matches!(step, Root)) {
+        all.extend(roots(place));
+    }
     if let Some(place) = order.place(|step| matches!(step, Rest)) {
         all.extend(rest(order.call, lent, place));
     }
     all
+}
+
+/// Numbers that are no root modulo 97, and one of them beside a coefficient out of range, which comes later.
+fn roots(place: usize) -> Vec<Other> {
+    let root = |value: u64, beside: bool| {
+        let apply = move |lent: &mut Lent| {
+            lent.set_number("root", value);
+            if beside {
+                lent.slice("x").bytes[0] = 97;
+            }
+        };
+        let name = format!("root {value}{}", if beside { " and 97 at byte 0 of x" } else { "" });
+        Other { name, rank: (place, 37), whole: None, apply: Box::new(apply) }
+    };
+    [1, 97 + ROOT, u64::MAX].into_iter().map(|value| root(value, false)).chain([root(1, true)]).collect()
 }
 
 fn rest(call: &str, lent: &mut Lent, place: usize) -> Vec<Other> {

@@ -31,6 +31,8 @@ const T0: [i64; 4] = [29, 16, 13, 95];
 const T1: [i64; 4] = [81, 74, 0, 90];
 /// The masks of both sides.
 const MASKS: [[i64; 4]; 2] = [[4, -4, 0, 1], [0, -1, 4, -4]];
+/// 33^4 is -1 modulo 97.
+pub const ROOT: u64 = 33;
 pub const MARK: u32 = 7;
 /// A mark that no ballot has and no entry, and one whose withdrawal was taken before its ballot came.
 pub const UNKNOWN: u32 = 8;
@@ -85,7 +87,14 @@ fn schemes(random: &mut Random) -> Vec<Right> {
         scheme(random, "share", &[&s0, &u, &numbers(MASKS[0])]),
         scheme(random, "reconstruct", &[&v, &t0, &t1]),
         scheme(random, "commitment", &[&s0, &r]),
+        scheme(random, "product", &[&s0, &v]),
+        by_transform(scheme(random, "product", &[&s0, &v])),
     ]
+}
+
+/// The product by transform is lent the root beside what the plain one is lent, and leaves the same.
+fn by_transform(plain: Right) -> Right {
+    Right { call: Call::named("jdn_multiply"), numbers: vec![ROOT], ..plain }
 }
 
 // ---- a round
