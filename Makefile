@@ -8,7 +8,7 @@
 
 PREFIX ?= /usr/local
 DESTDIR ?=
-version = 0.10
+version = 0.11
 
 ARCHIVE ?=
 library = $(if $(ARCHIVE),$(ARCHIVE),target/staticlib/libjackdawnail.a)

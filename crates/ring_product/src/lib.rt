@@ -1,4 +1,4 @@
-// The product of polynomials modulo X^n + 1 and q: the one place where polynomials are multiplied.
+// The product of polynomials modulo X^n + 1 and q, by which the library multiplies, made by the plain method.
 // Every coefficient is a sum of n products of a factor by a stretch of a row, with one reduction at its end.
 ghost use mathlib.Core.Path.{_≡_};
 ghost use Prim.Native.Nat.{_+_, _-_, _*_, _%_, _^_, _≤_, _<_};
