@@ -12,6 +12,7 @@ pub mod Together
 pub mod Extracts
 pub mod Scheme
 pub mod Queries
+pub mod SmallSheet
 pub mod SomeElection
 pub mod Yields
 pub mod Replies

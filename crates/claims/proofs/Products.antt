@@ -35,6 +35,7 @@ use Rattle.session_histories.proofs.Replies.{by-number}
 use Rattle.session_histories.proofs.Valid.{sheet-exactly}
 use Rattle.claims.specs.Scheme.{Coefficients}
 use Rattle.claims.specs.Products.{ringProduct, productReply, multiplyReply, ProductSized, PlainClaims, TransformClaims, SameBytes, RootClaims, ProductOrders, SomeProduct}
+use Rattle.claims.proofs.SmallSheet.{smallSheet}
 use Rattle.claims.proofs.Scheme.{sized-exactly, root-exactly, lent, wanted, product-exactly, multiply-as-product, multiply-exactly}
 
 -- ---- the two calls
@@ -106,14 +107,7 @@ product-orders = record { multiply = λ text x y w product scratch. refl; produc
 -- ---- a call that is taken
 
 abbrev sheet : Bytes
-sheet = written (record {
-  numbers = record { ring = 4; modulus = 697; drown = 0; rounds = 1; repeats = 2 };
-  a = 3 ∷ 5 ∷ 0 ∷ 0 ∷ [];
-  b = 3 ∷ 7 ∷ 94 ∷ 92 ∷ [];
-  k1 = 10 ∷ 0 ∷ 0 ∷ 0 ∷ [];
-  k2 = 0 ∷ 20 ∷ 0 ∷ 0 ∷ [];
-  k3 = 0 ∷ 0 ∷ 30 ∷ 0 ∷ [];
-})
+sheet = smallSheet 697
 
 sheet-taken : first (order sheet) ≡ Taken
 unfolding written lines listed decimal first formed sheetOf rows line values step digit any outside unsound plain unfit allBelow power least most

@@ -203,6 +203,7 @@ module _ (text : Bytes) where
       )
 
   module _ (x y product scratch : Bytes) where
+    -- the lengths of what is lent, and those that are wanted
     abbrev pub lent : List ℕ
     lent = length x ∷ length y ∷ length product ∷ length scratch ∷ []
 

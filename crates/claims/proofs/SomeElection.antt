@@ -44,17 +44,10 @@ use Rattle.session_histories.proofs.Exact.{cleared-exactly}
 use Rattle.claims.specs.HostSteps.{Starts}
 use Rattle.claims.specs.FromCalls.{SomeElection}
 use Rattle.claims.proofs.Images.{over-image}
+use Rattle.claims.proofs.SmallSheet.{smallSheet}
 
--- document 01's sheet, with two repetitions
 abbrev sheet : Bytes
-sheet = written (record {
-  numbers = record { ring = 4; modulus = 97; drown = 0; rounds = 1; repeats = 2 };
-  a = 3 ∷ 5 ∷ 0 ∷ 0 ∷ [];
-  b = 3 ∷ 7 ∷ 94 ∷ 92 ∷ [];
-  k1 = 10 ∷ 0 ∷ 0 ∷ 0 ∷ [];
-  k2 = 0 ∷ 20 ∷ 0 ∷ 0 ∷ [];
-  k3 = 0 ∷ 0 ∷ 30 ∷ 0 ∷ [];
-})
+sheet = smallSheet 97
 
 sheet-taken : first (order sheet) ≡ Taken
 unfolding written lines listed decimal first formed sheetOf rows line values step digit any outside unsound plain unfit allBelow power least most

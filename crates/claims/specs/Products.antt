@@ -58,12 +58,12 @@ module _ (text x y : Bytes) where
     pub record TransformClaims (w : ℕ) : Type 0 where
       pub taken : (multiplyReply w ≡ Taken) ↔ Multiplies text x y w product scratch
       pub written : multiplyReply w ≡ Taken → multiplyLeft w ≡ ringProduct
-      -- "the same polynomial as the plain method on all inputs": it is taken exactly if that is and w is a root, and then both leave the same bytes, each in its own slice
+      -- "the plain method .. remains for callers without a root": this is taken exactly if that is and w is a root
       pub as-plain : (multiplyReply w ≡ Taken) ↔ ((productReply ≡ Taken) × Root q N w)
       -- "37, w is not below q or w^N is not -1", and only where neither the sheet nor 1 refuses; whatever the coefficients are
       pub no-root : (multiplyReply w ≡ Refused 37 0) ↔ (ProductSized × (Root q N w → ⊥))
 
-  -- two calls, each lent its own room and scratch
+  -- "the same polynomial as the plain method on all inputs": what two calls leave that are taken, each lent its own room and scratch
   abbrev pub SameBytes : Type 0
   SameBytes = (w : ℕ) (product scratch product' scratch' : Bytes) → multiplyReply product scratch w ≡ Taken → productReply product' scratch' ≡ Taken
       → multiplyLeft product scratch w ≡ productLeft product' scratch'

@@ -1,6 +1,6 @@
 // The calls of decryption shares (document 000, section 6.1) and of the commitment once the sheet is taken: the tests of the lent slices,
 // and then the work in scratch. `hand_out` ends the work of every call that writes a polynomial, here and in the crates of the other
-// calls: `scheme_keys` and `scheme_encryption`.
+// calls: `scheme_keys`, `scheme_encryption` and `scheme_products`.
 use codec::Reply;
 use sheet_numbers::Numbers;
 ghost use Prim.Native.Nat.{_+_, _*_, _≤_};

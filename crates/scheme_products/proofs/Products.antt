@@ -19,7 +19,7 @@ use Rattle.ring_transform.specs.Internal.{Transformable}
 use Rattle.ring_transform.proofs.Roots.{root-sound}
 use Rattle.sheet_numbers.specs.Internal.{Usable}
 use Rattle.sheet_numbers.specs.declared.Numbers.{Numbers}
-use Rattle.scratch.specs.Call.{coefficientsBelow}
+use Rattle.scratch.specs.Call.{scratchLength, coefficientsBelow}
 use Rattle.scratch.specs.Internal.{Computed, Polynomial, InSlot}
 use Rattle.scratch.proofs.Loads.{Loaded, lent-load, loaded-length, loaded-asks}
 use Rattle.scratch.proofs.Order.{length-asked}
@@ -39,7 +39,7 @@ pub record Factors (k : Numbers) (x y d w : Bytes) : Type 0 where
 
 -- the tests of lengths and ranges found them so
 pub factors : (k : Numbers) → Usable k → (x y d w : Bytes) {sized ranged : Bool}
-    → sized ≡ same (length x ∷ length y ∷ length d ∷ length w ∷ 0 ∷ 0 ∷ []) (8 * k .ring ∷ 8 * k .ring ∷ 8 * k .ring ∷ 1048576 ∷ 0 ∷ 0 ∷ []) → not sized ≡ false
+    → sized ≡ same (length x ∷ length y ∷ length d ∷ length w ∷ []) (8 * k .ring ∷ 8 * k .ring ∷ 8 * k .ring ∷ scratchLength ∷ []) → not sized ≡ false
     → ranged ≡ coefficientsBelow (k .modulus) (k .ring) (x ∷ y ∷ []) → not ranged ≡ false → Factors k x y d w
 factors k u x y d w {ranged = ranged} e f g h =
     let r = both-ranged k u x y (length-asked _ _ 0 e f) (length-asked _ _ 1 e f) (sym g ∙ not-false ranged h) in

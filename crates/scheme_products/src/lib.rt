@@ -3,8 +3,22 @@
 use codec::Reply;
 use scheme::hand_out;
 use sheet_numbers::Numbers;
-ghost use Rattle.scratch.specs.Vocabulary.{given, left, Usable, Computed};
+ghost use mathlib.Core.Path.{_≡_};
+ghost use mathlib.Core.List.{[], _∷_};
+ghost use Prim.Native.Nat.{_*_, _≤_};
+ghost use Rattle.scratch.specs.Vocabulary.{given, left, same, scratchLength, Usable, Computed};
 ghost use Rattle.scheme.specs.Calls.{productTests, multiplyTests, productWrites};
+
+// Whether x, y and their product have the length of a polynomial, and scratch its own.
+fn sized(x: usize, y: usize, product: usize, scratch: usize, n: usize) -> bool
+    requires { ⌜ n ≤ 2048 ⌝ }
+    ensures { λ r. ⌜ r ≡ same (x ∷ y ∷ product ∷ scratch ∷ []) (8 * n ∷ 8 * n ∷ 8 * n ∷ scratchLength ∷ []) ⌝ }
+{
+    scratch::sized(
+        [x, y, product, scratch, 0, 0],
+        [8 * n, 8 * n, 8 * n, scratch::SCRATCH, 0, 0],
+    )
+}
 
 // x y by the plain method.
 pub fn product(k: Numbers, x: &[u8], y: &[u8], product: &mut [u8], scratch: &mut [u8]) -> Reply
@@ -13,10 +27,7 @@ pub fn product(k: Numbers, x: &[u8], y: &[u8], product: &mut [u8], scratch: &mut
         (productWrites k (given x) (given y)) reply (given product) (left product) (given scratch) (left scratch) ⌝ }
 {
     let n = k.ring as usize;
-    if !scratch::sized(
-        [x.len(), y.len(), product.len(), scratch.len(), 0, 0],
-        [8 * n, 8 * n, 8 * n, scratch::SCRATCH, 0, 0],
-    ) {
+    if !sized(x.len(), y.len(), product.len(), scratch.len(), n) {
         return codec::refused(1);
     }
     if !scratch::both_in_range(x, y, n, k.modulus) {
@@ -42,10 +53,7 @@ pub fn multiply(
         (productWrites k (given x) (given y)) reply (given product) (left product) (given scratch) (left scratch) ⌝ }
 {
     let n = k.ring as usize;
-    if !scratch::sized(
-        [x.len(), y.len(), product.len(), scratch.len(), 0, 0],
-        [8 * n, 8 * n, 8 * n, scratch::SCRATCH, 0, 0],
-    ) {
+    if !sized(x.len(), y.len(), product.len(), scratch.len(), n) {
         return codec::refused(1);
     }
     if !modular::is_root(root, k.ring, k.modulus) {
