@@ -2,7 +2,7 @@
 use Rattle.claims.specs.Requests.{L1, L2}
 use Rattle.claims.proofs.HostClaims.{host-roll-is-batch, host-honest-accepted}
 use Rattle.claims.proofs.Orders.{orders-as-written}
-use Rattle.claims.proofs.Products.{transform-claims, plain-claims, same-bytes, root-claims, product-orders, some-product}
+use Rattle.claims.proofs.Products.{transform-claims, plain-claims, same-bytes, root-claims, product-orders, some-product, some-rootless, no-root}
 use Rattle.claims.proofs.SessionWithdrawals.{over-sessions}
 use Rattle.claims.proofs.Withdrawals.{over-calls, never-told-34}
 
@@ -18,10 +18,12 @@ request-L1 = record {
 
 pub request-L2 : L2
 request-L2 = record {
-  by-transforms = transform-claims;
+  by-transform = transform-claims;
   plain = plain-claims;
   same-bytes = same-bytes;
+  no-root = no-root;
   roots = root-claims;
   orders = product-orders;
   some = some-product;
+  some-rootless = some-rootless;
 }

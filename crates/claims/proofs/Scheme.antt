@@ -45,7 +45,7 @@ bytes-exactly : (v : ℕ) (ss : List Bytes) → (bytesBelow v ss ≡ true) ↔ E
 bytes-exactly v [] = (λ e. tt, λ h. refl)
 bytes-exactly v (s ∷ ss) = and-exactly (each-exactly v s) (bytes-exactly v ss)
 
-coefficients-exactly : (q n : ℕ) (ss : List Bytes) → (coefficientsBelow q n ss ≡ true) ↔ Every (λ s. Below q n (poly s)) ss
+pub coefficients-exactly : (q n : ℕ) (ss : List Bytes) → (coefficientsBelow q n ss ≡ true) ↔ Every (λ s. Below q n (poly s)) ss
 coefficients-exactly q n [] = (λ e. tt, λ h. refl)
 coefficients-exactly q n (s ∷ ss) = and-exactly (below-sound q n (poly s), below-complete q n (poly s)) (coefficients-exactly q n ss)
 

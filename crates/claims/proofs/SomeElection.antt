@@ -47,7 +47,7 @@ use Rattle.claims.proofs.Images.{over-image}
 use Rattle.claims.proofs.SmallSheet.{smallSheet}
 
 abbrev sheet : Bytes
-sheet = smallSheet 97
+sheet = smallSheet 97 (3 ∷ 7 ∷ 94 ∷ 92 ∷ [])
 
 sheet-taken : first (order sheet) ≡ Taken
 unfolding written lines listed decimal first formed sheetOf rows line values step digit any outside unsound plain unfit allBelow power least most

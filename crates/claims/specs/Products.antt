@@ -3,20 +3,23 @@
 use mathlib.Core.Path.{_≡_}
 use mathlib.Core.Logic.{_↔_}
 use mathlib.Core.Bool.{true}
-use mathlib.Core.List.{[], _∷_}
+use mathlib.Core.List.{List, [], _∷_, _++_}
 use Prim.Native.Nat.{ℕ, _*_, _≤_, _<_}
 use lib.ListN.{length}
-use Rattle.codec.specs.Bytes.{Bytes}
+use Rattle.codec.specs.Bytes.{Bytes, zeros}
 use Rattle.codec.specs.Reply.{first, leaves}
 use Rattle.codec.specs.declared.Reply.{Reply}
 use Rattle.codec.specs.declared.Reply.the-variants.{Taken, Refused}
 use Rattle.modular.specs.Roots.{Root, isRoot}
-use Rattle.ring.specs.Poly.{mul}
+use Rattle.ring.specs.Poly.{mul, Below}
 use Rattle.ring.specs.Slots.{coefficientBytes, poly}
 use Rattle.commitment.specs.Parameters.{Parameters, parametersOf}
+use Rattle.sheet.specs.Sheet.{order}
+use Rattle.scratch.specs.Call.{zeroized}
 use Rattle.scheme.specs.Orders.{productOrder, multiplyOrder, productOf}
-use Rattle.claims.specs.Scheme.{Served, Products, Multiplies}
-use Rattle.claims.specs.Orders.{refusalNumbers}
+use Rattle.session_histories.specs.Conditions.{SheetTaken}
+use Rattle.claims.specs.Scheme.{Served}
+use Rattle.claims.specs.Orders.{refusals}
 
 module _ (text x y : Bytes) where
   -- what the sheet gives
@@ -30,19 +33,21 @@ module _ (text x y : Bytes) where
   ringProduct = coefficientBytes q N (mul q N (poly x) (poly y))
 
   module _ (product scratch : Bytes) where
-    -- by the plain method
+    -- ---- what the two calls answer and leave
+
     abbrev pub productReply : Reply
     productReply = first (productOrder text x y product scratch)
 
     abbrev pub productLeft : Bytes
     productLeft = leaves productReply (productOf text x y) product
 
-    -- by transforms, with a lent w
     abbrev pub multiplyReply : ℕ → Reply
-    multiplyReply w = first (multiplyOrder text x y w product scratch)
+    multiplyReply root = first (multiplyOrder text x y root product scratch)
 
     abbrev pub multiplyLeft : ℕ → Bytes
-    multiplyLeft w = leaves (multiplyReply w) (productOf text x y) product
+    multiplyLeft root = leaves (multiplyReply root) (productOf text x y) product
+
+    -- ---- what is claimed of either
 
     -- the sheet is taken and no length is refused
     pub record ProductSized : Type 0 where
@@ -51,45 +56,68 @@ module _ (text x y : Bytes) where
       pub other-size : length y ≡ 8 * N
       pub product-size : length product ≡ 8 * N
 
-    pub record PlainClaims : Type 0 where
-      pub taken : (productReply ≡ Taken) ↔ Products text x y product scratch
-      pub written : productReply ≡ Taken → productLeft ≡ ringProduct
+    abbrev pub InRange : Type 0
+    InRange = Below q N (poly x) × Below q N (poly y)
 
-    pub record TransformClaims (w : ℕ) : Type 0 where
-      pub taken : (multiplyReply w ≡ Taken) ↔ Multiplies text x y w product scratch
-      pub written : multiplyReply w ≡ Taken → multiplyLeft w ≡ ringProduct
-      -- "the plain method .. remains for callers without a root": this is taken exactly if that is and w is a root
-      pub as-plain : (multiplyReply w ≡ Taken) ↔ ((productReply ≡ Taken) × Root q N w)
-      -- "37, w is not below q or w^N is not -1", and only where neither the sheet nor 1 refuses; whatever the coefficients are
-      pub no-root : (multiplyReply w ≡ Refused 37 0) ↔ (ProductSized × (Root q N w → ⊥))
+    -- the reply case by case, and what is left: `Rooted` is what the call asks of its root, and nothing for the plain method
+    pub record ProductClaims (Rooted : Type 0) (reply : Reply) (product' scratch' : Bytes) : Type 0 where
+      pub sheet-first : (SheetTaken text → ⊥) → reply ≡ first (order text)
+      pub then-lengths : SheetTaken text → (ProductSized → ⊥) → reply ≡ Refused 1 0
+      pub ranges-last : ProductSized → Rooted → (InRange → ⊥) → reply ≡ Refused 5 0
+      pub taken : (reply ≡ Taken) ↔ (ProductSized × Rooted × InRange)
+      pub written : reply ≡ Taken → product' ≡ ringProduct
+      pub kept : (reply ≡ Taken → ⊥) → product' ≡ product
+      -- a call that is taken, 37 and 5 zero scratch, 1 leaves it
+      pub zeroed : ProductSized → scratch' ≡ zeros (length scratch)
+      pub untouched : SheetTaken text → (ProductSized → ⊥) → scratch' ≡ scratch
 
-  -- "the same polynomial as the plain method on all inputs": what two calls leave that are taken, each lent its own room and scratch
+    abbrev pub PlainClaims : Type 0
+    PlainClaims = ProductClaims Unit productReply productLeft (zeroized productReply scratch)
+
+    abbrev pub TransformClaims : ℕ → Type 0
+    TransformClaims root = ProductClaims (Root q N root) (multiplyReply root) (multiplyLeft root) (zeroized (multiplyReply root) scratch)
+
+    -- 37 exactly: neither the sheet nor a length is refused, and the root fails, whatever the coefficients are
+    abbrev pub NoRoot : ℕ → Type 0
+    NoRoot root = (multiplyReply root ≡ Refused 37 0) ↔ (ProductSized × (Root q N root → ⊥))
+
+  -- what two calls leave that are taken, each lent its own room and scratch
   abbrev pub SameBytes : Type 0
-  SameBytes = (w : ℕ) (product scratch product' scratch' : Bytes) → multiplyReply product scratch w ≡ Taken → productReply product' scratch' ≡ Taken
-      → multiplyLeft product scratch w ≡ productLeft product' scratch'
+  SameBytes = (root : ℕ) (product scratch product' scratch' : Bytes) → multiplyReply product scratch root ≡ Taken → productReply product' scratch' ≡ Taken
+      → multiplyLeft product scratch root ≡ productLeft product' scratch'
 
 -- what is a root: "w^N is -1 modulo q", below q
 pub record RootClaims : Type 0 where
   -- the test that runs is that of the two conditions
   pub tested : (q N w : ℕ) → 0 < q → (isRoot q N w ≡ true) ↔ Root q N w
-  -- a root plus q is none
-  pub below : (q N w : ℕ) → q ≤ w → Root q N w → ⊥
+  -- a number from q on is none, a root plus q among them, and is refused
+  pub beyond : (text x y product scratch : Bytes) (root : ℕ) → parametersOf text .q ≤ root → ProductSized text x y product scratch → multiplyReply text x y product scratch root ≡ Refused 37 0
   -- "prime or not": 17 · 41 has a root for N = 4, and 3 · 3 · 3 · 3 has none
   pub composite : Root (17 * 41) 4 495
   pub rootless : (w : ℕ) → Root (3 * 3 * 3 * 3) 4 w → ⊥
 
--- the sheet's own order, and then 1, 37, 5, or 1, 5
-pub record ProductOrders : Type 0 where
-  pub multiply : (text x y : Bytes) (w : ℕ) (product scratch : Bytes) → refusalNumbers (multiplyOrder text x y w product scratch) ≡ 1 ∷ 2 ∷ 3 ∷ 4 ∷ 5 ∷ 1 ∷ 37 ∷ 5 ∷ []
-  pub product : (text x y product scratch : Bytes) → refusalNumbers (productOrder text x y product scratch) ≡ 1 ∷ 2 ∷ 3 ∷ 4 ∷ 5 ∷ 1 ∷ 5 ∷ []
+-- the sheet's own order, and then 1, 37, 5, or 1, 5, none with a place
+abbrev sheetRefusals : List (ℕ × ℕ)
+sheetRefusals = (1, 0) ∷ (2, 0) ∷ (3, 0) ∷ (4, 0) ∷ (5, 0) ∷ []
 
--- and there is a call that is taken, on a sheet whose modulus is 17 · 41
+pub record ProductOrders : Type 0 where
+  pub multiply : (text x y : Bytes) (root : ℕ) (product scratch : Bytes) → refusals (multiplyOrder text x y root product scratch) ≡ sheetRefusals ++ ((1, 0) ∷ (37, 0) ∷ (5, 0) ∷ [])
+  pub product : (text x y product scratch : Bytes) → refusals (productOrder text x y product scratch) ≡ sheetRefusals ++ ((1, 0) ∷ (5, 0) ∷ [])
+
+-- there is a call that is taken, on a sheet whose modulus is 17 · 41
 pub record SomeProduct : Type 0 where
   pub text : Bytes
   pub x : Bytes
   pub y : Bytes
-  pub w : ℕ
+  pub root : ℕ
   pub product : Bytes
   pub scratch : Bytes
   pub modulus : parametersOf text .q ≡ 17 * 41
-  pub taken : multiplyReply text x y product scratch w ≡ Taken
+  pub taken : multiplyReply text x y product scratch root ≡ Taken
+
+-- and a sheet that is taken and has no root: every one is refused, and the plain method multiplies
+pub record SomeRootless : Type 0 where
+  pub text : Bytes
+  pub sheet : SheetTaken text
+  pub modulus : parametersOf text .q ≡ 3 * 3 * 3 * 3
+  pub refused : (x y product scratch : Bytes) (root : ℕ) → ProductSized text x y product scratch → multiplyReply text x y product scratch root ≡ Refused 37 0

@@ -11,7 +11,7 @@ use Rattle.claims.specs.HostSteps.{sessionSteps, stepCalls}
 use Rattle.claims.specs.HostClaims.{HostRollIsBatch, HostHonestAccepted}
 use Rattle.claims.specs.Orders.{refusalNumbers}
 use Rattle.claims.specs.Withdrawals.{WithdrawalClaims}
-use Rattle.claims.specs.Products.{TransformClaims, PlainClaims, SameBytes, RootClaims, ProductOrders, SomeProduct}
+use Rattle.claims.specs.Products.{NoRoot, SomeRootless, TransformClaims, PlainClaims, SameBytes, RootClaims, ProductOrders, SomeProduct}
 
 -- ---- L1. Withdrawals that arrive before their ballot
 
@@ -32,14 +32,17 @@ pub record L1 : Type 0 where
 -- ---- L2. Multiplying by transform
 
 pub record L2 : Type 0 where
-  -- "a call that multiplies two lent polynomials .. with a lent root w for which w^N is -1 modulo q": when it is taken, and what it leaves; that it is taken exactly where the plain method is and
-  -- w is a root; and that it answers 37 exactly where w is none
-  pub by-transforms : (text x y product scratch : Bytes) (w : ℕ) → TransformClaims text x y product scratch w
-  -- "the plain method, which remains for callers without a root"
+  -- "Add a call that multiplies two lent polynomials by number-theoretic transform, with a lent root w for which w^N is -1 modulo q", and "the plain method .. remains for callers without a root":
+  -- the reply of each, case by case, and what is left of the product and of scratch. Both leave the ring's product `mul`
+  pub by-transform : (text x y product scratch : Bytes) (root : ℕ) → TransformClaims text x y product scratch root
   pub plain : (text x y product scratch : Bytes) → PlainClaims text x y product scratch
   -- "It gives the same polynomial as the plain method on all inputs, for every N and every odd q of the sheet, prime or not"
   pub same-bytes : (text x y : Bytes) → SameBytes text x y
+  -- "37, w is not below q or w^N is not -1,
+  pub no-root : (text x y product scratch : Bytes) (root : ℕ) → NoRoot text x y product scratch root
   pub roots : RootClaims
-  -- "37, .. tested after 1 and before 5"
+  -- tested after 1 and before 5"
   pub orders : ProductOrders
+  -- some call is taken, and on some sheet every root is refused
   pub some : SomeProduct
+  pub some-rootless : SomeRootless
