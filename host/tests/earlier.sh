@@ -1,6 +1,6 @@
 # Folders that earlier releases stored, at several points of an election, are gone on with; and what they published is checked. They were
-# made by those releases (host/tests/earlier): a folder is `base` with the files of its point over it. Those of the release before, 0.9,
-# stand in a folder of its name. Of a state.bin the zeros of the empty register are left out.
+# made by those releases (host/tests/earlier): a folder is `base` with the files of its point over it. Those of 0.9, and of the release
+# before, 0.10, stand in folders of their names. Of a state.bin the zeros of the empty register are left out.
 
 # The folder as it was stored.
 stored() { # POINT
@@ -9,9 +9,16 @@ stored() { # POINT
     cp -r "$from/$(dirname "$1")/base" "$room/stored"
     cp -r "$from/$1/." "$room/stored"
     [ -e "$room/stored/state.head" ] || return
-    # title, image and three entries; the rest of the register; then what stands behind it
-    { cat "$room/stored/state.head"; head -c $((163840 - 3 * 40)) /dev/zero; cat "$room/stored/state.tail"; } >"$room/stored/state.bin"
+    # title, image and the entries that are used; the rest of the register; then what stands behind it
+    truncate -s $((16 + 4297 + 163840)) "$room/stored/state.head"
+    cat "$room/stored"/state.{head,tail} >"$room/stored/state.bin"
     rm "$room/stored"/state.{head,tail}
+}
+
+# The same without the key, as it is published.
+as_published() { # POINT
+    stored "$1"
+    rm -r "$room/stored/key"
 }
 
 # The votes as an earlier release told them, and as a result of today tells them.
@@ -26,7 +33,7 @@ gone_on() { # POINT OPTION..
     cp -r "$room/stored" "$room/stored_before"
     expect 0 "All rounds accepted yes" "$program" run "$@" "$room/stored"
     case $point in
-    gathered | 0.9/*) ;;
+    gathered | */*) ;;
     *) said "an earlier release closed the ballots, and kept neither lists nor enrolment then: they are kept from now on" ;;
     esac
     succeed "the votes of $point" \
@@ -64,38 +71,37 @@ earlier_form() {
     expect 0 "Mark     5" "$program" vote "$room/stored" 5 Rook
     expect 0 "Ballots standing    3" "$program" gather "$room/stored"
     # what it published is accepted; its result is of another form, and is not compared
-    stored counted
-    rm -r "$room/stored/key"
+    as_published counted
     expect 0 "stored/result.txt is of another form than \`jackdawnail result 2\`, and was NOT COMPARED" "$program" check "$room/stored"
     said "stored/result.html is of another form than \`jackdawnail result 2\`, and was NOT COMPARED"
     said "accepted"
 }
 
-# Of the release before. It was gathering, with a line of the log not taken yet; or it had committed; or it had counted and published.
-release_before() {
-    local file
-    gone_on 0.9/gathered --draw-here
+# Of a release whose forms are those of today. It was gathering, with a line of the log not taken yet; or it had committed; or it had
+# counted and published.
+form_of_today() { # RELEASE
+    local counted=host/tests/earlier/$1/counted file
+    gone_on "$1/gathered" --draw-here
     as_it_was log.txt ballots/1001.ballot
-    gone_on 0.9/committed --seed "$seed"
+    gone_on "$1/committed" --seed "$seed"
     as_it_was claims.bin rounds/00{0,1}/{head,shares0,shares1}.bin
     # the same draw gives the same count, and it is told in the same words
-    for file in result.txt result.html rounds/000/answers.bin; do
-        succeed "$file of the release before" cmp "$room/stored/$file" "host/tests/earlier/0.9/counted/$file"
+    for file in result.txt result.html rounds/00{0,1}/{opening,answers}.bin; do
+        succeed "$file of $1" cmp "$room/stored/$file" "$counted/$file"
     done
     # what it published is accepted, and its result is compared
-    stored 0.9/counted
-    rm -r "$room/stored/key"
+    as_published "$1/counted"
     expect 0 "accepted" "$program" check "$room/stored" --seed "$seed" --mark 1001
     succeed "no warning" test "$(grep -c WARNING "$room/said")" -eq 0
-    said "Ballots withdrawn   1"
+    succeed "a check tells the result of $1" cmp "$counted/result.txt" <(sed -n '/^jackdawnail result/,$p' "$room/said")
     sed -i 's/>Rook</>Crow</' "$room/stored/result.html"
     expect 1 "result.html is not the result of this transcript" "$program" check "$room/stored"
     sed -i 's/  Rook/  Crow/' "$room/stored/result.txt"
     expect 1 "result.txt is not the result of this transcript" "$program" check "$room/stored"
 }
 
-# A withdrawal that comes before its ballot reaches an election that the release before had begun.
-release_before_then_early() {
+# A withdrawal that comes before its ballot reaches an election that 0.9, which refused such, had begun.
+begun_then_early() {
     stored 0.9/gathered
     rm -rf "$room/tablet"
     cp -r "$room/stored" "$room/tablet"
@@ -112,8 +118,29 @@ release_before_then_early() {
     expect 1 "The ballot with the mark 7 came after its withdrawal, and is NOT COUNTED" "$program" check "$room/other" --mark 7
 }
 
+# In the election of 0.10 three withdrawals came before their ballots: it had passed the ballot 1002 over; 1004 comes with the line that it
+# had not taken; 1005 never comes.
+early_then_gone_on() {
+    local mark
+    stored 0.10/gathered
+    expect 0 "Lines of the log    1 more than were gathered" "$program" status "$room/stored"
+    expect 0 "Ballots standing    2" "$program" gather "$room/stored"
+    said "  1002, 1004"
+    said "  1005"
+    as_published 0.10/counted
+    for mark in 1002 1004; do
+        expect 1 "The ballot with the mark $mark came after its withdrawal, and is NOT COUNTED" "$program" check "$room/stored" --mark $mark
+    done
+    expect 1 "The mark 1005 was withdrawn, and no ballot came with it: NOT COUNTED" "$program" check "$room/stored" --mark 1005
+    # a late mark that is left out of its result is missed
+    sed -i 's/^  1002, 1004$/  1004/' "$room/stored/result.txt"
+    expect 1 "result.txt is not the result of this transcript" "$program" check "$room/stored"
+}
+
 earlier() {
     earlier_form
-    release_before
-    release_before_then_early
+    form_of_today 0.9
+    begun_then_early
+    form_of_today 0.10
+    early_then_gone_on
 }
