@@ -3,7 +3,7 @@ ghost use Rattle.codec.specs.Slices.{given, left};
 ghost use Rattle.scheme.specs.Orders.{productOrder, multiplyOrder, productOf};
 ghost use Rattle.jackdawnail.specs.Answers.{CallReplied};
 
-// Writes x y, by transforms with a root w of X^N + 1: w^N is -1 modulo q.
+// Writes x y modulo X^N + 1 and q, by transforms with a root: it is below q and root^N is -1 modulo q, or the call is refused 37.
 #[no_mangle]
 pub extern "C" fn jdn_multiply(
     sheet: &[u8],
@@ -24,7 +24,7 @@ pub extern "C" fn jdn_multiply(
     codec::pack(scratch::finish(reply, scratch))
 }
 
-// Writes x y, by the plain method, for callers without a root.
+// Writes x y modulo X^N + 1 and q, by the plain method, for callers without a root.
 #[no_mangle]
 pub extern "C" fn jdn_product(
     sheet: &[u8],

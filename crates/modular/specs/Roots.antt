@@ -7,7 +7,7 @@ use Rattle.modular.specs.Modulo.{Same}
 -- w is below q, and w^N is -1 modulo q
 pub record Root (q N w : ℕ) : Type 0 where
   pub below : w < q
-  pub turns : Same q (w ^ N) (q - 1)
+  pub minus-one : Same q (w ^ N) (q - 1)
 
 -- whether it is, for a q above 0
 unfoldable pub isRoot : (q N w : ℕ) → Bool

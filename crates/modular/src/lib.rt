@@ -8,8 +8,8 @@ ghost use Rattle.modular.specs.Division.{multiplier, divide};
 ghost use Rattle.modular.specs.Internal.{Coprime};
 
 // x modulo q, of an x below 2q. Whether q is subtracted is computed, as a branch on it is mispredicted half the time: x + 2^62 - q is at
-// least 2^62 where x is at least q, and only there, so that `over` is 1 there and else 0, and the mask has all bits or none. What is
-// divided by 2^62 is shifted, and a mask is cheaper than a product by 0 or 1 where several numbers are corrected at a time.
+// least 2^62 where x is at least q, and only there, so that `over` is 1 there and else 0, and the mask has all bits or none. The division
+// by 2^62 is a shift, and a mask is cheaper than a product by 0 or 1 where several numbers are corrected at a time.
 pub fn corrected(x: u64, q: u64) -> u64
     requires { ⌜ (0 < q) × (q < 2 ^ 56) × (x < q + q) ⌝ }
     ensures { λ r. ⌜ (r ≡ x % q) × (r < q) ⌝ }
@@ -84,7 +84,7 @@ fn with_bit(r: u64, b: u64, e: u64, q: u64) -> u64
     if e % 2 == 1 { multiply(r, b, q) } else { r }
 }
 
-// w^e, by squaring: r * b^left is w^e all the time.
+// w^e, by squaring: r * b^left is w^e modulo q all the time.
 pub fn power(w: u64, e: u64, q: u64) -> u64
     requires { ⌜ (1 < q) × (w < q) × (q < 2 ^ 56) ⌝ }
     ensures { λ r. ⌜ (r ≡ w ^ e % q) × (r < q) ⌝ }
@@ -100,7 +100,7 @@ pub fn power(w: u64, e: u64, q: u64) -> u64
     r
 }
 
-// Whether w is a root of X^n + 1 modulo q.
+// Whether w is below q and w^n is -1 modulo q.
 pub fn is_root(w: u64, n: u64, q: u64) -> bool
     requires { ⌜ (1 < q) × (q < 2 ^ 56) ⌝ }
     ensures { λ r. ⌜ r ≡ isRoot q n w ⌝ }

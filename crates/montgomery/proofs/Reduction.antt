@@ -6,7 +6,7 @@ use native.Mathlib.Numerals.{add-one}
 use native.Mathlib.Omega.{arith}
 use Rattle.modular.specs.Modulo.{Same}
 use Rattle.modular.proofs.Congruence.{same-refl, same-eq, same-sym, same-mod, same-add, same-mul, same-more, _then_}
-use Rattle.montgomery.specs.Internal.{half, unit, Modulus}
+use Rattle.montgomery.specs.Internal.{half, radixInverse, Modulus}
 
 pub small : (x y : ℕ) → x < 268435456 → y < 268435456 → x * y ≤ 72057593501057025
 small x y hx hy = mul-le-mul {n₂ = 268435455} {m₂ = 268435455} (omega arith) (omega arith)
@@ -82,17 +82,17 @@ halves {q} (suc k) o =
     e : (q + 1) / 2 * 2 ≡ 1 * q + 1
     e = omega arith
 
--- 2^56 times unit is 1
-pub units : (q : ℕ) → q % 2 ≡ 1 → Same q (unit q * 72057594037927936) 1
-unfolding unit
-units q o = halves 56 o
+-- 2^56 times radixInverse is 1
+pub radix-times : (q : ℕ) → q % 2 ≡ 1 → Same q (radixInverse q * 72057594037927936) 1
+unfolding radixInverse
+radix-times q o = halves 56 o
 
-pub reduced-is : (q i x y : ℕ) → Modulus q i → reduced q i x y % q ≡ y * unit q * x % q
+pub reduced-is : (q i x y : ℕ) → Modulus q i → reduced q i x y % q ≡ y * radixInverse q * x % q
 reduced-is q i x y m =
-    (same-eq (sym (one-mul (reduced q i x y))) then same-mul (same-sym (units q (m .odd))) same-refl
-    then same-eq (mul-assoc (unit q) 72057594037927936 (reduced q i x y) ∙ ap (λ (n : ℕ). unit q * n) (mul-comm 72057594037927936 (reduced q i x y) ∙ exact q i x y (m .inverse)))
-    then same-mul (same-refl {x = unit q}) (same-eq (add-comm (x * y) ((m1 q i x y * 268435456 + m0 q i x y) * q)) then same-more (x * y) (m1 q i x y * 268435456 + m0 q i x y))
-    then same-eq (regroup (unit q))) .is
+    (same-eq (sym (one-mul (reduced q i x y))) then same-mul (same-sym (radix-times q (m .odd))) same-refl
+    then same-eq (mul-assoc (radixInverse q) 72057594037927936 (reduced q i x y) ∙ ap (λ (n : ℕ). radixInverse q * n) (mul-comm 72057594037927936 (reduced q i x y) ∙ exact q i x y (m .inverse)))
+    then same-mul (same-refl {x = radixInverse q}) (same-eq (add-comm (x * y) ((m1 q i x y * 268435456 + m0 q i x y) * q)) then same-more (x * y) (m1 q i x y * 268435456 + m0 q i x y))
+    then same-eq (regroup (radixInverse q))) .is
   where
     regroup : (u : ℕ) → u * (x * y) ≡ y * u * x
     regroup u = simp (mul-assoc, mul-comm, mul-left-comm)

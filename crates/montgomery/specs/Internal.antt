@@ -6,8 +6,8 @@ use Prim.Native.Nat.{ℕ, _+_, _*_, _/_, _%_, _^_, _<_}
 unfoldable pub half : ℕ → ℕ
 half q = (q + 1) / 2
 
-unfoldable pub unit : ℕ → ℕ
-unit q = half q ^ 56
+unfoldable pub radixInverse : ℕ → ℕ
+radixInverse q = half q ^ 56
 
 -- what a product asks of q, and of i: that it is -1 / q modulo 2^28
 pub record Modulus (q i : ℕ) : Type 0 where

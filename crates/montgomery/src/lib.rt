@@ -2,9 +2,10 @@
 // out divided by 2^56, so that a factor that is used often is held times 2^56.
 ghost use mathlib.Core.Path.{_≡_};
 ghost use Prim.Native.Nat.{_+_, _*_, _%_, _^_, _≤_, _<_};
-ghost use Rattle.montgomery.specs.Internal.{unit, Modulus};
+ghost use Rattle.montgomery.specs.Internal.{radixInverse, Modulus};
 
-// The product of two digits of 28 bits.
+// The product of two digits of 28 bits. The remainders change nothing: they tell the compiler that both factors are short, so that it
+// multiplies several at a time.
 fn digits(a: u64, b: u64) -> u64
     requires { ⌜ (a < 268435456) × (b < 268435456) ⌝ }
     ensures { λ r. ⌜ (r ≡ a * b) × (r ≤ 72057593501057025) ⌝ }
@@ -15,7 +16,7 @@ fn digits(a: u64, b: u64) -> u64
 // x * y / 2^56 modulo q, where i is -1 / q modulo 2^28: a multiple of q is added that makes x * y a multiple of 2^56, a digit at a time.
 pub fn product(x: u64, y: u64, i: u64, q: u64) -> u64
     requires { ⌜ Modulus q i × (x < q) × (y < q) ⌝ }
-    ensures { λ r. ⌜ (r ≡ y * unit q * x % q) × (r < q) ⌝ }
+    ensures { λ r. ⌜ (r ≡ y * radixInverse q * x % q) × (r < q) ⌝ }
 {
     let x0 = x % 268435456;
     let x1 = x / 268435456;

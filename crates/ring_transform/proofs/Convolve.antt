@@ -80,7 +80,7 @@ module _ {q w N : ℕ} (r : Root q N w) (u : ℕ) where
       regroup a b = simp (mul-assoc, mul-left-comm)
 
   turned : (k : ℕ) → Same q ((q - 1) * w ^ k) (w ^ (k + N))
-  turned k = same-mul (same-sym (r .turns)) same-refl then same-eq (mul-comm (w ^ N) (w ^ k) ∙ sym (pow-add w k N))
+  turned k = same-mul (same-sym (r .minus-one)) same-refl then same-eq (mul-comm (w ^ N) (w ^ k) ∙ sym (pow-add w k N))
 
   pub recast : {n d d' : ℕ} {a b c : List ℕ} → Same q d d' → Values q n d u a b c → Values q n d' u a b c
   recast s p = record { at = λ x k. p .at x (k then same-sym s) }

@@ -51,7 +51,7 @@ map-same f e (more hx vx) = ap₂ _∷_ (e _ hx) (map-same f e vx)
 module _ {q w N : ℕ} (r : Root q N w) where
   -- w ^ k w ^ (N - k) is -1
   opposite : (k : ℕ) → k ≤ N → Same q (w ^ k * w ^ (N - k)) (q - 1)
-  opposite k h = same-eq (sym (pow-add w k (N - k)) ∙ ap (λ (n : ℕ). w ^ n) (omega arith)) then (r .turns)
+  opposite k h = same-eq (sym (pow-add w k (N - k)) ∙ ap (λ (n : ℕ). w ^ n) (omega arith)) then (r .minus-one)
 
   joined : (z y t : ℕ) → Same q (z * y) (q - 1) → {n : ℕ} {a b : List ℕ} → Vec q n a → Vec q n b
       → united q y (map (λ v. t * v % q) (zip (plusTwiddled q z) a b)) (map (λ v. t * v % q) (zip (minusTwiddled q z) a b)) ≡ map (λ v. (t + t) * v % q) a ++ map (λ v. (t + t) * v % q) b

@@ -5,7 +5,7 @@ use Prim.Native.Nat.{ℕ, suc, _+_, _-_, _*_, _/_, _^_, _≤_, _<_}
 use native.Mathlib.Omega.{arith}
 use lib.ListN.{length, getD}
 use Rattle.codec.specs.Bytes.{Bytes, words, put}
-use Rattle.montgomery.specs.Internal.{Modulus, unit}
+use Rattle.montgomery.specs.Internal.{Modulus, radixInverse}
 use Rattle.ring_transform.specs.Internal.{Vec, numbers, twoTo, level, transform, united, untransform, Node}
 use Rattle.ring_transform.proofs.Steps.{positive, size-is, root-is, root-below, level-same, united-same, leaf, low-vec, first-length, second-length, high-vec, made}
 use Rattle.ring_transform.proofs.Steps.{leaf-back, low-half-vec, back-length, upper-vec, both-length, both-vec, made-back}
@@ -43,11 +43,11 @@ module _ {q i w n m l e : ℕ} {p : List ℕ} {W : Bytes} {at : ℕ} (N : Node q
   pub level-asked : Modulus q i × (getD p (e / 2) 0 < q) × (at + 8 * (m / 2 + m / 2) ≤ length W) × Vec q (m / 2 + m / 2) (numbers (m / 2 + m / 2) W at)
   level-asked = (N .modulus, root-below (e / 2) (N .modulus) (N .table) (omega (arith, N .power)), fits-halves, row-below)
 
-  module _ {W₁ : Bytes} (e₁ : W₁ ≡ put W at (words (level q (getD p (e / 2) 0 * unit q) (m / 2) (numbers (m / 2 + m / 2) W at)))) where
+  module _ {W₁ : Bytes} (e₁ : W₁ ≡ put W at (words (level q (getD p (e / 2) 0 * radixInverse q) (m / 2) (numbers (m / 2 + m / 2) W at)))) where
     by-root : W₁ ≡ put W at (words (level q (w ^ (e / 2)) (m / 2) (numbers (m / 2 + m / 2) W at)))
     by-root =
         e₁ ∙ ap (λ (s : List ℕ). put W at (words s))
-        (level-same (getD p (e / 2) 0 * unit q) (w ^ (e / 2)) (m / 2) (numbers (m / 2 + m / 2) W at) (root-is (e / 2) (N .modulus) (N .table) (omega (arith, N .power))))
+        (level-same (getD p (e / 2) 0 * radixInverse q) (w ^ (e / 2)) (m / 2) (numbers (m / 2 + m / 2) W at) (root-is (e / 2) (N .modulus) (N .table) (omega (arith, N .power))))
 
     pub node-leaf : l ≡ 1 → W₁ ≡ put W at (words (transform q w n l e (numbers m W at)))
     node-leaf z = leaf w n e (l - 1) (m / 2) W at half-is pos (N .modulus .small) fits-halves row-below by-root (omega arith) ∙ renamed (transform q w n)
@@ -76,11 +76,11 @@ module _ {q i w n m l e : ℕ} {p : List ℕ} {W : Bytes} {at : ℕ} (N : Node q
   pub back-leaf-asked : Modulus q i × (getD p (n - e / 2) 0 < q) × (at + 8 * (m / 2 + m / 2) ≤ length W) × Vec q (m / 2 + m / 2) (numbers (m / 2 + m / 2) W at)
   back-leaf-asked = back-asked W refl row-below
 
-  by-inverse : {U₁ : Bytes} (U : Bytes) (u v : List ℕ) → U₁ ≡ put U at (words (united q (getD p (n - e / 2) 0 * unit q) u v)) → U₁ ≡ put U at (words (united q (w ^ (n - e / 2)) u v))
+  by-inverse : {U₁ : Bytes} (U : Bytes) (u v : List ℕ) → U₁ ≡ put U at (words (united q (getD p (n - e / 2) 0 * radixInverse q) u v)) → U₁ ≡ put U at (words (united q (w ^ (n - e / 2)) u v))
   by-inverse U u v e₁ =
-      e₁ ∙ ap (λ (s : List ℕ). put U at (words s)) (united-same (getD p (n - e / 2) 0 * unit q) (w ^ (n - e / 2)) u v (root-is (n - e / 2) (N .modulus) (N .table) (omega arith)))
+      e₁ ∙ ap (λ (s : List ℕ). put U at (words s)) (united-same (getD p (n - e / 2) 0 * radixInverse q) (w ^ (n - e / 2)) u v (root-is (n - e / 2) (N .modulus) (N .table) (omega arith)))
 
-  pub back-leaf : {W₁ : Bytes} → l ≡ 1 → W₁ ≡ put W at (words (united q (getD p (n - e / 2) 0 * unit q) (numbers (m / 2) W at) (numbers (m / 2) W (at + 8 * (m / 2))))) → W₁ ≡ put W at (words (untransform q w n l e (numbers m W at)))
+  pub back-leaf : {W₁ : Bytes} → l ≡ 1 → W₁ ≡ put W at (words (united q (getD p (n - e / 2) 0 * radixInverse q) (numbers (m / 2) W at) (numbers (m / 2) W (at + 8 * (m / 2))))) → W₁ ≡ put W at (words (untransform q w n l e (numbers m W at)))
   back-leaf z e₁ =
       leaf-back w n e (l - 1) (m / 2) W at half-is pos (N .modulus .small) fits-halves row-below (omega arith) (by-inverse W (numbers (m / 2) W at) (numbers (m / 2) W (at + 8 * (m / 2))) e₁)
       ∙ renamed (untransform q w n)
@@ -101,7 +101,7 @@ module _ {q i w n m l e : ℕ} {p : List ℕ} {W : Bytes} {at : ℕ} (N : Node q
           back-asked W₂ (both-length w n e (l - 1) (m / 2) W at half-is pos (N .modulus .small) fits-halves row-below e₁ e₂)
           (both-vec w n e (l - 1) (m / 2) W at half-is pos (N .modulus .small) fits-halves row-below e₁ e₂)
 
-      pub back-whole : {W₃ : Bytes} → W₃ ≡ put W₂ at (words (united q (getD p (n - e / 2) 0 * unit q) (numbers (m / 2) W₂ at) (numbers (m / 2) W₂ (at + 8 * (m / 2))))) → W₃ ≡ put W at (words (untransform q w n l e (numbers m W at)))
+      pub back-whole : {W₃ : Bytes} → W₃ ≡ put W₂ at (words (united q (getD p (n - e / 2) 0 * radixInverse q) (numbers (m / 2) W₂ at) (numbers (m / 2) W₂ (at + 8 * (m / 2))))) → W₃ ≡ put W at (words (untransform q w n l e (numbers m W at)))
       back-whole e₃ =
           made-back w n e (l - 1) (m / 2) W at half-is pos (N .modulus .small) fits-halves row-below e₁ e₂ (by-inverse W₂ (numbers (m / 2) W₂ at) (numbers (m / 2) W₂ (at + 8 * (m / 2))) e₃)
           ∙ renamed (untransform q w n)

@@ -1,4 +1,4 @@
--- A loop over the two halves of a row: what scratch holds after j turns, each of which writes one number of either half. Assumes nothing.
+-- A loop over the two halves of a row: what scratch holds after j minus-one, each of which writes one number of either half. Assumes nothing.
 use mathlib.Core.Path.{_≡_, refl, sym, ap, ap₂, _∙_}
 use mathlib.Core.List.{List, _++_}
 use Prim.Native.Nat.{ℕ, _+_, _*_, _≤_, _<_}

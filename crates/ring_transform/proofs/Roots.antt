@@ -18,8 +18,8 @@ pub root-sound : (q N w : ℕ) → 0 < q → isRoot q N w ≡ true → Root q N 
 unfolding isRoot
 root-sound q N w h e =
     let t = both (ltb w q) (eqb (w ^ N % q) (q - 1)) e in
-    record { below = ltb-true w q (t .0); turns = record { is = eqb-true (w ^ N % q) (q - 1) (t .1) ∙ sym (last q h) } }
+    record { below = ltb-true w q (t .0); minus-one = record { is = eqb-true (w ^ N % q) (q - 1) (t .1) ∙ sym (last q h) } }
 
 pub root-complete : (q N w : ℕ) → 0 < q → Root q N w → isRoot q N w ≡ true
 unfolding isRoot
-root-complete q N w h r = rw (lt-ltb w q (r .below)) (eq-eqb (w ^ N % q) (q - 1) (r .turns .is ∙ last q h))
+root-complete q N w h r = rw (lt-ltb w q (r .below)) (eq-eqb (w ^ N % q) (q - 1) (r .minus-one .is ∙ last q h))

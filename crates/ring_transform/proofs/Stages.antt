@@ -13,8 +13,8 @@ use Rattle.codec.proofs.Apart.{put-comm}
 use Rattle.modular.specs.Modulo.{Same}
 use Rattle.modular.specs.Roots.{Root}
 use Rattle.modular.proofs.Congruence.{same-refl, same-eq, same-mod, same-mul, _then_}
-use Rattle.montgomery.specs.Internal.{Modulus, unit}
-use Rattle.montgomery.proofs.Reduction.{units}
+use Rattle.montgomery.specs.Internal.{Modulus, radixInverse}
+use Rattle.montgomery.proofs.Reduction.{radix-times}
 use Rattle.ring.specs.Poly.{Poly, mul, modulo, Below}
 use Rattle.ring.specs.Slots.{slot, encode}
 use Rattle.ring.specs.Internal.{store, Slots}
@@ -32,12 +32,12 @@ map-list f zero a = refl
 map-list f (suc n) a = map-join f (list n a) (a n ∷ []) ∙ ap (λ (s : List ℕ). s ++ (f (a n) ∷ [])) (map-list f n a)
 
 -- 2^(112 - l) twice divided by 2^56, times 2^l
-pub made-up : {q i : ℕ} (l h : ℕ) → Modulus q i → l ≤ 11 → h ≡ 2 ^ (112 - l) % q → Same q (h * unit q * (twoTo l * unit q)) 1
+pub made-up : {q i : ℕ} (l h : ℕ) → Modulus q i → l ≤ 11 → h ≡ 2 ^ (112 - l) % q → Same q (h * radixInverse q * (twoTo l * radixInverse q)) 1
 made-up {q} l h mo k e =
     let s : 112 - l + l ≡ 112 = omega arith in
-    same-mul (same-mul (same-eq e then same-mod) (same-refl {x = unit q})) (same-eq (ap (λ (n : ℕ). n * unit q) (two-power l)))
-    then same-eq (regroup (2 ^ (112 - l)) (2 ^ l) (unit q) ∙ ap (λ (n : ℕ). n * unit q * unit q) (sym (pow-add 2 (112 - l) l) ∙ ap (λ (n : ℕ). 2 ^ n) s ∙ square) ∙ parted 72057594037927936 (unit q))
-    then same-mul (units q (mo .odd)) (units q (mo .odd)) then same-eq (one-mul 1)
+    same-mul (same-mul (same-eq e then same-mod) (same-refl {x = radixInverse q})) (same-eq (ap (λ (n : ℕ). n * radixInverse q) (two-power l)))
+    then same-eq (regroup (2 ^ (112 - l)) (2 ^ l) (radixInverse q) ∙ ap (λ (n : ℕ). n * radixInverse q * radixInverse q) (sym (pow-add 2 (112 - l) l) ∙ ap (λ (n : ℕ). 2 ^ n) s ∙ square) ∙ parted 72057594037927936 (radixInverse q))
+    then same-mul (radix-times q (mo .odd)) (radix-times q (mo .odd)) then same-eq (one-mul 1)
   where
     square : 2 ^ 112 ≡ 72057594037927936 * 72057594037927936
     square = refl
@@ -75,7 +75,7 @@ module _ {q i w n l : ℕ} {p : List ℕ} {W : Bytes} {at room : ℕ} (A : Node 
   TB = transform q w n l n (numbers n W room)
 
   P : List ℕ
-  P = zip (λ x y. unit q * (x * y) % q) TA TB
+  P = zip (λ x y. radixInverse q * (x * y) % q) TA TB
 
   U : List ℕ
   U = untransform q w n l n P
@@ -90,7 +90,7 @@ module _ {q i w n l : ℕ} {p : List ℕ} {W : Bytes} {at room : ℕ} (A : Node 
 
   vp : Vec q n P
   unfolding P
-  vp = zip-each (λ x y. unit q * (x * y) % q) (λ x y _ _. mod-lt (unit q * (x * y)) pos) va vb
+  vp = zip-each (λ x y. radixInverse q * (x * y) % q) (λ x y _ _. mod-lt (radixInverse q * (x * y)) pos) va vb
 
   vu : Vec q n U
   unfolding U
@@ -162,28 +162,28 @@ module _ {q i w n l : ℕ} {p : List ℕ} {W : Bytes} {at room : ℕ} (A : Node 
       unfolding staged TB
       two = e₂ ∙ ap₂ (λ (x : Bytes) (s : List ℕ). put x room (words (transform q w n l n s))) one room-kept
 
-      pub points-asked : Modulus q i × Slots n at room W₂ × Below q n (slot W₂ at) × Below q n (slot W₂ room)
-      points-asked = rw two (
+      pub pointwise-asked : Modulus q i × Slots n at room W₂ × Below q n (slot W₂ at) × Below q n (slot W₂ room)
+      pointwise-asked = rw two (
         A .modulus,
         record { one = omega (arith, staged-length va, A .fits); other = omega (arith, staged-length va, B .fits); apart = inr apart },
         record { at = λ k h. vec-at (staged TA) at (rw (staged-at va) va) k h },
         record { at = λ k h. vec-at (staged TA) room (rw (staged-room va) vb) k h },
       )
 
-      module _ {W₃ : Bytes} (e₃ : W₃ ≡ put W₂ at (encode n (λ k. slot W₂ room k * unit q * slot W₂ at k % q))) where
-        values : list n (λ k. slot (staged TA) room k * unit q * slot (staged TA) at k % q) ≡ P
+      module _ {W₃ : Bytes} (e₃ : W₃ ≡ put W₂ at (encode n (λ k. slot W₂ room k * radixInverse q * slot W₂ at k % q))) where
+        values : list n (λ k. slot (staged TA) room k * radixInverse q * slot (staged TA) at k % q) ≡ P
         unfolding P
         values =
-            sym (zip-list (λ x y. y * unit q * x % q) n (slot (staged TA) at) (slot (staged TA) room))
-            ∙ ap₂ (zip (λ x y. y * unit q * x % q)) (staged-at va) (staged-room va)
-            ∙ ap (λ (f : ℕ → ℕ → ℕ). zip f TA TB) (λ j x y. regroup x y (unit q) j % q)
+            sym (zip-list (λ x y. y * radixInverse q * x % q) n (slot (staged TA) at) (slot (staged TA) room))
+            ∙ ap₂ (zip (λ x y. y * radixInverse q * x % q)) (staged-at va) (staged-room va)
+            ∙ ap (λ (f : ℕ → ℕ → ℕ). zip f TA TB) (λ j x y. regroup x y (radixInverse q) j % q)
           where
             regroup : (x y u : ℕ) → y * u * x ≡ u * (x * y)
             regroup x y u = simp (mul-assoc, mul-comm, mul-left-comm)
 
         three : W₃ ≡ staged P
         unfolding encode
-        three = e₃ ∙ ap (λ (x : Bytes). put x at (words (list n (λ k. slot x room k * unit q * slot x at k % q)))) two ∙ ap (λ (s : List ℕ). put (staged TA) at (words s)) values ∙ restaged va vp
+        three = e₃ ∙ ap (λ (x : Bytes). put x at (words (list n (λ k. slot x room k * radixInverse q * slot x at k % q)))) two ∙ ap (λ (s : List ℕ). put (staged TA) at (words s)) values ∙ restaged va vp
 
         pub values-node : Node q i w n n l n p W₃ at
         values-node = at-node three vp
@@ -199,16 +199,16 @@ module _ {q i w n l : ℕ} {p : List ℕ} {W : Bytes} {at room : ℕ} (A : Node 
           pub scaled-asked : (at + 8 * n ≤ length W₄) × Below q n (slot W₄ at)
           scaled-asked = (back-node .fits, record { at = λ k h. vec-at W₄ at (back-node .below) k h })
 
-          pub slots-multiplied : {W₅ : Bytes} (h : ℕ) → W₅ ≡ put W₄ at (encode n (λ k. h * unit q * slot W₄ at k % q)) → Root q n w → h ≡ 2 ^ (112 - l) % q → l ≤ 11
+          pub slots-multiplied : {W₅ : Bytes} (h : ℕ) → W₅ ≡ put W₄ at (encode n (λ k. h * radixInverse q * slot W₄ at k % q)) → Root q n w → h ≡ 2 ^ (112 - l) % q → l ≤ 11
               → W₅ ≡ put (store q n W at (mul q n (slot W at) (slot W room))) room (words (transform q w n l n (numbers n W room)))
           unfolding encode store staged TA TB P U
           slots-multiplied {W₅} h e₅ r eh small =
-              e₅ ∙ ap (λ (x : Bytes). put x at (words (list n (λ k. h * unit q * slot x at k % q)))) four
-              ∙ ap (λ (s : List ℕ). put (staged U) at (words s)) (sym (map-list (λ v. h * unit q * v % q) n (slot (staged U) at)) ∙ ap (map (λ v. h * unit q * v % q)) (staged-at vu))
-              ∙ restaged vu (map-each {P = λ v. v < q} (λ v. h * unit q * v % q) (λ v k. mod-lt (h * unit q * v) pos) vu)
+              e₅ ∙ ap (λ (x : Bytes). put x at (words (list n (λ k. h * radixInverse q * slot x at k % q)))) four
+              ∙ ap (λ (s : List ℕ). put (staged U) at (words s)) (sym (map-list (λ v. h * radixInverse q * v % q) n (slot (staged U) at)) ∙ ap (map (λ v. h * radixInverse q * v % q)) (staged-at vu))
+              ∙ restaged vu (map-each {P = λ v. v < q} (λ v. h * radixInverse q * v % q) (λ v k. mod-lt (h * radixInverse q * v) pos) vu)
               ∙ ap (λ (s : List ℕ). put (put W at (words s)) room (words TB)) (go n (A .size) r (A .below) (B .below))
             where
               go : (k : ℕ) → k ≡ twoTo l → Root q k w → Vec q k (numbers k W at) → Vec q k (numbers k W room)
-                  → map (λ v. h * unit q * v % q) (untransform q w k l k (zip (λ x y. unit q * (x * y) % q) (transform q w k l k (numbers k W at)) (transform q w k l k (numbers k W room))))
+                  → map (λ v. h * radixInverse q * v % q) (untransform q w k l k (zip (λ x y. radixInverse q * (x * y) % q) (transform q w k l k (numbers k W at)) (transform q w k l k (numbers k W room))))
                   ≡ list k (modulo q (mul q k (slot W at) (slot W room)))
-              go k e ρ α β = rw e (product-is l (unit q) (h * unit q) (rw e at ρ) (made-up l h (A .modulus) small eh) (slot W at) (slot W room) (rw e at α) (rw e at β))
+              go k e ρ α β = rw e (product-is l (radixInverse q) (h * radixInverse q) (rw e at ρ) (made-up l h (A .modulus) small eh) (slot W at) (slot W room) (rw e at α) (rw e at β))

@@ -8,8 +8,8 @@ use lib.ListN.{length, getD, take, drop}
 use Rattle.codec.specs.Bytes.{Bytes, words, put}
 use Rattle.modular.specs.Modulo.{Same}
 use Rattle.modular.proofs.Congruence.{same-refl, same-eq, same-mod, same-mul, _then_}
-use Rattle.montgomery.specs.Internal.{Modulus, unit}
-use Rattle.montgomery.proofs.Reduction.{units}
+use Rattle.montgomery.specs.Internal.{Modulus, radixInverse}
+use Rattle.montgomery.proofs.Reduction.{radix-times}
 use Rattle.ring_transform.specs.Internal.{Each, Vec, zip, numbers, twoTo, plusTwiddled, minusTwiddled, level, transform, backSum, backTwiddled, united, untransform, Powers}
 use Rattle.ring_transform.proofs.Vectors.{join-each, take-each, drop-each, take-join, drop-join, zip-each, each-length}
 use Rattle.ring_transform.proofs.Convolve.{plus-vec, minus-vec, transform-vec}
@@ -30,11 +30,11 @@ size-is l m h e =
     let t : m ≡ twoTo (l - 1) + twoTo (l - 1) = e ∙ ap twoTo p ∙ double (l - 1) in
     (omega arith, omega arith)
 
-pub root-is : {q i w n : ℕ} {p : List ℕ} (k : ℕ) → Modulus q i → Powers q w n p → k < n → Same q (getD p k 0 * unit q) (w ^ k)
+pub root-is : {q i w n : ℕ} {p : List ℕ} (k : ℕ) → Modulus q i → Powers q w n p → k < n → Same q (getD p k 0 * radixInverse q) (w ^ k)
 root-is {q} {w} {p} k m pw h =
     same-mul (same-eq (pw .each k h) then same-mod) same-refl
-    then same-eq (mul-assoc (w ^ k) 72057594037927936 (unit q) ∙ ap (λ (x : ℕ). w ^ k * x) (mul-comm 72057594037927936 (unit q)))
-    then same-mul (same-refl {x = w ^ k}) (units q (m .odd)) then same-eq (mul-one (w ^ k))
+    then same-eq (mul-assoc (w ^ k) 72057594037927936 (radixInverse q) ∙ ap (λ (x : ℕ). w ^ k * x) (mul-comm 72057594037927936 (radixInverse q)))
+    then same-mul (same-refl {x = w ^ k}) (radix-times q (m .odd)) then same-eq (mul-one (w ^ k))
 
 pub root-below : {q i w n : ℕ} {p : List ℕ} (k : ℕ) → Modulus q i → Powers q w n p → k < n → getD p k 0 < q
 root-below {q} {w} k m pw h = rw (pw .each k h) (mod-lt (w ^ k * 72057594037927936) (positive m))

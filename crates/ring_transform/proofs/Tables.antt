@@ -11,8 +11,8 @@ use lib.Pow.{pow-add}
 use lib.Seq.{getD-set-same, getD-set-other}
 use Rattle.modular.specs.Modulo.{Same}
 use Rattle.modular.proofs.Congruence.{same-refl, same-eq, same-mod, same-mul, _then_}
-use Rattle.montgomery.specs.Internal.{Modulus, unit}
-use Rattle.montgomery.proofs.Reduction.{units}
+use Rattle.montgomery.specs.Internal.{Modulus, radixInverse}
+use Rattle.montgomery.proofs.Reduction.{radix-times}
 use Rattle.ring_transform.specs.Internal.{twoTo, Powers}
 
 -- ---- the table
@@ -33,11 +33,11 @@ powers-next {q} {w} {n} {x} {p} s h e = record {
 }
 
 -- two powers multiplied by Montgomery's product
-pub powers-product : {q i : ℕ} (w m n : ℕ) {x z r : ℕ} → Modulus q i → z ≡ w ^ m * 72057594037927936 % q → x ≡ w ^ n * 72057594037927936 % q → r ≡ z * unit q * x % q
+pub powers-product : {q i : ℕ} (w m n : ℕ) {x z r : ℕ} → Modulus q i → z ≡ w ^ m * 72057594037927936 % q → x ≡ w ^ n * 72057594037927936 % q → r ≡ z * radixInverse q * x % q
     → r ≡ w ^ (m + n) * 72057594037927936 % q
 powers-product {q} w m n mo ez ex er =
-    er ∙ (same-mul (same-mul (same-eq ez then same-mod) (same-refl {x = unit q})) (same-eq ex then same-mod)
-    then same-eq (regroup (w ^ m) (w ^ n) 72057594037927936 (unit q)) then same-mul (units q (mo .odd)) same-refl
+    er ∙ (same-mul (same-mul (same-eq ez then same-mod) (same-refl {x = radixInverse q})) (same-eq ex then same-mod)
+    then same-eq (regroup (w ^ m) (w ^ n) 72057594037927936 (radixInverse q)) then same-mul (radix-times q (mo .odd)) same-refl
     then same-eq (one-mul _ ∙ ap (λ (k : ℕ). k * 72057594037927936) (sym (pow-add w m n)))) .is
   where
     regroup : (a b r u : ℕ) → a * r * u * (b * r) ≡ u * r * (a * b * r)
@@ -47,10 +47,10 @@ powers-product {q} w m n mo ez ex er =
 pub power-none : (q w : ℕ) {x : ℕ} → x ≡ 2 ^ 56 % q → x ≡ w ^ 0 * 72057594037927936 % q
 power-none q w e = e ∙ ap (λ (n : ℕ). n % q) (sym (ap (λ (n : ℕ). n * 72057594037927936) (pow-zero w)))
 
-pub power-one : {q i : ℕ} (w : ℕ) {d z : ℕ} → Modulus q i → d ≡ 2 ^ 112 % q → z ≡ d * unit q * w % q → z ≡ w ^ 1 * 72057594037927936 % q
+pub power-one : {q i : ℕ} (w : ℕ) {d z : ℕ} → Modulus q i → d ≡ 2 ^ 112 % q → z ≡ d * radixInverse q * w % q → z ≡ w ^ 1 * 72057594037927936 % q
 power-one {q} w mo ed ez =
-    ez ∙ (same-mul (same-mul (same-eq ed then same-mod then same-eq square) (same-refl {x = unit q})) (same-refl {x = w})
-    then same-eq (regroup 72057594037927936 (unit q)) then same-mul (units q (mo .odd)) same-refl
+    ez ∙ (same-mul (same-mul (same-eq ed then same-mod then same-eq square) (same-refl {x = radixInverse q})) (same-refl {x = w})
+    then same-eq (regroup 72057594037927936 (radixInverse q)) then same-mul (radix-times q (mo .odd)) same-refl
     then same-eq (one-mul _ ∙ ap (λ (k : ℕ). k * 72057594037927936) (sym (pow-succ' w 0 ∙ ap (λ (k : ℕ). w * k) (pow-zero w) ∙ native.Mathlib.Nat.mul-one w)))) .is
   where
     square : 2 ^ 112 ≡ 72057594037927936 * 72057594037927936

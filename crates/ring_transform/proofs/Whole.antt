@@ -40,7 +40,7 @@ product-is {q} {w} l u h r e a b va vb =
     let pos = root-pos r in
     let c : List ℕ = list N (modulo q (mul q N a b)) in
     let one : N ≡ N * 1 = sym (mul-one N) in
-    ap (λ (s : List ℕ). map (λ v. h * v % q) (untransform q w N l N s)) (sym (convolve r u l N 1 1 one one va vb vd (recast r u (same-sym (r .turns)) values)))
+    ap (λ (s : List ℕ). map (λ v. h * v % q) (untransform q w N l N s)) (sym (convolve r u l N 1 1 one one va vb vd (recast r u (same-sym (r .minus-one)) values)))
     ∙ ap (map (λ v. h * v % q)) (back-and-forth r l N (omega arith) vd)
     ∙ map-thrice (λ v. h * v % q) (λ v. N * v % q) (λ v. u * v % q) undo vc
   where

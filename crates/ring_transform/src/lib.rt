@@ -1,11 +1,12 @@
-// The product of polynomials modulo X^n + 1 and q by number-theoretic transforms, over slots of scratch, where q is odd and below 2^56 and
-// w^n is -1 modulo q. q need not be prime: 1 / z is -w^(n - k) for z = w^k, and 1 / 2 is (q + 1) / 2.
+// The product of polynomials modulo X^n + 1 and q by number-theoretic transforms, over slots of scratch, for a power of two n of 2 to 2048,
+// an odd q below 2^56 and a root w: w^n is -1 modulo q. q need not be prime: nothing is inverted but powers of two and of w, whose inverses
+// are powers of (q + 1) / 2 and -w^(n - k) for w^k.
 ghost use mathlib.Core.Path.{_≡_};
 ghost use Prim.Native.Nat.{_+_, _-_, _*_, _%_, _^_, _≤_, _<_};
 ghost use lib.ListN.{length};
 ghost use Rattle.codec.specs.Bytes.{put, zeros, words};
 ghost use Rattle.modular.specs.Roots.{Root};
-ghost use Rattle.montgomery.specs.Internal.{Modulus, unit};
+ghost use Rattle.montgomery.specs.Internal.{Modulus, radixInverse};
 ghost use Rattle.ring.specs.Poly.{mul, Below};
 ghost use Rattle.ring.specs.Slots.{poly, slot, encode};
 ghost use Rattle.ring.specs.Internal.{store, Slots};
@@ -28,8 +29,8 @@ fn extend(p: &mut [u64], from: usize, to: usize, step: usize, z: u64, w: u64, i:
     }
 }
 
-// The powers of w up to w^n, each times 2^56. After the first nine each is made from the eighth before it, so that the products do not wait
-// for each other.
+// The powers of w up to w^n and a few more, each times 2^56. After the first nine each is made from the eighth before it, so that the
+// products do not wait for each other.
 fn powers(p: &mut [u64], n: usize, w: u64, i: u64, q: u64)
     requires { ⌜ Modulus q i × (1 < q) × (w < q) × (n ≤ 2048) × (n + 9 ≤ length (now p)) ⌝ }
     ensures { λ _. ⌜ Powers q w (n + 1) (now (p .exit)) ⌝ }
@@ -46,7 +47,7 @@ fn powers(p: &mut [u64], n: usize, w: u64, i: u64, q: u64)
 // One level: a + z b and a - z b of the halves a and b of the 2m numbers at a place, where z is held times 2^56.
 fn butterflies(work: &mut [u8], at: usize, m: usize, z: u64, i: u64, q: u64)
     requires { ⌜ Modulus q i × (z < q) × (at + 8 * (m + m) ≤ length (now work)) × Vec q (m + m) (numbers (m + m) (now work) at) ⌝ }
-    ensures { λ _. ⌜ now (work .exit) ≡ put (now (work .entry)) at (words (level q (z * unit q) m
+    ensures { λ _. ⌜ now (work .exit) ≡ put (now (work .entry)) at (words (level q (z * radixInverse q) m
         (numbers (m + m) (now (work .entry)) at))) ⌝ }
 {
     let mut j = 0;
@@ -93,7 +94,7 @@ fn transform(
 // The inverse of a level, twice over: u + v, and (v - u) y, of the halves u and v of the 2m numbers at a place, where y is held times 2^56.
 fn butterflies_back(work: &mut [u8], at: usize, m: usize, y: u64, i: u64, q: u64)
     requires { ⌜ Modulus q i × (y < q) × (at + 8 * (m + m) ≤ length (now work)) × Vec q (m + m) (numbers (m + m) (now work) at) ⌝ }
-    ensures { λ _. ⌜ now (work .exit) ≡ put (now (work .entry)) at (words (united q (y * unit q) (numbers m (now (work .entry)) at)
+    ensures { λ _. ⌜ now (work .exit) ≡ put (now (work .entry)) at (words (united q (y * radixInverse q) (numbers m (now (work .entry)) at)
         (numbers m (now (work .entry)) (at + 8 * m)))) ⌝ }
 {
     let mut j = 0;
@@ -139,9 +140,9 @@ fn untransform(
 // ---- the product
 
 // The products of the numbers of two slots, each divided by 2^56, into the first.
-fn points(work: &mut [u8], at: usize, from: usize, n: usize, i: u64, q: u64)
+fn pointwise(work: &mut [u8], at: usize, from: usize, n: usize, i: u64, q: u64)
     requires { ⌜ Modulus q i × Slots n at from (now work) × Below q n (slot (now work) at) × Below q n (slot (now work) from) ⌝ }
-    ensures { λ _. ⌜ now (work .exit) ≡ put (now (work .entry)) at (encode n (λ k. slot (now (work .entry)) from k * unit q
+    ensures { λ _. ⌜ now (work .exit) ≡ put (now (work .entry)) at (encode n (λ k. slot (now (work .entry)) from k * radixInverse q
         * slot (now (work .entry)) at k % q)) ⌝ }
 {
     let mut k = 0;
@@ -157,7 +158,7 @@ fn points(work: &mut [u8], at: usize, from: usize, n: usize, i: u64, q: u64)
 // h times each number of a slot, divided by 2^56.
 fn scaled(work: &mut [u8], at: usize, h: u64, n: usize, i: u64, q: u64)
     requires { ⌜ Modulus q i × (h < q) × (at + 8 * n ≤ length (now work)) × Below q n (slot (now work) at) ⌝ }
-    ensures { λ _. ⌜ now (work .exit) ≡ put (now (work .entry)) at (encode n (λ k. h * unit q * slot (now (work .entry)) at k % q)) ⌝ }
+    ensures { λ _. ⌜ now (work .exit) ≡ put (now (work .entry)) at (encode n (λ k. h * radixInverse q * slot (now (work .entry)) at k % q)) ⌝ }
 {
     let mut k = 0;
     while k < n {
@@ -203,7 +204,7 @@ fn multiply_slots(
 {
     transform(work, at, n, l, n, p, n, w, i, q);
     transform(work, room, n, l, n, p, n, w, i, q);
-    points(work, at, room, n, i, q);
+    pointwise(work, at, room, n, i, q);
     untransform(work, at, n, l, n, p, n, w, i, q);
     scaled(work, at, h, n, i, q);
 }

@@ -1,5 +1,6 @@
 // The product of two lent polynomials modulo X^N + 1 and q (document 02, L2) once the sheet is taken: the tests of the lent slices, and
-// then the work. Scratch is given back zeroed, or as it was where the call is refused. Both methods write the same bytes.
+// then the work. Scratch is given back zeroed, or as it was where the call is refused: the export zeroes it then, unless 1
+// refuses. Both methods write the same bytes.
 use codec::Reply;
 use scheme::hand_out;
 use sheet_numbers::Numbers;

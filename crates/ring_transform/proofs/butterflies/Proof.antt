@@ -4,7 +4,7 @@ use Prim.Native.Nat.{ℕ, _+_, _-_, _*_, _%_, _<_}
 use native.Mathlib.Omega.{arith}
 use borrow.Author.Needs.{needs}
 use Rattle.codec.specs.Bytes.{put, words}
-use Rattle.montgomery.specs.Internal.{unit}
+use Rattle.montgomery.specs.Internal.{radixInverse}
 use Rattle.ring.specs.Slots.{slot}
 use Rattle.ring_transform.specs.Internal.{plusTwiddled, minusTwiddled}
 use Rattle.ring_transform.proofs.Places.{vec-at}
@@ -14,7 +14,7 @@ use Rattle.ring_transform.proofs.butterflies.Tie as tie
 
 abbrev Inv-loop : tie.InvT-loop
 Inv-loop work₀ at m z i q j₀ work j =
-    Halves work₀ at m (λ k. plusTwiddled q (z * unit q) (slot work₀ at k) (slot work₀ at (m + k))) (λ k. minusTwiddled q (z * unit q) (slot work₀ at k) (slot work₀ at (m + k))) work j
+    Halves work₀ at m (λ k. plusTwiddled q (z * radixInverse q) (slot work₀ at k) (slot work₀ at (m + k))) (λ k. minusTwiddled q (z * radixInverse q) (slot work₀ at k) (slot work₀ at (m + k))) work j
 
 abbrev μ-loop : tie.MeasureT-loop
 μ-loop work₀ at m z i q j₀ work j = m - j
@@ -58,7 +58,7 @@ loop-again : tie.Need-loop-again Inv-loop μ-loop
 loop-again c =
     let a = c .before .before .before .before .before .before .before .before .before .before .before .before .before .before .before .before .before .before .args in
     let x = a-is (c .before .before .before .before .before .before .before .before .before .before .before .before .before) in
-    let y = c .before .before .before .before .before .before .before .before .before .before .product .ensures .0 ∙ ap (λ (b : ℕ). a .z * unit (a .q) * b % a .q) (b-is (c .before .before .before .before .before .before .before .before .before .before .before)) in
+    let y = c .before .before .before .before .before .before .before .before .before .before .product .ensures .0 ∙ ap (λ (b : ℕ). a .z * radixInverse (a .q) * b % a .q) (b-is (c .before .before .before .before .before .before .before .before .before .before .before)) in
     halves-more (c .before .before .before .before .before .before .before .before .before .before .before .before .before .before .before .before .loop .inv) (c .before .before .before .before .before .before .before .before .before .before .before .before .before .before .before .before .before .before .pre .2) (omega arith)
     (c .before .before .before .before .before .before .before .before .before .corrected .ensures .0 ∙ ap₂ (λ (m n : ℕ). (m + n) % a .q) x y) (c .before .before .before .before .before .before .before .before .corrected2 .ensures .0 ∙ ap₂ (λ (m n : ℕ). (m + (a .q - n)) % a .q) x y)
     (c .before .before .write642 .kept .0 ∙ c .before .before .before .before .before .before .write64 .kept .0) (c .before .before .before .before .before .before .write64 .ensures) (c .before .before .write642 .ensures)
@@ -66,7 +66,7 @@ loop-again c =
 returns : tie.Need-returns Inv-loop μ-loop
 returns c =
     let a = c .before .before .before .args in
-    halves-all (c .before .loop .inv) (c .before .before .before .pre .2) (omega arith) ∙ ap (λ x. put (a .work .now) (a .at) (words x)) (sym (level-list (a .q) (a .z * unit (a .q)) (a .m) (a .work .now) (a .at)))
+    halves-all (c .before .loop .inv) (c .before .before .before .pre .2) (omega arith) ∙ ap (λ x. put (a .work .now) (a .at) (words x)) (sym (level-list (a .q) (a .z * radixInverse (a .q)) (a .m) (a .work .now) (a .at)))
 
 pub butterflies-spec : {M : Type 1} → statement M
 butterflies-spec =

@@ -3,14 +3,14 @@ use mathlib.Core.Path.{_≡_, ap, _∙_}
 use Prim.Native.Nat.{ℕ, _-_, _*_, _%_}
 use native.Mathlib.Omega.{arith}
 use borrow.Author.Needs.{needs}
-use Rattle.montgomery.specs.Internal.{unit}
+use Rattle.montgomery.specs.Internal.{radixInverse}
 use Rattle.ring.proofs.Filling.{Filling, filling-none, filling-more, filling-all, read-later}
 use Rattle.ring.specs.Slots.{slot}
 use Rattle.ring_transform.proofs.scaled.Statement.{statement}
 use Rattle.ring_transform.proofs.scaled.Tie as tie
 
 abbrev Inv-loop : tie.InvT-loop
-Inv-loop work₀ at h n i q k₀ work k = Filling work₀ at (λ j. h * unit q * slot work₀ at j % q) n work k
+Inv-loop work₀ at h n i q k₀ work k = Filling work₀ at (λ j. h * radixInverse q * slot work₀ at j % q) n work k
 
 abbrev μ-loop : tie.MeasureT-loop
 μ-loop work₀ at h n i q k₀ work k = n - k
@@ -27,7 +27,7 @@ product-requires c κs = let p = c .before .before .before .before .before .pre 
 loop-again : tie.Need-loop-again Inv-loop μ-loop
 loop-again c =
     let a = c .before .before .before .before .before .before .before .before .before .before .args in
-    filling-more (c .before .before .before .before .before .before .before .before .loop .inv) (omega arith) (omega arith) (c .before .before .before .before .product .ensures .0 ∙ ap (λ (x : ℕ). a .h * unit (a .q) * x % a .q) (x-is (c .before .before .before .before .before)))
+    filling-more (c .before .before .before .before .before .before .before .before .loop .inv) (omega arith) (omega arith) (c .before .before .before .before .product .ensures .0 ∙ ap (λ (x : ℕ). a .h * radixInverse (a .q) * x % a .q) (x-is (c .before .before .before .before .before)))
     (c .before .before .write64 .kept .0) (c .before .before .write64 .ensures)
 
 pub scaled-spec : {M : Type 1} → statement M

@@ -1,16 +1,16 @@
--- `ring_transform::points` meets its contract. Assumes nothing.
+-- `ring_transform::pointwise` meets its contract. Assumes nothing.
 use mathlib.Core.Path.{_≡_, ap₂, _∙_}
 use Prim.Native.Nat.{ℕ, _-_, _*_, _%_}
 use native.Mathlib.Omega.{arith}
 use borrow.Author.Needs.{needs}
-use Rattle.montgomery.specs.Internal.{unit}
+use Rattle.montgomery.specs.Internal.{radixInverse}
 use Rattle.ring.proofs.Filling.{Filling, filling-none, filling-more, filling-all, read-later, read-other}
 use Rattle.ring.specs.Slots.{slot}
-use Rattle.ring_transform.proofs.points.Statement.{statement}
-use Rattle.ring_transform.proofs.points.Tie as tie
+use Rattle.ring_transform.proofs.pointwise.Statement.{statement}
+use Rattle.ring_transform.proofs.pointwise.Tie as tie
 
 abbrev Inv-loop : tie.InvT-loop
-Inv-loop work₀ at from n i q k₀ work k = Filling work₀ at (λ j. slot work₀ from j * unit q * slot work₀ at j % q) n work k
+Inv-loop work₀ at from n i q k₀ work k = Filling work₀ at (λ j. slot work₀ from j * radixInverse q * slot work₀ at j % q) n work k
 
 abbrev μ-loop : tie.MeasureT-loop
 μ-loop work₀ at from n i q k₀ work k = n - k
@@ -36,8 +36,8 @@ product-requires c κs =
 loop-again : tie.Need-loop-again Inv-loop μ-loop
 loop-again c =
     let a = c .before .before .before .before .before .before .before .before .before .before .before .before .args in
-    filling-more (c .before .before .before .before .before .before .before .before .before .before .loop .inv) (omega arith) (omega (arith, c .before .before .before .before .before .before .before .before .before .before .before .before .pre .1 .one)) (c .before .before .before .before .product .ensures .0 ∙ ap₂ (λ (x y : ℕ). y * unit (a .q) * x % a .q) (x-is (c .before .before .before .before .before)) (y-is (c .before .before .before .before .before)))
+    filling-more (c .before .before .before .before .before .before .before .before .before .before .loop .inv) (omega arith) (omega (arith, c .before .before .before .before .before .before .before .before .before .before .before .before .pre .1 .one)) (c .before .before .before .before .product .ensures .0 ∙ ap₂ (λ (x y : ℕ). y * radixInverse (a .q) * x % a .q) (x-is (c .before .before .before .before .before)) (y-is (c .before .before .before .before .before)))
     (c .before .before .write64 .kept .0) (c .before .before .write64 .ensures)
 
-pub points-spec : {M : Type 1} → statement M
-points-spec = tie.close (tie.spec Inv-loop μ-loop (λ c. filling-none) (λ c. search needs) (λ c. search needs) (λ c κs. search needs) (λ c. search needs) (λ c. search needs) (λ c κs. search needs) product-requires (λ c. search needs) (λ c. search needs) (λ c κs. search needs) (λ c. search needs) (λ c. search needs) loop-again (λ c. c .before .loop .inv .sized) (λ c. filling-all (c .before .loop .inv) (omega arith)))
+pub pointwise-spec : {M : Type 1} → statement M
+pointwise-spec = tie.close (tie.spec Inv-loop μ-loop (λ c. filling-none) (λ c. search needs) (λ c. search needs) (λ c κs. search needs) (λ c. search needs) (λ c. search needs) (λ c κs. search needs) product-requires (λ c. search needs) (λ c. search needs) (λ c κs. search needs) (λ c. search needs) (λ c. search needs) loop-again (λ c. c .before .loop .inv .sized) (λ c. filling-all (c .before .loop .inv) (omega arith)))
