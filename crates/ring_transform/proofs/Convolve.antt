@@ -9,9 +9,12 @@ use lib.ListN.{length, take, drop}
 use Rattle.modular.specs.Modulo.{Same}
 use Rattle.modular.specs.Roots.{Root}
 use Rattle.modular.proofs.Congruence.{same-refl, same-eq, same-sym, same-mod, same-add, same-mul, same-negative, _then_}
-use Rattle.ring_transform.specs.Internal.{Each, none, more, Vec, zip}
+use Rattle.vector.specs.Vector.{none, more}
+use Rattle.vector.specs.Internal.{Vector}
+use Rattle.vector.proofs.Vectors.{append-each, take-each, drop-each, each-length}
+use Rattle.ring_transform.specs.Internal.{zip}
 use Rattle.ring_transform.specs.Internal.{twoTo, plusTwiddled, minusTwiddled, transform}
-use Rattle.ring_transform.proofs.Vectors.{zip-each, join-each, take-each, drop-each, zip-join, eval, eval-zip, eval-parts, each-length}
+use Rattle.ring_transform.proofs.Vectors.{zip-each, zip-join, eval, eval-zip, eval-parts}
 
 pub plus-same : {q : ℕ} (z a b : ℕ) → Same q (plusTwiddled q z a b) (a + z * b)
 plus-same z a b = same-mod then same-add same-refl same-mod
@@ -31,17 +34,17 @@ below : {q : ℕ} (n : ℕ) → 0 < q → n % q < q
 below n h = mod-lt n h
 
 -- the twoTo halves of a level
-pub plus-vec : {q : ℕ} (m z : ℕ) {s : List ℕ} → 0 < q → Vec q (m + m) s → Vec q m (zip (plusTwiddled q z) (take m s) (drop m s))
+pub plus-vec : {q : ℕ} (m z : ℕ) {s : List ℕ} → 0 < q → Vector q (m + m) s → Vector q m (zip (plusTwiddled q z) (take m s) (drop m s))
 plus-vec {q} m z h v = zip-each (plusTwiddled q z) (λ u v _ _. below (u + z * v % q) h) (take-each m m refl v) (drop-each m m refl v)
 
-pub minus-vec : {q : ℕ} (m z : ℕ) {s : List ℕ} → 0 < q → Vec q (m + m) s → Vec q m (zip (minusTwiddled q z) (take m s) (drop m s))
+pub minus-vec : {q : ℕ} (m z : ℕ) {s : List ℕ} → 0 < q → Vector q (m + m) s → Vector q m (zip (minusTwiddled q z) (take m s) (drop m s))
 minus-vec {q} m z h v = zip-each (minusTwiddled q z) (λ u v _ _. below (u + (q - z * v % q)) h) (take-each m m refl v) (drop-each m m refl v)
 
-pub transform-vec : {q : ℕ} (w N : ℕ) → 0 < q → (l e : ℕ) {s : List ℕ} → Vec q (twoTo l) s → Vec q (twoTo l) (transform q w N l e s)
+pub transform-vec : {q : ℕ} (w N : ℕ) → 0 < q → (l e : ℕ) {s : List ℕ} → Vector q (twoTo l) s → Vector q (twoTo l) (transform q w N l e s)
 unfolding twoTo transform
 transform-vec w N h zero e v = v
 transform-vec w N h (suc l) e v =
-    join-each (transform-vec w N h l (e / 2) (plus-vec (twoTo l) (w ^ (e / 2)) h v)) (transform-vec w N h l (e / 2 + N) (minus-vec (twoTo l) (w ^ (e / 2)) h v))
+    append-each (transform-vec w N h l (e / 2) (plus-vec (twoTo l) (w ^ (e / 2)) h v)) (transform-vec w N h l (e / 2 + N) (minus-vec (twoTo l) (w ^ (e / 2)) h v))
 
 pub root-pos : {q N w : ℕ} → Root q N w → 0 < q
 root-pos r = omega (arith, r .below)
@@ -52,7 +55,7 @@ pub record Values (q n d u : ℕ) (a b c : List ℕ) : Type 0 where
 
 module _ {q w N : ℕ} (r : Root q N w) (u : ℕ) where
   -- s modulo X ^ m - z has the value of s where X ^ m is z
-  fold : (m : ℕ) {s : List ℕ} (x z : ℕ) (f : ℕ → ℕ → ℕ) → ((u v : ℕ) → Same q (f u v) (u + z * v)) → Vec q (m + m) s → Same q (x ^ m) z
+  fold : (m : ℕ) {s : List ℕ} (x z : ℕ) (f : ℕ → ℕ → ℕ) → ((u v : ℕ) → Same q (f u v) (u + z * v)) → Vector q (m + m) s → Same q (x ^ m) z
       → Same q (eval x (zip f (take m s) (drop m s))) (eval x s)
   fold m {s} x z f h v e =
       eval-zip x z f (λ a b _ _. h a b) (take-each m m refl v) (drop-each m m refl v)
@@ -60,7 +63,7 @@ module _ {q w N : ℕ} (r : Root q N w) (u : ℕ) where
       then same-eq (sym (eval-parts x m s (let n = each-length v in omega arith)))
 
   down : (m : ℕ) {d : ℕ} {a b c : List ℕ} (z : ℕ) (f : ℕ → ℕ → ℕ) → ((u v : ℕ) → Same q (f u v) (u + z * v)) → Same q (z * z) d
-      → Vec q (m + m) a → Vec q (m + m) b → Vec q (m + m) c → Values q (m + m) d u a b c
+      → Vector q (m + m) a → Vector q (m + m) b → Vector q (m + m) c → Values q (m + m) d u a b c
       → Values q m z u (zip f (take m a) (drop m a)) (zip f (take m b) (drop m b)) (zip f (take m c) (drop m c))
   down m z f h e va vb vc p =
       record {
@@ -85,7 +88,7 @@ module _ {q w N : ℕ} (r : Root q N w) (u : ℕ) where
   pub recast : {n d d' : ℕ} {a b c : List ℕ} → Same q d d' → Values q n d u a b c → Values q n d' u a b c
   recast s p = record { at = λ x k. p .at x (k then same-sym s) }
 
-  pub convolve : (l e k j : ℕ) → e ≡ twoTo l * k → N ≡ twoTo l * j → {a b c : List ℕ} → Vec q (twoTo l) a → Vec q (twoTo l) b → Vec q (twoTo l) c
+  pub convolve : (l e k j : ℕ) → e ≡ twoTo l * k → N ≡ twoTo l * j → {a b c : List ℕ} → Vector q (twoTo l) a → Vector q (twoTo l) b → Vector q (twoTo l) c
       → Values q (twoTo l) (w ^ e) u a b c → transform q w N l e c ≡ zip (λ x y. u * (x * y) % q) (transform q w N l e a) (transform q w N l e b)
   unfolding twoTo transform zip eval
   convolve zero e k j _ _ (more {x = a} ha none) (more {x = b} hb none) (more {x = c} hc none) p =

@@ -14,7 +14,8 @@ use Rattle.ring.specs.Slots.{poly, slot, encode}
 use Rattle.ring.specs.Internal.{store}
 use Rattle.ring.proofs.Bridge.{length-encode, length-store, poly-part, slot-poly, slot-put, slot-put-before, store-alike}
 use Rattle.ring.proofs.Polynomials.{alike-mul}
-use Rattle.ring_transform.specs.Internal.{Vec, numbers, twoTo, transform, Powers, Node, Transformable}
+use Rattle.vector.specs.Internal.{Vector}
+use Rattle.ring_transform.specs.Internal.{numbers, twoTo, transform, Powers, Node, Transformable}
 use Rattle.ring_transform.proofs.Convolve.{transform-vec}
 use Rattle.ring_transform.proofs.Steps.{positive}
 use Rattle.ring_transform.proofs.Places.{length-vec}
@@ -48,7 +49,7 @@ module _ {q n w i l : ℕ} {p : List ℕ} (W : Bytes) (at room : ℕ) (a : Bytes
       ap (λ (x : Bytes). slot x room k) one ∙ slot-put W room head k (omega (arith, head-length)) (omega (arith, head-length))
       ∙ poly-part a 0 n k h ∙ slot-poly a k
 
-  node : (to : ℕ) → to + 8 * n ≤ length W₁ → Vec q n (numbers n W₁ to) → Node q i w n n l n p W₁ to
+  node : (to : ℕ) → to + 8 * n ≤ length W₁ → Vector q n (numbers n W₁ to) → Node q i w n n l n p W₁ to
   node to f v = record { modulus = m; table = s; ring-high = t .ring-high; power = omega (arith, t .ring-low); deep = e .1; size = e .0; fits = f; below = v }
 
   pub loaded-at : Node q i w n n l n p W₁ at
@@ -65,7 +66,7 @@ module _ {q n w i l : ℕ} {p : List ℕ} (W : Bytes) (at room : ℕ) (a : Bytes
   unfolding room-bytes
   room-length = go n (e .0) (loaded-room .below)
     where
-      go : (k : ℕ) → k ≡ twoTo l → Vec q k (numbers k W₁ room) → length (words (transform q w n l n (numbers k W₁ room))) ≡ 8 * k
+      go : (k : ℕ) → k ≡ twoTo l → Vector q k (numbers k W₁ room) → length (words (transform q w n l n (numbers k W₁ room))) ≡ 8 * k
       go k z v = rw z (length-vec (transform-vec w n (positive m) l n (rw z at v)))
 
   product : Poly

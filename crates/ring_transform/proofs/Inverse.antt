@@ -9,9 +9,12 @@ use lib.ListN.{take, drop, take-append-drop}
 use Rattle.modular.specs.Modulo.{Same}
 use Rattle.modular.specs.Roots.{Root}
 use Rattle.modular.proofs.Congruence.{same-refl, same-eq, same-sym, same-mod, same-add, same-mul, same-negative, same-opposite, _then_}
-use Rattle.ring_transform.specs.Internal.{Each, none, more, Vec, zip}
+use Rattle.vector.specs.Vector.{Each, none, more}
+use Rattle.vector.specs.Internal.{Vector}
+use Rattle.vector.proofs.Vectors.{take-each, drop-each}
+use Rattle.ring_transform.specs.Internal.{zip}
 use Rattle.ring_transform.specs.Internal.{twoTo, plusTwiddled, minusTwiddled, transform, backSum, backTwiddled, united, untransform}
-use Rattle.ring_transform.proofs.Vectors.{take-each, drop-each, take-join, drop-join, zip-map, map-join, zip-left, zip-right}
+use Rattle.ring_transform.proofs.Vectors.{take-join, drop-join, zip-map, map-join, zip-left, zip-right}
 use Rattle.ring_transform.proofs.Convolve.{root-pos, plus-same, minus-same, minus-squared, plus-vec, minus-vec, transform-vec}
 
 sum-of : (p t z a b : ℕ) → t * (a + z * b) + t * (a + p * z * b) ≡ (t + t) * a + (t * z * b + p * (t * z * b))
@@ -53,7 +56,7 @@ module _ {q w N : ℕ} (r : Root q N w) where
   opposite : (k : ℕ) → k ≤ N → Same q (w ^ k * w ^ (N - k)) (q - 1)
   opposite k h = same-eq (sym (pow-add w k (N - k)) ∙ ap (λ (n : ℕ). w ^ n) (omega arith)) then (r .minus-one)
 
-  joined : (z y t : ℕ) → Same q (z * y) (q - 1) → {n : ℕ} {a b : List ℕ} → Vec q n a → Vec q n b
+  joined : (z y t : ℕ) → Same q (z * y) (q - 1) → {n : ℕ} {a b : List ℕ} → Vector q n a → Vector q n b
       → united q y (map (λ v. t * v % q) (zip (plusTwiddled q z) a b)) (map (λ v. t * v % q) (zip (minusTwiddled q z) a b)) ≡ map (λ v. (t + t) * v % q) a ++ map (λ v. (t + t) * v % q) b
   unfolding united
   joined z y t e va vb =
@@ -61,7 +64,7 @@ module _ {q w N : ℕ} (r : Root q N w) where
       (zip-map (backSum q) (λ v. t * v % q) _ _ ∙ zip-left (λ u v. backSum q (t * u % q) (t * v % q)) (plusTwiddled q z) (minusTwiddled q z) (λ v. (t + t) * v % q) (λ a b _ _. first-is (root-pos r) t z a b) va vb)
       (zip-map (backTwiddled q y) (λ v. t * v % q) _ _ ∙ zip-right (λ u v. backTwiddled q y (t * u % q) (t * v % q)) (plusTwiddled q z) (minusTwiddled q z) (λ v. (t + t) * v % q) (λ a b _ _. second-is (root-pos r) t z y a b e) va vb)
 
-  pub back-and-forth : (l e : ℕ) → e ≤ N + N → {s : List ℕ} → Vec q (twoTo l) s → untransform q w N l e (transform q w N l e s) ≡ map (λ v. twoTo l * v % q) s
+  pub back-and-forth : (l e : ℕ) → e ≤ N + N → {s : List ℕ} → Vector q (twoTo l) s → untransform q w N l e (transform q w N l e s) ≡ map (λ v. twoTo l * v % q) s
   unfolding twoTo transform untransform
   back-and-forth zero e he v = map-same (λ v. 1 * v % q) (λ a l. sym (mod-eq-of-lt l) ∙ ap (λ (n : ℕ). n % q) (sym (one-mul a))) v
   back-and-forth (suc l) e he {s} v =

@@ -6,7 +6,8 @@ use native.Mathlib.Omega.{arith}
 use lib.ListN.{length, getD}
 use Rattle.codec.specs.Bytes.{Bytes, words, put}
 use Rattle.montgomery.specs.Internal.{Modulus, radixInverse}
-use Rattle.ring_transform.specs.Internal.{Vec, numbers, twoTo, level, transform, united, untransform, Node}
+use Rattle.vector.specs.Internal.{Vector}
+use Rattle.ring_transform.specs.Internal.{numbers, twoTo, level, transform, united, untransform, Node}
 use Rattle.ring_transform.proofs.Steps.{positive, size-is, root-is, root-below, level-same, united-same, leaf, low-vec, first-length, second-length, high-vec, made}
 use Rattle.ring_transform.proofs.Steps.{leaf-back, low-half-vec, back-length, upper-vec, both-length, both-vec, made-back}
 
@@ -23,10 +24,10 @@ module _ {q i w n m l e : ℕ} {p : List ℕ} {W : Bytes} {at : ℕ} (N : Node q
   fits-halves : at + 8 * (m / 2 + m / 2) ≤ length W
   fits-halves = omega (arith, halves-are, N .fits)
 
-  row-below : Vec q (m / 2 + m / 2) (numbers (m / 2 + m / 2) W at)
+  row-below : Vector q (m / 2 + m / 2) (numbers (m / 2 + m / 2) W at)
   row-below = go m halves-are (N .below)
     where
-      go : (k : ℕ) → k ≡ m / 2 + m / 2 → Vec q k (numbers k W at) → Vec q (m / 2 + m / 2) (numbers (m / 2 + m / 2) W at)
+      go : (k : ℕ) → k ≡ m / 2 + m / 2 → Vector q k (numbers k W at) → Vector q (m / 2 + m / 2) (numbers (m / 2 + m / 2) W at)
       go k e v = rw e at v
 
   -- the result by l and m in place of l - 1 and m / 2
@@ -35,12 +36,12 @@ module _ {q i w n m l e : ℕ} {p : List ℕ} {W : Bytes} {at : ℕ} (N : Node q
       let d : suc (l - 1) ≡ l = omega (arith, N .deep) in
       ap₂ (λ (k j : ℕ). put W at (words (f k e (numbers j W at)))) d (sym halves-are)
 
-  child : {U : Bytes} (f to : ℕ) → (l ≡ 1 → ⊥) → f < n + n → to + 8 * (m / 2) ≤ length U → Vec q (m / 2) (numbers (m / 2) U to) → Node q i w n (m / 2) (l - 1) f p U to
+  child : {U : Bytes} (f to : ℕ) → (l ≡ 1 → ⊥) → f < n + n → to + 8 * (m / 2) ≤ length U → Vector q (m / 2) (numbers (m / 2) U to) → Node q i w n (m / 2) (l - 1) f p U to
   child f to d h fits v = record { modulus = N .modulus; table = N .table; ring-high = N .ring-high; power = h; deep = omega (arith, N .deep); size = sym half-is; fits = fits; below = v }
 
   -- ---- the transform
 
-  pub level-asked : Modulus q i × (getD p (e / 2) 0 < q) × (at + 8 * (m / 2 + m / 2) ≤ length W) × Vec q (m / 2 + m / 2) (numbers (m / 2 + m / 2) W at)
+  pub level-asked : Modulus q i × (getD p (e / 2) 0 < q) × (at + 8 * (m / 2 + m / 2) ≤ length W) × Vector q (m / 2 + m / 2) (numbers (m / 2 + m / 2) W at)
   level-asked = (N .modulus, root-below (e / 2) (N .modulus) (N .table) (omega (arith, N .power)), fits-halves, row-below)
 
   module _ {W₁ : Bytes} (e₁ : W₁ ≡ put W at (words (level q (getD p (e / 2) 0 * radixInverse q) (m / 2) (numbers (m / 2 + m / 2) W at)))) where
@@ -69,11 +70,11 @@ module _ {q i w n m l e : ℕ} {p : List ℕ} {W : Bytes} {at : ℕ} (N : Node q
 
   -- ---- and back
 
-  back-asked : (U : Bytes) → length U ≡ length W → Vec q (m / 2 + m / 2) (numbers (m / 2 + m / 2) U at)
-      → Modulus q i × (getD p (n - e / 2) 0 < q) × (at + 8 * (m / 2 + m / 2) ≤ length U) × Vec q (m / 2 + m / 2) (numbers (m / 2 + m / 2) U at)
+  back-asked : (U : Bytes) → length U ≡ length W → Vector q (m / 2 + m / 2) (numbers (m / 2 + m / 2) U at)
+      → Modulus q i × (getD p (n - e / 2) 0 < q) × (at + 8 * (m / 2 + m / 2) ≤ length U) × Vector q (m / 2 + m / 2) (numbers (m / 2 + m / 2) U at)
   back-asked U z v = (N .modulus, root-below (n - e / 2) (N .modulus) (N .table) (omega arith), omega (arith, fits-halves), v)
 
-  pub back-leaf-asked : Modulus q i × (getD p (n - e / 2) 0 < q) × (at + 8 * (m / 2 + m / 2) ≤ length W) × Vec q (m / 2 + m / 2) (numbers (m / 2 + m / 2) W at)
+  pub back-leaf-asked : Modulus q i × (getD p (n - e / 2) 0 < q) × (at + 8 * (m / 2 + m / 2) ≤ length W) × Vector q (m / 2 + m / 2) (numbers (m / 2 + m / 2) W at)
   back-leaf-asked = back-asked W refl row-below
 
   by-inverse : {U₁ : Bytes} (U : Bytes) (u v : List ℕ) → U₁ ≡ put U at (words (united q (getD p (n - e / 2) 0 * radixInverse q) u v)) → U₁ ≡ put U at (words (united q (w ^ (n - e / 2)) u v))
@@ -96,7 +97,7 @@ module _ {q i w n m l e : ℕ} {p : List ℕ} {W : Bytes} {at : ℕ} (N : Node q
         (upper-vec w n e (l - 1) (m / 2) W at half-is pos (N .modulus .small) fits-halves row-below e₁)
 
     module _ {W₂ : Bytes} (e₂ : W₂ ≡ put W₁ (at + 8 * (m / 2)) (words (untransform q w n (l - 1) (e / 2 + n) (numbers (m / 2) W₁ (at + 8 * (m / 2)))))) where
-      pub back-whole-asked : Modulus q i × (getD p (n - e / 2) 0 < q) × (at + 8 * (m / 2 + m / 2) ≤ length W₂) × Vec q (m / 2 + m / 2) (numbers (m / 2 + m / 2) W₂ at)
+      pub back-whole-asked : Modulus q i × (getD p (n - e / 2) 0 < q) × (at + 8 * (m / 2 + m / 2) ≤ length W₂) × Vector q (m / 2 + m / 2) (numbers (m / 2 + m / 2) W₂ at)
       back-whole-asked =
           back-asked W₂ (both-length w n e (l - 1) (m / 2) W at half-is pos (N .modulus .small) fits-halves row-below e₁ e₂)
           (both-vec w n e (l - 1) (m / 2) W at half-is pos (N .modulus .small) fits-halves row-below e₁ e₂)

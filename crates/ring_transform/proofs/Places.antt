@@ -14,8 +14,10 @@ use Rattle.codec.proofs.Numbers.{length-words, words-append}
 use Rattle.ring.specs.Poly.{Poly}
 use Rattle.ring.specs.Slots.{slot, poly, encode}
 use Rattle.ring.proofs.Bridge.{poly-encode, slot-later, slot-put, slot-put-before, slot-put-after}
-use Rattle.ring_transform.specs.Internal.{Each, Vec, numbers, zip}
-use Rattle.ring_transform.proofs.Vectors.{zip-each, at-each, each-length}
+use Rattle.vector.specs.Internal.{Vector}
+use Rattle.vector.proofs.Vectors.{at-each, each-length}
+use Rattle.ring_transform.specs.Internal.{numbers, zip}
+use Rattle.ring_transform.proofs.Vectors.{zip-each}
 
 -- ---- lists of coefficients
 
@@ -60,11 +62,11 @@ zip-list f n a b =
 
 -- ---- in scratch
 
-pub length-vec : {q n : ℕ} {xs : List ℕ} → Vec q n xs → length (words xs) ≡ 8 * n
+pub length-vec : {q n : ℕ} {xs : List ℕ} → Vector q n xs → length (words xs) ≡ 8 * n
 length-vec {xs} v = length-words xs ∙ ap (λ (k : ℕ). 8 * k) (each-length v)
 
 -- written, then read
-pub numbers-put : {q n : ℕ} (w : Bytes) (at : ℕ) {xs : List ℕ} → q ≤ 2 ^ 64 → Vec q n xs → at + 8 * n ≤ length w → numbers n (put w at (words xs)) at ≡ xs
+pub numbers-put : {q n : ℕ} (w : Bytes) (at : ℕ) {xs : List ℕ} → q ≤ 2 ^ 64 → Vector q n xs → at + 8 * n ≤ length w → numbers n (put w at (words xs)) at ≡ xs
 unfolding encode
 numbers-put {q} {n} w at {xs} b v h =
     let l = length-vec v in
@@ -92,18 +94,18 @@ pub numbers-high : (w : Bytes) (at m n : ℕ) → drop m (numbers (m + n) w at) 
 numbers-high w at m n = high-half m n (slot w at) ∙ sym (numbers-behind w at m n)
 
 -- two halves that are written after each other
-pub put-halves : {p q m n : ℕ} (w : Bytes) (at : ℕ) {xs ys : List ℕ} → Vec p m xs → Vec q n ys → at + 8 * (m + n) ≤ length w
+pub put-halves : {p q m n : ℕ} (w : Bytes) (at : ℕ) {xs ys : List ℕ} → Vector p m xs → Vector q n ys → at + 8 * (m + n) ≤ length w
     → put (put w at (words xs)) (at + 8 * m) (words ys) ≡ put w at (words (xs ++ ys))
 put-halves {m} w at {xs} {ys} vx vy h =
     ap (λ (k : ℕ). put (put w at (words xs)) (at + k) (words ys)) (sym (length-vec vx))
     ∙ put-append w at (words xs) (words ys) (omega (arith, length-vec vx, length-vec vy)) ∙ ap (put w at) (sym (words-append xs ys))
 
 -- a row that is written over another
-pub put-over : {p q n : ℕ} (w : Bytes) (at : ℕ) {xs ys : List ℕ} → Vec p n xs → Vec q n ys → at + 8 * n ≤ length w → put (put w at (words xs)) at (words ys) ≡ put w at (words ys)
+pub put-over : {p q n : ℕ} (w : Bytes) (at : ℕ) {xs ys : List ℕ} → Vector p n xs → Vector q n ys → at + 8 * n ≤ length w → put (put w at (words xs)) at (words ys) ≡ put w at (words ys)
 put-over w at {xs} {ys} vx vy h = put-put w at (words xs) (words ys) (omega (arith, length-vec vx)) (length-vec vy ∙ sym (length-vec vx))
 
-pub length-row : {q n : ℕ} (w : Bytes) (at : ℕ) {xs : List ℕ} → Vec q n xs → at + 8 * n ≤ length w → length (put w at (words xs)) ≡ length w
+pub length-row : {q n : ℕ} (w : Bytes) (at : ℕ) {xs : List ℕ} → Vector q n xs → at + 8 * n ≤ length w → length (put w at (words xs)) ≡ length w
 length-row w at {xs} v h = length-put w at (words xs) (omega (arith, length-vec v))
 
-pub vec-at : {q n : ℕ} (w : Bytes) (at : ℕ) → Vec q n (numbers n w at) → (k : ℕ) → k < n → slot w at k < q
+pub vec-at : {q n : ℕ} (w : Bytes) (at : ℕ) → Vector q n (numbers n w at) → (k : ℕ) → k < n → slot w at k < q
 vec-at {n} w at v k h = rw (sym (getD-list n (slot w at) k h)) (at-each v k h)

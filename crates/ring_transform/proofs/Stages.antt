@@ -18,7 +18,8 @@ use Rattle.montgomery.proofs.Reduction.{radix-times}
 use Rattle.ring.specs.Poly.{Poly, mul, modulo, Below}
 use Rattle.ring.specs.Slots.{slot, encode}
 use Rattle.ring.specs.Internal.{store, Slots}
-use Rattle.ring_transform.specs.Internal.{Vec, zip, numbers, twoTo, transform, untransform, Node}
+use Rattle.vector.specs.Internal.{Vector}
+use Rattle.ring_transform.specs.Internal.{zip, numbers, twoTo, transform, untransform, Node}
 use Rattle.ring_transform.proofs.Vectors.{zip-each, map-each, map-join}
 use Rattle.ring_transform.proofs.Convolve.{transform-vec}
 use Rattle.ring_transform.proofs.Steps.{positive, untransform-vec}
@@ -55,16 +56,16 @@ module _ {q i w n l : ℕ} {p : List ℕ} {W : Bytes} {at room : ℕ} (A : Node 
   wide : q ≤ 2 ^ 64
   wide = omega (arith, A .modulus .small)
 
-  sized : {f : List ℕ → List ℕ} → ((s : List ℕ) → Vec q (twoTo l) s → Vec q (twoTo l) (f s)) → (s : List ℕ) → Vec q n s → Vec q n (f s)
+  sized : {f : List ℕ → List ℕ} → ((s : List ℕ) → Vector q (twoTo l) s → Vector q (twoTo l) (f s)) → (s : List ℕ) → Vector q n s → Vector q n (f s)
   sized {f} h s v = go n (A .size) v
     where
-      go : (k : ℕ) → k ≡ twoTo l → Vec q k s → Vec q k (f s)
+      go : (k : ℕ) → k ≡ twoTo l → Vector q k s → Vector q k (f s)
       go k e u = rw e (h s (rw e at u))
 
-  transformed : (s : List ℕ) → Vec q n s → Vec q n (transform q w n l n s)
+  transformed : (s : List ℕ) → Vector q n s → Vector q n (transform q w n l n s)
   transformed s v = sized {f = transform q w n l n} (λ t u. transform-vec w n pos l n u) s v
 
-  untransformed : (s : List ℕ) → Vec q n s → Vec q n (untransform q w n l n s)
+  untransformed : (s : List ℕ) → Vector q n s → Vector q n (untransform q w n l n s)
   untransformed s v = sized {f = untransform q w n l n} (λ t u. untransform-vec w n pos l n u) s v
 
   -- the transforms, the products of their values, and the inverse of those
@@ -80,19 +81,19 @@ module _ {q i w n l : ℕ} {p : List ℕ} {W : Bytes} {at room : ℕ} (A : Node 
   U : List ℕ
   U = untransform q w n l n P
 
-  va : Vec q n TA
+  va : Vector q n TA
   unfolding TA
   va = transformed (numbers n W at) (A .below)
 
-  vb : Vec q n TB
+  vb : Vector q n TB
   unfolding TB
   vb = transformed (numbers n W room) (B .below)
 
-  vp : Vec q n P
+  vp : Vector q n P
   unfolding P
   vp = zip-each (λ x y. radixInverse q * (x * y) % q) (λ x y _ _. mod-lt (radixInverse q * (x * y)) pos) va vb
 
-  vu : Vec q n U
+  vu : Vector q n U
   unfolding U
   vu = untransformed P vp
 
@@ -100,7 +101,7 @@ module _ {q i w n l : ℕ} {p : List ℕ} {W : Bytes} {at room : ℕ} (A : Node 
   staged : List ℕ → Bytes
   staged s = put (put W at (words s)) room (words TB)
 
-  module _ {s : List ℕ} (v : Vec q n s) where
+  module _ {s : List ℕ} (v : Vector q n s) where
     row-length : length (put W at (words s)) ≡ length W
     row-length = length-row W at v (A .fits)
 
@@ -116,14 +117,14 @@ module _ {q i w n l : ℕ} {p : List ℕ} {W : Bytes} {at room : ℕ} (A : Node 
     unfolding staged
     staged-room = numbers-put (put W at (words s)) room wide vb (omega (arith, row-length, B .fits))
 
-    restaged : {t : List ℕ} → Vec q n t → put (staged s) at (words t) ≡ staged t
+    restaged : {t : List ℕ} → Vector q n t → put (staged s) at (words t) ≡ staged t
     unfolding staged
     restaged {t} u =
         put-comm (put W at (words s)) room (words TB) at (words t) (omega (arith, length-vec u)) (omega (arith, row-length, length-vec vb, B .fits))
         ∙ ap (λ (x : Bytes). put x room (words TB)) (put-over W at v u (A .fits))
 
   -- what a step that is lent the first slot asks
-  at-node : {X : Bytes} {s : List ℕ} → X ≡ staged s → Vec q n s → Node q i w n n l n p X at
+  at-node : {X : Bytes} {s : List ℕ} → X ≡ staged s → Vector q n s → Node q i w n n l n p X at
   at-node {X} {s} e v = rw e (record {
     modulus = A .modulus;
     table = A .table;
@@ -208,7 +209,7 @@ module _ {q i w n l : ℕ} {p : List ℕ} {W : Bytes} {at room : ℕ} (A : Node 
               ∙ restaged vu (map-each {P = λ v. v < q} (λ v. h * radixInverse q * v % q) (λ v k. mod-lt (h * radixInverse q * v) pos) vu)
               ∙ ap (λ (s : List ℕ). put (put W at (words s)) room (words TB)) (go n (A .size) r (A .below) (B .below))
             where
-              go : (k : ℕ) → k ≡ twoTo l → Root q k w → Vec q k (numbers k W at) → Vec q k (numbers k W room)
+              go : (k : ℕ) → k ≡ twoTo l → Root q k w → Vector q k (numbers k W at) → Vector q k (numbers k W room)
                   → map (λ v. h * radixInverse q * v % q) (untransform q w k l k (zip (λ x y. radixInverse q * (x * y) % q) (transform q w k l k (numbers k W at)) (transform q w k l k (numbers k W room))))
                   ≡ list k (modulo q (mul q k (slot W at) (slot W room)))
               go k e ρ α β = rw e (product-is l (radixInverse q) (h * radixInverse q) (rw e at ρ) (made-up l h (A .modulus) small eh) (slot W at) (slot W room) (rw e at α) (rw e at β))

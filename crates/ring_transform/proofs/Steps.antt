@@ -10,8 +10,10 @@ use Rattle.modular.specs.Modulo.{Same}
 use Rattle.modular.proofs.Congruence.{same-refl, same-eq, same-mod, same-mul, _then_}
 use Rattle.montgomery.specs.Internal.{Modulus, radixInverse}
 use Rattle.montgomery.proofs.Reduction.{radix-times}
-use Rattle.ring_transform.specs.Internal.{Each, Vec, zip, numbers, twoTo, plusTwiddled, minusTwiddled, level, transform, backSum, backTwiddled, united, untransform, Powers}
-use Rattle.ring_transform.proofs.Vectors.{join-each, take-each, drop-each, take-join, drop-join, zip-each, each-length}
+use Rattle.vector.specs.Internal.{Vector}
+use Rattle.vector.proofs.Vectors.{append-each, take-each, drop-each, each-length}
+use Rattle.ring_transform.specs.Internal.{zip, numbers, twoTo, plusTwiddled, minusTwiddled, level, transform, backSum, backTwiddled, united, untransform, Powers}
+use Rattle.ring_transform.proofs.Vectors.{take-join, drop-join, zip-each}
 use Rattle.ring_transform.proofs.Convolve.{plus-vec, minus-vec, transform-vec}
 use Rattle.ring_transform.proofs.Places.{length-vec, numbers-put, numbers-after, numbers-low, numbers-high, put-halves, put-over, length-row}
 
@@ -50,12 +52,12 @@ pub united-same : {q : ℕ} (y z : ℕ) (u v : List ℕ) → Same q y z → unit
 unfolding united
 united-same {q} y z u v e = ap (λ (g : ℕ → ℕ → ℕ). zip (backSum q) u v ++ zip g u v) (λ i a b. times-same e ((b + (q - a)) % q) i)
 
-united-vec : {q n : ℕ} (y : ℕ) {u v : List ℕ} → 0 < q → Vec q n u → Vec q n v → Vec q (n + n) (united q y u v)
+united-vec : {q n : ℕ} (y : ℕ) {u v : List ℕ} → 0 < q → Vector q n u → Vector q n v → Vector q (n + n) (united q y u v)
 unfolding united
 united-vec {q} y h vu vv =
-    join-each (zip-each (backSum q) (λ a b _ _. mod-lt (a + b) h) vu vv) (zip-each (backTwiddled q y) (λ a b _ _. mod-lt (y * ((b + (q - a)) % q)) h) vu vv)
+    append-each (zip-each (backSum q) (λ a b _ _. mod-lt (a + b) h) vu vv) (zip-each (backTwiddled q y) (λ a b _ _. mod-lt (y * ((b + (q - a)) % q)) h) vu vv)
 
-pub untransform-vec : {q : ℕ} (w N : ℕ) → 0 < q → (l e : ℕ) {s : List ℕ} → Vec q (twoTo l) s → Vec q (twoTo l) (untransform q w N l e s)
+pub untransform-vec : {q : ℕ} (w N : ℕ) → 0 < q → (l e : ℕ) {s : List ℕ} → Vector q (twoTo l) s → Vector q (twoTo l) (untransform q w N l e s)
 unfolding twoTo untransform
 untransform-vec w N h zero e v = v
 untransform-vec w N h (suc l) e v =
@@ -71,7 +73,7 @@ bottom-back q w n e s = refl
 
 -- ---- the row of a node, of h + h numbers, where h is 2^d
 
-module _ {q : ℕ} (w n e d h : ℕ) (W : Bytes) (at : ℕ) (eh : twoTo d ≡ h) (pos : 0 < q) (small : q < 2 ^ 56) (fits : at + 8 * (h + h) ≤ length W) (v : Vec q (h + h) (numbers (h + h) W at)) where
+module _ {q : ℕ} (w n e d h : ℕ) (W : Bytes) (at : ℕ) (eh : twoTo d ≡ h) (pos : 0 < q) (small : q < 2 ^ 56) (fits : at + 8 * (h + h) ≤ length W) (v : Vector q (h + h) (numbers (h + h) W at)) where
   row : List ℕ
   row = numbers (h + h) W at
 
@@ -83,15 +85,15 @@ module _ {q : ℕ} (w n e d h : ℕ) (W : Bytes) (at : ℕ) (eh : twoTo d ≡ h)
   Y : List ℕ
   Y = zip (minusTwiddled q (w ^ (e / 2))) (take h row) (drop h row)
 
-  vx : Vec q h X
+  vx : Vector q h X
   unfolding X row
   vx = plus-vec h (w ^ (e / 2)) pos v
 
-  vy : Vec q h Y
+  vy : Vector q h Y
   unfolding Y row
   vy = minus-vec h (w ^ (e / 2)) pos v
 
-  halves-vec : (m : ℕ) {s : List ℕ} → Vec q h s → Vec q h (transform q w n d m s)
+  halves-vec : (m : ℕ) {s : List ℕ} → Vector q h s → Vector q h (transform q w n d m s)
   halves-vec m {s} u = rw eh at (transform-vec w n pos d m {s = s} (rw eh u))
 
   whole-step : transform q w n (suc d) e row ≡ transform q w n d (e / 2) X ++ transform q w n d (e / 2 + n) Y
@@ -106,10 +108,10 @@ module _ {q : ℕ} (w n e d h : ℕ) (W : Bytes) (at : ℕ) (eh : twoTo d ≡ h)
     first-is = e₁
 
     pub first-length : length W₁ ≡ length W
-    first-length = ap length first-is ∙ length-row W at (join-each vx vy) fits
+    first-length = ap length first-is ∙ length-row W at (append-each vx vy) fits
 
     first-row : numbers (h + h) W₁ at ≡ X ++ Y
-    first-row = ap (λ (t : Bytes). numbers (h + h) t at) first-is ∙ numbers-put W at (omega arith) (join-each vx vy) fits
+    first-row = ap (λ (t : Bytes). numbers (h + h) t at) first-is ∙ numbers-put W at (omega arith) (append-each vx vy) fits
 
     low-is : numbers h W₁ at ≡ X
     low-is = sym (numbers-low W₁ at h h) ∙ ap (take h) first-row ∙ take-join Y vx
@@ -125,14 +127,14 @@ module _ {q : ℕ} (w n e d h : ℕ) (W : Bytes) (at : ℕ) (eh : twoTo d ≡ h)
         alone : (m : ℕ) (s : List ℕ) → d ≡ 0 → transform q w n d m s ≡ s
         alone m s z = ap (λ (k : ℕ). transform q w n k m s) z ∙ bottom q w n m s
 
-    pub low-vec : Vec q h (numbers h W₁ at)
+    pub low-vec : Vector q h (numbers h W₁ at)
     low-vec = rw low-is vx
 
     module _ {W₂ : Bytes} (e₂ : W₂ ≡ put W₁ at (words (transform q w n d (e / 2) (numbers h W₁ at)))) where
       A : List ℕ
       A = transform q w n d (e / 2) (numbers h W₁ at)
 
-      va : Vec q h A
+      va : Vector q h A
       unfolding A
       va = halves-vec (e / 2) low-vec
 
@@ -148,22 +150,22 @@ module _ {q : ℕ} (w n e d h : ℕ) (W : Bytes) (at : ℕ) (eh : twoTo d ≡ h)
           ap (λ (t : Bytes). numbers h t (at + 8 * h)) second-is
           ∙ numbers-after W₁ at (words A) (at + 8 * h) h (omega (arith, length-vec va, first-length)) (omega (arith, length-vec va)) ∙ high-is
 
-      pub high-vec : Vec q h (numbers h W₂ (at + 8 * h))
+      pub high-vec : Vector q h (numbers h W₂ (at + 8 * h))
       high-vec = rw high-kept vy
 
       pub made : {W₃ : Bytes} → W₃ ≡ put W₂ (at + 8 * h) (words (transform q w n d (e / 2 + n) (numbers h W₂ (at + 8 * h)))) → W₃ ≡ put W at (words (transform q w n (suc d) e (numbers (h + h) W at)))
       unfolding A row
       made {W₃} e₃ =
           let B : List ℕ = transform q w n d (e / 2 + n) (numbers h W₂ (at + 8 * h)) in
-          let vb : Vec q h B = halves-vec (e / 2 + n) high-vec in
+          let vb : Vector q h B = halves-vec (e / 2 + n) high-vec in
           let join : put (put W₁ at (words A)) (at + 8 * h) (words B) ≡ put W₁ at (words (A ++ B)) = put-halves W₁ at va vb (omega (arith, first-length)) in
           e₃ ∙ ap (λ (t : Bytes). put t (at + 8 * h) (words B)) second-is ∙ join
-          ∙ ap (λ (t : Bytes). put t at (words (A ++ B))) first-is ∙ put-over W at (join-each vx vy) (join-each va vb) fits
+          ∙ ap (λ (t : Bytes). put t at (words (A ++ B))) first-is ∙ put-over W at (append-each vx vy) (append-each va vb) fits
           ∙ ap (λ (s : List ℕ). put W at (words s)) (ap₂ _++_ (ap (transform q w n d (e / 2)) low-is) (ap (transform q w n d (e / 2 + n)) high-kept) ∙ sym whole-step)
 
   -- ---- and back
 
-  back-vec : (m : ℕ) {s : List ℕ} → Vec q h s → Vec q h (untransform q w n d m s)
+  back-vec : (m : ℕ) {s : List ℕ} → Vector q h s → Vector q h (untransform q w n d m s)
   back-vec m {s} u = rw eh at (untransform-vec w n pos d m {s = s} (rw eh u))
 
   back-step : untransform q w n (suc d) e row ≡ united q (w ^ (n - e / 2)) (untransform q w n d (e / 2) (numbers h W at)) (untransform q w n d (e / 2 + n) (numbers h W (at + 8 * h)))
@@ -172,10 +174,10 @@ module _ {q : ℕ} (w n e d h : ℕ) (W : Bytes) (at : ℕ) (eh : twoTo d ≡ h)
       ap (λ (m : ℕ). united q (w ^ (n - e / 2)) (untransform q w n d (e / 2) (take m (numbers (h + h) W at))) (untransform q w n d (e / 2 + n) (drop m (numbers (h + h) W at)))) eh
       ∙ ap₂ (λ (s t : List ℕ). united q (w ^ (n - e / 2)) (untransform q w n d (e / 2) s) (untransform q w n d (e / 2 + n) t)) (numbers-low W at h h) (numbers-high W at h h)
 
-  pub low-half-vec : Vec q h (numbers h W at)
+  pub low-half-vec : Vector q h (numbers h W at)
   low-half-vec = rw (sym (numbers-low W at h h)) (take-each h h refl v)
 
-  high-half-vec : Vec q h (numbers h W (at + 8 * h))
+  high-half-vec : Vector q h (numbers h W (at + 8 * h))
   high-half-vec = rw (sym (numbers-high W at h h)) (drop-each h h refl v)
 
   pub leaf-back : {W₁ : Bytes} → d ≡ 0 → W₁ ≡ put W at (words (united q (w ^ (n - e / 2)) (numbers h W at) (numbers h W (at + 8 * h)))) → W₁ ≡ put W at (words (untransform q w n (suc d) e (numbers (h + h) W at)))
@@ -186,7 +188,7 @@ module _ {q : ℕ} (w n e d h : ℕ) (W : Bytes) (at : ℕ) (eh : twoTo d ≡ h)
       alone m s = ap (λ (k : ℕ). untransform q w n k m s) z ∙ bottom-back q w n m s
 
   module _ {W₁ : Bytes} (e₁ : W₁ ≡ put W at (words (untransform q w n d (e / 2) (numbers h W at)))) where
-    ua : Vec q h (untransform q w n d (e / 2) (numbers h W at))
+    ua : Vector q h (untransform q w n d (e / 2) (numbers h W at))
     ua = back-vec (e / 2) low-half-vec
 
     pub back-length : length W₁ ≡ length W
@@ -197,11 +199,11 @@ module _ {q : ℕ} (w n e d h : ℕ) (W : Bytes) (at : ℕ) (eh : twoTo d ≡ h)
         ap (λ (t : Bytes). numbers h t (at + 8 * h)) e₁
         ∙ numbers-after W at (words (untransform q w n d (e / 2) (numbers h W at))) (at + 8 * h) h (omega (arith, length-vec ua)) (omega (arith, length-vec ua))
 
-    pub upper-vec : Vec q h (numbers h W₁ (at + 8 * h))
+    pub upper-vec : Vector q h (numbers h W₁ (at + 8 * h))
     upper-vec = rw upper-kept high-half-vec
 
     module _ {W₂ : Bytes} (e₂ : W₂ ≡ put W₁ (at + 8 * h) (words (untransform q w n d (e / 2 + n) (numbers h W₁ (at + 8 * h))))) where
-      ub : Vec q h (untransform q w n d (e / 2 + n) (numbers h W (at + 8 * h)))
+      ub : Vector q h (untransform q w n d (e / 2 + n) (numbers h W (at + 8 * h)))
       ub = back-vec (e / 2 + n) high-half-vec
 
       both-are : W₂ ≡ put W at (words (untransform q w n d (e / 2) (numbers h W at) ++ untransform q w n d (e / 2 + n) (numbers h W (at + 8 * h))))
@@ -210,13 +212,13 @@ module _ {q : ℕ} (w n e d h : ℕ) (W : Bytes) (at : ℕ) (eh : twoTo d ≡ h)
           ∙ put-halves W at ua ub fits
 
       pub both-length : length W₂ ≡ length W
-      both-length = ap length both-are ∙ length-row W at (join-each ua ub) fits
+      both-length = ap length both-are ∙ length-row W at (append-each ua ub) fits
 
       both-row : numbers (h + h) W₂ at ≡ untransform q w n d (e / 2) (numbers h W at) ++ untransform q w n d (e / 2 + n) (numbers h W (at + 8 * h))
-      both-row = ap (λ (t : Bytes). numbers (h + h) t at) both-are ∙ numbers-put W at (omega arith) (join-each ua ub) fits
+      both-row = ap (λ (t : Bytes). numbers (h + h) t at) both-are ∙ numbers-put W at (omega arith) (append-each ua ub) fits
 
-      pub both-vec : Vec q (h + h) (numbers (h + h) W₂ at)
-      both-vec = rw both-row (join-each ua ub)
+      pub both-vec : Vector q (h + h) (numbers (h + h) W₂ at)
+      both-vec = rw both-row (append-each ua ub)
 
       pub made-back : {W₃ : Bytes} → W₃ ≡ put W₂ at (words (united q (w ^ (n - e / 2)) (numbers h W₂ at) (numbers h W₂ (at + 8 * h)))) → W₃ ≡ put W at (words (untransform q w n (suc d) e (numbers (h + h) W at)))
       unfolding row
@@ -225,4 +227,4 @@ module _ {q : ℕ} (w n e d h : ℕ) (W : Bytes) (at : ℕ) (eh : twoTo d ≡ h)
           let high : numbers h W₂ (at + 8 * h) ≡ untransform q w n d (e / 2 + n) (numbers h W (at + 8 * h)) = sym (numbers-high W₂ at h h) ∙ ap (drop h) both-row ∙ drop-join (untransform q w n d (e / 2 + n) (numbers h W (at + 8 * h))) ua in
           e₃ ∙ ap₂ (λ (s t : List ℕ). put W₂ at (words (united q (w ^ (n - e / 2)) s t))) low high
           ∙ ap (λ (t : Bytes). put t at (words (united q (w ^ (n - e / 2)) (untransform q w n d (e / 2) (numbers h W at)) (untransform q w n d (e / 2 + n) (numbers h W (at + 8 * h)))))) both-are
-          ∙ put-over W at (join-each ua ub) (united-vec (w ^ (n - e / 2)) pos ua ub) fits ∙ ap (λ (s : List ℕ). put W at (words s)) (sym back-step)
+          ∙ put-over W at (append-each ua ub) (united-vec (w ^ (n - e / 2)) pos ua ub) fits ∙ ap (λ (s : List ℕ). put W at (words s)) (sym back-step)

@@ -7,7 +7,8 @@ use native.Mathlib.Omega.{arith}
 use lib.ListN.{length, getD, take, drop}
 use Rattle.modular.specs.Modulo.{Same}
 use Rattle.modular.proofs.Congruence.{same-refl, same-eq, same-sym, same-mod, same-add, same-mul, _then_}
-use Rattle.ring_transform.specs.Internal.{Each, none, more, Vec, zip}
+use Rattle.vector.specs.Vector.{Each, none, more}
+use Rattle.ring_transform.specs.Internal.{zip}
 
 -- ---- lists
 
@@ -19,20 +20,6 @@ zip-each f h (more hx vx) (more hy vy) = more (h _ _ hx hy) (zip-each f h vx vy)
 pub map-each : {P Q : ℕ → Type 0} (f : ℕ → ℕ) {n : ℕ} {x : List ℕ} → ((a : ℕ) → P a → Q (f a)) → Each P n x → Each Q n (map f x)
 map-each f h none = none
 map-each f h (more hx vx) = more (h _ hx) (map-each f h vx)
-
-pub join-each : {P : ℕ → Type 0} {n m : ℕ} {x y : List ℕ} → Each P n x → Each P m y → Each P (n + m) (x ++ y)
-join-each none w = rw zero-add w
-join-each (more h v) w = rw suc-add (more h (join-each v w))
-
-pub take-each : {P : ℕ → Type 0} {n : ℕ} {x : List ℕ} (k m : ℕ) → n ≡ k + m → Each P n x → Each P k (take k x)
-take-each zero m e v = none
-take-each (suc k) m e none = absurd (omega arith)
-take-each (suc k) m e (more h v) = more h (take-each k m (omega arith) v)
-
-pub drop-each : {P : ℕ → Type 0} {n : ℕ} {x : List ℕ} (k m : ℕ) → n ≡ k + m → Each P n x → Each P m (drop k x)
-drop-each zero m e v = rw (e ∙ zero-add m) at v
-drop-each (suc k) m e none = absurd (omega arith)
-drop-each (suc k) m e (more h v) = drop-each k m (omega arith) v
 
 pub take-join : {P : ℕ → Type 0} {n : ℕ} {x : List ℕ} (y : List ℕ) → Each P n x → take n (x ++ y) ≡ x
 take-join y none = refl
@@ -113,12 +100,3 @@ eval-parts x (suc m) (c ∷ cs) h =
   where
     regroup : (s p t : ℕ) → c + x * (s + p * t) ≡ c + x * s + x * p * t
     regroup s p t = simp (mul-add, mul-assoc, add-assoc)
-
-pub each-length : {P : ℕ → Type 0} {n : ℕ} {x : List ℕ} → Each P n x → length x ≡ n
-each-length none = refl
-each-length (more h v) = ap suc (each-length v)
-
-pub at-each : {P : ℕ → Type 0} {n : ℕ} {x : List ℕ} → Each P n x → (i : ℕ) → i < n → P (getD x i 0)
-at-each none i h = absurd (omega arith)
-at-each (more hx vx) zero h = hx
-at-each (more hx vx) (suc i) h = at-each vx i (omega arith)

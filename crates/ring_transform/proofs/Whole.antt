@@ -10,8 +10,11 @@ use Rattle.modular.specs.Modulo.{Same}
 use Rattle.modular.specs.Roots.{Root}
 use Rattle.modular.proofs.Congruence.{same-refl, same-eq, same-sym, same-mod, same-mul, _then_}
 use Rattle.ring.specs.Poly.{Poly, mul, modulo}
-use Rattle.ring_transform.specs.Internal.{Each, none, more, Vec, zip, twoTo, transform, untransform}
-use Rattle.ring_transform.proofs.Vectors.{map-each, join-each, eval, eval-map}
+use Rattle.vector.specs.Vector.{Each, none, more}
+use Rattle.vector.specs.Internal.{Vector}
+use Rattle.vector.proofs.Vectors.{append-each}
+use Rattle.ring_transform.specs.Internal.{zip, twoTo, transform, untransform}
+use Rattle.ring_transform.proofs.Vectors.{map-each, eval, eval-map}
 use Rattle.ring_transform.proofs.Values.{eval-mul}
 use Rattle.ring_transform.proofs.Convolve.{Values, root-pos, recast, convolve}
 use Rattle.ring_transform.proofs.Inverse.{back-and-forth}
@@ -20,9 +23,9 @@ use Rattle.ring_transform.proofs.Inverse.{back-and-forth}
 pub list-each : {P : ℕ → Type 0} (n : ℕ) (f : Poly) → ((k : ℕ) → k < n → P (f k)) → Each P n (list n f)
 unfolding list
 list-each zero f h = none
-list-each (suc n) f h = rw (sym (add-one n)) (join-each (list-each n f (λ k l. h k (omega arith))) (more (h n (omega arith)) none))
+list-each (suc n) f h = rw (sym (add-one n)) (append-each (list-each n f (λ k l. h k (omega arith))) (more (h n (omega arith)) none))
 
-modulo-each : {q : ℕ} (n : ℕ) (f : Poly) → 0 < q → Vec q n (list n (modulo q f))
+modulo-each : {q : ℕ} (n : ℕ) (f : Poly) → 0 < q → Vector q n (list n (modulo q f))
 unfolding modulo
 modulo-each {q} n f h = list-each n (modulo q f) (λ k l. mod-lt (f k) h)
 
@@ -32,7 +35,7 @@ map-thrice f g h e none = refl
 map-thrice f g h e (more hx vx) = ap₂ _∷_ (e _ hx) (map-thrice f g h e vx)
 
 -- the products of the values come divided by something, as u has it, and h makes up for that and for 2^l
-pub product-is : {q w : ℕ} (l u h : ℕ) → Root q (twoTo l) w → Same q (h * (twoTo l * u)) 1 → (a b : Poly) → Vec q (twoTo l) (list (twoTo l) a) → Vec q (twoTo l) (list (twoTo l) b)
+pub product-is : {q w : ℕ} (l u h : ℕ) → Root q (twoTo l) w → Same q (h * (twoTo l * u)) 1 → (a b : Poly) → Vector q (twoTo l) (list (twoTo l) a) → Vector q (twoTo l) (list (twoTo l) b)
     → map (λ v. h * v % q) (untransform q w (twoTo l) l (twoTo l) (zip (λ x y. u * (x * y) % q) (transform q w (twoTo l) l (twoTo l) (list (twoTo l) a)) (transform q w (twoTo l) l (twoTo l) (list (twoTo l) b))))
     ≡ list (twoTo l) (modulo q (mul q (twoTo l) a b))
 product-is {q} {w} l u h r e a b va vb =
@@ -44,10 +47,10 @@ product-is {q} {w} l u h r e a b va vb =
     ∙ ap (map (λ v. h * v % q)) (back-and-forth r l N (omega arith) vd)
     ∙ map-thrice (λ v. h * v % q) (λ v. N * v % q) (λ v. u * v % q) undo vc
   where
-    vc : Vec q (twoTo l) (list (twoTo l) (modulo q (mul q (twoTo l) a b)))
+    vc : Vector q (twoTo l) (list (twoTo l) (modulo q (mul q (twoTo l) a b)))
     vc = modulo-each (twoTo l) (mul q (twoTo l) a b) (root-pos r)
 
-    vd : Vec q (twoTo l) (map (λ v. u * v % q) (list (twoTo l) (modulo q (mul q (twoTo l) a b))))
+    vd : Vector q (twoTo l) (map (λ v. u * v % q) (list (twoTo l) (modulo q (mul q (twoTo l) a b))))
     vd = map-each {P = λ v. v < q} (λ v. u * v % q) (λ v m. mod-lt (u * v) (root-pos r)) vc
 
     values : Values q (twoTo l) (q - 1) u (list (twoTo l) a) (list (twoTo l) b) (map (λ v. u * v % q) (list (twoTo l) (modulo q (mul q (twoTo l) a b))))

@@ -9,17 +9,9 @@ use Rattle.codec.specs.Lists.{list}
 use Rattle.modular.specs.Roots.{Root}
 use Rattle.montgomery.specs.Internal.{Modulus}
 use Rattle.ring.specs.Slots.{slot}
+use Rattle.vector.specs.Internal.{Vector}
 
 -- ---- lists of numbers
-
--- xs is n numbers, and each of them has the property P
-pub data Each (P : ℕ → Type 0) : ℕ → List ℕ → Type 0 where
-  none : Each P zero []
-  more : {n x : ℕ} {xs : List ℕ} → P x → Each P n xs → Each P (suc n) (x ∷ xs)
-
--- a vector: n numbers below q
-abbrev pub Vec : ℕ → ℕ → List ℕ → Type 0
-Vec q n xs = Each (λ v. v < q) n xs
 
 -- entry by entry
 unfoldable pub zip : (ℕ → ℕ → ℕ) → List ℕ → List ℕ → List ℕ
@@ -89,7 +81,7 @@ pub record Node (q i w n m l e : ℕ) (p : List ℕ) (scratch : Bytes) (at : ℕ
   pub deep : 1 ≤ l
   pub size : m ≡ twoTo l
   pub fits : at + 8 * m ≤ length scratch
-  pub below : Vec q m (numbers m scratch at)
+  pub below : Vector q m (numbers m scratch at)
 
 -- a modulus, a ring size and a root by which a product is made
 pub record Transformable (q N w : ℕ) : Type 0 where

@@ -10,7 +10,8 @@ ghost use Rattle.montgomery.specs.Internal.{Modulus, radixInverse};
 ghost use Rattle.ring.specs.Poly.{mul, Below};
 ghost use Rattle.ring.specs.Slots.{poly, slot, encode};
 ghost use Rattle.ring.specs.Internal.{store, Slots};
-ghost use Rattle.ring_transform.specs.Internal.{Vec, numbers, twoTo, level, united, Powers, Node, Transformable};
+ghost use Rattle.vector.specs.Internal.{Vector};
+ghost use Rattle.ring_transform.specs.Internal.{numbers, twoTo, level, united, Powers, Node, Transformable};
 ghost use Rattle.ring_transform.specs.Internal.{transform as transformed, untransform as untransformed};
 
 // ---- the table of powers
@@ -46,7 +47,7 @@ fn powers(p: &mut [u64], n: usize, w: u64, i: u64, q: u64)
 
 // One level: a + z b and a - z b of the halves a and b of the 2m numbers at a place, where z is held times 2^56.
 fn butterflies(work: &mut [u8], at: usize, m: usize, z: u64, i: u64, q: u64)
-    requires { ⌜ Modulus q i × (z < q) × (at + 8 * (m + m) ≤ length (now work)) × Vec q (m + m) (numbers (m + m) (now work) at) ⌝ }
+    requires { ⌜ Modulus q i × (z < q) × (at + 8 * (m + m) ≤ length (now work)) × Vector q (m + m) (numbers (m + m) (now work) at) ⌝ }
     ensures { λ _. ⌜ now (work .exit) ≡ put (now (work .entry)) at (words (level q (z * radixInverse q) m
         (numbers (m + m) (now (work .entry)) at))) ⌝ }
 {
@@ -93,7 +94,7 @@ fn transform(
 
 // The inverse of a level, twice over: u + v, and (v - u) y, of the halves u and v of the 2m numbers at a place, where y is held times 2^56.
 fn butterflies_back(work: &mut [u8], at: usize, m: usize, y: u64, i: u64, q: u64)
-    requires { ⌜ Modulus q i × (y < q) × (at + 8 * (m + m) ≤ length (now work)) × Vec q (m + m) (numbers (m + m) (now work) at) ⌝ }
+    requires { ⌜ Modulus q i × (y < q) × (at + 8 * (m + m) ≤ length (now work)) × Vector q (m + m) (numbers (m + m) (now work) at) ⌝ }
     ensures { λ _. ⌜ now (work .exit) ≡ put (now (work .entry)) at (words (united q (y * radixInverse q) (numbers m (now (work .entry)) at)
         (numbers m (now (work .entry)) (at + 8 * m)))) ⌝ }
 {
