@@ -49,6 +49,10 @@ made-up {q} l h mo k e =
     parted : (r u : ℕ) → r * r * u * u ≡ u * r * (u * r)
     parted r u = simp (mul-assoc, mul-comm, mul-left-comm)
 
+-- the same asked of another scratch and place
+elsewhere : {q i w n m l e at to : ℕ} {p : List ℕ} {W X : Bytes} → Node q i w n m l e p W at → to + 8 * m ≤ length X → Vector q m (numbers m X to) → Node q i w n m l e p X to
+elsewhere N f v = record { modulus = N .modulus; table = N .table; ring-high = N .ring-high; power = N .power; deep = N .deep; size = N .size; fits = f; below = v }
+
 module _ {q i w n l : ℕ} {p : List ℕ} {W : Bytes} {at room : ℕ} (A : Node q i w n n l n p W at) (B : Node q i w n n l n p W room) (apart : at + 8 * n ≤ room) where
   pos : 0 < q
   pos = positive (A .modulus)
@@ -125,16 +129,7 @@ module _ {q i w n l : ℕ} {p : List ℕ} {W : Bytes} {at room : ℕ} (A : Node 
 
   -- what a step that is lent the first slot asks
   at-node : {X : Bytes} {s : List ℕ} → X ≡ staged s → Vector q n s → Node q i w n n l n p X at
-  at-node {X} {s} e v = rw e (record {
-    modulus = A .modulus;
-    table = A .table;
-    ring-high = A .ring-high;
-    power = A .power;
-    deep = A .deep;
-    size = A .size;
-    fits = omega (arith, staged-length v, A .fits);
-    below = rw (staged-at v) v;
-  })
+  at-node e v = rw e (elsewhere A (omega (arith, staged-length v, A .fits)) (rw (staged-at v) v))
 
   -- ---- step by step
 
@@ -147,16 +142,7 @@ module _ {q i w n l : ℕ} {p : List ℕ} {W : Bytes} {at room : ℕ} (A : Node 
     room-kept = ap (λ (x : Bytes). numbers n x room) one ∙ numbers-after W at (words TA) room n (omega (arith, length-vec va, A .fits)) (omega (arith, length-vec va))
 
     pub room-node : Node q i w n n l n p W₁ room
-    room-node = rw one (record {
-      modulus = B .modulus;
-      table = B .table;
-      ring-high = B .ring-high;
-      power = B .power;
-      deep = B .deep;
-      size = B .size;
-      fits = omega (arith, row-length va, B .fits);
-      below = rw (sym one, room-kept) (B .below);
-    })
+    room-node = rw one (elsewhere B (omega (arith, row-length va, B .fits)) (rw (sym one, room-kept) (B .below)))
 
     module _ {W₂ : Bytes} (e₂ : W₂ ≡ put W₁ room (words (transform q w n l n (numbers n W₁ room)))) where
       two : W₂ ≡ staged TA

@@ -159,7 +159,8 @@ fn pointwise(work: &mut [u8], at: usize, from: usize, n: usize, i: u64, q: u64)
 // h times each number of a slot, divided by 2^56.
 fn scaled(work: &mut [u8], at: usize, h: u64, n: usize, i: u64, q: u64)
     requires { ⌜ Modulus q i × (h < q) × (at + 8 * n ≤ length (now work)) × Below q n (slot (now work) at) ⌝ }
-    ensures { λ _. ⌜ now (work .exit) ≡ put (now (work .entry)) at (encode n (λ k. h * radixInverse q * slot (now (work .entry)) at k % q)) ⌝ }
+    ensures { λ _. ⌜ now (work .exit) ≡ put (now (work .entry)) at (encode n (λ k. h * radixInverse q
+        * slot (now (work .entry)) at k % q)) ⌝ }
 {
     let mut k = 0;
     while k < n {
@@ -210,8 +211,8 @@ fn multiply_slots(
     scaled(work, at, h, n, i, q);
 }
 
-// Multiplies a slot by a lent polynomial modulo X^n + 1, by a root w. The room has the length of a slot and lies behind the slot; it is zero
-// afterwards.
+// Multiplies a slot by a lent polynomial modulo X^n + 1, by a root w. The room has the length of a slot and lies behind the slot; it is
+// zero afterwards.
 pub fn multiply(work: &mut [u8], at: usize, room: usize, a: &[u8], n: usize, w: u64, q: u64)
     requires { ⌜ Transformable q n w × (at + 8 * n ≤ room) × (room + 8 * n ≤ length (now work)) × (8 * n ≤ length (now a)) ⌝ }
     requires { ⌜ Below q n (slot (now work) at) × Below q n (poly (now a)) ⌝ }

@@ -1,8 +1,8 @@
-// Calls over `modular` and `ring` for tests and benchmarks outside the proof: plain numbers and byte slices, nothing asked of the caller.
-// A refusal is 1 for a slice of wrong length, 5 for a number out of range and 37 for a number that is no root, and leaves every byte as it was. A call that writes answers 0
-// where it is taken; one that answers a number has it above the low byte, as 256 * value. Two answer a plain number: `modular_centred`,
-// whose refusal is 2^62, and `ring_count`, which refuses nothing. In C a slice is `uint8_t *, size_t`, and `const` where it is lent to be
-// read.
+// Calls over `modular`, `ring` and the two products for tests and benchmarks outside the proof: plain numbers and byte slices, nothing
+// asked of the caller. A refusal is 1 for a slice of wrong length, 5 for a number out of range and 37 for a number that is no root, and
+// leaves every byte as it was. A call that writes answers 0 where it is taken; one that answers a number has it above the low byte, as
+// 256 * value. Two answer a plain number: `modular_centred`, whose refusal is 2^62, and `ring_count`, which refuses nothing. In C a slice
+// is `uint8_t *, size_t`, and `const` where it is lent to be read.
 ghost use mathlib.Core.Path.{_≡_};
 ghost use Prim.Native.Nat.{_+_, _*_, _%_, _≤_, _<_, _^_};
 ghost use lib.IntN.{pos};
@@ -278,7 +278,8 @@ fn judge_transform(work: &[u8], a: &[u8], b: &[u8], n: usize, root: u64, q: u64)
     0
 }
 
-// uint64_t ring_by_transform(uint8_t *work, size_t, const uint8_t *a, size_t, const uint8_t *b, size_t, size_t n, uint64_t root, uint64_t q);
+// uint64_t ring_by_transform(uint8_t *work, size_t, const uint8_t *a, size_t, const uint8_t *b, size_t, size_t n, uint64_t root,
+// uint64_t q);
 // a * b modulo X^n + 1 by the transform, into the first 8n of the 16n bytes of work, for a power of two n of 4 to 2048 and an odd q.
 #[no_mangle]
 pub extern "C" fn ring_by_transform(
