@@ -1,5 +1,9 @@
-// The product of polynomials modulo X^n + 1 and q, by which the library multiplies, made by the plain method.
-// Every coefficient is a sum of n products of a factor by a stretch of a row, with one reduction at its end.
+// The product of polynomials modulo X^n + 1 and q, by which the library multiplies: by transforms where that is faster and a root of
+// X^n + 1 is found, and else by the plain method, in which every coefficient is a sum of n products of a factor by a stretch of a row,
+// with one reduction at its end.
+pub mod root;
+
+use crate::root::root;
 ghost use mathlib.Core.Path.{_≡_};
 ghost use Prim.Native.Nat.{_+_, _-_, _*_, _%_, _^_, _≤_, _<_};
 ghost use lib.ListN.{length};
@@ -115,9 +119,9 @@ fn products(work: &mut [u8], at: usize, room: usize, n: usize, q: u64)
     }
 }
 
-// Multiplies a slot by a lent polynomial modulo X^n + 1. The room has the length of three slots and lies behind the slot; it is zero
-// afterwards. What the contract says is independent of the method.
-pub fn multiply(work: &mut [u8], at: usize, room: usize, a: &[u8], n: usize, q: u64)
+// Multiplies a slot by a lent polynomial modulo X^n + 1, by the plain method. The room has the length of three slots and lies behind the
+// slot; it is zero afterwards.
+pub fn plain(work: &mut [u8], at: usize, room: usize, a: &[u8], n: usize, q: u64)
     requires { ⌜ (0 < q) × (q < 2 ^ 56) × (n ≤ 2048) × (at + 8 * n ≤ room) × (room + 24 * n ≤ length (now work))
         × (8 * n ≤ length (now a)) ⌝ }
     requires { ⌜ Below q n (slot (now work) at) × Below q n (poly (now a)) ⌝ }
@@ -128,4 +132,22 @@ pub fn multiply(work: &mut [u8], at: usize, room: usize, a: &[u8], n: usize, q: 
     ring::copy_slot(work, room + 16 * n, at, n);
     products(work, at, room, n, q);
     codec::wipe(&mut work[room..room + 24 * n]);
+}
+
+// Multiplies a slot by a lent polynomial modulo X^n + 1. The room has the length of three slots and lies behind the slot; it is zero
+// afterwards. What the contract says is independent of the method.
+pub fn multiply(work: &mut [u8], at: usize, room: usize, a: &[u8], n: usize, q: u64)
+    requires { ⌜ (0 < q) × (q < 2 ^ 56) × (n ≤ 2048) × (at + 8 * n ≤ room) × (room + 24 * n ≤ length (now work))
+        × (8 * n ≤ length (now a)) ⌝ }
+    requires { ⌜ Below q n (slot (now work) at) × Below q n (poly (now a)) ⌝ }
+    ensures { λ _. ⌜ now (work .exit) ≡ put (store q n (now (work .entry)) at (mul q n (slot (now (work .entry)) at)
+        (poly (now (a .entry))))) room (zeros (24 * n)) ⌝ }
+{
+    let w = root(n, q);
+    if w == 0 {
+        plain(work, at, room, a, n, q);
+        return;
+    }
+    ring_transform::multiply(work, at, room, a, n, w, q);
+    codec::wipe(&mut work[room + 8 * n..room + 24 * n]);
 }

@@ -35,7 +35,7 @@ pub fn product(k: Numbers, x: &[u8], y: &[u8], product: &mut [u8], scratch: &mut
         return codec::refused(5);
     }
     codec::copy(scratch, 0, x);
-    ring_product::multiply(scratch, 0, 8 * n, y, n, k.modulus);
+    ring_product::plain(scratch, 0, 8 * n, y, n, k.modulus);
     hand_out(product, 0, scratch, n);
     Reply::Taken
 }

@@ -15,10 +15,11 @@ use Rattle.codec.proofs.Laws.{put-put}
 use Rattle.codec.proofs.Replies.{taken-exactly}
 use Rattle.codec.specs.Lists.{list, allBelow}
 use Rattle.modular.proofs.Congruence.{same-eq}
-use Rattle.ring.specs.Poly.{Poly, modulo, Alike, Below}
+use Rattle.ring.specs.Poly.{Poly, mul, modulo, Alike, Below}
 use Rattle.ring.specs.Slots.{poly, slot, encode}
 use Rattle.ring.specs.Internal.{store}
 use Rattle.ring.proofs.Bridge.{length-encode, slot-put, encode-alike}
+use Rattle.ring.proofs.Polynomials.{alike-refl, alike-mul}
 use Rattle.ring.proofs.Ranges.{below-sound}
 use Rattle.test_ring.specs.Calls.{polynomialsReply}
 
@@ -37,7 +38,7 @@ module _ (n : ℕ) where
       ∙ drop-at (zeros (8 * n)) (zeros (24 * n)) (8 * n) (length-replicate (8 * n) 0))
 
   -- the room wiped again
-  pub room-wiped : (z : Bytes) → length z ≡ 8 * n → put (z ++ zeros (24 * n)) (8 * n) (zeros (24 * n)) ≡ z ++ zeros (24 * n)
+  room-wiped : (z : Bytes) → length z ≡ 8 * n → put (z ++ zeros (24 * n)) (8 * n) (zeros (24 * n)) ≡ z ++ zeros (24 * n)
   unfolding put
   room-wiped z l =
       let k : 8 * n + length (zeros (24 * n)) ≡ length (z ++ zeros (24 * n)) = simp length-append (omega arith) in
@@ -62,6 +63,12 @@ module _ (n : ℕ) where
         let z = encode n (modulo q f) in
         let k : length z ≡ 8 * n = length-encode n (modulo q f) in
         ap (λ (d : Bytes). put d 0 z) e ∙ put-put (zeros (32 * n)) 0 a z (omega (arith, long)) (k ∙ sym l) ∙ over z k ∙ ap (λ (x : Bytes). x ++ zeros (24 * n)) (encode-alike h)
+
+    -- a product over it, and the room wiped
+    pub product-outcome : (b : Bytes) → put (store q n w 0 (mul q n (slot w 0) (poly b))) (8 * n) (zeros (24 * n)) ≡ encode n (modulo q (mul q n (poly a) (poly b))) ++ zeros (24 * n)
+    product-outcome b =
+        let f = modulo q (mul q n (poly a) (poly b)) in
+        ap (λ (d : Bytes). put d (8 * n) (zeros (24 * n))) (outcome _ _ (alike-mul alike-loaded alike-refl)) ∙ room-wiped (encode n f) (length-encode n f)
 
 -- ---- a reply as a number
 

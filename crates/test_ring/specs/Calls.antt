@@ -51,7 +51,7 @@ divideReply x p q =
     ∷ test 5 0 (not (eqb ((1 + q * multiplier q p p) % p) 0))
     ∷ [])
 
--- 0 a + b, 1 a - b, and else a * b
+-- 0 a + b, 1 a - b, and else a * b, whose method is no matter of what it is
 unfoldable pub onPolynomials : (operation n q : ℕ) → Poly → Poly → Poly
 onPolynomials operation n q a b = cond (eqb operation 0) (plus a b) (cond (eqb operation 1) (minus q a b) (mul q n a b))
 
@@ -59,7 +59,7 @@ onPolynomials operation n q a b = cond (eqb operation 0) (plus a b) (cond (eqb o
 unfoldable pub polynomialsReply : (operation n q : ℕ) → Bytes → Bytes → Bytes → Reply
 polynomialsReply operation n q w a b =
     first
-    (test 5 0 (ltb 2 operation)
+    (test 5 0 (ltb 3 operation)
     ∷ test 5 0 (ltb 2048 n)
     ∷ test 5 0 (eqb q 0)
     ∷ test 5 0 (leb (2 ^ 56) q)

@@ -157,7 +157,7 @@ pub extern "C" fn ring_ternary(work: &mut [u8], t: &[u8], q: u64) -> u64
 fn judge(operation: u64, work: &[u8], a: &[u8], b: &[u8], n: usize, q: u64) -> u64
     ensures { λ r. ⌜ r ≡ packed (polynomialsReply operation n q (given work) (given a) (given b)) ⌝ }
 {
-    if 2 < operation {
+    if 3 < operation {
         return 5;
     }
     if 2048 < n {
@@ -204,12 +204,16 @@ fn compute(operation: u64, work: &mut [u8], a: &[u8], b: &[u8], n: usize, q: u64
         ring::subtract(work, 0, b, n, q);
         return;
     }
-    ring_product::multiply(work, 0, 8 * n, b, n, q);
+    if operation == 2 {
+        ring_product::multiply(work, 0, 8 * n, b, n, q);
+        return;
+    }
+    ring_product::plain(work, 0, 8 * n, b, n, q);
 }
 
 // uint64_t ring_polynomials(uint64_t operation, uint8_t *work, size_t, const uint8_t *a, size_t, const uint8_t *b, size_t, size_t n,
 // uint64_t q);
-// 0 a + b, 1 a - b, 2 a * b modulo X^n + 1, into the first 8n of the 32n bytes of work.
+// 0 a + b, 1 a - b, 2 a * b modulo X^n + 1, 3 the same by the plain method, into the first 8n of the 32n bytes of work.
 #[no_mangle]
 pub extern "C" fn ring_polynomials(
     operation: u64,

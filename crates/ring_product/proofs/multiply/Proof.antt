@@ -1,38 +1,29 @@
--- `multiply` meets its contract. Assumes nothing.
+-- `ring_product::multiply` meets its contract. Assumes nothing.
 use mathlib.Core.Path.{_≡_, ap, _∙_}
-use Prim.Native.Nat.{_+_, _-_, _*_}
 use native.Mathlib.Omega.{arith}
 use borrow.Author.Needs.{needs}
-use lib.ListN.{length, length-replicate}
-use Rattle.codec.proofs.Laws.{length-part, put-between}
-use Rattle.codec.specs.Bytes.{zeros, put, part}
-use Rattle.ring_product.proofs.Steps.{copied, below-room, multiplied}
-use Rattle.ring.specs.Slots.{poly}
+use Rattle.ring.specs.Poly.{mul}
+use Rattle.ring.specs.Slots.{poly, slot}
+use Rattle.ring.specs.Internal.{store}
+use Rattle.ring.proofs.Bridge.{length-store}
+use Rattle.ring_product.proofs.Wiped.{wiped}
 use Rattle.ring_product.proofs.multiply.Statement.{statement}
 use Rattle.ring_product.proofs.multiply.Tie as tie
 
-copy-slot-requires : tie.Need-copy-slot-requires
-copy-slot-requires c κs =
-    let a = c .before .before .before .before .before .before .before .args in
-    let p = c .before .before .before .before .before .before .before .pre in
-    rw (c .before .before .before .mirror .ensures) (copied (a .q) (a .n) (a .work .now) (a .at) (a .room) (poly (a .a .now)) (omega arith) (omega arith) (omega arith) (omega arith) (p .1 .0))
+multiply-requires : tie.Need-multiply-requires
+multiply-requires c κs =
+    let p = c .before .before .before .before .before .pre in
+    ((c .before .before .root .ensures (omega arith), omega arith, omega arith, omega arith), p .1)
 
-products-requires : tie.Need-products-requires
-products-requires c κs =
-    let a = c .before .before .before .before .before .before .before .before .before .before .before .args in
-    let p = c .before .before .before .before .before .before .before .before .before .before .before .pre in
-    (omega arith, omega arith, omega arith, omega arith, omega arith, below-room (a .q) (a .n) (a .work .now) (a .at) (a .room) (poly (a .a .now)) (omega arith) (omega arith) (omega arith) (omega arith) (p .1 .0) _ _ (c .before .before .before .before .before .before .before .mirror .ensures) (c .before .before .before .copy-slot .ensures))
-
-returns : tie.Need-returns
-returns c =
-    let a = c .before .before .before .before .before .before .before .before .before .before .before .before .before .before .before .before .before .before .args in
-    let p = c .before .before .before .before .before .before .before .before .before .before .before .before .before .before .before .before .before .before .pre in
-    let w = c .before .before .before .before .before .before .products .last .0 in
-    let t = c .before .before .wipe .last .0 in
-    let l : length (part w (a .room) (a .room + 24 * a .n - a .room)) ≡ 24 * a .n = length-part w (a .room) (a .room + 24 * a .n - a .room) (omega arith) ∙ omega arith in
-    let e : t ≡ zeros (24 * a .n) = c .before .before .wipe .ensures ∙ ap zeros l in
-    put-between w t (a .room) (a .room + 24 * a .n) (omega arith) (ap length e ∙ length-replicate (24 * a .n) 0 ∙ omega arith) ∙ ap (put w (a .room)) e
-    ∙ multiplied (a .q) (a .n) (a .work .now) (a .at) (a .room) (poly (a .a .now)) (omega arith) (omega arith) (omega arith) (omega arith) (p .1 .0) _ _ (c .before .before .before .before .before .before .before .before .before .before .before .before .before .before .mirror .ensures) (c .before .before .before .before .before .before .before .before .before .before .copy-slot .ensures) w (c .before .before .before .before .before .before .products .ensures)
+returns-2 : tie.Need-returns-2
+returns-2 c =
+    let a = c .before .before .before .before .before .before .before .before .before .before .before .before .args in
+    let d = store (a .q) (a .n) (a .work .now) (a .at) (mul (a .q) (a .n) (slot (a .work .now) (a .at)) (poly (a .a .now))) in
+    wiped (a .n) (a .room) d (c .before .before .before .before .before .before .multiply .last .0) (omega (arith, length-store (a .q) (a .n) (a .work .now) (a .at) (mul (a .q) (a .n) (slot (a .work .now) (a .at)) (poly (a .a .now))) (omega arith)))
+    (c .before .before .before .before .before .before .multiply .ensures) (c .before .before .wipe .last .0) (c .before .before .wipe .ensures)
 
 pub multiply-spec : {M : Type 1} → statement M
-multiply-spec = tie.close (tie.spec (λ c κs. search needs) (λ c. search needs) (λ c. search needs) copy-slot-requires products-requires (λ c. search needs) (λ c. search needs) (λ c. search needs) (λ c. search needs) (λ c. search needs) (λ c κs. search needs) (λ c. search needs) returns)
+multiply-spec =
+    tie.close
+    (tie.spec (λ c κs. search needs) (λ c κs. search needs) (λ c. search needs) (λ c. search needs) multiply-requires (λ c. search needs) (λ c. search needs) (λ c. search needs) (λ c. search needs) (λ c. search needs) (λ c. search needs) (λ c. search needs)
+    (λ c κs. search needs) (λ c. search needs) returns-2)

@@ -24,8 +24,8 @@ copy-requires c κs =
     let f = factors (a .k) (c .before .before .before .before .before .before .before .before .before .pre) (a .x .now) (a .y .now) (a .product .now) (a .scratch .now) (c .before .before .before .before .sized .ensures) (c .before .before .before .if1 .left) (c .before .before .both-in-range .ensures) (c .before .if2 .left) in
     omega (arith, f .one .sized, f .one .ring-high, f .scratch)
 
-multiply-requires : tie.Need-multiply-requires
-multiply-requires c κs =
+plain-requires : tie.Need-plain-requires
+plain-requires c κs =
     let a = c .before .before .before .before .before .before .before .before .before .before .before .before .before .args in
     let f = factors (a .k) (c .before .before .before .before .before .before .before .before .before .before .before .before .before .pre) (a .x .now) (a .y .now) (a .product .now) (a .scratch .now) (c .before .before .before .before .before .before .before .before .sized .ensures) (c .before .before .before .before .before .before .before .if1 .left) (c .before .before .before .before .before .before .both-in-range .ensures) (c .before .before .before .before .before .if2 .left) in
     let l = factor-length (f .one) (a .scratch .now) (f .scratch) (c .before .before .before .copy .ensures) in
@@ -35,14 +35,14 @@ hand-out-requires : tie.Need-hand-out-requires
 hand-out-requires c κs =
     let a = c .before .before .before .before .before .before .before .before .before .before .before .before .before .before .before .before .before .before .args in
     let f = factors (a .k) (c .before .before .before .before .before .before .before .before .before .before .before .before .before .before .before .before .before .before .pre) (a .x .now) (a .y .now) (a .product .now) (a .scratch .now) (c .before .before .before .before .before .before .before .before .before .before .before .before .before .sized .ensures) (c .before .before .before .before .before .before .before .before .before .before .before .before .if1 .left) (c .before .before .before .before .before .before .before .before .before .before .before .both-in-range .ensures) (c .before .before .before .before .before .before .before .before .before .before .if2 .left) in
-    let s = product-stands (f .one) (a .scratch .now) (f .scratch) (c .before .before .before .before .before .before .before .before .copy .ensures) _ (24 * a .k .ring) (omega arith) (c .before .before .before .before .multiply .ensures) in
+    let s = product-stands (f .one) (a .scratch .now) (f .scratch) (c .before .before .before .before .before .before .before .before .copy .ensures) _ (24 * a .k .ring) (omega arith) (c .before .before .before .before .plain .ensures) in
     (omega (arith, f .room), omega (arith, s .sized, f .scratch, f .one .ring-high))
 
 returns-3 : tie.Need-returns-3
 returns-3 c =
     let a = c .before .before .before .before .before .before .before .before .before .before .before .before .before .before .before .before .before .before .before .before .before .before .before .args in
     let f = factors (a .k) (c .before .before .before .before .before .before .before .before .before .before .before .before .before .before .before .before .before .before .before .before .before .before .before .pre) (a .x .now) (a .y .now) (a .product .now) (a .scratch .now) (c .before .before .before .before .before .before .before .before .before .before .before .before .before .before .before .before .before .before .sized .ensures) (c .before .before .before .before .before .before .before .before .before .before .before .before .before .before .before .before .before .if1 .left) (c .before .before .before .before .before .before .before .before .before .before .before .before .before .before .before .before .both-in-range .ensures) (c .before .before .before .before .before .before .before .before .before .before .before .before .before .before .before .if2 .left) in
-    product-written (a .k) (a .x .now) (a .y .now) (a .product .now) (a .scratch .now) f (24 * a .k .ring) (omega arith) (c .before .before .before .before .before .before .before .before .before .before .before .before .before .copy .ensures) (c .before .before .before .before .before .before .before .before .before .multiply .ensures) (c .before .before .before .before .hand-out .ensures) (follows 1 (c .before .before .before .before .before .before .before .before .before .before .before .before .before .before .before .before .before .before .sized .ensures) _ (c .before .before .before .before .before .before .before .before .before .before .before .before .before .before .before .before .before .if1 .left) (follows 5 (c .before .before .before .before .before .before .before .before .before .before .before .before .before .before .before .before .both-in-range .ensures) _ (c .before .before .before .before .before .before .before .before .before .before .before .before .before .before .before .if2 .left) done))
+    product-written (a .k) (a .x .now) (a .y .now) (a .product .now) (a .scratch .now) f (24 * a .k .ring) (omega arith) (c .before .before .before .before .before .before .before .before .before .before .before .before .before .copy .ensures) (c .before .before .before .before .before .before .before .before .before .plain .ensures) (c .before .before .before .before .hand-out .ensures) (follows 1 (c .before .before .before .before .before .before .before .before .before .before .before .before .before .before .before .before .before .before .sized .ensures) _ (c .before .before .before .before .before .before .before .before .before .before .before .before .before .before .before .before .before .if1 .left) (follows 5 (c .before .before .before .before .before .before .before .before .before .before .before .before .before .before .before .before .both-in-range .ensures) _ (c .before .before .before .before .before .before .before .before .before .before .before .before .before .before .before .if2 .left) done))
 
 pub product-spec : {M : Type 1} → statement M
-product-spec = tie.close (tie.spec (λ c κs. search needs) (λ c κs. search needs) returns both-in-range-requires (λ c κs. search needs) returns-2 copy-requires (λ c. search needs) multiply-requires hand-out-requires (λ c. search needs) (λ c. search needs) returns-3)
+product-spec = tie.close (tie.spec (λ c κs. search needs) (λ c κs. search needs) returns both-in-range-requires (λ c κs. search needs) returns-2 copy-requires (λ c. search needs) plain-requires hand-out-requires (λ c. search needs) (λ c. search needs) returns-3)

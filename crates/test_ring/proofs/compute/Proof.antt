@@ -6,10 +6,10 @@ use borrow.Author.Needs.{needs}
 use borrow.Author.Tests.{eq-eqb, ne-eqb}
 use Rattle.codec.specs.Bytes.{Bytes, put, zeros}
 use Rattle.ring.proofs.Bridge.{length-encode}
-use Rattle.ring.proofs.Polynomials.{alike-refl, alike-plus, alike-minus, alike-mul}
+use Rattle.ring.proofs.Polynomials.{alike-refl, alike-plus, alike-minus}
 use Rattle.ring.specs.Poly.{mul, modulo}
 use Rattle.ring.specs.Slots.{poly, encode}
-use Rattle.test_ring.proofs.Outcome.{room-wiped, alike-loaded, below-loaded, outcome}
+use Rattle.test_ring.proofs.Outcome.{alike-loaded, below-loaded, outcome, product-outcome}
 use Rattle.test_ring.specs.Calls.{onPolynomials}
 use Rattle.test_ring.proofs.compute.Statement.{statement}
 use Rattle.test_ring.proofs.compute.Tie as tie
@@ -49,19 +49,36 @@ returns-2 c =
 
 multiply-requires : tie.Need-multiply-requires
 multiply-requires c κs =
-    let a = c .before .before .before .before .before .before .before .before .before .before .before .before .before .before .args in
-    let p = c .before .before .before .before .before .before .before .before .before .before .before .before .before .before .pre in
-    let r = c .before .before .before .before .before in
+    let a = c .before .before .before .before .before .before .before .before .before .before .before .before .before .before .before .args in
+    let p = c .before .before .before .before .before .before .before .before .before .before .before .before .before .before .before .pre in
+    let r = c .before .before .before .before .before .before in
     (omega arith, (below-loaded (a .n) (a .q) (r .copy .last .0) (a .a .now) (loaded-is r) (p .0 .4) (p .1 .0), p .1 .1))
 
 returns-3 : tie.Need-returns-3
 unfolding onPolynomials
 returns-3 c =
-    let a = c .before .before .before .before .before .before .before .before .before .before .before .before .before .before .before .before .before .args in
-    let p = c .before .before .before .before .before .before .before .before .before .before .before .before .before .before .before .before .before .pre in
-    let r = c .before .before .before .before .before .before .before .before in
-    let f = mul (a .q) (a .n) (poly (a .a .now)) (poly (a .b .now)) in
-    rw (ne-eqb (a .operation) 0 (c .before .before .before .before .before .if1 .left), ne-eqb (a .operation) 1 (c .before .before .before .before .if2 .left)) (c .before .before .multiply .ensures ∙ ap (λ (d : Bytes). put d (8 * a .n) (zeros (24 * a .n))) (outcome (a .n) (a .q) (r .copy .last .0) (a .a .now) (loaded-is r) (p .0 .4) _ _ (alike-mul (alike-loaded (a .n) (a .q) (r .copy .last .0) (a .a .now) (loaded-is r) (p .0 .4)) alike-refl)) ∙ room-wiped (a .n) (encode (a .n) (modulo (a .q) f)) (length-encode (a .n) (modulo (a .q) f)))
+    let a = c .before .before .before .before .before .before .before .before .before .before .before .before .before .before .before .before .before .before .args in
+    let p = c .before .before .before .before .before .before .before .before .before .before .before .before .before .before .before .before .before .before .pre in
+    let r = c .before .before .before .before .before .before .before .before .before in
+    rw (ne-eqb (a .operation) 0 (c .before .before .before .before .before .before .if1 .left), ne-eqb (a .operation) 1 (c .before .before .before .before .before .if2 .left)) (c .before .before .multiply .ensures ∙ product-outcome (a .n) (a .q) (r .copy .last .0) (a .a .now) (loaded-is r) (p .0 .4) (a .b .now))
+
+plain-requires : tie.Need-plain-requires
+plain-requires c κs =
+    let a = c .before .before .before .before .before .before .before .before .before .before .before .before .before .before .before .args in
+    let p = c .before .before .before .before .before .before .before .before .before .before .before .before .before .before .before .pre in
+    let r = c .before .before .before .before .before .before in
+    (omega arith, (below-loaded (a .n) (a .q) (r .copy .last .0) (a .a .now) (loaded-is r) (p .0 .4) (p .1 .0), p .1 .1))
+
+returns-4 : tie.Need-returns-4
+unfolding onPolynomials
+returns-4 c =
+    let a = c .before .before .before .before .before .before .before .before .before .before .before .before .before .before .before .before .before .before .args in
+    let p = c .before .before .before .before .before .before .before .before .before .before .before .before .before .before .before .before .before .before .pre in
+    let r = c .before .before .before .before .before .before .before .before .before in
+    rw (ne-eqb (a .operation) 0 (c .before .before .before .before .before .before .if1 .left), ne-eqb (a .operation) 1 (c .before .before .before .before .before .if2 .left)) (c .before .before .plain .ensures ∙ product-outcome (a .n) (a .q) (r .copy .last .0) (a .a .now) (loaded-is r) (p .0 .4) (a .b .now))
 
 pub compute-spec : {M : Type 1} → statement M
-compute-spec = tie.close (tie.spec (λ c κs. search needs) (λ c κs. search needs) add-requires (λ c. search needs) returns subtract-requires (λ c. search needs) returns-2 (λ c. search needs) multiply-requires (λ c. search needs) returns-3)
+compute-spec =
+    tie.close
+    (tie.spec (λ c κs. search needs) (λ c κs. search needs) add-requires (λ c. search needs) returns subtract-requires (λ c. search needs) returns-2 (λ c. search needs) multiply-requires (λ c. search needs) returns-3
+    (λ c. search needs) plain-requires (λ c. search needs) returns-4)
