@@ -195,6 +195,20 @@ pub fn subtract_slot(work: &mut [u8], at: usize, from: usize, n: usize, q: u64)
     combine_slot(work, at, from, true, n, q);
 }
 
+// p x. Two kinds of p need no long product: one that leaves p x below 2^64, and -1.
+fn scaled(p: u64, x: u64, q: u64) -> u64
+    requires { ⌜ (p < q) × (x < q) × (q < 2 ^ 56) ⌝ }
+    ensures { λ r. ⌜ r ≡ p * x % q ⌝ }
+{
+    if p < 256 {
+        return p * x % q;
+    }
+    if p == q - 1 {
+        return modular::negate(x, q);
+    }
+    modular::multiply(p, x, q)
+}
+
 // Multiplies a slot by a number.
 pub fn scale_slot(work: &mut [u8], at: usize, p: u64, n: usize, q: u64)
     requires { ⌜ (p < q) × (q < 2 ^ 56) × (at + 8 * n ≤ length (now work)) × Below q n (slot (now work) at) ⌝ }
@@ -203,7 +217,7 @@ pub fn scale_slot(work: &mut [u8], at: usize, p: u64, n: usize, q: u64)
     let mut i = 0;
     while i < n {
         let x = codec::read64(work, at + 8 * i);
-        let v = modular::multiply(p, x, q);
+        let v = scaled(p, x, q);
         codec::write64(work, at + 8 * i, v);
         i += 1;
     }

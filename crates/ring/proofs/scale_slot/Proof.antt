@@ -21,8 +21,8 @@ x-is c =
     let l = c .before .before .before .loop in
     c .read64 .ensures ∙ read-later (a .work .now) (a .at) _ (l .i) (l .work) (l .inv .is) (omega arith) (a .at) (l .i) (omega arith)
 
-multiply-requires : tie.Need-multiply-requires Inv-loop μ-loop
-multiply-requires c κs =
+scaled-requires : tie.Need-scaled-requires Inv-loop μ-loop
+scaled-requires c κs =
     let p = c .before .before .before .before .before .pre in
     (omega arith, rw (x-is c) (p .3 .at (c .before .before .before .loop .i) (omega arith)), omega arith)
 
@@ -30,7 +30,7 @@ loop-again : tie.Need-loop-again Inv-loop μ-loop
 unfolding modulo scale
 loop-again c =
     let a = c .before .before .before .before .before .before .before .before .before .before .args in
-    filling-more (c .before .before .before .before .before .before .before .before .loop .inv) (omega arith) (omega arith) (c .before .before .before .before .multiply .ensures ∙ ap (λ (x : ℕ). a .p * x % a .q) (x-is (c .before .before .before .before .before))) (c .before .before .write64 .kept .0) (c .before .before .write64 .ensures)
+    filling-more (c .before .before .before .before .before .before .before .before .loop .inv) (omega arith) (omega arith) (c .before .before .before .before .scaled .ensures ∙ ap (λ (x : ℕ). a .p * x % a .q) (x-is (c .before .before .before .before .before))) (c .before .before .write64 .kept .0) (c .before .before .write64 .ensures)
 
 pub scale-slot-spec : {M : Type 1} → statement M
-scale-slot-spec = tie.close (tie.spec Inv-loop μ-loop (λ c. filling-none) (λ c. search needs) (λ c. search needs) (λ c κs. search needs) multiply-requires (λ c. search needs) (λ c. search needs) (λ c κs. search needs) (λ c. search needs) (λ c. search needs) loop-again (λ c. c .before .loop .inv .sized) (λ c. filling-stored _ _ (c .before .loop .inv) (omega arith)))
+scale-slot-spec = tie.close (tie.spec Inv-loop μ-loop (λ c. filling-none) (λ c. search needs) (λ c. search needs) (λ c κs. search needs) scaled-requires (λ c. search needs) (λ c. search needs) (λ c κs. search needs) (λ c. search needs) (λ c. search needs) loop-again (λ c. c .before .loop .inv .sized) (λ c. filling-stored _ _ (c .before .loop .inv) (omega arith)))
