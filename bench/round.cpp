@@ -1,5 +1,5 @@
 /* A round at 2048 coefficients with q near 2^55: the producer's two calls and the check, ours and the same work over NTL and OpenSSL, interleaved in one run, by the best
- * pass of each, beside what document 000 measured (table 1). A ballot's time is the difference that sixteen ballots make, a repetition's that of three more repetitions. */
+ * pass of each, beside what document 000 measured (table 1). Each row has limits that its two ratios must reach. A ballot's time is the difference that sixteen ballots make, a repetition's that of three more repetitions. */
 #include <cstdio>
 #include <string>
 
@@ -20,9 +20,9 @@ extern "C" uint64_t test_check_round(JDN_IN(sheet), uint64_t side, JDN_IN(challe
                                         JDN_IN(shares1), JDN_IN(opening), JDN_IN(answers), JDN_OUT(scratch));
 
 static const size_t rounds = 2, least_repeats = 3, drown = 40, passes = 5;
-static const double document_ballot = 4, document_repetition = 30;
+static const double document_ballot = 4, document_repetition = 30, repetition_limit = 1.5, limit = 2, folded_limit = 0.9;
 static Bytes scratch(1048576);
-static bool wrong = false;
+static bool wrong = false, slow = false;
 
 /* ---- material */
 
@@ -170,9 +170,12 @@ static bool same(const Round &x, const Round &y) {
 
 enum { ours, with_rem, with_fold, kinds };
 
-static void row(const char *what, const double *ms, const char *document) {
+static void row(const char *what, const double *ms, double least_ratio, const char *document) {
     printf("%s: ours %.2f ms, NTL and OpenSSL %.2f ms, ratio %.2f, folded by hand %.2f ms, ratio %.2f%s\n", what, ms[ours], ms[with_rem], ms[with_rem] / ms[ours],
            ms[with_fold], ms[with_fold] / ms[ours], document);
+    if (ms[with_rem] / ms[ours] >= least_ratio && ms[with_fold] / ms[ours] >= folded_limit) return;
+    printf("a ratio of %s is below its limit, %.1f or %.1f\n", what, least_ratio, folded_limit);
+    slow = true;
 }
 
 /* The rows of producer or checker, from the times without ballots, with sixteen, and with three more repetitions. */
@@ -186,9 +189,9 @@ static void rows(const std::string &who, const double (*best)[kinds], size_t bal
     char ballot_document[64], repetition_document[64];
     snprintf(ballot_document, sizeof ballot_document, "; document 000 %.0f ms, ratio %.2f", document_ballot, document_ballot / ballot[ours]);
     snprintf(repetition_document, sizeof repetition_document, "; document 000 %.0f ms, ratio %.2f", document_repetition, document_repetition / repetition[ours]);
-    row((who + ", round and ballot").c_str(), ballot, ballot_document);
-    row((who + ", round and repetition").c_str(), repetition, repetition_document);
-    row((who + ", rest of a round").c_str(), rest, "");
+    row((who + ", round and ballot").c_str(), ballot, limit, ballot_document);
+    row((who + ", round and repetition").c_str(), repetition, repetition_limit, repetition_document);
+    row((who + ", rest of a round").c_str(), rest, limit, "");
 }
 
 int main() {
@@ -210,5 +213,5 @@ int main() {
     rows("producer", produce, ballots);
     rows("checker", check, ballots);
     if (wrong) puts("a call was refused, or the rounds differ");
-    return wrong;
+    return wrong || slow;
 }

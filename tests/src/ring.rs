@@ -26,6 +26,8 @@ extern "C" {
 const ADD: u64 = 0;
 const SUBTRACT: u64 = 1;
 const MULTIPLY: u64 = 2;
+/// The product by the plain method, where `MULTIPLY` leaves the method to the library.
+const PLAIN: u64 = 3;
 
 /// The moduli of the comparisons: document 01's small ring, its example I, one near 2^55 and the largest below 2^56 with 4096 dividing q - 1.
 const MODULI: [u64; 4] = [97, 81, 36_028_797_018_820_609, (1 << 56) - 4095];
@@ -60,7 +62,7 @@ pub fn inverse(p: u64, q: u64) -> Option<u64> {
 }
 
 fn on_polynomials(operation: u64, a: &[u64], b: &[u64], q: u64) -> Vec<u64> {
-    if operation != MULTIPLY {
+    if operation < MULTIPLY {
         return a.iter().zip(b).map(|(x, y)| on_numbers(operation, *x, *y, q)).collect();
     }
     let n = a.len();
@@ -201,7 +203,7 @@ fn polynomials(tally: &mut Tally, random: &mut Random) {
     let mut c = Comparison::default();
     for q in MODULI {
         for n in [1, 2, 4, 8, 16, 32, 64, 100, 127, 128, 129, 256, 512] {
-            for operation in [ADD, SUBTRACT, MULTIPLY] {
+            for operation in [ADD, SUBTRACT, MULTIPLY, PLAIN] {
                 let (a, b) = (polynomial(random, n, q), polynomial(random, n, q));
                 compare(&mut c, random, operation, &a, &b, q);
                 compare(&mut c, random, operation, &vec![q - 1; n], &vec![q - 1; n], q);
@@ -235,6 +237,23 @@ fn polynomials(tally: &mut Tally, random: &mut Random) {
     c.claim(tally, "ring: 2048 coefficients");
 }
 
+/// Products with and without a root of X^n + 1 that the library could find: 12289 is prime with 4096 dividing q - 1, and 7681 with 512 alone;
+/// 12289 · 40961 is no prime and has roots; 4097 = 17 · 241 has none, though 4096
+/// divides q - 1; 1, 2 and 12288 are no moduli of a transform.
+fn methods(tally: &mut Tally, random: &mut Random) {
+    let mut c = Comparison::default();
+    for q in [12289, 7681, 12289 * 40961, 4097, 1, 2, 12288] {
+        for n in [255, 256, 512, 1024, 2048] {
+            let (a, b) = (polynomial(random, n, q), polynomial(random, n, q));
+            for operation in [MULTIPLY, PLAIN] {
+                compare(&mut c, random, operation, &a, &b, q);
+            }
+            compare(&mut c, random, MULTIPLY, &vec![q - 1; n], &term(n, n - 1, q - 1), q);
+        }
+    }
+    c.claim(tally, "ring: products where a root is found and where there is none");
+}
+
 fn refusals(tally: &mut Tally, random: &mut Random) {
     let (n, q) = (8, 97);
     let (a, b) = (bytes(&polynomial(random, n, q)), bytes(&polynomial(random, n, q)));
@@ -243,7 +262,7 @@ fn refusals(tally: &mut Tally, random: &mut Random) {
         let kept = random.bytes(work);
         c.same(|| what.to_string(), ours(operation, &kept, a, b, n, q), (number, kept));
     };
-    for operation in 0..3 {
+    for operation in 0..4 {
         refused("scratch one byte short", operation, 255, &a, &b, n, q, 1);
         refused("scratch one byte long", operation, 257, &a, &b, n, q, 1);
         refused("empty scratch", operation, 0, &a, &b, n, q, 1);
@@ -262,7 +281,7 @@ fn refusals(tally: &mut Tally, random: &mut Random) {
             }
         }
     }
-    refused("unknown operation", 3, 256, &a, &b, n, q, 5);
+    refused("unknown operation", 4, 256, &a, &b, n, q, 5);
     c.claim(tally, "ring: every refusal, and nothing written");
 }
 
@@ -273,6 +292,7 @@ pub fn run(tally: &mut Tally) {
     reduced(tally, &mut random);
     ternary(tally, &mut random);
     polynomials(tally, &mut random);
+    methods(tally, &mut random);
     refusals(tally, &mut random);
     transforms::run(tally, &mut random);
 }
