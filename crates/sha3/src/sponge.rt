@@ -3,6 +3,7 @@ ghost use mathlib.Core.Path.{_≡_};
 ghost use Prim.Native.Nat.{_+_, _%_, _≤_, _<_};
 ghost use lib.ListN.{length};
 ghost use Rattle.codec.specs.Bytes.{part};
+ghost use Rattle.keccak.specs.Keccak.{keccak};
 ghost use Rattle.sha3.specs.Absorb.{xorLane, xorByte, absorb, zeroState};
 ghost use Rattle.sha3.specs.Internal.{xorBlock, absorbRow};
 
@@ -31,30 +32,6 @@ pub fn xor_byte(s: [[u64; 5]; 5], at: usize, b: u8) -> [[u64; 5]; 5]
     let mut t = s;
     let l = xor_lane(t[y][x], at % 8, b);
     t[y][x] = l;
-    t
-}
-
-// Bytes of a message, one by one.
-fn absorb_bytes(s: [[u64; 5]; 5], at: usize, m: &[u8]) -> [[u64; 5]; 5]
-    requires { ⌜ at < 136 ⌝ }
-    ensures { λ r. ⌜ r ≡ absorb s at (now (m .entry)) ⌝ }
-{
-    let mut t = s;
-    let mut p = at;
-    let mut i = 0;
-    while i < m.len() {
-        let y = p / 40;
-        let x = p / 8 % 5;
-        let l = xor_lane(t[y][x], p % 8, m[i]);
-        t[y][x] = l;
-        p += 1;
-        i += 1;
-        if p == 136 {
-            let u = keccak::permute(t);
-            t = u;
-            p = 0;
-        }
-    }
     t
 }
 
@@ -107,19 +84,46 @@ fn absorb_blocks(s: [[u64; 5]; 5], m: &[u8]) -> [[u64; 5]; 5]
     t
 }
 
+// A state after the permutation, by a block of zeros: `absorb_blocks` is the only caller of `keccak::permute`, so that the compiler puts the
+// permutation in place there, and the state stays in registers from block to block.
+pub fn permuted(s: [[u64; 5]; 5]) -> [[u64; 5]; 5]
+    ensures { λ r. ⌜ r ≡ keccak s ⌝ }
+{
+    let block = [0u8; 136];
+    absorb_blocks(s, &block)
+}
+
+// Bytes of a message that end with their block or before, the first at place `at`: the block with zeros around them.
+fn absorb_part(s: [[u64; 5]; 5], at: usize, m: &[u8]) -> [[u64; 5]; 5]
+    requires { ⌜ at < 136 ⌝ }
+    requires { ⌜ at + length (now m) ≤ 136 ⌝ }
+    ensures { λ r. ⌜ r ≡ absorb s at (now (m .entry)) ⌝ }
+{
+    if m.len() == 0 {
+        return s;
+    }
+    let mut block = [0u8; 136];
+    codec::copy(&mut block, at, m);
+    if at + m.len() < 136 {
+        xor_block(s, &block, 0)
+    } else {
+        absorb_blocks(s, &block)
+    }
+}
+
 // Bytes of a message, the first at place `at` of its block: to the block's end, whole blocks, and what is left.
 pub fn absorb(s: [[u64; 5]; 5], at: usize, m: &[u8]) -> [[u64; 5]; 5]
     requires { ⌜ at < 136 ⌝ }
     ensures { λ r. ⌜ r ≡ absorb s at (now (m .entry)) ⌝ }
 {
-    let head = (136 - at) % 136;
-    if m.len() < head {
-        return absorb_bytes(s, at, m);
+    if m.len() < 136 - at {
+        return absorb_part(s, at, m);
     }
+    let head = (136 - at) % 136;
     let end = m.len() - (m.len() - head) % 136;
-    let a = absorb_bytes(s, at, &m[0..head]);
+    let a = absorb_part(s, at, &m[0..head]);
     let b = absorb_blocks(a, &m[head..end]);
-    absorb_bytes(b, 0, &m[end..])
+    absorb_part(b, 0, &m[end..])
 }
 
 // The place in a block after n more bytes.
