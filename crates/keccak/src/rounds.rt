@@ -7,7 +7,7 @@ use crate::chi::chi_row3;
 use crate::chi::chi_row4;
 use crate::steps::OFFSETS;
 use crate::steps::iota_step;
-use crate::steps::rotate_left;
+use crate::steps::rho_row;
 use crate::steps::theta_effect;
 ghost use mathlib.Core.Path.{_≡_};
 ghost use mathlib.Core.List.{[]};
@@ -15,71 +15,71 @@ ghost use lib.ListN.{getD};
 ghost use Rattle.keccak.specs.Steps.{rho, pi};
 ghost use Rattle.keccak.specs.Internal.{affected, chiRow0, chiRow1, chiRow2, chiRow3, chiRow4, roundFlipped};
 
-// The five rows, where d is what theta adds: lane x of row y is that of row x and column (x + 3 y) mod 5 (3.2.3), with its column's d,
-// rotated by its offset (3.2.2).
+// The five rows, where d is what theta adds: lane x of row y is that of row x and column (x + 3 y) mod 5 (3.2.3), with its column's d, and
+// rotated.
 fn row0(s: [[u64; 5]; 5], d: [u64; 5]) -> [u64; 5]
     ensures { λ r. ⌜ r ≡ chiRow0 (getD (pi (rho (affected s d))) 0 []) ⌝ }
 {
     let b = [
-        rotate_left(s[0][0] ^ d[0], OFFSETS[0][0]),
-        rotate_left(s[1][1] ^ d[1], OFFSETS[1][1]),
-        rotate_left(s[2][2] ^ d[2], OFFSETS[2][2]),
-        rotate_left(s[3][3] ^ d[3], OFFSETS[3][3]),
-        rotate_left(s[4][4] ^ d[4], OFFSETS[4][4]),
+        s[0][0] ^ d[0],
+        s[1][1] ^ d[1],
+        s[2][2] ^ d[2],
+        s[3][3] ^ d[3],
+        s[4][4] ^ d[4],
     ];
-    chi_row0(b)
+    chi_row0(rho_row(b, OFFSETS[0]))
 }
 
 fn row1(s: [[u64; 5]; 5], d: [u64; 5]) -> [u64; 5]
     ensures { λ r. ⌜ r ≡ chiRow1 (getD (pi (rho (affected s d))) 1 []) ⌝ }
 {
     let b = [
-        rotate_left(s[0][3] ^ d[3], OFFSETS[0][3]),
-        rotate_left(s[1][4] ^ d[4], OFFSETS[1][4]),
-        rotate_left(s[2][0] ^ d[0], OFFSETS[2][0]),
-        rotate_left(s[3][1] ^ d[1], OFFSETS[3][1]),
-        rotate_left(s[4][2] ^ d[2], OFFSETS[4][2]),
+        s[0][3] ^ d[3],
+        s[1][4] ^ d[4],
+        s[2][0] ^ d[0],
+        s[3][1] ^ d[1],
+        s[4][2] ^ d[2],
     ];
-    chi_row1(b)
+    chi_row1(rho_row(b, OFFSETS[1]))
 }
 
 fn row2(s: [[u64; 5]; 5], d: [u64; 5]) -> [u64; 5]
     ensures { λ r. ⌜ r ≡ chiRow2 (getD (pi (rho (affected s d))) 2 []) ⌝ }
 {
     let b = [
-        rotate_left(s[0][1] ^ d[1], OFFSETS[0][1]),
-        rotate_left(s[1][2] ^ d[2], OFFSETS[1][2]),
-        rotate_left(s[2][3] ^ d[3], OFFSETS[2][3]),
-        rotate_left(s[3][4] ^ d[4], OFFSETS[3][4]),
-        rotate_left(s[4][0] ^ d[0], OFFSETS[4][0]),
+        s[0][1] ^ d[1],
+        s[1][2] ^ d[2],
+        s[2][3] ^ d[3],
+        s[3][4] ^ d[4],
+        s[4][0] ^ d[0],
     ];
-    chi_row2(b)
+    chi_row2(rho_row(b, OFFSETS[2]))
 }
 
 fn row3(s: [[u64; 5]; 5], d: [u64; 5]) -> [u64; 5]
     ensures { λ r. ⌜ r ≡ chiRow3 (getD (pi (rho (affected s d))) 3 []) ⌝ }
 {
     let b = [
-        rotate_left(s[0][4] ^ d[4], OFFSETS[0][4]),
-        rotate_left(s[1][0] ^ d[0], OFFSETS[1][0]),
-        rotate_left(s[2][1] ^ d[1], OFFSETS[2][1]),
-        rotate_left(s[3][2] ^ d[2], OFFSETS[3][2]),
-        rotate_left(s[4][3] ^ d[3], OFFSETS[4][3]),
+        s[0][4] ^ d[4],
+        s[1][0] ^ d[0],
+        s[2][1] ^ d[1],
+        s[3][2] ^ d[2],
+        s[4][3] ^ d[3],
     ];
-    chi_row3(b)
+    chi_row3(rho_row(b, OFFSETS[3]))
 }
 
 fn row4(s: [[u64; 5]; 5], d: [u64; 5]) -> [u64; 5]
     ensures { λ r. ⌜ r ≡ chiRow4 (getD (pi (rho (affected s d))) 4 []) ⌝ }
 {
     let b = [
-        rotate_left(s[0][2] ^ d[2], OFFSETS[0][2]),
-        rotate_left(s[1][3] ^ d[3], OFFSETS[1][3]),
-        rotate_left(s[2][4] ^ d[4], OFFSETS[2][4]),
-        rotate_left(s[3][0] ^ d[0], OFFSETS[3][0]),
-        rotate_left(s[4][1] ^ d[1], OFFSETS[4][1]),
+        s[0][2] ^ d[2],
+        s[1][3] ^ d[3],
+        s[2][4] ^ d[4],
+        s[3][0] ^ d[0],
+        s[4][1] ^ d[1],
     ];
-    chi_row4(b)
+    chi_row4(rho_row(b, OFFSETS[4]))
 }
 
 // Four rounds, with their constants i, j, k and l. They are written out: a function of one round that is called more than once is too long

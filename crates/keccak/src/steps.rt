@@ -1,19 +1,20 @@
 // Steps of FIPS 202, section 3.2, that the rounds are made of, on five rows of five lanes, by value; chi has a module of its own.
 ghost use mathlib.Core.Path.{_≡_};
 ghost use Prim.Native.Nat.{_<_};
-ghost use Rattle.keccak.specs.Steps.{rotate, xorRow, parity, effect, iota};
+ghost use Rattle.keccak.specs.Steps.{rotate, xorRow, parity, effect, rhoRow, iota};
+ghost use Rattle.keccak.specs.Internal.{Offsets};
 
-// The rotation offsets of FIPS 202, table 2, modulo 64: row y, column x.
+// The rotation offsets of FIPS 202, table 2, modulo 64, in the order of the lanes after pi: row y, column x.
 pub const OFFSETS: [[u32; 5]; 5] = [
-    [0, 1, 62, 28, 27],
-    [36, 44, 6, 55, 20],
-    [3, 10, 43, 25, 39],
-    [41, 45, 15, 21, 8],
-    [18, 2, 61, 56, 14],
+    [0, 44, 43, 21, 14],
+    [28, 20, 3, 45, 61],
+    [1, 6, 25, 8, 18],
+    [27, 36, 10, 15, 56],
+    [62, 55, 39, 41, 2],
 ];
 
 // A lane rotated left by n places.
-pub fn rotate_left(x: u64, n: u32) -> u64
+fn rotate_left(x: u64, n: u32) -> u64
     requires { ⌜ n < 64 ⌝ }
     ensures { λ r. ⌜ r ≡ rotate x n ⌝ }
 {
@@ -51,6 +52,20 @@ pub fn theta_effect(s: [[u64; 5]; 5]) -> [u64; 5]
         c[1] ^ rotate_left(c[3], 1),
         c[2] ^ rotate_left(c[4], 1),
         c[3] ^ rotate_left(c[0], 1),
+    ]
+}
+
+// Rho (3.2.2) on five lanes: each by its own offset.
+pub fn rho_row(r: [u64; 5], n: [u32; 5]) -> [u64; 5]
+    requires { ⌜ Offsets n ⌝ }
+    ensures { λ q. ⌜ q ≡ rhoRow r n ⌝ }
+{
+    [
+        rotate_left(r[0], n[0]),
+        rotate_left(r[1], n[1]),
+        rotate_left(r[2], n[2]),
+        rotate_left(r[3], n[3]),
+        rotate_left(r[4], n[4]),
     ]
 }
 
