@@ -1,8 +1,8 @@
 // The sponge of FIPS 202 over the proved permutation, with the rate of SHA3-256: it absorbs lent bytes in place, by value.
 ghost use mathlib.Core.Path.{_≡_};
-ghost use Prim.Native.Nat.{_+_, _%_, _≤_, _<_};
+ghost use Prim.Native.Nat.{_+_, _-_, _%_, _≤_, _<_};
 ghost use lib.ListN.{length};
-ghost use Rattle.codec.specs.Bytes.{part};
+ghost use Rattle.codec.specs.Bytes.{part, put, zeros};
 ghost use Rattle.keccak.specs.Keccak.{keccak};
 ghost use Rattle.sha3.specs.Absorb.{xorLane, xorByte, absorb, zeroState};
 ghost use Rattle.sha3.specs.Internal.{xorBlock, absorbRow};
@@ -93,22 +93,36 @@ pub fn permuted(s: [[u64; 5]; 5]) -> [[u64; 5]; 5]
     absorb_blocks(s, &block)
 }
 
-// Bytes of a message that end with their block or before, the first at place `at`: the block with zeros around them.
-fn absorb_part(s: [[u64; 5]; 5], at: usize, m: &[u8]) -> [[u64; 5]; 5]
-    requires { ⌜ at < 136 ⌝ }
+// A block that has the bytes m from place `at`, and zeros around them.
+fn block_of(at: usize, m: &[u8]) -> [u8; 136]
     requires { ⌜ at + length (now m) ≤ 136 ⌝ }
-    ensures { λ r. ⌜ r ≡ absorb s at (now (m .entry)) ⌝ }
+    ensures { λ r. ⌜ r ≡ put (zeros 136) at (now (m .entry)) ⌝ }
 {
-    if m.len() == 0 {
-        return s;
-    }
     let mut block = [0u8; 136];
     codec::copy(&mut block, at, m);
-    if at + m.len() < 136 {
-        xor_block(s, &block, 0)
-    } else {
-        absorb_blocks(s, &block)
+    block
+}
+
+// Bytes of a message that end before their block, the first at place `at`.
+fn absorb_inside(s: [[u64; 5]; 5], at: usize, m: &[u8]) -> [[u64; 5]; 5]
+    requires { ⌜ at + length (now m) < 136 ⌝ }
+    ensures { λ r. ⌜ r ≡ absorb s at (now (m .entry)) ⌝ }
+{
+    let block = block_of(at, m);
+    xor_block(s, &block, 0)
+}
+
+// Bytes of a message to the end of their block, the first at place `at`; none where that is its start.
+fn absorb_head(s: [[u64; 5]; 5], at: usize, m: &[u8]) -> [[u64; 5]; 5]
+    requires { ⌜ at < 136 ⌝ }
+    requires { ⌜ length (now m) ≡ (136 - at) % 136 ⌝ }
+    ensures { λ r. ⌜ r ≡ absorb s at (now (m .entry)) ⌝ }
+{
+    if at == 0 {
+        return s;
     }
+    let block = block_of(at, m);
+    absorb_blocks(s, &block)
 }
 
 // Bytes of a message, the first at place `at` of its block: to the block's end, whole blocks, and what is left.
@@ -117,13 +131,13 @@ pub fn absorb(s: [[u64; 5]; 5], at: usize, m: &[u8]) -> [[u64; 5]; 5]
     ensures { λ r. ⌜ r ≡ absorb s at (now (m .entry)) ⌝ }
 {
     if m.len() < 136 - at {
-        return absorb_part(s, at, m);
+        return absorb_inside(s, at, m);
     }
     let head = (136 - at) % 136;
     let end = m.len() - (m.len() - head) % 136;
-    let a = absorb_part(s, at, &m[0..head]);
+    let a = absorb_head(s, at, &m[0..head]);
     let b = absorb_blocks(a, &m[head..end]);
-    absorb_part(b, 0, &m[end..])
+    absorb_inside(b, 0, &m[end..])
 }
 
 // The place in a block after n more bytes.
