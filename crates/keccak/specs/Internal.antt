@@ -77,7 +77,7 @@ six x y =
 unfoldable pub affected : StateArray → Row → StateArray
 affected s d = five (λ y. xorRow (getD s y []) d)
 
--- a round of such a state
+-- a round of a state with the six lanes complemented
 unfoldable pub roundFlipped : StateArray → ℕ → StateArray
 roundFlipped s c = iota (chiFlipped (pi (rho (theta s)))) c
 

@@ -15,8 +15,8 @@ ghost use lib.ListN.{getD};
 ghost use Rattle.keccak.specs.Steps.{rho, pi};
 ghost use Rattle.keccak.specs.Internal.{affected, chiRow0, chiRow1, chiRow2, chiRow3, chiRow4, roundFlipped};
 
-// The five rows, where d is what theta adds: lane x of row y is that of row x and column (x + 3 y) mod 5 (3.2.3), with its column's d, and
-// rotated.
+// The five rows after chi, where d is what theta adds: before chi, lane x of row y is that of row x and column (x + 3 y) mod 5 (3.2.3),
+// with its column's d, and rotated by its offset.
 fn row0(s: [[u64; 5]; 5], d: [u64; 5]) -> [u64; 5]
     ensures { λ r. ⌜ r ≡ chiRow0 (getD (pi (rho (affected s d))) 0 []) ⌝ }
 {

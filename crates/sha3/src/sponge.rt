@@ -84,8 +84,8 @@ fn absorb_blocks(s: [[u64; 5]; 5], m: &[u8]) -> [[u64; 5]; 5]
     t
 }
 
-// A state after the permutation, by a block of zeros: `absorb_blocks` is the only caller of `keccak::permute`, so that the compiler puts the
-// permutation in place there, and the state stays in registers from block to block.
+// A state after the permutation, by a block of zeros. `absorb_blocks` alone calls `keccak::permute`, so that the compiler puts it in place
+// there, and the state is not copied from block to block.
 pub fn permuted(s: [[u64; 5]; 5]) -> [[u64; 5]; 5]
     ensures { λ r. ⌜ r ≡ keccak s ⌝ }
 {
