@@ -182,6 +182,18 @@ pub undone : (s t : StateArray) → Words s → Shape s → t ≡ flipped six s 
 undone s t w h e = ap (flipped six) e ∙ back six s w h
 
 -- one round more
-pub next-flipped : (n : ℕ) (s t u : StateArray) → Words s → t ≡ flipped six (rounds n s) → u ≡ roundFlipped t (getD constants n 0) → u ≡ flipped six (rounds (suc n) s)
+next-flipped : (n m : ℕ) → m ≡ suc n → (s t : StateArray) → Words s → t ≡ flipped six (rounds n s)
+    → roundFlipped t (getD constants n 0) ≡ flipped six (rounds m s)
 unfolding rounds
-next-flipped n s t u w e f = f ∙ ap (λ (x : StateArray). roundFlipped x (getD constants n 0)) e ∙ round-flipped (rounds n s) (getD constants n 0) (rounds-words n s w)
+next-flipped n m h s t w e =
+    ap (λ (x : StateArray). roundFlipped x (getD constants n 0)) e
+    ∙ round-flipped (rounds n s) (getD constants n 0) (rounds-words n s w)
+    ∙ ap (λ (k : ℕ). flipped six (rounds k s)) (sym h)
+
+-- four rounds more
+pub four-flipped : (n : ℕ) (s t : StateArray) → Words s → t ≡ flipped six (rounds n s)
+    → roundFlipped (roundFlipped (roundFlipped (roundFlipped t (getD constants n 0)) (getD constants (n + 1) 0)) (getD constants (n + 2) 0)) (getD constants (n + 3) 0)
+    ≡ flipped six (rounds (n + 4) s)
+four-flipped n s t w e =
+    next-flipped (n + 3) (n + 4) (omega arith) s _ w
+    (next-flipped (n + 2) (n + 3) (omega arith) s _ w (next-flipped (n + 1) (n + 2) (omega arith) s _ w (next-flipped n (n + 1) (omega arith) s t w e)))

@@ -5,3 +5,4 @@ pub mod Complement
 pub mod Flips
 pub mod Lanes
 pub mod Shape
+pub mod ByRows

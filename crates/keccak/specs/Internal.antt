@@ -3,7 +3,7 @@ use mathlib.Core.List.{List, [], _∷_}
 use Prim.Native.Nat.{ℕ, _<_}
 use lib.Bits.{bitXor, bitAnd, bitOr}
 use lib.ListN.{getD}
-use Rattle.keccak.specs.Steps.{Row, StateArray, complement, lane, lanes, theta, rho, pi, iota}
+use Rattle.keccak.specs.Steps.{Row, StateArray, complement, lane, five, lanes, xorRow, theta, rho, pi, iota}
 use mathlib.Core.Bool.{Bool, true, false, not}
 
 -- ---- chi on a state of which some lanes stand complemented, so that few complements are needed: `flipped six` after theta, rho and pi
@@ -73,6 +73,11 @@ six x y =
     y [])
     x false
 
+-- a state with d xored into each of its rows: theta, where d is its effect
+unfoldable pub affected : StateArray → Row → StateArray
+affected s d = five (λ y. xorRow (getD s y []) d)
+
+-- a round of a state with the six lanes complemented
 unfoldable pub roundFlipped : StateArray → ℕ → StateArray
 roundFlipped s c = iota (chiFlipped (pi (rho (theta s)))) c
 

@@ -1,9 +1,9 @@
 // Chi of FIPS 202, section 3.2.4, on a state with some lanes complemented.
 ghost use mathlib.Core.Path.{_≡_};
-ghost use Rattle.keccak.specs.Internal.{chiRow0, chiRow1, chiRow2, chiRow3, chiRow4, chiFlipped};
+ghost use Rattle.keccak.specs.Internal.{chiRow0, chiRow1, chiRow2, chiRow3, chiRow4};
 
 // Chi on the five rows of a state whose lanes stand complemented as theta, rho and pi leave them.
-fn chi_row0(r: [u64; 5]) -> [u64; 5]
+pub fn chi_row0(r: [u64; 5]) -> [u64; 5]
     ensures { λ q. ⌜ q ≡ chiRow0 r ⌝ }
 {
     [
@@ -15,7 +15,7 @@ fn chi_row0(r: [u64; 5]) -> [u64; 5]
     ]
 }
 
-fn chi_row1(r: [u64; 5]) -> [u64; 5]
+pub fn chi_row1(r: [u64; 5]) -> [u64; 5]
     ensures { λ q. ⌜ q ≡ chiRow1 r ⌝ }
 {
     [
@@ -27,7 +27,7 @@ fn chi_row1(r: [u64; 5]) -> [u64; 5]
     ]
 }
 
-fn chi_row2(r: [u64; 5]) -> [u64; 5]
+pub fn chi_row2(r: [u64; 5]) -> [u64; 5]
     ensures { λ q. ⌜ q ≡ chiRow2 r ⌝ }
 {
     [
@@ -39,7 +39,7 @@ fn chi_row2(r: [u64; 5]) -> [u64; 5]
     ]
 }
 
-fn chi_row3(r: [u64; 5]) -> [u64; 5]
+pub fn chi_row3(r: [u64; 5]) -> [u64; 5]
     ensures { λ q. ⌜ q ≡ chiRow3 r ⌝ }
 {
     [
@@ -51,7 +51,7 @@ fn chi_row3(r: [u64; 5]) -> [u64; 5]
     ]
 }
 
-fn chi_row4(r: [u64; 5]) -> [u64; 5]
+pub fn chi_row4(r: [u64; 5]) -> [u64; 5]
     ensures { λ q. ⌜ q ≡ chiRow4 r ⌝ }
 {
     [
@@ -60,18 +60,5 @@ fn chi_row4(r: [u64; 5]) -> [u64; 5]
         r[2] ^ (r[3] & r[4]),
         r[3] ^ (r[4] | r[0]),
         r[4] ^ (r[0] & r[1]),
-    ]
-}
-
-// The whole state, row by row.
-pub fn chi_step(s: [[u64; 5]; 5]) -> [[u64; 5]; 5]
-    ensures { λ r. ⌜ r ≡ chiFlipped s ⌝ }
-{
-    [
-        chi_row0(s[0]),
-        chi_row1(s[1]),
-        chi_row2(s[2]),
-        chi_row3(s[3]),
-        chi_row4(s[4]),
     ]
 }

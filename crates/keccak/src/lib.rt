@@ -1,15 +1,11 @@
 // The permutation Keccak-f[1600] of FIPS 202, section 3: five rows of five lanes, by value.
 pub mod chi;
+pub mod rounds;
 pub mod steps;
 
-use crate::chi::chi_step;
-use crate::steps::iota_step;
-use crate::steps::pi_step;
-use crate::steps::rho_step;
-use crate::steps::theta_step;
 ghost use mathlib.Core.Path.{_≡_};
 ghost use Rattle.keccak.specs.Keccak.{keccak};
-ghost use Rattle.keccak.specs.Internal.{flipped, six, roundFlipped};
+ghost use Rattle.keccak.specs.Internal.{flipped, six};
 
 // The constants of the 24 rounds (FIPS 202, 3.2.5).
 const CONSTANTS: [u64; 24] = [
@@ -39,13 +35,6 @@ const CONSTANTS: [u64; 24] = [
     0x8000000080008008,
 ];
 
-// A round, with its constant c, of a state with six lanes complemented.
-fn round_step(s: [[u64; 5]; 5], c: u64) -> [[u64; 5]; 5]
-    ensures { λ r. ⌜ r ≡ roundFlipped s c ⌝ }
-{
-    iota_step(chi_step(pi_step(rho_step(theta_step(s)))), c)
-}
-
 // The six lanes complemented: chi then takes 8 complements in a round and not 25.
 fn complemented(s: [[u64; 5]; 5]) -> [[u64; 5]; 5]
     ensures { λ r. ⌜ r ≡ flipped six s ⌝ }
@@ -67,9 +56,9 @@ pub fn permute(s: [[u64; 5]; 5]) -> [[u64; 5]; 5]
     let mut t = complemented(s);
     let mut k = 0;
     while k < 24 {
-        let u = round_step(t, table[k]);
+        let u = crate::rounds::four_rounds(t, table[k], table[k + 1], table[k + 2], table[k + 3]);
         t = u;
-        k += 1;
+        k += 4;
     }
     complemented(t)
 }

@@ -1,16 +1,16 @@
-// The step mappings of FIPS 202, section 3.2, on five rows of five lanes, by value; chi has a module of its own.
+// Steps of FIPS 202, section 3.2, that the rounds are made of, on five rows of five lanes, by value; chi has a module of its own.
 ghost use mathlib.Core.Path.{_≡_};
 ghost use Prim.Native.Nat.{_<_};
-ghost use Rattle.keccak.specs.Steps.{rotate, xorRow, parity, effect, theta, rho, rhoRow, pi, iota};
+ghost use Rattle.keccak.specs.Steps.{rotate, xorRow, parity, effect, rhoRow, iota};
 ghost use Rattle.keccak.specs.Internal.{Offsets};
 
-// The rotation offsets of FIPS 202, table 2, modulo 64: row y, column x.
-const OFFSETS: [[u32; 5]; 5] = [
-    [0, 1, 62, 28, 27],
-    [36, 44, 6, 55, 20],
-    [3, 10, 43, 25, 39],
-    [41, 45, 15, 21, 8],
-    [18, 2, 61, 56, 14],
+// The rotation offsets of FIPS 202, table 2, modulo 64, in the order of the lanes after pi: row y, column x.
+pub const OFFSETS: [[u32; 5]; 5] = [
+    [0, 44, 43, 21, 14],
+    [28, 20, 3, 45, 61],
+    [1, 6, 25, 8, 18],
+    [27, 36, 10, 15, 56],
+    [62, 55, 39, 41, 2],
 ];
 
 // A lane rotated left by n places.
@@ -41,10 +41,11 @@ fn column_parities(s: [[u64; 5]; 5]) -> [u64; 5]
     xor_row(xor_row(xor_row(xor_row(s[0], s[1]), s[2]), s[3]), s[4])
 }
 
-// D of theta, from the parities.
-fn theta_effect(c: [u64; 5]) -> [u64; 5]
-    ensures { λ r. ⌜ r ≡ effect c ⌝ }
+// D of theta (3.2.1): what it adds to each lane of a column.
+pub fn theta_effect(s: [[u64; 5]; 5]) -> [u64; 5]
+    ensures { λ r. ⌜ r ≡ effect (parity s) ⌝ }
 {
+    let c = column_parities(s);
     [
         c[4] ^ rotate_left(c[1], 1),
         c[0] ^ rotate_left(c[2], 1),
@@ -54,35 +55,8 @@ fn theta_effect(c: [u64; 5]) -> [u64; 5]
     ]
 }
 
-// Theta (3.2.1).
-pub fn theta_step(s: [[u64; 5]; 5]) -> [[u64; 5]; 5]
-    ensures { λ r. ⌜ r ≡ theta s ⌝ }
-{
-    let d = theta_effect(column_parities(s));
-    [
-        xor_row(s[0], d),
-        xor_row(s[1], d),
-        xor_row(s[2], d),
-        xor_row(s[3], d),
-        xor_row(s[4], d),
-    ]
-}
-
-// Pi (3.2.3): the lane of column x and row y is that of column (x + 3 y) mod 5 and row x.
-pub fn pi_step(s: [[u64; 5]; 5]) -> [[u64; 5]; 5]
-    ensures { λ r. ⌜ r ≡ pi s ⌝ }
-{
-    [
-        [s[0][0], s[1][1], s[2][2], s[3][3], s[4][4]],
-        [s[0][3], s[1][4], s[2][0], s[3][1], s[4][2]],
-        [s[0][1], s[1][2], s[2][3], s[3][4], s[4][0]],
-        [s[0][4], s[1][0], s[2][1], s[3][2], s[4][3]],
-        [s[0][2], s[1][3], s[2][4], s[3][0], s[4][1]],
-    ]
-}
-
-// Rho on a row: each lane by its own offset.
-fn rho_row(r: [u64; 5], n: [u32; 5]) -> [u64; 5]
+// Rho (3.2.2) on five lanes: each by its own offset.
+pub fn rho_row(r: [u64; 5], n: [u32; 5]) -> [u64; 5]
     requires { ⌜ Offsets n ⌝ }
     ensures { λ q. ⌜ q ≡ rhoRow r n ⌝ }
 {
@@ -92,19 +66,6 @@ fn rho_row(r: [u64; 5], n: [u32; 5]) -> [u64; 5]
         rotate_left(r[2], n[2]),
         rotate_left(r[3], n[3]),
         rotate_left(r[4], n[4]),
-    ]
-}
-
-// Rho (3.2.2).
-pub fn rho_step(s: [[u64; 5]; 5]) -> [[u64; 5]; 5]
-    ensures { λ r. ⌜ r ≡ rho s ⌝ }
-{
-    [
-        rho_row(s[0], OFFSETS[0]),
-        rho_row(s[1], OFFSETS[1]),
-        rho_row(s[2], OFFSETS[2]),
-        rho_row(s[3], OFFSETS[3]),
-        rho_row(s[4], OFFSETS[4]),
     ]
 }
 

@@ -1,13 +1,12 @@
 -- The laws of absorbing: parts that are absorbed one after another are absorbed as their concatenation, and zeros change
 -- nothing before a block's end. Assumes nothing.
-use mathlib.Core.Path.{_≡_, sym, ap, _∙_}
+use mathlib.Core.Path.{_≡_, refl, sym, ap, _∙_}
 use Prim.Native.Nat.{ℕ, zero, suc, _+_, _-_, _*_, _/_, _%_, _^_, _≤_, _<_}
 use mathlib.Core.List.{List, [], _∷_, _++_}
 use native.Mathlib.Omega.{arith}
 use native.Mathlib.Nat.{zero-mul, sub-zero}
-use native.Mathlib.Numerals.{add-one}
 use lib.ListN.{length, getD, set, replicate, take, drop, length-drop, take-append-drop}
-use lib.Seq.{set-getD, take-suc, take-all, take-take, length-take-le}
+use lib.Seq.{set-getD, take-all, take-take, length-take-le}
 use lib.Bits.{bitXor, xor-zero-r}
 use borrow.Author.Tests.{lt-ltb, le-ltb}
 use Rattle.keccak.specs.Keccak.{StateArray, Row, lane, keccak}
@@ -26,26 +25,12 @@ absorb-append (x ∷ a) b s at h =
     absorb-append a b (feed s at x) ((at + 1) % 136) (omega arith)
     ∙ ap (λ (k : ℕ). absorb (absorb (feed s at x) ((at + 1) % 136) a) k b) e
 
-pub absorb-snoc : (a : List ℕ) (b : ℕ) (s : StateArray) (at : ℕ) → at < 136
-    → absorb s at (a ++ (b ∷ [])) ≡ feed (absorb s at a) ((at + length a) % 136) b
-unfolding absorb
-absorb-snoc a b s at h = absorb-append a (b ∷ []) s at h
-
--- one byte more
-pub absorb-take : (m : List ℕ) (i : ℕ) (s : StateArray) (at : ℕ) → at < 136 → i < length m
-    → absorb s at (take (i + 1) m) ≡ feed (absorb s at (take i m)) ((at + i) % 136) (getD m i 0)
-absorb-take m i s at h hi =
-    let e : length (take i m) ≡ i = length-take-le i m (omega arith) in
-    ap (absorb s at) (rw (add-one i) (take-suc m i 0 hi))
-    ∙ absorb-snoc (take i m) (getD m i 0) s at h
-    ∙ ap (λ (k : ℕ). feed (absorb s at (take i m)) ((at + k) % 136) (getD m i 0)) e
-
 -- a byte that is 0 changes nothing
 put-nothing : (l k : ℕ) → xorLane l k 0 ≡ l
 unfolding xorLane
 put-nothing l k = ap (bitXor l) (zero-mul (2 ^ (k * 8))) ∙ xor-zero-r l
 
-xor-nothing : (s : StateArray) (i : ℕ) → xorByte s i 0 ≡ s
+pub xor-nothing : (s : StateArray) (i : ℕ) → xorByte s i 0 ≡ s
 unfolding xorByte
 xor-nothing s i =
     ap (λ (v : ℕ). set s (i / 40) (set (getD s (i / 40) []) (i / 8 % 5) v)) (put-nothing (lane s (i / 8 % 5) (i / 40)) (i % 8))
@@ -72,6 +57,17 @@ absorb-zeros (suc n) l s at h =
     (λ i. absorb (f i) (one i) (replicate n 0 ++ l))
     ∙ absorb-zeros n l s (at + 1) (omega arith)
     ∙ ap (λ (k : ℕ). absorb s k l) e
+
+-- a block of zeros is the permutation
+pub zero-block : (s : StateArray) → absorb s 0 (replicate 136 0) ≡ keccak s
+unfolding absorb
+zero-block s = absorb-zeros 135 (0 ∷ []) s 0 (omega arith) ∙ feed-late s 135 0 (omega arith) ∙ ap keccak (xor-nothing s 135)
+
+-- nothing is absorbed
+pub absorb-none : (m : List ℕ) (s : StateArray) (at : ℕ) → length m ≡ 0 → s ≡ absorb s at m
+unfolding absorb
+absorb-none [] s at h = refl
+absorb-none (b ∷ m) s at h = absurd (omega arith)
 
 -- what is absorbed up to k is absorbed, and then the rest
 pub split-at : (m : List ℕ) (k : ℕ) (s : StateArray) (at p : ℕ) → at < 136 → k ≤ length m → (at + k) % 136 ≡ p

@@ -29,7 +29,7 @@ full (c ∷ m) b s at h =
     ap₂ (λ (t : StateArray) (k : ℕ). absorb t k (c ∷ m)) (feed-early s at b (omega arith)) one ∙ full m c (xorByte s at b) (at + 1) (omega arith)
 
 -- bytes side by side
-xors-append : (a b : Bytes) (s : StateArray) (i : ℕ) → xors s i (a ++ b) ≡ xors (xors s i a) (i + length a) b
+pub xors-append : (a b : Bytes) (s : StateArray) (i : ℕ) → xors s i (a ++ b) ≡ xors (xors s i a) (i + length a) b
 unfolding xors
 xors-append [] b s i = ap (λ (k : ℕ). xors s k b) (omega arith)
 xors-append (x ∷ a) b s i = xors-append a b (xorByte s i x) (i + 1) ∙ ap (λ (k : ℕ). xors (xors (xorByte s i x) (i + 1) a) k b) (omega arith)
@@ -87,13 +87,16 @@ reached g p h =
     (row5 refl refl (past p (g 2 3) 136 (omega arith)) (past p (g 3 3) 144 (omega arith)) (past p (g 4 3) 152 (omega arith)))
     (row5 (past p (g 0 4) 160 (omega arith)) (past p (g 1 4) 168 (omega arith)) (past p (g 2 4) 176 (omega arith)) (past p (g 3 4) 184 (omega arith)) (past p (g 4 4) 192 (omega arith)))
 
+-- a block at once is the block byte by byte
+pub block-bytes : (s : StateArray) (p : Bytes) → Shape s → Octets p → length p ≡ 136 → xors s 0 p ≡ xorBlock s p
+block-bytes s p h o e =
+    let t = shaped s h in
+    by-lanes 17 0 s p (shape-all s h) o (omega arith) (omega arith)
+    ∙ ap (λ (u : StateArray). xorLanes 17 0 u p) t ∙ reached (lane s) p e ∙ ap (λ (u : StateArray). xorBlock u p) (sym t)
+
 pub block : (s : StateArray) (p : Bytes) → Shape s → Octets p → length p ≡ 136 → keccak (xorBlock s p) ≡ absorb s 0 p
 block s [] h o e = absurd (omega arith)
-block s (b ∷ m) h o e =
-    let p = b ∷ m in
-    let t = shaped s h in
-    sym (full m b s 0 (omega arith) ∙ ap keccak (by-lanes 17 0 s p (shape-all s h) o (omega arith) (omega arith)
-    ∙ ap (λ (u : StateArray). xorLanes 17 0 u p) t ∙ reached (lane s) p e ∙ ap (λ (u : StateArray). xorBlock u p) (sym t)))
+block s (b ∷ m) h o e = sym (full m b s 0 (omega arith) ∙ ap keccak (block-bytes s (b ∷ m) h o e))
 
 -- a row from the 40 bytes of m from at + b, by the block from at
 pub row-in : (r : Row) (m : Bytes) (at b : ℕ) → b + 40 ≤ 136 → absorbRow r m (at + b) ≡ five (λ x. bitXor (getD r x 0) (number (part (part m at 136) (b + 8 * x) 8)))

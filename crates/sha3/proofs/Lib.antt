@@ -1,6 +1,7 @@
 pub mod Absorbing
 pub mod Blocks
 pub mod Lanes
+pub mod Inside
 pub mod Fips
 pub mod Padding
 pub mod Parts

@@ -13,9 +13,13 @@ fn pad(s: [[u64; 5]; 5], at: usize) -> [[u64; 5]; 5]
     ensures { λ r. ⌜ r ≡ absorb s at (padding at) ⌝ }
 {
     if at < 135 {
-        keccak::permute(crate::sponge::xor_byte(crate::sponge::xor_byte(s, at, 6), 135, 128))
+        crate::sponge::permuted(crate::sponge::xor_byte(
+            crate::sponge::xor_byte(s, at, 6),
+            135,
+            128,
+        ))
     } else {
-        keccak::permute(crate::sponge::xor_byte(s, 135, 134))
+        crate::sponge::permuted(crate::sponge::xor_byte(s, 135, 134))
     }
 }
 

@@ -1,8 +1,9 @@
 // The sponge of FIPS 202 over the proved permutation, with the rate of SHA3-256: it absorbs lent bytes in place, by value.
 ghost use mathlib.Core.Path.{_≡_};
-ghost use Prim.Native.Nat.{_+_, _%_, _≤_, _<_};
+ghost use Prim.Native.Nat.{_+_, _-_, _%_, _≤_, _<_};
 ghost use lib.ListN.{length};
-ghost use Rattle.codec.specs.Bytes.{part};
+ghost use Rattle.codec.specs.Bytes.{part, put, zeros};
+ghost use Rattle.keccak.specs.Keccak.{keccak};
 ghost use Rattle.sha3.specs.Absorb.{xorLane, xorByte, absorb, zeroState};
 ghost use Rattle.sha3.specs.Internal.{xorBlock, absorbRow};
 
@@ -31,30 +32,6 @@ pub fn xor_byte(s: [[u64; 5]; 5], at: usize, b: u8) -> [[u64; 5]; 5]
     let mut t = s;
     let l = xor_lane(t[y][x], at % 8, b);
     t[y][x] = l;
-    t
-}
-
-// Bytes of a message, one by one.
-fn absorb_bytes(s: [[u64; 5]; 5], at: usize, m: &[u8]) -> [[u64; 5]; 5]
-    requires { ⌜ at < 136 ⌝ }
-    ensures { λ r. ⌜ r ≡ absorb s at (now (m .entry)) ⌝ }
-{
-    let mut t = s;
-    let mut p = at;
-    let mut i = 0;
-    while i < m.len() {
-        let y = p / 40;
-        let x = p / 8 % 5;
-        let l = xor_lane(t[y][x], p % 8, m[i]);
-        t[y][x] = l;
-        p += 1;
-        i += 1;
-        if p == 136 {
-            let u = keccak::permute(t);
-            t = u;
-            p = 0;
-        }
-    }
     t
 }
 
@@ -107,19 +84,60 @@ fn absorb_blocks(s: [[u64; 5]; 5], m: &[u8]) -> [[u64; 5]; 5]
     t
 }
 
+// A state after the permutation, by a block of zeros. `absorb_blocks` alone calls `keccak::permute`, so that the compiler puts it in place
+// there, and the state is not copied from block to block.
+pub fn permuted(s: [[u64; 5]; 5]) -> [[u64; 5]; 5]
+    ensures { λ r. ⌜ r ≡ keccak s ⌝ }
+{
+    let block = [0u8; 136];
+    absorb_blocks(s, &block)
+}
+
+// A block that has the bytes m from place `at`, and zeros around them.
+fn block_of(at: usize, m: &[u8]) -> [u8; 136]
+    requires { ⌜ at + length (now m) ≤ 136 ⌝ }
+    ensures { λ r. ⌜ r ≡ put (zeros 136) at (now (m .entry)) ⌝ }
+{
+    let mut block = [0u8; 136];
+    codec::copy(&mut block, at, m);
+    block
+}
+
+// Bytes of a message that end before their block, the first at place `at`.
+fn absorb_inside(s: [[u64; 5]; 5], at: usize, m: &[u8]) -> [[u64; 5]; 5]
+    requires { ⌜ at + length (now m) < 136 ⌝ }
+    ensures { λ r. ⌜ r ≡ absorb s at (now (m .entry)) ⌝ }
+{
+    let block = block_of(at, m);
+    xor_block(s, &block, 0)
+}
+
+// Bytes of a message to the end of their block, the first at place `at`; none where that is its start.
+fn absorb_head(s: [[u64; 5]; 5], at: usize, m: &[u8]) -> [[u64; 5]; 5]
+    requires { ⌜ at < 136 ⌝ }
+    requires { ⌜ length (now m) ≡ (136 - at) % 136 ⌝ }
+    ensures { λ r. ⌜ r ≡ absorb s at (now (m .entry)) ⌝ }
+{
+    if at == 0 {
+        return s;
+    }
+    let block = block_of(at, m);
+    absorb_blocks(s, &block)
+}
+
 // Bytes of a message, the first at place `at` of its block: to the block's end, whole blocks, and what is left.
 pub fn absorb(s: [[u64; 5]; 5], at: usize, m: &[u8]) -> [[u64; 5]; 5]
     requires { ⌜ at < 136 ⌝ }
     ensures { λ r. ⌜ r ≡ absorb s at (now (m .entry)) ⌝ }
 {
-    let head = (136 - at) % 136;
-    if m.len() < head {
-        return absorb_bytes(s, at, m);
+    if m.len() < 136 - at {
+        return absorb_inside(s, at, m);
     }
+    let head = (136 - at) % 136;
     let end = m.len() - (m.len() - head) % 136;
-    let a = absorb_bytes(s, at, &m[0..head]);
+    let a = absorb_head(s, at, &m[0..head]);
     let b = absorb_blocks(a, &m[head..end]);
-    absorb_bytes(b, 0, &m[end..])
+    absorb_inside(b, 0, &m[end..])
 }
 
 // The place in a block after n more bytes.

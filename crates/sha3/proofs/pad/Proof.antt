@@ -11,14 +11,14 @@ use Rattle.sha3.proofs.pad.Tie as tie
 returns : tie.Need-returns
 returns c =
     let st = c .before .before .before .before in
-    c .permute .ensures
+    c .permuted .ensures
     ∙ ap keccak (c .before .xor-byte2 .ensures ∙ ap (λ (s : StateArray). xorByte s 135 128) (c .before .before .xor-byte .ensures))
     ∙ sym (pad-early (st .args .s) (st .args .at) (search needs))
 
 returns-2 : tie.Need-returns-2
 returns-2 c =
     let st = c .before .before .before in
-    c .permute2 .ensures ∙ ap keccak (c .before .xor-byte3 .ensures) ∙ sym (pad-late (st .args .s) (st .args .at) (omega arith))
+    c .permuted2 .ensures ∙ ap keccak (c .before .xor-byte3 .ensures) ∙ sym (pad-late (st .args .s) (st .args .at) (omega arith))
 
 pub pad-spec : {M : Type 1} → statement M
 pad-spec =

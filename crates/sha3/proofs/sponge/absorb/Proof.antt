@@ -17,11 +17,16 @@ returns-2 c =
     let at = st .args .at in
     let h = (136 - at) % 136 in
     let e = length m - (length m - h) % 136 in
-    c .absorb-bytes3 .ensures
+    c .absorb-inside2 .ensures
     ∙ ap (λ (s : StateArray). absorb s 0 (take (length m - e) (drop e m)))
     (c .before .before .absorb-blocks .ensures
-    ∙ ap (λ (s : StateArray). absorb s 0 (take (e - h) (drop h m))) (c .before .before .before .before .absorb-bytes2 .ensures))
+    ∙ ap (λ (s : StateArray). absorb s 0 (take (e - h) (drop h m))) (c .before .before .before .before .absorb-head .ensures))
     ∙ thirds m (st .args .s) at h e (search needs) (omega arith) (omega arith) (omega arith) (omega arith)
 
 pub absorb-spec : {M : Type 1} → statement M
-absorb-spec = tie.close (tie.spec (λ c. search needs) (λ c κs. search needs) (λ c. search needs) (λ c. search needs) (λ c. search needs) (λ c. search needs) (λ c. search needs) (λ c. search needs) (λ c κs. search needs) (λ c. search needs) (λ c. search needs) (λ c. search needs) (λ c κs. search needs) (λ c. search needs) (λ c. search needs) (λ c. search needs) (λ c κs. search needs) returns-2)
+absorb-spec =
+    tie.close
+    (tie.spec (λ c. search needs) (λ c κs. search needs) (λ c. search needs)
+    (λ c. search needs) (λ c. search needs) (λ c. search needs) (λ c. search needs) (λ c. search needs) (λ c. search needs) (λ c κs. search needs)
+    (λ c. search needs) (λ c. search needs) (λ c. search needs) (λ c κs. search needs)
+    (λ c. search needs) (λ c. search needs) (λ c. search needs) (λ c κs. search needs) returns-2)
