@@ -100,6 +100,7 @@ static enum status take_second(void *with, struct round *round) {
     }
     /* a check that refuses may have ended the session, and is saved too */
     enum status saved = election_save(election);
+    if (!status && !saved) audit_answered(&counting->audit, round->number);
     return status ? status : saved;
 }
 

@@ -2,6 +2,7 @@
 #ifndef COUNTING_H
 #define COUNTING_H
 #include "account.h"
+#include "audit.h"
 #include "ballots.h"
 #include "commands.h"
 #include "paper.h"
@@ -22,13 +23,14 @@ struct counting {
     struct election seen;
     /* the material of rounds whose second message is made by the same command, for as many as there is memory */
     struct material kept[MOST_ROUNDS];
-    bool keeps;      /* whether any is kept */
-    size_t may_keep; /* bytes that may be kept yet */
+    bool keeps;         /* whether any is kept */
+    size_t may_keep;    /* bytes that may be kept yet */
+    struct audit audit; /* from the draw on */
 };
 
 /* Produces, writes and commits the first messages that are due. */
 enum status commit_rounds(struct counting *counting);
-/* Produces and writes the second messages that are due, and checks each round. */
+/* Produces and writes the second messages that are due, and checks each round. The audit is told of each. */
 enum status answer_rounds(struct counting *counting);
 void counting_free(struct counting *counting);
 

@@ -12,12 +12,12 @@
 #include "say.h"
 
 /* The result is made from the files, as a member's check has it, and not from what the state says: every round is checked again. */
-static enum status check_and_write(struct counting *counting, struct transcript *transcript) {
+static enum status check_and_write(struct counting *counting) {
     struct election *election = counting->election;
+    const struct transcript *transcript = &counting->audit.transcript;
     struct result result = {0};
     uint8_t own[DIGEST];
-    enum status status = transcript_read(transcript, election->folder.name, counting->jobs);
-    if (!status) status = transcript_check(transcript);
+    enum status status = audit_finish(&counting->audit, counting->jobs);
     commitment_of(election, &counting->paper, own);
     fingerprint_of(election, own, own);
     if (!status && memcmp(own, transcript->fingerprint, DIGEST)) {
@@ -33,14 +33,12 @@ static enum status check_and_write(struct counting *counting, struct transcript 
 
 static enum status write_result(struct counting *counting) {
     const struct election *election = counting->election;
-    struct transcript transcript;
     if (election_phase(election) != ENDED_ACCEPTED) {
         say("%s: the session did not end accepted, and has no result", election->folder.name);
         return REFUSED;
     }
-    enum status status = check_and_write(counting, &transcript);
+    enum status status = check_and_write(counting);
     if (status) say("%s: no result is written", election->folder.name);
-    transcript_end(&transcript);
     return status;
 }
 
@@ -136,8 +134,14 @@ static enum status count(struct counting *counting, enum goal goal) {
     if (!status) status = commit_rounds(counting);
     if (!status && goal == COMMITTED) return print_committed(counting);
     if (!status && election_phase(election) == CLAIMED) status = draw_seed(election, counting->draw, counting->origin);
-    if (!status) status = answer_rounds(counting);
-    return status ? status : write_result(counting);
+    if (status) return status;
+    /* there is nothing to go beside where all rounds are answered */
+    audit_start(&counting->audit, election->folder.name, election_checked(election),
+                election_phase(election) == DRAWN ? counting->jobs : 1);
+    status = answer_rounds(counting);
+    if (!status) status = write_result(counting);
+    audit_end(&counting->audit);
+    return status;
 }
 
 enum status run(const char *folder, enum goal goal, const struct draw *draw, const struct origin *origin, size_t jobs) {

@@ -109,7 +109,7 @@ enum status say_no_memory(void) {
 }
 
 static void show(const char *what, size_t done, size_t all, const char *left) {
-    if (!isatty(STDERR_FILENO)) return;
+    if (kept_lines || !isatty(STDERR_FILENO)) return;
     fprintf(stderr, "\r\033[K%s: %zu of %zu%s", what, done, all, left);
     fflush(stderr);
 }
@@ -143,5 +143,5 @@ void progress_at_pace(const struct pace *pace, const char *what, size_t done, si
 }
 
 void progress_end(void) {
-    if (isatty(STDERR_FILENO)) fputs("\r\033[K", stderr);
+    if (!kept_lines && isatty(STDERR_FILENO)) fputs("\r\033[K", stderr);
 }

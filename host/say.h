@@ -17,7 +17,7 @@ enum status say_refused(uint64_t reply, const char *what, ...) __attribute__((fo
 /* Says that there is no memory. Answers TROUBLE. */
 enum status say_no_memory(void);
 
-/* What this thread says from now on is kept in a text, or, with none, is said at once again. */
+/* What this thread says from now on is kept in a text, and it shows no progress; with none it is said at once again. */
 void say_later(struct text *kept);
 /* Says what was kept, and frees the text. */
 void say_kept(struct text *kept);

@@ -85,6 +85,8 @@ enum status transcript_read(struct transcript *transcript, const char *folder, s
 
 static enum status read_both(void *with, struct round *round) {
     const struct going *going = with;
+    const struct transcript *transcript = going->transcript;
+    if (transcript->may_read && !transcript->may_read(transcript->lent, round->number)) return TROUBLE;
     enum status status = first_read(&going->seen, round->number, &round->first);
     return status ? status : second_read(&going->seen, round->number, &round->second);
 }
