@@ -135,9 +135,7 @@ static enum status count(struct counting *counting, enum goal goal) {
     if (!status && goal == COMMITTED) return print_committed(counting);
     if (!status && election_phase(election) == CLAIMED) status = draw_seed(election, counting->draw, counting->origin);
     if (status) return status;
-    /* there is nothing to go beside where all rounds are answered */
-    audit_start(&counting->audit, election->folder.name, election_checked(election),
-                election_phase(election) == DRAWN ? counting->jobs : 1);
+    audit_start(&counting->audit, election, counting->jobs);
     status = answer_rounds(counting);
     if (!status) status = write_result(counting);
     audit_end(&counting->audit);
