@@ -8,12 +8,14 @@
 
 PREFIX ?= /usr/local
 DESTDIR ?=
-version = 0.11
+version = 0.12
 
 ARCHIVE ?=
 library = $(if $(ARCHIVE),$(ARCHIVE),target/staticlib/libjackdawnail.a)
 
 host_flags = -std=c11 -D_GNU_SOURCE -O2 -Wall -Wextra -Wconversion -Iinclude -DELECTION_VERSION='"$(version)"'
+# the library needs neither: the host's random numbers are libsodium's stream, and it makes rounds side by side
+host_libraries = -lsodium -pthread
 election_sources = $(filter-out host/digest.c,$(wildcard host/*.c))
 host_headers = $(wildcard host/*.h) include/jackdawnail.h
 
@@ -53,7 +55,7 @@ target/digest: host/digest.c include/jackdawnail.h $(library)
 
 target/election: $(election_sources) $(host_headers) $(library) Makefile
 	@mkdir -p target
-	$(CC) $(host_flags) -o $@ $(election_sources) $(library)
+	$(CC) $(host_flags) -o $@ $(election_sources) $(library) $(host_libraries)
 
 # written anew each time, since PREFIX may be another one
 .PHONY: target/jackdawnail.pc

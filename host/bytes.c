@@ -1,4 +1,4 @@
-/* Runs of bytes, texts, little-endian numbers, decimals. */
+/* Runs of bytes, texts, decimals. */
 #include "bytes.h"
 
 #include <errno.h>
@@ -69,22 +69,6 @@ enum status text_print(struct text *text) {
 void text_free(struct text *text) {
     free(text->at);
     *text = (struct text){0};
-}
-
-uint32_t read32(const uint8_t *at) {
-    return (uint32_t)at[0] | (uint32_t)at[1] << 8 | (uint32_t)at[2] << 16 | (uint32_t)at[3] << 24;
-}
-
-uint64_t read64(const uint8_t *at) {
-    return (uint64_t)read32(at) | (uint64_t)read32(at + 4) << 32;
-}
-
-void write32(uint8_t *at, uint32_t value) {
-    for (size_t i = 0; i < 4; i++) at[i] = (uint8_t)(value >> (8 * i));
-}
-
-void write64(uint8_t *at, uint64_t value) {
-    for (size_t i = 0; i < 8; i++) at[i] = (uint8_t)(value >> (8 * i));
 }
 
 /* The value of a hexadecimal digit, or -1. */

@@ -1,9 +1,11 @@
 /* Runs of bytes, texts that grow, and numbers as the layouts write them: little-endian (document 01, "Layouts"). */
 #ifndef BYTES_H
 #define BYTES_H
+#include <endian.h>
 #include <stdbool.h>
 #include <stddef.h>
 #include <stdint.h>
+#include <string.h>
 
 #include "status.h"
 
@@ -40,10 +42,28 @@ void text_add_groups(struct text *text, const uint8_t *digest);
 enum status text_print(struct text *text);
 void text_free(struct text *text);
 
-uint32_t read32(const uint8_t *at);
-uint64_t read64(const uint8_t *at);
-void write32(uint8_t *at, uint32_t value);
-void write64(uint8_t *at, uint64_t value);
+/* A round has millions of these numbers, so that they are read and written in line. */
+static inline uint32_t read32(const uint8_t *at) {
+    uint32_t value;
+    memcpy(&value, at, sizeof value);
+    return le32toh(value);
+}
+
+static inline uint64_t read64(const uint8_t *at) {
+    uint64_t value;
+    memcpy(&value, at, sizeof value);
+    return le64toh(value);
+}
+
+static inline void write32(uint8_t *at, uint32_t value) {
+    value = htole32(value);
+    memcpy(at, &value, sizeof value);
+}
+
+static inline void write64(uint8_t *at, uint64_t value) {
+    value = htole64(value);
+    memcpy(at, &value, sizeof value);
+}
 
 /* Reads a digest: 64 hexadecimal digits of either case, with or without blanks, hyphens and colons between. False, and no digest, where it
  * is none. */

@@ -14,7 +14,7 @@ static enum status encrypt(struct election *election, const struct bytes *messag
     size_t ring = election->numbers.ring;
     enum status status = bytes_make(&noise, 3 * ring);
     if (status) return status;
-    source_start(&source, seed);
+    source_start(&source, STREAM_OF_TODAY, seed);
     source_ternary(&source, LENT(noise));
     source_end(&source);
     uint64_t reply = jdn_encrypt(LENT(election->sheet), noise.at, ring, noise.at + ring, ring, noise.at + 2 * ring, ring, LENT(*message),

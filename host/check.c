@@ -106,12 +106,12 @@ static enum status print_verdict(const struct transcript *transcript, const stru
     return status ? status : found;
 }
 
-enum status check(const char *folder, const struct expected *expected) {
+enum status check(const char *folder, const struct expected *expected, size_t jobs) {
     struct transcript transcript;
     struct result result = {0};
     enum status status = warn_secrets(folder);
     if (status) return status;
-    status = transcript_read(&transcript, folder);
+    status = transcript_read(&transcript, folder, jobs);
     if (!status) status = ballots_name_unlogged(&transcript.election, &transcript.ballots, &transcript.account.no_ballot);
     if (!status) status = compare_named(&transcript, expected);
     if (!status) status = transcript_check(&transcript);

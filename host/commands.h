@@ -26,8 +26,8 @@ struct draw {
     bool here;
 };
 
-/* Runs an election from where it stands on disk. */
-enum status run(const char *folder, enum goal goal, const struct draw *draw, const struct origin *origin);
+/* Runs an election from where it stands on disk. jobs: how many rounds are worked on side by side, 0 for all processors (jobs.h). */
+enum status run(const char *folder, enum goal goal, const struct draw *draw, const struct origin *origin, size_t jobs);
 
 /* What a member holds a transcript against, where it was named, and a ballot to look for. */
 struct expected {
@@ -36,8 +36,9 @@ struct expected {
     uint32_t mark;
 };
 
-/* Checks a published transcript, with no key, and compares the result with what follows from it. */
-enum status check(const char *folder, const struct expected *expected);
+/* Checks a published transcript, with no key, and compares the result with what follows from it. jobs: 1 where nothing is to be read
+ * ahead. */
+enum status check(const char *folder, const struct expected *expected, size_t jobs);
 
 /* Writes what a member may have of an election to the folder `out`. */
 enum status publish(const char *folder, const char *out);

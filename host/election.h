@@ -47,8 +47,8 @@ struct election {
     /* how far the log is taken, and SHA3-256 of that */
     uint64_t log_length, log_lines;
     uint8_t log_digest[32];
-    /* the seed of each round that the producer has to answer yet */
-    uint8_t seeds[MOST_ROUNDS * SEED];
+    /* the seed of each round that the producer has to answer yet, and the stream that it is for (random.h) */
+    uint8_t seeds[MOST_ROUNDS * SEED], streams[MOST_ROUNDS];
     /* SHA3-256 of lists.txt and of enrolled.txt, from when they are kept on; zeros before */
     uint8_t lists_kept[DIGEST], enrolment_kept[DIGEST];
     /* entries of the register, from the first on, whose noise was looked at */

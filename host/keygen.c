@@ -17,10 +17,10 @@ static enum status draw_key(const struct new_sheet *numbers, const struct origin
     if (!status) status = bytes_make(polynomials, POLYNOMIALS * 8 * ring);
     if (!status) status = origin_seed(origin, FOR_KEY, 0, seed);
     if (status) return status;
-    source_start(&source, seed);
+    source_start(&source, STREAM_OF_TODAY, seed);
     source_ternary(&source, LENT(*key));
     status = origin_seed(origin, FOR_SHEET, 0, seed);
-    source_start(&source, seed);
+    source_start(&source, STREAM_OF_TODAY, seed);
     source_coefficients(&source, polynomials->at, ring, numbers->modulus);
     source_coefficients(&source, polynomials->at + 16 * ring, 3 * ring, numbers->modulus);
     source_end(&source);

@@ -34,17 +34,17 @@ static enum status do_withdraw(const struct options *options, char **words, size
 
 static enum status do_gather(const struct options *options, char **words, size_t count) {
     (void)count;
-    return run(words[0], GATHERED, &options->draw, &options->origin);
+    return run(words[0], GATHERED, &options->draw, &options->origin, 1);
 }
 
 static enum status do_commit(const struct options *options, char **words, size_t count) {
     (void)count;
-    return run(words[0], COMMITTED, &options->draw, &options->origin);
+    return run(words[0], COMMITTED, &options->draw, &options->origin, (size_t)options->jobs);
 }
 
 static enum status do_run(const struct options *options, char **words, size_t count) {
     (void)count;
-    return run(words[0], COUNTED, &options->draw, &options->origin);
+    return run(words[0], COUNTED, &options->draw, &options->origin, (size_t)options->jobs);
 }
 
 static enum status do_publish(const struct options *options, char **words, size_t count) {
@@ -54,7 +54,7 @@ static enum status do_publish(const struct options *options, char **words, size_
 
 static enum status do_check(const struct options *options, char **words, size_t count) {
     (void)count;
-    return check(words[0], &options->expected);
+    return check(words[0], &options->expected, (size_t)options->jobs);
 }
 
 static enum status do_status(const struct options *options, char **words, size_t count) {
@@ -85,6 +85,8 @@ static const char numbers_help[] =
     "  --drown D      40 by default: 0 to 40\n"
     "  --modulus Q    a prime near 2^55 by default; twice the ring divides Q less one\n";
 
+#define JOBS_HELP "  --jobs N       rounds that are made side by side: by default as many as there are processors, where memory allows\n"
+
 /* In the order of an election. */
 static const struct command commands[] = {
     {"keygen", "FOLDER", 1, 1, TAKES_NUMBERS | TAKES_UNSAFE_SEED, do_keygen, "makes key/s, key/e and sheet.txt", numbers_help},
@@ -97,21 +99,22 @@ static const struct command commands[] = {
      "Possible until the ballots are closed, and also before the ballot comes: one that comes later with this mark is not counted.\n"},
     {"gather", "FOLDER", 1, 1, TAKES_UNSAFE_SEED, do_gather, "takes the log so far, and names every ballot that is no good",
      "Reads and judges lists.txt and enrolled.txt too. The noise of the ballots is looked at where key/ is there, all else without it.\n"},
-    {"commit", "FOLDER", 1, 1, TAKES_UNSAFE_SEED, do_commit,
+    {"commit", "FOLDER", 1, 1, TAKES_JOBS | TAKES_UNSAFE_SEED, do_commit,
      "closes the ballots, makes the first messages and prints the commitment to publish",
-     "The commitment is to be public before the seed is drawn.\n"},
-    {"run", "FOLDER", 1, 1, TAKES_SEED | TAKES_DRAW | TAKES_UNSAFE_SEED, do_run,
+     JOBS_HELP "The commitment is to be public before the seed is drawn.\n"},
+    {"run", "FOLDER", 1, 1, TAKES_SEED | TAKES_DRAW | TAKES_JOBS | TAKES_UNSAFE_SEED, do_run,
      "runs the election from where it stands, to result.txt and result.html",
      "  --seed SEED    the seed that was drawn in public after the commitment was: 64 hexadecimal digits. Or seed.bin holds it, 32 bytes\n"
-     "  --draw-here    for trying only: this machine draws the seed, which is no public draw\n"},
+     "  --draw-here    for trying only: this machine draws the seed, which is no public draw\n" JOBS_HELP},
     {"publish", "FOLDER OUT", 2, 2, 0, do_publish, "writes to the folder OUT exactly what a member may have",
      "Never key/ and never state.bin. OUT is made; what is there already may only be an earlier publication of this election.\n"},
-    {"check", "FOLDER", 1, 1, TAKES_SEED | TAKES_EXPECTED, do_check,
+    {"check", "FOLDER", 1, 1, TAKES_SEED | TAKES_EXPECTED | TAKES_JOBS, do_check,
      "checks a published election, with no key: exit status 0 only if it is accepted",
      "  --committed C    the commitment, as the society published it before the draw\n"
      "  --seed SEED      the seed, as it was drawn in public\n"
      "  --fingerprint F  the fingerprint that another member, or the society, reads out\n"
      "  --mark M         finds the ballot with this mark: exit status 0 only if it is counted, too\n"
+     "  --jobs 1         reads no round while another one is checked, and so needs less memory\n"
      "Without --committed and --seed an acceptance holds only if this seed was drawn after this commitment was public.\n"},
     {"status", "FOLDER", 1, 1, 0, do_status, "tells where an election stands and what to do next", ""},
     {"sample", "FOLDER", 1, 1, TAKES_NUMBERS | TAKES_BALLOTS | TAKES_UNSAFE_SEED, do_sample,
@@ -211,7 +214,10 @@ static bool library_fits(void) {
 }
 
 int main(int count, char **words) {
-    if (library_fits()) return (int)read_command(words + 1, (size_t)(count > 1 ? count - 1 : 0));
-    say("the library is another one than its header");
-    return TROUBLE;
+    if (!library_fits()) {
+        say("the library is another one than its header");
+        return TROUBLE;
+    }
+    enum status status = streams_ready();
+    return (int)(status ? status : read_command(words + 1, (size_t)(count > 1 ? count - 1 : 0)));
 }

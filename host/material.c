@@ -40,6 +40,10 @@ void key_free(struct key *key) {
     bytes_free(&key->e);
 }
 
+size_t material_length(const struct numbers *numbers, size_t ballots) {
+    return (30 + 16 * ballots + 504 * numbers->repeats) * numbers->ring + 96 * numbers->repeats;
+}
+
 /* Runs of the lengths that document 01 gives. */
 static enum status material_room(struct material *material, const struct numbers *numbers, size_t ballots) {
     size_t ring = numbers->ring, repeats = numbers->repeats;
@@ -71,11 +75,11 @@ static void material_fill(struct material *material, const struct numbers *numbe
 }
 
 enum status material_make(struct material *material, const struct numbers *numbers, const struct key *key, size_t ballots,
-                          const uint8_t *seed) {
+                          enum stream stream, const uint8_t *seed) {
     struct source source;
     enum status status = material_room(material, numbers, ballots);
     if (status) return status;
-    source_start(&source, seed);
+    source_start(&source, stream, seed);
     material_fill(material, numbers, key, &source);
     source_end(&source);
     return DONE;

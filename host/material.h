@@ -23,9 +23,12 @@ struct material {
     LENT((m).secrets), LENT((m).s0), LENT((m).e0), LENT((m).masks0), LENT((m).masks1), LENT((m).vectors), LENT((m).permutations), \
         LENT((m).salts)
 
-/* All of a round's random numbers from its seed: the same seed gives the same ones, for the first and the second message. */
+/* All of a round's random numbers from its seed: the same seed gives the same ones in the same stream, for the first and the second
+ * message. They are megabytes, so that what is stored between the two is the seed, and not the numbers. */
 enum status material_make(struct material *material, const struct numbers *numbers, const struct key *key, size_t ballots,
-                          const uint8_t *seed);
+                          enum stream stream, const uint8_t *seed);
+/* How many bytes that are. */
+size_t material_length(const struct numbers *numbers, size_t ballots);
 void material_free(struct material *material);
 
 #endif

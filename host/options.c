@@ -4,6 +4,7 @@
 #include <string.h>
 
 #include "election.h"
+#include "jobs.h"
 #include "say.h"
 
 /* How the value of an option is read. */
@@ -79,6 +80,7 @@ static size_t read_option(struct options *options, unsigned takes, char **words,
         {"--rounds", TAKES_NUMBERS, NUMBER, &options->numbers.rounds, ANY_NUMBER},
         {"--repeats", TAKES_NUMBERS, NUMBER, &options->numbers.repeats, 1, UINT64_MAX},
         {"--ballots", TAKES_BALLOTS, NUMBER, &options->ballots, 1, MOST_BALLOTS - 2},
+        {"--jobs", TAKES_JOBS, NUMBER, &options->jobs, 1, MOST_JOBS},
         {"--seed", TAKES_SEED, DIGITS, &options->draw.seed, ANY_NUMBER},
         {"--fingerprint", TAKES_EXPECTED, DIGITS, &options->expected.fingerprint, ANY_NUMBER},
         {"--committed", TAKES_EXPECTED, DIGITS, &options->expected.committed, ANY_NUMBER},

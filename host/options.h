@@ -11,11 +11,13 @@ enum takes {
     TAKES_DRAW = 8,         /* --draw-here */
     TAKES_EXPECTED = 16,    /* --fingerprint, --committed, --mark */
     TAKES_UNSAFE_SEED = 32, /* --unsafe-test-seed */
+    TAKES_JOBS = 64,        /* --jobs */
 };
 
 struct options {
     struct new_sheet numbers;
     uint64_t ballots;
+    uint64_t jobs; /* 0: all processors */
     struct origin origin;
     struct draw draw;
     struct expected expected;

@@ -1,4 +1,4 @@
-/* The producer of a round: its two calls over one material, which is made from the round's seed for each. */
+/* The producer of a round: its two calls over one material. */
 #include "rounds.h"
 #include "say.h"
 
@@ -19,34 +19,34 @@ static enum status first_room(const struct election *election, struct first *fir
     return status;
 }
 
-enum status first_produce(struct election *election, const struct key *key, const struct batch *batch, size_t round, struct first *first) {
-    struct material material = {0};
+enum status first_produce(const struct election *election, const struct key *key, const struct batch *batch, struct round *round) {
+    struct first *first = &round->first;
     enum status status = first_room(election, first);
-    if (!status) status = material_make(&material, &election->numbers, key, batch->count, election->seeds + SEED * round);
-    if (!status) {
-        uint64_t reply = jdn_produce_first(LENT(election->sheet), LENT_MATERIAL(material), LENT(batch->all), LENT(first->head),
-                                           LENT(first->shares0), LENT(first->shares1), LENT(first->claims), LENT(election->scratch));
-        if (reply) status = refused(batch, reply, round);
-    }
-    material_free(&material);
-    return status;
+    if (!status) status = material_make(&round->material, &election->numbers, key, batch->count, STREAM_OF_TODAY, round->seed);
+    if (status) return status;
+    uint64_t reply = jdn_produce_first(LENT(election->sheet), LENT_MATERIAL(round->material), LENT(batch->all), LENT(first->head),
+                                       LENT(first->shares0), LENT(first->shares1), LENT(first->claims), LENT(round->scratch));
+    return reply ? refused(batch, reply, round->number) : DONE;
 }
 
-enum status second_produce(struct election *election, const struct key *key, const struct batch *batch, size_t round,
-                           struct second *second) {
-    struct material material = {0};
+/* The material again, where it is not there. */
+static enum status material_again(const struct election *election, const struct key *key, size_t ballots, struct round *round) {
+    if (round->material.secrets.at) return DONE;
+    return material_make(&round->material, &election->numbers, key, ballots, election->streams[round->number],
+                         election->seeds + SEED * round->number);
+}
+
+enum status second_produce(const struct election *election, const struct key *key, const struct batch *batch, struct round *round) {
+    struct second *second = &round->second;
     uint8_t drawn[1 + MOST_REPEATS]; /* the side, then the challenges */
     size_t repeats = election->numbers.repeats;
-    uint64_t reply = jdn_challenges(election->image, JDN_IMAGE, round, drawn, 1 + repeats);
-    if (reply) return say_refused(reply, "the challenges of round %zu", round);
+    uint64_t reply = jdn_challenges(election->image, JDN_IMAGE, round->number, drawn, 1 + repeats);
+    if (reply) return say_refused(reply, "the challenges of round %zu", round->number);
     enum status status = bytes_make(&second->opening, opening_length(&election->numbers));
     if (!status) status = bytes_make(&second->answers, answers_length(&election->numbers, drawn + 1));
-    if (!status) status = material_make(&material, &election->numbers, key, batch->count, election->seeds + SEED * round);
-    if (!status) {
-        reply = jdn_produce_second(LENT(election->sheet), LENT_MATERIAL(material), LENT(batch->all), drawn[0], drawn + 1, repeats,
-                                   LENT(second->opening), LENT(second->answers), LENT(election->scratch));
-        if (reply) status = refused(batch, reply, round);
-    }
-    material_free(&material);
-    return status;
+    if (!status) status = material_again(election, key, batch->count, round);
+    if (status) return status;
+    reply = jdn_produce_second(LENT(election->sheet), LENT_MATERIAL(round->material), LENT(batch->all), drawn[0], drawn + 1, repeats,
+                               LENT(second->opening), LENT(second->answers), LENT(round->scratch));
+    return reply ? refused(batch, reply, round->number) : DONE;
 }

@@ -22,18 +22,36 @@ enum purpose { FOR_SHEET = 1, FOR_KEY, FOR_BALLOT, FOR_ROUND, FOR_DRAW, FOR_VOTE
 /* A fresh seed of 32 bytes. */
 enum status origin_seed(const struct origin *origin, enum purpose purpose, uint32_t number, uint8_t *out);
 
-/* A stream of random numbers: SHA3-256 of the seed and a counter, block after block. A round needs megabytes of them twice, for its first
- * and its second message; so what is kept between the two is a seed, and not the numbers. */
+/* The streams that numbers are made from a seed with. state.bin names for each round the one that it was committed with, by these numbers:
+ * the same seed gives other numbers in another stream, and the round could not be answered. */
+enum stream {
+    NO_STREAM = 0,
+    SHA3_STREAM = 1,    /* SHA3-256 of the seed and a counter: of rounds that were committed before release 0.12 */
+    CHACHA20_STREAM = 2 /* ChaCha20 with the seed as its key, by libsodium: of all else */
+};
+#define STREAM_OF_TODAY CHACHA20_STREAM
+
+/* Readies the library of the streams, once, before any is started. */
+enum status streams_ready(void);
+
+/* Where the numbers of one seed come from. No seed is the start of two: the nonce of ChaCha20 is always zero. */
+#define STREAM_PART 16384
 struct source {
+    enum stream stream;
     uint8_t seed[SEED];
-    uint64_t blocks;
-    uint8_t block[32];
-    size_t used;
+    uint64_t blocks;     /* of the stream, made so far */
+    size_t used, length; /* of the part that was made last */
+    uint8_t part[STREAM_PART];
 };
 
-void source_start(struct source *source, const uint8_t *seed);
+void source_start(struct source *source, enum stream stream, const uint8_t *seed);
 /* Zeroes it. */
 void source_end(struct source *source);
+/* The next 64 bits of the stream. */
+uint64_t source_word(struct source *source);
+/* The number below the bound that an evenly chosen word gives; false where the word is to be passed over, so that all numbers are equally
+ * likely. */
+bool word_below(uint64_t word, uint64_t bound, uint64_t *number);
 /* Evenly 0 to bound - 1. */
 uint64_t source_below(struct source *source, uint64_t bound);
 /* Evenly chosen bytes 0, 1, 2. */

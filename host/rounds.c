@@ -2,6 +2,7 @@
 #include "rounds.h"
 
 #include <stdio.h>
+#include <string.h>
 
 #include "say.h"
 
@@ -81,6 +82,19 @@ void first_free(struct first *first) {
 void second_free(struct second *second) {
     bytes_free(&second->opening);
     bytes_free(&second->answers);
+}
+
+void round_clear(struct round *round) {
+    explicit_bzero(round->seed, sizeof round->seed);
+    material_free(&round->material);
+    first_free(&round->first);
+    second_free(&round->second);
+}
+
+size_t round_length(const struct numbers *numbers, size_t ballots) {
+    size_t first = head_length(numbers) + 17 * numbers->ring * ballots;
+    size_t second = opening_length(numbers) + (504 * numbers->ring + 64) * numbers->repeats;
+    return material_length(numbers, ballots) + first + second + JDN_SCRATCH;
 }
 
 enum status claims_read(const struct election *election, struct bytes *claims) {

@@ -15,6 +15,21 @@ struct second {
     struct bytes opening, answers;
 };
 
+/* A round that is worked on, and what there is of it. */
+struct round {
+    size_t number;
+    uint8_t seed[SEED]; /* of a first message that is not committed yet */
+    struct material material;
+    struct first first;
+    struct second second;
+    struct bytes scratch; /* JDN_SCRATCH bytes, for the library */
+};
+
+/* Frees, zeroed, all of it but the scratch. */
+void round_clear(struct round *round);
+/* How many bytes a round that is worked on has at most. */
+size_t round_length(const struct numbers *numbers, size_t ballots);
+
 #define CLAIMS_FILE "claims.bin"
 
 /* The files of a round: the parts of the first message, then those of the second. */
@@ -22,11 +37,10 @@ enum round_part { HEAD, SHARES0, SHARES1, OPENING, ANSWERS, ROUND_PARTS };
 #define FIRST_PARTS OPENING
 void round_part_name(char *name, size_t room, size_t round, enum round_part part);
 
-/* Produces the first message of a round from its seed. */
-enum status first_produce(struct election *election, const struct key *key, const struct batch *batch, size_t round, struct first *first);
-/* Produces the second message for what was drawn. */
-enum status second_produce(struct election *election, const struct key *key, const struct batch *batch, size_t round,
-                           struct second *second);
+/* Produces the first message of a round from its seed. The material is left in the round. */
+enum status first_produce(const struct election *election, const struct key *key, const struct batch *batch, struct round *round);
+/* Produces the second message for what was drawn: from the material that is in the round, or else from the stored seed and its stream. */
+enum status second_produce(const struct election *election, const struct key *key, const struct batch *batch, struct round *round);
 
 /* A first message takes the place of all that stood in the round's folder. */
 enum status first_write(const struct election *election, size_t round, const struct first *first);

@@ -49,7 +49,7 @@ static enum status cast_all(struct election *election, size_t ballots, const str
     uint8_t seed[SEED];
     enum status status = origin_seed(origin, FOR_VOTES, 0, seed);
     if (status) return status;
-    source_start(&votes, seed);
+    source_start(&votes, STREAM_OF_TODAY, seed);
     for (size_t i = 0; i < ballots + 2 && !status; i++) {
         progress("Ballots", i + 1, ballots + 2);
         status = cast_one(election, (uint32_t)(FIRST_MARK + i), &votes, origin);

@@ -45,13 +45,33 @@ static const struct refusal refusals[] = {
 /* The longest line that is said; a longer one is cut off. */
 #define LINE_ROOM 8192
 
-/* Puts a line on standard error. What it quotes may come from somebody else's files: a control character in it, which a terminal would
- * obey, is shown as a question mark. */
+/* Where the lines of this thread are kept, where they are. */
+static _Thread_local struct text *kept_lines;
+
+/* Puts a line on standard error, or keeps it. What it quotes may come from somebody else's files: a control character in it, which a
+ * terminal would obey, is shown as a question mark. */
 static void put_line(char *line) {
     for (char *at = line; *at; at++)
         if ((unsigned char)*at < 32 || *at == 127) *at = '?';
+    if (kept_lines) {
+        text_add(kept_lines, "election: %s\n", line);
+        return;
+    }
     progress_end();
     fprintf(stderr, "election: %s\n", line);
+}
+
+void say_later(struct text *kept) {
+    kept_lines = kept;
+}
+
+void say_kept(struct text *kept) {
+    if (kept->length) {
+        progress_end();
+        fputs(kept->at, stderr);
+    }
+    if (kept->failed) say_no_memory();
+    text_free(kept);
 }
 
 void say(const char *form, ...) {
@@ -88,12 +108,40 @@ enum status say_no_memory(void) {
     return TROUBLE;
 }
 
-void progress(const char *what, size_t done, size_t all) {
-    if (!isatty(STDERR_FILENO)) return;
-    fprintf(stderr, "\r\033[K%s: %zu of %zu", what, done, all);
+static void show(const char *what, size_t done, size_t all, const char *left) {
+    if (kept_lines || !isatty(STDERR_FILENO)) return;
+    fprintf(stderr, "\r\033[K%s: %zu of %zu%s", what, done, all, left);
     fflush(stderr);
 }
 
+void progress(const char *what, size_t done, size_t all) {
+    show(what, done, all, "");
+}
+
+void pace_start(struct pace *pace, size_t before) {
+    clock_gettime(CLOCK_MONOTONIC, &pace->began);
+    pace->before = before;
+}
+
+void progress_at_pace(const struct pace *pace, const char *what, size_t done, size_t all) {
+    static const struct unit {
+        double seconds;
+        const char *name;
+    } units[] = {{3600, "hour"}, {60, "minute"}, {1, "second"}};
+    struct timespec now;
+    char left[64] = "";
+    clock_gettime(CLOCK_MONOTONIC, &now);
+    if (done > pace->before && done < all) {
+        double passed = (double)(now.tv_sec - pace->began.tv_sec) + (double)(now.tv_nsec - pace->began.tv_nsec) / 1e9;
+        double due = passed / (double)(done - pace->before) * (double)(all - done);
+        /* from one and a half on a unit is used; what is left of it is rounded up */
+        const struct unit *unit = due >= 5400 ? units : due >= 90 ? units + 1 : units + 2;
+        unsigned long count = (unsigned long)(due / unit->seconds) + 1;
+        snprintf(left, sizeof left, ", about %lu %s%s left", count, unit->name, count == 1 ? "" : "s");
+    }
+    show(what, done, all, left);
+}
+
 void progress_end(void) {
-    if (isatty(STDERR_FILENO)) fputs("\r\033[K", stderr);
+    if (!kept_lines && isatty(STDERR_FILENO)) fputs("\r\033[K", stderr);
 }

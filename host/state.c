@@ -1,6 +1,6 @@
 /* The state file: the name of its form, the parts, and SHA3-256 of all that, so that a damaged file is not gone on from.
- * Form 1, of an earlier release, ends with the seeds; form 2 has what is kept of lists.txt and enrolled.txt, and how many entries were
- * looked at, behind them. */
+ * Form 1 ends with the seeds; form 2 has what is kept of lists.txt and enrolled.txt, and how many entries were looked at, behind them;
+ * form 3 has behind that the stream that each seed is for. The releases of forms 1 and 2 had one stream, that of SHA3-256. */
 #include "state.h"
 
 #include <string.h>
@@ -8,10 +8,11 @@
 #include "say.h"
 
 #define TITLE 16
-static const uint8_t title1[TITLE] = "jackdawnail 1\n", title2[TITLE] = "jackdawnail 2\n";
+#define FORMS 3
+static const uint8_t titles[FORMS][TITLE] = {"jackdawnail 1\n", "jackdawnail 2\n", "jackdawnail 3\n"};
 
 /* A release whose images have another length has another form, and reads these by the length that they have. */
-_Static_assert(JDN_IMAGE == 4297, "forms 1 and 2 hold an image of 4,297 bytes");
+_Static_assert(JDN_IMAGE == 4297, "forms 1 to 3 hold an image of 4,297 bytes");
 
 /* Where the parts stand in the file. */
 enum {
@@ -24,11 +25,12 @@ enum {
     AT_LISTS = AT_SEEDS + MOST_ROUNDS * SEED,
     AT_ENROLMENT = AT_LISTS + DIGEST,
     AT_EXAMINED = AT_ENROLMENT + DIGEST,
-    AT_DIGEST = AT_EXAMINED + 8,
-    STATE_LENGTH = AT_DIGEST + DIGEST,
-    /* form 1 has its digest where the new parts begin */
-    STATE1_LENGTH = AT_LISTS + DIGEST
+    AT_STREAMS = AT_EXAMINED + 8,
+    AT_DIGEST = AT_STREAMS + MOST_ROUNDS
 };
+
+/* Where each form has its digest, with which it ends: where the parts begin that it has not. */
+static const size_t digest_at[FORMS] = {AT_LISTS, AT_STREAMS, AT_DIGEST};
 
 /* The part of an image that clear writes from the sheet: its numbers and its digest. */
 #define SHEET_AT 1
@@ -36,9 +38,9 @@ enum {
 
 enum status state_save(const struct election *election) {
     struct bytes file = {0};
-    enum status status = bytes_make(&file, STATE_LENGTH);
+    enum status status = bytes_make(&file, AT_DIGEST + DIGEST);
     if (status) return status;
-    memcpy(file.at, title2, TITLE);
+    memcpy(file.at, titles[FORMS - 1], TITLE);
     memcpy(file.at + AT_IMAGE, election->image, JDN_IMAGE);
     memcpy(file.at + AT_REGISTER, election->reg, JDN_REGISTER);
     write64(file.at + AT_LENGTH, election->log_length);
@@ -48,26 +50,27 @@ enum status state_save(const struct election *election) {
     memcpy(file.at + AT_LISTS, election->lists_kept, DIGEST);
     memcpy(file.at + AT_ENROLMENT, election->enrolment_kept, DIGEST);
     write64(file.at + AT_EXAMINED, election->examined);
+    memcpy(file.at + AT_STREAMS, election->streams, sizeof election->streams);
     jdn_digest(file.at, AT_DIGEST, file.at + AT_DIGEST, DIGEST);
     status = file_write(&election->folder, STATE, FOR_OWNER, LENT(file));
     bytes_free(&file);
     return status;
 }
 
-/* Whether the file is whole, in one of the two forms. */
-static bool is_whole(const struct bytes *file) {
+/* The form of a file that is whole, from 1 on; 0 where it is not. */
+static size_t form_of(const struct bytes *file) {
     uint8_t digest[DIGEST];
-    size_t digested = file->length - DIGEST;
-    const uint8_t *title = file->length == STATE_LENGTH ? title2 : title1;
-    if (file->length != STATE_LENGTH && file->length != STATE1_LENGTH) return false;
+    size_t form = 0, digested = file->length - DIGEST;
+    while (form < FORMS && digested != digest_at[form]) form++;
+    if (form == FORMS) return 0;
     jdn_digest(file->at, digested, digest, sizeof digest);
-    return !memcmp(file->at, title, TITLE) && !memcmp(digest, file->at + digested, sizeof digest);
+    return !memcmp(file->at, titles[form], TITLE) && !memcmp(digest, file->at + digested, sizeof digest) ? form + 1 : 0;
 }
 
 /* Whether the file is whole, and its session is one of this sheet that the library takes. */
 static enum status state_fits(const struct election *election, const struct bytes *file) {
     const uint8_t *image = file->at + AT_IMAGE;
-    if (!is_whole(file)) {
+    if (!form_of(file)) {
         say("%s/%s is damaged, or of a later release", election->folder.name, STATE);
         return REFUSED;
     }
@@ -80,7 +83,25 @@ static enum status state_fits(const struct election *election, const struct byte
     return JDN_NUMBER(reply) ? say_refused(reply, "%s/%s", election->folder.name, STATE) : DONE;
 }
 
-/* Takes the parts that both forms have, and the new ones of form 2. */
+/* The streams of the rounds that are to be answered yet: each has to be one that this release can answer with. */
+static enum status take_streams(struct election *election, const struct bytes *file) {
+    size_t committed = election_committed(election);
+    if (form_of(file) == FORMS)
+        memcpy(election->streams, file->at + AT_STREAMS, sizeof election->streams);
+    else
+        memset(election->streams, SHA3_STREAM, committed);
+    for (size_t round = election_checked(election); round < committed; round++) {
+        unsigned stream = election->streams[round];
+        if (stream == SHA3_STREAM || stream == CHACHA20_STREAM) continue;
+        say("%s/%s: round %zu is committed with random numbers of stream %u, which this release does not have. To be answered it needs "
+            "the release that committed it, or a later one",
+            election->folder.name, STATE, round, stream);
+        return REFUSED;
+    }
+    return DONE;
+}
+
+/* Takes the parts that all forms have, and those of form 2. */
 static void take_parts(struct election *election, const struct bytes *file) {
     memcpy(election->image, file->at + AT_IMAGE, JDN_IMAGE);
     memcpy(election->reg, file->at + AT_REGISTER, JDN_REGISTER);
@@ -88,7 +109,7 @@ static void take_parts(struct election *election, const struct bytes *file) {
     election->log_lines = read64(file->at + AT_LINES);
     memcpy(election->log_digest, file->at + AT_LOG, 32);
     memcpy(election->seeds, file->at + AT_SEEDS, sizeof election->seeds);
-    if (file->length != STATE_LENGTH) return;
+    if (form_of(file) < 2) return;
     memcpy(election->lists_kept, file->at + AT_LISTS, DIGEST);
     memcpy(election->enrolment_kept, file->at + AT_ENROLMENT, DIGEST);
     election->examined = read64(file->at + AT_EXAMINED);
@@ -96,9 +117,10 @@ static void take_parts(struct election *election, const struct bytes *file) {
 
 enum status state_load(struct election *election) {
     struct bytes file = {0};
-    enum status status = file_read(&election->folder, STATE, STATE1_LENGTH, STATE_LENGTH, &file);
+    enum status status = file_read(&election->folder, STATE, digest_at[0] + DIGEST, digest_at[FORMS - 1] + DIGEST, &file);
     if (!status) status = state_fits(election, &file);
     if (!status) take_parts(election, &file);
+    if (!status) status = take_streams(election, &file);
     bytes_free(&file);
     return status;
 }

@@ -4,8 +4,8 @@
 #include <string.h>
 
 #include "fingerprint.h"
+#include "jobs.h"
 #include "log.h"
-#include "rounds.h"
 #include "say.h"
 
 /* Clear is done; the log is taken and the ballots are closed. */
@@ -24,18 +24,36 @@ static enum status claim(struct election *election, struct bytes *claims) {
     return reply ? say_refused(reply, CLAIMS_FILE) : DONE;
 }
 
-static enum status commit_all(struct election *election) {
-    enum status status = DONE;
-    size_t rounds = election->numbers.rounds;
-    for (size_t round = 0; round < rounds && !status; round++) {
-        struct first first = {0};
-        progress("First messages", round + 1, rounds);
-        status = first_read(election, round, &first);
-        if (!status) status = round_commit(election, round, &first);
-        first_free(&first);
-    }
-    progress_end();
-    return status;
+/* What the rounds are gone through with. The thread that reads ahead goes by the session as it was when that began. */
+struct going {
+    struct transcript *transcript;
+    struct batch batch;
+    struct election seen;
+};
+
+static enum status go_through(struct going *going, struct jobs *jobs) {
+    const struct election *election = &going->transcript->election;
+    going->seen = *election;
+    jobs->end = election->numbers.rounds;
+    jobs->most = going->transcript->jobs;
+    jobs->with = going;
+    return jobs_do(jobs);
+}
+
+static enum status read_first(void *with, struct round *round) {
+    const struct going *going = with;
+    return first_read(&going->seen, round->number, &round->first);
+}
+
+static enum status take_first(void *with, struct round *round) {
+    struct going *going = with;
+    return round_commit(&going->transcript->election, round->number, &round->first);
+}
+
+static enum status commit_all(struct transcript *transcript) {
+    struct going going = {.transcript = transcript};
+    struct jobs jobs = {.what = "First messages", .make = read_first, .take = take_first};
+    return go_through(&going, &jobs);
 }
 
 static enum status draw(struct election *election) {
@@ -49,14 +67,15 @@ static enum status draw(struct election *election) {
     return status;
 }
 
-enum status transcript_read(struct transcript *transcript, const char *folder) {
+enum status transcript_read(struct transcript *transcript, const char *folder, size_t jobs) {
     struct election *election = &transcript->election;
     memset(transcript, 0, sizeof *transcript);
+    transcript->jobs = jobs == 1 ? 1 : 2;
     enum status status = election_start(election, folder);
     if (!status) status = gather(transcript);
     if (!status) status = paper_read(election, &transcript->paper);
     if (!status) status = claim(election, &transcript->claims);
-    if (!status) status = commit_all(election);
+    if (!status) status = commit_all(transcript);
     if (!status) status = draw(election);
     if (status) return status;
     commitment_of(election, &transcript->paper, transcript->commitment);
@@ -64,27 +83,26 @@ enum status transcript_read(struct transcript *transcript, const char *folder) {
     return DONE;
 }
 
-static enum status check_round(struct transcript *transcript, const struct batch *batch, size_t round) {
-    struct first first = {0};
-    struct second second = {0};
-    enum status status = first_read(&transcript->election, round, &first);
-    if (!status) status = second_read(&transcript->election, round, &second);
-    if (!status) status = round_check(&transcript->election, round, batch, &transcript->claims, &first, &second);
-    first_free(&first);
-    second_free(&second);
-    return status;
+static enum status read_both(void *with, struct round *round) {
+    const struct going *going = with;
+    const struct transcript *transcript = going->transcript;
+    if (transcript->may_read && !transcript->may_read(transcript->lent, round->number)) return TROUBLE;
+    enum status status = first_read(&going->seen, round->number, &round->first);
+    return status ? status : second_read(&going->seen, round->number, &round->second);
+}
+
+static enum status take_both(void *with, struct round *round) {
+    struct going *going = with;
+    struct transcript *transcript = going->transcript;
+    return round_check(&transcript->election, round->number, &going->batch, &transcript->claims, &round->first, &round->second);
 }
 
 enum status transcript_check(struct transcript *transcript) {
-    size_t rounds = transcript->election.numbers.rounds;
-    struct batch batch = {0};
-    enum status status = batch_make(&transcript->election, &transcript->ballots, &batch);
-    for (size_t round = 0; round < rounds && !status; round++) {
-        progress("Checks", round + 1, rounds);
-        status = check_round(transcript, &batch, round);
-    }
-    progress_end();
-    batch_free(&batch);
+    struct going going = {.transcript = transcript};
+    struct jobs jobs = {.what = "Checks", .make = read_both, .take = take_both};
+    enum status status = batch_make(&transcript->election, &transcript->ballots, &going.batch);
+    if (!status) status = go_through(&going, &jobs);
+    batch_free(&going.batch);
     if (!status && election_phase(&transcript->election) != ENDED_ACCEPTED) {
         say("%s: the session did not end accepted", transcript->election.folder.name);
         status = REFUSED;

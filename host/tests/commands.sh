@@ -34,6 +34,12 @@ wrong_options() {
     wrong "--seed ${seed}0: 64 hexadecimal digits are due" run --seed "${seed}0" y
     wrong "--fingerprint ${seed/0/g}: 64 hexadecimal digits are due" check --fingerprint "${seed/0/g}" y
     wrong "--ring is no option of this command" check --ring 4 y
+    wrong "--jobs 0: a whole number from 1 to 128 is due" run --jobs 0 y
+    wrong "--jobs 129: a whole number from 1 to 128 is due" commit y --jobs 129
+    wrong "--jobs two: a whole number from 1 to 128 is due" check --jobs two y
+    wrong "--jobs -1: a whole number from 1 to 128 is due" run y --jobs -1
+    wrong "--jobs 4294967297: a whole number from 1 to 128 is due" run y --jobs 4294967297
+    wrong "--jobs is no option of this command" gather --jobs 2 y
     wrong "--seed is no option of this command" commit y --seed "$seed"
     wrong "--ring 4096 is outside its range: a power of two from 4 to 2048" keygen --ring 4096 "$room/none"
     wrong "--ring 12 is no power of two" keygen --ring 12 "$room/none"

@@ -27,19 +27,22 @@ clean() { # FOLDER
     [ ! -d "$1" ] || find "$1" -depth \( -name '*.new' -o -name '*.kept' \) -exec rm -r {} +
 }
 
+# With all rounds made side by side; the run that goes on has one at a time.
 every_cut_of_a_run() {
     local folder=$room/cut count k
-    expect 0 "" unwaited sample "${unsafe[@]}" --ring 4 --ballots 2 "$room/cut_ready"
+    expect 0 "" unwaited sample "${unsafe[@]}" --ring 4 --ballots 2 --rounds 3 "$room/cut_ready"
     cp -r "$room/cut_ready" "$room/cut_done"
-    count=$(operations run "${unsafe[@]}" "$room/cut_done")
+    count=$(operations run --jobs 1 "${unsafe[@]}" "$room/cut_done")
     succeed "a run has operations" test "$count" -gt 50
+    cp -r "$room/cut_ready" "$folder"
+    succeed "as many with rounds side by side" test "$(operations run --jobs 3 "${unsafe[@]}" "$folder")" -eq "$count"
     succeed "with a ballot that came after its withdrawal" grep -qx '  1004' "$room/cut_done/result.txt"
     for ((k = 1; k <= count; k++)); do
         rm -rf "$folder"
         cp -r "$room/cut_ready" "$folder"
-        cut_at "$k" run "${unsafe[@]}" "$folder"
+        cut_at "$k" run --jobs 3 "${unsafe[@]}" "$folder"
         succeed "cut $k cuts" test $? -eq 137
-        expect 0 "All rounds accepted yes" unwaited run --draw-here "${unsafe[@]}" "$folder"
+        expect 0 "All rounds accepted yes" unwaited run --jobs 1 --draw-here "${unsafe[@]}" "$folder"
         clean "$folder"
         succeed "cut $k of $count" diff -r "$folder" "$room/cut_done"
     done
@@ -49,11 +52,11 @@ every_cut_of_a_run() {
 # With fresh random numbers after the cut: what an unfinished round left is written over, and no half of it is used.
 cuts_with_fresh_numbers() {
     local folder=$room/cut count=$(($(cat "$room/count"))) k
-    for ((k = 1; k <= count; k += 2)); do
+    for ((k = 1; k <= count; k += 3)); do
         rm -rf "$folder"
         cp -r "$room/cut_ready" "$folder"
-        cut_at "$k" run --draw-here "$folder"
-        expect 0 "All rounds accepted yes" unwaited run --draw-here "$folder"
+        cut_at "$k" run --jobs 2 --draw-here "$folder"
+        expect 0 "All rounds accepted yes" unwaited run --jobs 3 --draw-here "$folder"
         succeed "the votes after cut $k" diff <(votes "$folder") <(votes "$room/cut_done")
         rm -rf "$room/other"
         expect 0 "files are published" unwaited publish "$folder" "$room/other"
@@ -67,11 +70,26 @@ two_cuts() {
     for ((k = 1; k <= count; k += 7)); do
         rm -rf "$folder"
         cp -r "$room/cut_ready" "$folder"
-        cut_at "$k" run "${unsafe[@]}" "$folder"
-        cut_at $((1 + RANDOM % (count - k + 1))) run "${unsafe[@]}" "$folder"
+        cut_at "$k" run --jobs 2 "${unsafe[@]}" "$folder"
+        cut_at $((1 + RANDOM % (count - k + 1))) run --jobs 3 "${unsafe[@]}" "$folder"
         expect 0 "All rounds accepted yes" unwaited run --draw-here "${unsafe[@]}" "$folder"
         clean "$folder"
         succeed "cuts at $k and later" diff -r "$folder" "$room/cut_done"
+    done
+}
+
+# Where the system gives fewer threads than are asked for, or none, fewer rounds are made side by side.
+few_threads() {
+    local count folder=$room/cut
+    gcc -std=c11 -O2 -Wall -Wextra -shared -fPIC -o "$room/few_threads.so" host/tests/few_threads.c || {
+        tally 1 "building few_threads.c"
+        return
+    }
+    for count in 0 1 2; do
+        rm -rf "$folder"
+        cp -r "$room/cut_ready" "$folder"
+        expect 0 "All rounds accepted yes" env THREADS=$count LD_PRELOAD="$room/few_threads.so" "$program" run --jobs 3 "${unsafe[@]}" "$folder"
+        succeed "the same bytes with $count threads" diff -r "$folder" "$room/cut_done"
     done
 }
 
@@ -187,6 +205,7 @@ crashes() {
     every_cut_of_a_run
     cuts_with_fresh_numbers
     two_cuts
+    few_threads
     done_is_on_disk
     every_cut_of_a_vote
     every_cut_of_a_withdrawal

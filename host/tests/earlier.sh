@@ -1,6 +1,7 @@
 # Folders that earlier releases stored, at several points of an election, are gone on with; and what they published is checked. They were
-# made by those releases (host/tests/earlier): a folder is `base` with the files of its point over it. Those of 0.9, and of the release
-# before, 0.10, stand in folders of their names. Of a state.bin the zeros of the empty register are left out.
+# made by those releases (host/tests/earlier): a folder is `base` with the files of its point over it. Those of 0.9, 0.10 and the release
+# before, 0.11, stand in folders of their names. Of a state.bin the zeros of the empty register are left out. They made the random numbers
+# of a round by SHA3-256: what they committed is answered with that stream, and what is committed now is of another.
 
 # The folder as it was stored.
 stored() { # POINT
@@ -38,7 +39,7 @@ gone_on() { # POINT OPTION..
     esac
     succeed "the votes of $point" \
         diff <(told "$room/stored/result.txt") <(told "host/tests/earlier/$(dirname "$point")/counted/result.txt")
-    succeed "its state is of the form of today" test "$(head -n 1 "$room/stored/state.bin" | tr -d '\0')" = "jackdawnail 2"
+    succeed "its state is of the form of today" test "$(head -n 1 "$room/stored/state.bin" | tr -d '\0')" = "jackdawnail 3"
     publish "$room/stored" "$room/other"
     expect 0 "accepted" "$program" check "$room/other"
 }
@@ -77,19 +78,31 @@ earlier_form() {
     said "accepted"
 }
 
-# Of a release whose forms are those of today. It was gathering, with a line of the log not taken yet; or it had committed; or it had
-# counted and published.
-form_of_today() { # RELEASE
-    local counted=host/tests/earlier/$1/counted file
-    gone_on "$1/gathered" --draw-here
+# Files are those that the release itself made of this point when it went on.
+as_counted() { # RELEASE FILE..
+    local release=$1 file
+    shift
+    for file in "$@"; do succeed "$file of $release" cmp "$room/stored/$file" "host/tests/earlier/$release/counted/$file"; done
+}
+
+# Of a release whose state.bin is of form 2, and whose results are of the form of today. It was gathering, with a line of the log not taken
+# yet; or it had committed; or it had counted and published.
+second_form() { # RELEASE ROUND..
+    local release=$1 rounds
+    shift
+    rounds=("${@/#/rounds/}")
+    gone_on "$release/gathered" --draw-here
     as_it_was log.txt ballots/1001.ballot
-    gone_on "$1/committed" --seed "$seed"
-    as_it_was claims.bin rounds/00{0,1}/{head,shares0,shares1}.bin
+    gone_on "$release/committed" --seed "$seed"
+    as_it_was claims.bin "${rounds[@]/%//head.bin}" "${rounds[@]/%//shares0.bin}" "${rounds[@]/%//shares1.bin}"
     # the same draw gives the same count, and it is told in the same words
-    for file in result.txt result.html rounds/00{0,1}/{opening,answers}.bin; do
-        succeed "$file of $1" cmp "$room/stored/$file" "$counted/$file"
-    done
-    # what it published is accepted, and its result is compared
+    as_counted "$release" result.txt result.html "${rounds[@]/%//opening.bin}" "${rounds[@]/%//answers.bin}"
+    published_by "$release"
+}
+
+# What it published is accepted, and its result is compared.
+published_by() { # RELEASE
+    local counted=host/tests/earlier/$1/counted
     as_published "$1/counted"
     expect 0 "accepted" "$program" check "$room/stored" --seed "$seed" --mark 1001
     succeed "no warning" test "$(grep -c WARNING "$room/said")" -eq 0
@@ -137,10 +150,42 @@ early_then_gone_on() {
     expect 1 "result.txt is not the result of this transcript" "$program" check "$room/stored"
 }
 
+# The streams of the rounds as state.bin names them: they stand before its digest.
+streams_of() { # ROUND..
+    local round
+    for round in "$@"; do byte_at "$room/stored/state.bin" $(($(size "$room/stored/state.bin") - 32 - 128 + round)); done | xargs
+}
+
+# The points between: it had answered the first of three rounds; or had committed two of them, and this release commits the third. What it
+# had committed is answered as it answered it, whether by the command that commits the third round or by another one.
+between() { # RELEASE
+    gone_on "$1/half_answered"
+    as_it_was seed.bin rounds/000/{head,shares0,shares1,opening,answers}.bin rounds/00{1,2}/{head,shares0,shares1}.bin
+    as_counted "$1" result.txt result.html rounds/00{1,2}/{opening,answers}.bin
+    stored "$1/half_committed"
+    cp -r "$room/stored" "$room/stored_before"
+    expect 0 "Commitment" "$program" commit "$room/stored"
+    as_it_was claims.bin rounds/00{0,1}/{head,shares0,shares1}.bin
+    succeed "the streams of the rounds" test "$(streams_of 0 1 2 3)" = "1 1 2 0"
+    cp -r "$room/stored" "$room/stored_before"
+    expect 0 "All rounds accepted yes" "$program" run --seed "$seed" "$room/stored"
+    as_it_was claims.bin rounds/00{0,1,2}/{head,shares0,shares1}.bin
+    as_counted "$1" rounds/00{0,1}/{opening,answers}.bin
+    succeed "no stream is needed any more" test "$(streams_of 0 1 2 3)" = "0 0 0 0"
+    stored "$1/half_committed"
+    bytes "$seed" >"$room/stored/seed.bin"
+    expect 0 "All rounds accepted yes" "$program" run --jobs 3 "$room/stored"
+    as_counted "$1" rounds/00{0,1}/{opening,answers}.bin
+    publish "$room/stored" "$room/other"
+    expect 0 "accepted" "$program" check "$room/other"
+}
+
 earlier() {
     earlier_form
-    form_of_today 0.9
+    second_form 0.9 000 001
     begun_then_early
-    form_of_today 0.10
+    second_form 0.10 000 001
     early_then_gone_on
+    second_form 0.11 000 001 002
+    between 0.11
 }

@@ -130,7 +130,9 @@ watched() {
     rm "$folder/state.bin"
     command -v script >"$room/answer" || return
     expect 0 "First messages: 2 of 2" script -qec "'$program' run --draw-here '$folder'" /dev/null
-    said "Second messages and checks: 1 of 2"
+    said "Second messages and checks: 1 of 2, about 1 second left"
+    said "First messages: 1 of 2, about 1 second left"
+    succeed "no time left before a round is done" test "$(grep -c '0 of 2,' "$room/said")" -eq 0
 }
 
 elections() {

@@ -101,13 +101,38 @@ states() {
     fault 3 "log.txt is missing" commit rm log.txt
 }
 
-# Puts a phase into the session of a state, and the digest at its end right, so that only the library can tell.
-set_phase() { # PHASE
-    poke state.bin 16 "$1"
+# Puts a byte into a state, and the digest at its end right, so that only what the byte says can be wrong.
+set_state() { # PLACE BYTE
+    poke state.bin "$1" "$2"
     local kept=$(($(size state.bin) - 32)) digest
     digest=$(head -c "$kept" state.bin | sha)
     truncate -s "$kept" state.bin
     bytes "$digest" >>state.bin
+}
+
+# The phase of the session, which stands behind the title: only the library can tell.
+set_phase() { # PHASE
+    set_state 16 "$1"
+}
+
+# The stream of a round: 128 of them stand before the digest.
+set_stream() { # ROUND STREAM
+    set_state $(($(size state.bin) - 32 - 128 + $1)) "$2"
+}
+
+# A round is answered with the stream that its state names. One that this release does not have is not guessed; a wrong one would answer
+# with other numbers than were committed, and lose the election.
+streams() {
+    fault 1 "state.bin: round 1 is committed with random numbers of stream 3, which this release does not have" commit set_stream 1 3
+    succeed "nothing is drawn" test ! -e "$room/fault/seed.bin"
+    expect 1 "round 1 is committed with random numbers of stream 3" "$program" status "$room/fault"
+    (cd "$room/fault" && set_stream 1 2)
+    expect 0 "All rounds accepted yes" "$program" run --draw-here "${unsafe[@]}" "$room/fault"
+    fault 1 "round 0 is committed with random numbers of stream 0" commit set_stream 0 0
+    fault 1 "round 0: refused 7: the opened half of the key does not give its half of the public key" commit set_stream 0 1
+    # nothing is asked of rounds that are answered, or not committed
+    fault 0 "All rounds accepted yes" run set_stream 0 9
+    fault 0 "All rounds accepted yes" gather set_stream 0 9
 }
 
 phases() {
@@ -200,6 +225,7 @@ faults() {
     without_key
     states
     phases
+    streams
     rolled_back
     held
     refused_lines

@@ -5,6 +5,7 @@
  * waited for. */
 #include <dlfcn.h>
 #include <fcntl.h>
+#include <pthread.h>
 #include <signal.h>
 #include <stdarg.h>
 #include <stdbool.h>
@@ -26,6 +27,8 @@ struct given {
     bool replaced, is_folder;
 };
 
+/* Threads of the program read files while another one writes: one operation is looked at at a time. */
+static pthread_mutex_t lock = PTHREAD_MUTEX_INITIALIZER;
 static long operations;
 static int dirty[MOST]; /* handles with bytes that are not synced; a duplicate where the program closed it */
 static int dirty_count;
@@ -71,20 +74,26 @@ __attribute__((destructor)) static void end(void) {
 ssize_t write(int handle, const void *at, size_t length) {
     struct stat about;
     bool file = !fstat(handle, &about) && S_ISREG(about.st_mode) && handle > 2;
+    pthread_mutex_lock(&lock);
     if (file) step();
     if (file && dirty_count < MOST) dirty[dirty_count++] = handle;
-    return syscall(SYS_write, handle, at, length);
+    ssize_t written = syscall(SYS_write, handle, at, length);
+    pthread_mutex_unlock(&lock);
+    return written;
 }
 
 int close(int handle) {
     bool kept = false;
+    pthread_mutex_lock(&lock);
     for (int i = 0; i < dirty_count; i++) {
         if (dirty[i] != handle) continue;
         dirty[i] = (int)syscall(SYS_dup, handle);
         kept = true;
     }
     if (kept) step();
-    return (int)syscall(SYS_close, handle);
+    int failed = (int)syscall(SYS_close, handle);
+    pthread_mutex_unlock(&lock);
+    return failed;
 }
 
 /* The names in a folder that is synced last. */
@@ -101,12 +110,14 @@ static void settle(ino_t folder) {
 
 int fsync(int handle) {
     struct stat about;
+    pthread_mutex_lock(&lock);
     step();
     if (!fstat(handle, &about) && S_ISDIR(about.st_mode)) settle(about.st_ino);
     int left = 0;
     for (int i = 0; i < dirty_count; i++)
         if (dirty[i] != handle) dirty[left++] = dirty[i];
     dirty_count = left;
+    pthread_mutex_unlock(&lock);
     return 0;
 }
 
