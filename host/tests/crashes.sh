@@ -88,7 +88,8 @@ few_threads() {
     for count in 0 1 2; do
         rm -rf "$folder"
         cp -r "$room/cut_ready" "$folder"
-        expect 0 "All rounds accepted yes" env THREADS=$count LD_PRELOAD="$room/few_threads.so" "$program" run --jobs 3 "${unsafe[@]}" "$folder"
+        expect 0 "All rounds accepted yes" \
+            env THREADS=$count LD_PRELOAD="$room/few_threads.so" "$program" run --jobs 3 "${unsafe[@]}" "$folder"
         succeed "the same bytes with $count threads" diff -r "$folder" "$room/cut_done"
     done
 }

@@ -123,16 +123,18 @@ full() {
 
 # Progress is shown to a person, and to nobody else.
 watched() {
-    local folder=$room/watched_run
+    local folder=$room/watched_run what
     cp -r "$room/ready" "$folder"
     expect 0 "" "$program" run --draw-here "$folder"
     succeed "no progress in a file" test "$(grep -c 'First messages' "$room/said")" -eq 0
     rm "$folder/state.bin"
     command -v script >"$room/answer" || return
     expect 0 "First messages: 2 of 2" script -qec "'$program' run --draw-here '$folder'" /dev/null
-    said "Second messages and checks: 1 of 2, about 1 second left"
-    said "First messages: 1 of 2, about 1 second left"
+    for what in "First messages" "Second messages and checks"; do
+        succeed "the time left" grep -qE "$what: 1 of 2, about [1-9][0-9]* (second|minute)s? left" "$room/said"
+    done
     succeed "no time left before a round is done" test "$(grep -c '0 of 2,' "$room/said")" -eq 0
+    succeed "no time left at the end" test "$(grep -c '2 of 2,' "$room/said")" -eq 0
 }
 
 elections() {

@@ -50,7 +50,7 @@ same_refusal() { # STATUS TEXT COMMAND..
     done
 }
 
-jobs() {
+side_by_side() {
     same_bytes
     same_fault 3 "rounds/003/head.bin is missing" rm rounds/003/head.bin rounds/004/head.bin
     same_fault 1 "round 2: refused 16" eval 'flip rounds/002/shares0.bin 5; rm rounds/003/shares1.bin'
