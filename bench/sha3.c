@@ -16,7 +16,7 @@ static int measure(const char *name, const uint8_t *message, size_t length, int 
     double best_ours = 1e9, best_theirs = 1e9;
     const EVP_MD *md = EVP_sha3_256();
     EVP_MD_CTX *context = EVP_MD_CTX_new();
-    for (int round = 0; round < 25; round++) {
+    for (int round = 0; round < 600; round++) {
         double start = seconds();
         for (int i = 0; i < times; i++) jdn_digest(message, length, ours, 32);
         double middle = seconds();
@@ -42,7 +42,7 @@ int main(void) {
     uint8_t *message = malloc(length);
     if (!message) return 1;
     for (size_t i = 0; i < length; i++) message[i] = (uint8_t)(i * 7 + i / 256);
-    int wrong = measure("1 MiB", message, length, 4, limit) | measure("4 KiB", message, 4096, 500, 0);
+    int wrong = measure("1 MiB", message, length, 1, limit) | measure("4 KiB", message, 4096, 50, 0);
     free(message);
     return wrong;
 }
