@@ -7,7 +7,7 @@ ghost use Rattle.codec.specs.Reply.{packed};
 ghost use Rattle.codec.specs.declared.Reply.TheVariants as replies;
 
 // What a call answers: taken, or refused with document 01's number and place.
-#[derive(Drop)]
+#[derive(Clone, Copy)]
 pub enum Reply {
     Taken,
     Refused { number: u8, place: u32 },

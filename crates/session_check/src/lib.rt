@@ -15,7 +15,7 @@ use codec::Reply;
 use sheet_numbers::Numbers;
 
 // What a check comes to: stopped before the round was looked at, failed by the round itself, or passed.
-#[derive(Drop)]
+#[derive(Clone, Copy)]
 pub enum Verdict {
     Stopped { number: u8, place: u32 },
     Failed { number: u8, place: u32 },

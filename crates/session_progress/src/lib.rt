@@ -8,7 +8,7 @@ use sheet_numbers::Numbers;
 
 // The phase is 0 gathering, 1 closed, 2 claimed, 3 drawn, 4 ended refused, 5 ended accepted; then how many entries of the register are
 // used, how many ballots were closed, and how many rounds are committed and checked.
-#[derive(Drop)]
+#[derive(Clone, Copy)]
 pub struct Progress {
     pub phase: u8,
     pub used: u64,

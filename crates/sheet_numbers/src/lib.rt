@@ -6,7 +6,7 @@ pub use bounds::{mask_bound, noise_bound, outside, plain, unknowns, unsound};
 pub use repeats::least_repeats;
 
 // The sheet's numbers before a.
-#[derive(Drop)]
+#[derive(Clone, Copy)]
 pub struct Numbers {
     pub ring: u64,
     pub modulus: u64,
