@@ -4,12 +4,8 @@ use borrow.Author.Rules.{rules}
 use native.Mathlib.Omega.{arith}
 use lib.Pow.{shl_exact}
 use Rattle.sha3.specs.Absorb.{xor_lane}
-use Rattle.sha3.proofs.sponge.xor_lane.Statement.{statement}
-use Rattle.sha3.proofs.sponge.xor_lane.Tie as tie
+use Rattle.sha3.proofs.sponge.xor_lane.Goals as goal
 
-returns : tie.Need-returns
+pub returns : goal.returns
 unfolding xor_lane
 returns c = rw (shl_exact {a = c.args.b} 8 (c.args.k * 8) 64 (search rules) (omega arith))
-
-pub xor_lane_spec : {M : Type 1} → statement M
-xor_lane_spec = tie.close (tie.spec (λ c. search rules) (λ c. search rules) returns)
