@@ -2,7 +2,7 @@
 use native.Mathlib.Omega.{arith}
 use borrow.Author.Tests.{leb-false}
 use Rattle.sheet_lines.proofs.Scanning.{starts, over, first_digit, next_digit, not_begun, after_zero, eighteenth, at_other, at_comma, at_lf}
-use Rattle.sheet_lines.proofs.scan_values.Goals.{then-v-eq0-via-then-v-eq0, then-v-eq0-via-else-v-eq0+then-v-ge10000000000000000, then-d-lt10+then-begun+else-v-eq0+else-v-ge10000000000000000, then-d-lt10+else-begun, else-d-lt10+else-not-begun+else-c-eq10+else-c-ne44}
+use mathlib.Core.Logic.{⊎_elim}
 use Rattle.sheet_lines.proofs.scan_values.Goals as goal
 
 pub loop-i-init : goal.loop-i-init
@@ -13,11 +13,10 @@ returns-then-v-eq0 c =
     let a = c.args in
     let l = c.loop-i in
     let g = c.digit_of-d in
-    elim c.then-v-eq0.branch [
-      | then-v-eq0-via-then-v-eq0 w ↦ after_zero a.text.now a.at l.i l.v l.begun l.n l.top l.invariant (omega arith) g.result g.ensures.0 c.if-begun.true (omega arith) w.if-v-eq0.true
-      | then-v-eq0-via-else-v-eq0+then-v-ge10000000000000000 w ↦
-          eighteenth a.text.now a.at l.i l.v l.begun l.n l.top l.invariant (omega arith) g.result g.ensures.0 c.if-begun.true (omega arith) w.if-v-eq0.false w.if-v-ge10000000000000000.true
-    ]
+    ⊎_elim
+    (λ w. after_zero a.text.now a.at l.i l.v l.begun l.n l.top l.invariant (omega arith) g.result g.ensures.0 c.if-begun.true (omega arith) w)
+    (λ w. eighteenth a.text.now a.at l.i l.v l.begun l.n l.top l.invariant (omega arith) g.result g.ensures.0 c.if-begun.true (omega arith) w.0 w.1)
+    c.then-v-eq0.either
 
 pub returns-then-not-begun : goal.returns-then-not-begun
 returns-then-not-begun c =
@@ -46,17 +45,18 @@ loop-i-preserved c =
     let a = c.args in
     let l = c.loop-i in
     let g = c.digit_of-d in
-    elim c.if-d-lt10.branch [
-      | then-d-lt10+then-begun+else-v-eq0+else-v-ge10000000000000000 w ↦
-          rw (w.v-is, w.begun-is, w.n-is, w.top-is)
-          (next_digit a.text.now a.at l.i l.v l.begun l.n l.top l.invariant (omega arith) g.result g.ensures.0 w.if-begun.true w.if-d-lt10.true w.if-v-eq0.false w.if-v-ge10000000000000000.false)
-      | then-d-lt10+else-begun w ↦
-          rw (w.v-is, w.begun-is, w.n-is, w.top-is)
-          (first_digit a.text.now a.at l.i l.v l.begun l.n l.top l.invariant (omega arith) g.result g.ensures.0 w.if-begun.false w.if-d-lt10.true)
-      | else-d-lt10+else-not-begun+else-c-eq10+else-c-ne44 w ↦
-          rw (w.v-is, w.begun-is, w.n-is, w.top-is, w.larger-top.ensures)
-          (at_comma a.text.now a.at l.i l.v l.begun l.n l.top l.invariant (omega arith) g.result g.ensures.0 w.if-not-begun.false w.if-d-lt10.false w.if-c-ne44.false)
-    ]
+    ⊎_elim
+    (λ w.
+    rw (w.v-is, w.begun-is, w.n-is, w.top-is)
+    (next_digit a.text.now a.at l.i l.v l.begun l.n l.top l.invariant (omega arith) g.result g.ensures.0 w.if-begun.true w.if-d-lt10.true (omega arith) (omega arith)))
+    (⊎_elim
+    (λ w.
+    rw (w.v-is, w.begun-is, w.n-is, w.top-is)
+    (first_digit a.text.now a.at l.i l.v l.begun l.n l.top l.invariant (omega arith) g.result g.ensures.0 w.if-begun.false w.if-d-lt10.true))
+    (λ w.
+    rw (w.v-is, w.begun-is, w.n-is, w.top-is, w.larger-top.ensures)
+    (at_comma a.text.now a.at l.i l.v l.begun l.n l.top l.invariant (omega arith) g.result g.ensures.0 w.if-not-begun.false w.if-d-lt10.false w.if-c-ne44.false)))
+    c.if-d-lt10.branch-raw
 
 pub returns : goal.returns
 returns c =
