@@ -4,12 +4,10 @@ use Prim.Native.Nat.{ℕ, ◌+◌, ◌-◌, ◌*◌, ◌/◌, ◌≤◌, ◌<◌
 use native.Mathlib.Decide.{ℕ_discrete}
 use native.Mathlib.Nat.{mod-eq_of_lt, one-mul, zero-mul}
 use native.Mathlib.Omega.{arith}
-use borrow.Author.Rules.{rules}
 use borrow.Author.Tests.{eq-eqb, ne_eqb}
 use Rattle.modular.specs.Modulo.{remainder}
 use Rattle.ring.specs.Ternary.{meaning}
-use Rattle.ring.proofs.from_ternary.Statement.{statement}
-use Rattle.ring.proofs.from_ternary.Tie as tie
+use Rattle.ring.proofs.from_ternary.Goals as goal
 
 -- 1 where b is 1, and else 0: above 0 and not above 1
 abbrev is1 : ℕ → ℕ
@@ -38,14 +36,11 @@ told b q h l = go (ℕ_discrete b 1) (ℕ_discrete b 2)
         let y : is2 b ≡ 0 = omega arith in
         rw (x, y, zero-mul (q - 1), ne_eqb b 1 e, ne_eqb b 2 d) (omega arith, omega arith, sym (mod-eq_of_lt {n = 0} {m = q} (omega arith)))
 
-mul-result : tie.Need-overflow-mul-result
-mul-result c = omega (arith, (told c.args.b c.args.q (omega arith) (omega arith)).0)
+pub overflow_mul-result : goal.overflow_mul-result
+overflow_mul-result c = omega (arith, (told c.args.b c.args.q (omega arith) (omega arith)).0)
 
-add-result : tie.Need-overflow-add-result
-add-result c = omega (arith, (told c.args.b c.args.q (omega arith) (omega arith)).1)
+pub overflow_add-result : goal.overflow_add-result
+overflow_add-result c = omega (arith, (told c.args.b c.args.q (omega arith) (omega arith)).1)
 
-returns : tie.Need-returns
+pub returns : goal.returns
 returns c = (told c.args.b c.args.q (omega arith) (omega arith)).2
-
-pub from_ternary_spec : {M : Type 1} → statement M
-from_ternary_spec = tie.close (tie.spec (λ c. search rules) (λ c. search rules) (λ c. search rules) (λ c. search rules) (λ c. search rules) (λ c. search rules) mul-result add-result returns)
