@@ -20,7 +20,7 @@ loop-i-preserved c =
     let m = c.args.m.now in
     let p = take 136 (drop l.i m) in
     let n : length p ≡ 136 = length_part m l.i 136 (omega arith) in
-    let o = octets_part m l.i 136 (λ i h. omega (arith, c.shared_slice_known-1.given i)) in
+    let o = octets_part m l.i 136 (λ i h. omega (arith, c.type_inv.m i)) in
     let e = c.permute-u.ensures ∙ ap keccak c.xor_block.ensures in (
       omega arith,
       omega arith,
