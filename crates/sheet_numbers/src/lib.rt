@@ -1,4 +1,6 @@
 // The numbers of a parameter sheet (document 01, "Sheet"): their ranges, their conditions, and the bounds that they give.
+#![tactic(auto)]
+
 mod bounds;
 mod repeats;
 
