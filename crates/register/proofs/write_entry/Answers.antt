@@ -3,13 +3,11 @@ use mathlib.Core.Path.{◌≡◌, refl, ap, ◌∙◌}
 use mathlib.Core.List.{[], ◌∷◌, ◌++◌}
 use Prim.Native.Nat.{ℕ, ◌+◌, ◌*◌, ◌/◌, ◌%◌, ◌≤◌, ◌<◌}
 use native.Mathlib.Omega.{arith}
-use borrow.Author.Rules.{rules}
 use lib.ListN.{length, length-append}
 use Rattle.codec.specs.Bytes.{Bytes, bytes, put}
 use Rattle.codec.proofs.Laws.{length_put, put_append}
 use Rattle.register.specs.Register as def
-use Rattle.register.proofs.write_entry.Statement.{statement}
-use Rattle.register.proofs.write_entry.Tie as tie
+use Rattle.register.proofs.write_entry.Goals as goal
 
 -- three writes side by side
 three : (d : Bytes) (at : ℕ) (s t u : Bytes) → length s ≡ 4 → length t ≡ 4 → at + 8 + length u ≤ length d
@@ -29,14 +27,9 @@ state-bytes v h =
     let high : v / 256 ≡ 0 = omega arith in
     rw (low, high)
 
-returns : tie.Need-returns
+pub returns : goal.returns
 unfolding def.appended
 returns c =
-    let a = c.before.before.before.before.before.before.before.before.before.before.before.before.before.before.before.args in
-    rw (c.before.before.copy2.ensures, c.before.before.before.before.before.before.write32.ensures, c.before.before.before.before.before.before.before.before.before.before.copy.ensures, state-bytes a.state (omega arith))
-    (three a.reg.now (40 * a.n) a.mark.now (a.state ∷ 0 ∷ 0 ∷ 0 ∷ []) a.digest.now c.before.before.before.before.before.before.before.before.before.before.before.before.before.before.before.requires.1 refl (omega arith))
-
-pub write_entry_spec : {M : Type 1} → statement M
-write_entry_spec =
-    tie.close
-    (tie.spec (λ c. search rules) (λ c κs. search rules) (λ c. search rules) (λ c κs. search rules) (λ c. search rules) (λ c κs. search rules) (λ c. search rules) returns)
+    let a = c.args in
+    rw (c.copy-2.ensures, c.write32.ensures, c.copy.ensures, state-bytes a.state (omega arith))
+    (three a.reg.now (40 * a.n) a.mark.now (a.state ∷ 0 ∷ 0 ∷ 0 ∷ []) a.digest.now c.requires.1 refl (omega arith))
