@@ -3,15 +3,13 @@ use mathlib.Core.Path.{◌≡◌, ap, ◌∙◌}
 use mathlib.Core.List.{◌++◌}
 use Prim.Native.Nat.{ℕ, ◌+◌}
 use native.Mathlib.Omega.{arith}
-use borrow.Author.Rules.{rules}
 use lib.ListN.{length, replicate, length-append, length-replicate}
 use Rattle.codec.specs.Bytes.{Bytes, bytes, put}
 use Rattle.codec.proofs.Laws.{length_put, put_append, put_whole}
 use Rattle.codec.proofs.Numbers.{length_bytes}
 use Rattle.sha3.specs.Sponge.{sha3}
 use Rattle.session_digests.specs.Draw as def
-use Rattle.session_digests.proofs.drawing.block.Statement.{statement}
-use Rattle.session_digests.proofs.drawing.block.Tie as tie
+use Rattle.session_digests.proofs.drawing.block.Goals as goal
 
 -- three writes side by side fill the message
 message : (d seed : Bytes) (k c : ℕ) → length d ≡ 36 → length seed ≡ 32
@@ -27,14 +25,11 @@ message d seed k c h l =
     ∙ ap (λ (i : ℕ). put (put d 0 seed) i (bytes 2 k ++ bytes 2 c)) r ∙ put_append d 0 seed (bytes 2 k ++ bytes 2 c) (omega arith)
     ∙ put_whole d (seed ++ (bytes 2 k ++ bytes 2 c)) (simp length-append (omega arith))
 
-returns : tie.Need-returns
+pub returns : goal.returns
 unfolding def.block
 returns c =
-    let a = c.before.before.before.before.before.before.before.before.before.before.before.before.args in
+    let a = c.args in
     c.hash.ensures
     ∙ ap sha3
-    (rw (c.before.before.before.write162.ensures, c.before.before.before.before.before.before.write16.ensures, c.before.before.before.before.before.before.before.before.before.copy.ensures)
+    (rw (c.write16-2.ensures, c.write16.ensures, c.copy.ensures)
     (message (replicate 36 0) a.seed.now a.round a.c (length-replicate {A = ℕ} 36 0) (omega arith)))
-
-pub block_spec : {M : Type 1} → statement M
-block_spec = tie.close (tie.spec (λ c. search rules) (λ c κs. search rules) (λ c. search rules) (λ c κs. search rules) (λ c. search rules) (λ c κs. search rules) (λ c. search rules) (λ c κs. search rules) returns)
