@@ -1,5 +1,7 @@
 // The phase and the counts of a session (document 01, "Register and session"): which step is due, and how each moves them. A value that
 // each step takes and hands back.
+#![tactic(auto)]
+
 ghost use Rattle.std.specs.Prelude.{◌≡◌, ◌&&◌, ◌≤◌, ◌<◌, eqb, ltb};
 ghost use Rattle.session_progress.specs.Progress.{drawn, in_limits, commit_due, draw_due, check_due, challenges_due, initial, with_entry};
 ghost use Rattle.session_progress.specs.Progress.{with_batch, with_claims, with_message, with_seed, with_refusal, with_acceptance};
