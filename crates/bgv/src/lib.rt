@@ -246,8 +246,8 @@ pub fn mask_within(
 ) -> bool
     requires { Polynomial n q half.now × Polynomial n q u.now × Polynomial n q t.now × (length work.old ≡ scratch_length)
         × (0 < p) × (p ≤ 251) × Coprime p q }
-    ensures { (result ≡ within bound n (scheme.recovered_mask q n p (poly (given half)) (poly (given u)) (poly (given t))))
-        × Free (given work) (left work) }
+    ensures { (result ≡ within bound n (scheme.recovered_mask q n p (poly half.now) (poly u.now) (poly t.now)))
+        × Free work.old work.new }
 {
     codec::copy(work, 0, half);
     less_product(work, u, t, n, q);

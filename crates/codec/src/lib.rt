@@ -1,11 +1,13 @@
 // Little-endian numbers in byte slices, parts, copies, and the reply of a call (document 01, "Layouts" and "Refused").
+#![tactic(auto)]
+
 ghost use Rattle.std.specs.Prelude.{◌≡◌, ◌+◌, ◌≤◌, ◌<◌, [], ◌∷◌, length};
 ghost use Rattle.codec.specs.Bytes.{bytes, number, signed, part, put, zeros, same};
 ghost use Rattle.codec.specs.Reply.{packed};
 ghost use Rattle.codec.specs.declared.Reply.TheVariants as replies;
 
 // What a call answers: taken, or refused with document 01's number and place.
-#[derive(Drop)]
+#[derive(Clone, Copy)]
 pub enum Reply {
     Taken,
     Refused { number: u8, place: u32 },

@@ -67,8 +67,8 @@ pub fn pair(work: &mut [u8], k: &[u8], m: &[u8], r: &[u8], n: usize, q: u64)
 pub fn opens(work: &mut [u8], k: &[u8], halves: &[u8], m: &[u8], r: &[u8], n: usize, q: u64) -> bool
     requires { PublicKeys n q k.now × Polynomial n q m.now × (length r.now ≡ 3 * n) × (length work.old ≡ scratch_length)
         × (length halves.now ≡ 16 * n) }
-    ensures { (result ≡ opens q n (keys_of n (given k)) (given halves) (three_of q n (given r)) (poly (given m)))
-        × Free (given work) (left work) }
+    ensures { (result ≡ opens q n (keys_of n k.now) halves.now (three_of q n r.now) (poly m.now))
+        × Free work.old work.new }
 {
     pair(work, k, m, r, n, q);
     if !codec::equal(&halves[0..8 * n], &work[0..8 * n]) {

@@ -1,12 +1,13 @@
-// SHA3-256 of a message that comes in parts: a hasher by value, and the same lent in place. The proofs of `make`, `state`, `update` and
-// `hash_parts` are written out step by step: the first two are all that reaches into a hasher's state, and the others lend a hasher by
-// `&mut`.
+// SHA3-256 of a message that comes in parts: a hasher by value, and the same lent in place. `make` and `state` are all that reaches into a
+// hasher's state.
+#![tactic(auto)]
+
 ghost use Rattle.std.specs.Prelude.{◌≡◌, [], ◌++◌};
 ghost use Rattle.sha3.specs.Sponge.{sha3};
 ghost use Rattle.hasher.specs.Internal.{made, holding, updated, finished};
 
 // The sponge's state, and the place of the next byte in its block.
-#[derive(Drop)]
+#[derive(Clone, Copy)]
 pub struct Hasher {
     pub state: [[u64; 5]; 5],
     pub place: usize,
@@ -61,7 +62,7 @@ impl Hasher {
     }
 }
 
-// SHA3-256 of four strings end to end. Its contract says nothing of a hasher, so its callers need no such proof.
+// SHA3-256 of four strings end to end. Its contract says nothing of a hasher, so its callers need know nothing of one.
 pub fn hash_parts(a: &[u8], b: &[u8], c: &[u8], d: &[u8]) -> [u8; 32]
     ensures { result ≡ sha3 (a.now ++ (b.now ++ (c.now ++ d.now))) }
 {

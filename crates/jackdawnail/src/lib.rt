@@ -13,7 +13,7 @@ ghost use Rattle.jackdawnail.specs.Answers.{CallReplied, Digested, Described};
 // SHA3-256 of a message into 32 lent bytes.
 #[unsafe(no_mangle)]
 pub extern "C" fn jdn_digest(message: &[u8], out: &mut [u8]) -> u64
-    ensures { Digested (given message) result (given out) (left out) }
+    ensures { Digested message.now result out.old out.new }
 {
     codec::pack(sha3::digest(message, out))
 }
@@ -21,7 +21,7 @@ pub extern "C" fn jdn_digest(message: &[u8], out: &mut [u8]) -> u64
 // Reads a sheet, and writes N, D, B and L into 32 lent bytes.
 #[unsafe(no_mangle)]
 pub extern "C" fn jdn_sheet(sheet: &[u8], out: &mut [u8]) -> u64
-    ensures { Described (given sheet) result (given out) (left out) }
+    ensures { Described sheet.now result out.old out.new }
 {
     codec::pack(sheet::calls::describe(sheet, out))
 }
@@ -35,8 +35,8 @@ pub extern "C" fn jdn_keygen(
     b: &mut [u8],
     scratch: &mut [u8],
 ) -> u64
-    ensures { CallReplied (keygen_order (given sheet) (given s) (given e) (given b) (given scratch))
-        (key_of (given sheet) (given s) (given e)) result (given b) (left b) (given scratch) (left scratch) }
+    ensures { CallReplied (keygen_order sheet.now s.now e.now b.old scratch.old)
+        (key_of sheet.now s.now e.now) result b.old b.new scratch.old scratch.new }
 {
     let mut public = [0u8; 81920];
     let reading = sheet::load(sheet, &mut public);
@@ -58,10 +58,10 @@ pub extern "C" fn jdn_encrypt(
     ciphertext: &mut [u8],
     scratch: &mut [u8],
 ) -> u64
-    ensures { CallReplied (encrypt_order (given sheet) (given r) (given e1) (given e2) (given m) (given ciphertext)
-        (given scratch))
-        (ciphertext_of (given sheet) (given r) (given e1) (given e2) (given m)) result (given ciphertext) (left ciphertext) (given scratch)
-        (left scratch) }
+    ensures { CallReplied (encrypt_order sheet.now r.now e1.now e2.now m.now ciphertext.old
+        scratch.old)
+        (ciphertext_of sheet.now r.now e1.now e2.now m.now) result ciphertext.old ciphertext.new scratch.old
+        scratch.new }
 {
     let mut public = [0u8; 81920];
     let reading = sheet::load(sheet, &mut public);
@@ -81,8 +81,8 @@ pub extern "C" fn jdn_decrypt(
     vote: &mut [u8],
     scratch: &mut [u8],
 ) -> u64
-    ensures { CallReplied (decrypt_order (given sheet) (given s) (given ciphertext) (given vote) (given scratch))
-        (vote_of (given sheet) (given s) (given ciphertext)) result (given vote) (left vote) (given scratch) (left scratch) }
+    ensures { CallReplied (decrypt_order sheet.now s.now ciphertext.now vote.old scratch.old)
+        (vote_of sheet.now s.now ciphertext.now) result vote.old vote.new scratch.old scratch.new }
 {
     let mut public = [0u8; 81920];
     let reading = sheet::load(sheet, &mut public);
@@ -104,8 +104,8 @@ pub extern "C" fn jdn_split(
     out: &mut [u8],
     scratch: &mut [u8],
 ) -> u64
-    ensures { CallReplied (split_order (given sheet) (given s) (given e) (given s0) (given e0) (given out) (given scratch))
-        (split_of (given sheet) (given s) (given e) (given s0) (given e0)) result (given out) (left out) (given scratch) (left scratch) }
+    ensures { CallReplied (split_order sheet.now s.now e.now s0.now e0.now out.old scratch.old)
+        (split_of sheet.now s.now e.now s0.now e0.now) result out.old out.new scratch.old scratch.new }
 {
     let mut public = [0u8; 81920];
     let reading = sheet::load(sheet, &mut public);
@@ -126,8 +126,8 @@ pub extern "C" fn jdn_share(
     t: &mut [u8],
     scratch: &mut [u8],
 ) -> u64
-    ensures { CallReplied (share_order (given sheet) (given key_share) (given u) (given mask) (given t) (given scratch))
-        (share_of (given sheet) (given key_share) (given u) (given mask)) result (given t) (left t) (given scratch) (left scratch) }
+    ensures { CallReplied (share_order sheet.now key_share.now u.now mask.now t.old scratch.old)
+        (share_of sheet.now key_share.now u.now mask.now) result t.old t.new scratch.old scratch.new }
 {
     let mut public = [0u8; 81920];
     let reading = sheet::load(sheet, &mut public);
@@ -148,8 +148,8 @@ pub extern "C" fn jdn_reconstruct(
     vote: &mut [u8],
     scratch: &mut [u8],
 ) -> u64
-    ensures { CallReplied (reconstruct_order (given sheet) (given v) (given t0) (given t1) (given vote) (given scratch))
-        (vote_of_shares (given sheet) (given v) (given t0) (given t1)) result (given vote) (left vote) (given scratch) (left scratch) }
+    ensures { CallReplied (reconstruct_order sheet.now v.now t0.now t1.now vote.old scratch.old)
+        (vote_of_shares sheet.now v.now t0.now t1.now) result vote.old vote.new scratch.old scratch.new }
 {
     let mut public = [0u8; 81920];
     let reading = sheet::load(sheet, &mut public);
@@ -169,8 +169,8 @@ pub extern "C" fn jdn_commitment(
     pair: &mut [u8],
     scratch: &mut [u8],
 ) -> u64
-    ensures { CallReplied (commitment_order (given sheet) (given m) (given r) (given pair) (given scratch))
-        (commitment_of (given sheet) (given m) (given r)) result (given pair) (left pair) (given scratch) (left scratch) }
+    ensures { CallReplied (commitment_order sheet.now m.now r.now pair.old scratch.old)
+        (commitment_of sheet.now m.now r.now) result pair.old pair.new scratch.old scratch.new }
 {
     let mut public = [0u8; 81920];
     let reading = sheet::load(sheet, &mut public);

@@ -13,8 +13,8 @@ pub extern "C" fn jdn_multiply(
     product: &mut [u8],
     scratch: &mut [u8],
 ) -> u64
-    ensures { CallReplied (multiply_order (given sheet) (given x) (given y) root (given product) (given scratch))
-        (product_of (given sheet) (given x) (given y)) result (given product) (left product) (given scratch) (left scratch) }
+    ensures { CallReplied (multiply_order sheet.now x.now y.now root product.old scratch.old)
+        (product_of sheet.now x.now y.now) result product.old product.new scratch.old scratch.new }
 {
     let reading = sheet::read(sheet);
     let sheet::Reading::Taken(k) = reading else {
@@ -33,8 +33,8 @@ pub extern "C" fn jdn_product(
     product: &mut [u8],
     scratch: &mut [u8],
 ) -> u64
-    ensures { CallReplied (product_order (given sheet) (given x) (given y) (given product) (given scratch))
-        (product_of (given sheet) (given x) (given y)) result (given product) (left product) (given scratch) (left scratch) }
+    ensures { CallReplied (product_order sheet.now x.now y.now product.old scratch.old)
+        (product_of sheet.now x.now y.now) result product.old product.new scratch.old scratch.new }
 {
     let reading = sheet::read(sheet);
     let sheet::Reading::Taken(k) = reading else {

@@ -30,7 +30,7 @@ pub extern "C" fn jdn_produce_first(
 ) -> u64
     ensures { let x = material_in secrets s0 e0 masks0 masks1 vectors permutations salts ballots in
         let before = first_in head shares0 shares1 claims scratch in let after = first_out head shares0 shares1 claims scratch in
-        let reply = first_reply (given sheet) x before in (result ≡ packed reply) × FirstCalled (given sheet) x before reply after }
+        let reply = first_reply sheet.now x before in (result ≡ packed reply) × FirstCalled sheet.now x before reply after }
 {
     let mut public = [0u8; 81920];
     let reading = sheet::load(sheet, &mut public);
@@ -78,8 +78,8 @@ pub extern "C" fn jdn_produce_second(
 ) -> u64
     ensures { let x = material_in secrets s0 e0 masks0 masks1 vectors permutations salts ballots in
         let before = second_in opening answers scratch in let after = second_out opening answers scratch in
-        let reply = second_reply (given sheet) x side (given challenges) before in
-        (result ≡ packed reply) × SecondCalled (given sheet) x side (given challenges) before reply after }
+        let reply = second_reply sheet.now x side challenges.now before in
+        (result ≡ packed reply) × SecondCalled sheet.now x side challenges.now before reply after }
 {
     let mut public = [0u8; 81920];
     let reading = sheet::load(sheet, &mut public);
@@ -125,8 +125,8 @@ pub extern "C" fn jdn_extract<'a>(
     scratch: &mut [u8],
 ) -> u64
     ensures { let x = openings_in head shares0 shares1 ballots claims opening0 opening1 repetition answer1 answer2 answer3 in
-        let before = extract_in out scratch in let found = extract_found (given sheet) x before in
-        (result ≡ answered found) × ExtractCalled (given sheet) x before found (extract_out out scratch) }
+        let before = extract_in out scratch in let found = extract_found sheet.now x before in
+        (result ≡ answered found) × ExtractCalled sheet.now x before found (extract_out out scratch) }
 {
     let mut public = [0u8; 81920];
     let reading = sheet::load(sheet, &mut public);

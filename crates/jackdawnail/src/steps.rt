@@ -39,7 +39,7 @@ pub extern "C" fn jdn_register_length() -> u64
 // Starts anew, on a sheet and with an empty register, whatever the image holds.
 #[unsafe(no_mangle)]
 pub extern "C" fn jdn_clear(image: &mut [u8], reg: &mut [u8], sheet: &[u8]) -> u64
-    ensures { StepCalled (clear (on (given sheet))) (host (given image) (given reg)) result (host (left image) (left reg)) }
+    ensures { StepCalled (clear (on sheet.now)) (host image.old reg.old) result (host image.new reg.new) }
 {
     if image.len() != IMAGE {
         return 1;
@@ -52,7 +52,7 @@ pub extern "C" fn jdn_clear(image: &mut [u8], reg: &mut [u8], sheet: &[u8]) -> u
 // Admits a ballot: mark, u, v.
 #[unsafe(no_mangle)]
 pub extern "C" fn jdn_admit(image: &mut [u8], reg: &mut [u8], ballot: &[u8]) -> u64
-    ensures { StepCalled (admit (given ballot)) (host (given image) (given reg)) result (host (left image) (left reg)) }
+    ensures { StepCalled (admit ballot.now) (host image.old reg.old) result (host image.new reg.new) }
 {
     if image.len() != IMAGE {
         return 1;
@@ -65,7 +65,7 @@ pub extern "C" fn jdn_admit(image: &mut [u8], reg: &mut [u8], ballot: &[u8]) -> 
 // Withdraws a mark, whether its ballot has come or not.
 #[unsafe(no_mangle)]
 pub extern "C" fn jdn_withdraw(image: &mut [u8], reg: &mut [u8], mark: u32) -> u64
-    ensures { StepCalled (withdraw mark) (host (given image) (given reg)) result (host (left image) (left reg)) }
+    ensures { StepCalled (withdraw mark) (host image.old reg.old) result (host image.new reg.new) }
 {
     if image.len() != IMAGE {
         return 1;
@@ -78,7 +78,7 @@ pub extern "C" fn jdn_withdraw(image: &mut [u8], reg: &mut [u8], mark: u32) -> u
 // Closes the batch of the standing entries.
 #[unsafe(no_mangle)]
 pub extern "C" fn jdn_close(image: &mut [u8], reg: &[u8]) -> u64
-    ensures { StepCalled close (host (given image) (given reg)) result (host (left image) (given reg)) }
+    ensures { StepCalled close (host image.old reg.now) result (host image.new reg.now) }
 {
     if image.len() != IMAGE {
         return 1;
@@ -91,7 +91,7 @@ pub extern "C" fn jdn_close(image: &mut [u8], reg: &[u8]) -> u64
 // Takes the claims.
 #[unsafe(no_mangle)]
 pub extern "C" fn jdn_claim(image: &mut [u8], claims: &[u8]) -> u64
-    ensures { StepCalledAlone (claim (given claims)) (given image) result (left image) }
+    ensures { StepCalledAlone (claim claims.now) image.old result image.new }
 {
     if image.len() != IMAGE {
         return 1;
@@ -110,7 +110,7 @@ pub extern "C" fn jdn_commit(
     shares0: &[u8],
     shares1: &[u8],
 ) -> u64
-    ensures { StepCalledAlone (commit round (given head) (given shares0) (given shares1)) (given image) result (left image) }
+    ensures { StepCalledAlone (commit round head.now shares0.now shares1.now) image.old result image.new }
 {
     if image.len() != IMAGE {
         return 1;
@@ -123,7 +123,7 @@ pub extern "C" fn jdn_commit(
 // Takes the seed of 32 bytes.
 #[unsafe(no_mangle)]
 pub extern "C" fn jdn_draw(image: &mut [u8], seed: &[u8]) -> u64
-    ensures { StepCalledAlone (draw (given seed)) (given image) result (left image) }
+    ensures { StepCalledAlone (draw seed.now) image.old result image.new }
 {
     if image.len() != IMAGE {
         return 1;
@@ -149,7 +149,7 @@ pub extern "C" fn jdn_check<'a>(
     scratch: &mut [u8],
 ) -> u64
     ensures { let x = inputs_in sheet ballots claims head shares0 shares1 opening answers scratch in
-        CheckCalled round x (given image) result (left image) (left scratch) }
+        CheckCalled round x image.old result image.new scratch.new }
 {
     if image.len() != IMAGE {
         return 1;
@@ -164,7 +164,7 @@ pub extern "C" fn jdn_check<'a>(
 // Writes the side and the challenges that were drawn for a round.
 #[unsafe(no_mangle)]
 pub extern "C" fn jdn_challenges(image: &[u8], round: u64, out: &mut [u8]) -> u64
-    ensures { ChallengesCalled (given image) round result (given out) (left out) }
+    ensures { ChallengesCalled image.now round result out.old out.new }
 {
     if image.len() != IMAGE {
         return 1;
@@ -176,7 +176,7 @@ pub extern "C" fn jdn_challenges(image: &[u8], round: u64, out: &mut [u8]) -> u6
 // The standing entries in thousandths of the enrolled, as the reply's value.
 #[unsafe(no_mangle)]
 pub extern "C" fn jdn_turnout(image: &[u8], reg: &[u8], enrolled: u64) -> u64
-    ensures { result ≡ turnout_answer (given image) (given reg) enrolled }
+    ensures { result ≡ turnout_answer image.now reg.now enrolled }
 {
     if image.len() != IMAGE {
         return 1;

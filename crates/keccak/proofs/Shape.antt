@@ -52,6 +52,10 @@ array_shape D own s vs g = record {
   row = λ y h. each_long D own 5 s g.0 g.1.1 y (subst (λ (n : ℕ). y < n) (sym g.1.0.1) h);
 }
 
+-- the same of words, where nothing is left to be found out at the call
+pub words_shape : (s : StateArray) (vs : List Val) → shadow (in_array (List ℕ) (in_array ℕ (UInt w64).own_val 5) 5 s vs) → Shape s
+words_shape s vs g = array_shape ℕ (UInt w64).own_val s vs g
+
 -- the lanes' bound, at every place
 each_word : (xs : List ℕ) (us : List Val) → shadow (each ℕ (UInt w64).own_val xs us) → (x : ℕ) → get_or xs x 0 < 2 ^ 64
 each_word [] us g x = omega arith

@@ -1,4 +1,6 @@
 // The permutation Keccak-f[1600] of FIPS 202, section 3: five rows of five lanes, by value.
+#![tactic(auto)]
+
 pub mod chi;
 pub mod rounds;
 pub mod steps;

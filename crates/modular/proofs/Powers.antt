@@ -1,8 +1,8 @@
 -- Powers modulo q, by squaring. Assumes nothing.
-use Rattle.std.proofs.Common.{◌≡◌, ℕ, zero, suc, ◌+◌, ◌*◌, ◌/◌, ◌%◌, ◌^◌, ◌<◌, sym, refl, ap, ◌∙◌, ap₂, mod-eq_of_lt, mul_assoc, mul_comm, one-mul, mul-one, mul_left_comm, arith, pow-add}
+use Rattle.std.proofs.Common.{◌≡◌, ℕ, zero, suc, ◌+◌, ◌*◌, ◌/◌, ◌%◌, ◌^◌, ◌<◌, sym, ap, ◌∙◌, ap₂, mod-eq_of_lt, mul_assoc, one-mul, mul-one, mul_left_comm, arith, pow-add}
 use native.Mathlib.Nat.{pow-zero, pow-succ'}
 use Rattle.modular.specs.Modulo.{Same}
-use Rattle.modular.proofs.Congruence.{same_refl, same_eq, same_mod, same_mul, ◌then◌}
+use Rattle.modular.proofs.Congruence.{same_eq, same_mod, same_mul, ◌then◌}
 
 pub same_pow : {q a b : ℕ} (k : ℕ) → Same q a b → Same q (a ^ k) (b ^ k)
 same_pow {a} {b} zero e = same_eq (pow-zero a ∙ sym (pow-zero b))

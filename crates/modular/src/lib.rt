@@ -1,4 +1,6 @@
 // Numbers modulo q, for q below 2^56 (document 01, "Ring and scheme"). -x modulo q is (q - 1) * x in contracts.
+#![tactic(auto)]
+
 ghost use Rattle.std.specs.Prelude.{◌≡◌, ◌+◌, ◌-◌, ◌*◌, ◌%◌, ◌^◌, ◌<◌, ◌≤◌, unsigned_abs};
 ghost use Rattle.modular.specs.Modulo.{centre, remainder};
 ghost use Rattle.modular.specs.Roots.{is_root};

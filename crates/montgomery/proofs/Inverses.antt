@@ -1,10 +1,9 @@
 -- -1 / q modulo a power of two, bit by bit, and powers of two modulo q. Assumes nothing.
-use mathlib.Core.Path.{◌≡◌, refl, sym, ap, ◌∙◌}
-use Prim.Native.Nat.{ℕ, zero, suc, ◌+◌, ◌-◌, ◌*◌, ◌/◌, ◌%◌, ◌^◌, ◌≤◌, ◌<◌}
+use mathlib.Core.Path.{◌≡◌, sym, ap, ◌∙◌}
+use Prim.Native.Nat.{ℕ, ◌+◌, ◌*◌, ◌/◌, ◌%◌, ◌^◌, ◌≤◌, ◌<◌}
 use native.Mathlib.Nat.{add-zero, mul_assoc, mul_comm, mul-add, add-mul, two-mul, zero-mod, mod-eq_of_lt, div-add-mod', pow-succ', pow-le-pow_right}
 use native.Mathlib.Numerals.{add-one}
 use native.Mathlib.Omega.{arith}
-use Rattle.modular.specs.Modulo.{Same}
 use Rattle.modular.proofs.Congruence.{same_refl, same_eq, same_sym, same_mod, same_add, same_mul, same_more, ◌then◌}
 use Rattle.montgomery.specs.Internal.{Modulus}
 

@@ -1,8 +1,7 @@
 -- What a product by Montgomery's reduction comes to. Assumes nothing.
-use mathlib.Core.Path.{◌≡◌, refl, sym, ap, ap₂, ◌∙◌}
-use Prim.Native.Nat.{ℕ, zero, suc, ◌+◌, ◌-◌, ◌*◌, ◌/◌, ◌%◌, ◌^◌, ◌≤◌, ◌<◌}
-use native.Mathlib.Nat.{add-zero, add_comm, mul_assoc, mul_comm, mul_left_comm, mul-add, add-mul, mul-zero, mul-one, one-mul, two-mul, zero-mod, mod-eq_of_lt, div-add-mod', mul-le-mul, pow-zero, pow-succ', pow-le-pow_right}
-use native.Mathlib.Numerals.{add-one}
+use mathlib.Core.Path.{◌≡◌, sym, ap, ap₂, ◌∙◌}
+use Prim.Native.Nat.{ℕ, zero, suc, ◌+◌, ◌*◌, ◌/◌, ◌%◌, ◌^◌, ◌≤◌, ◌<◌}
+use native.Mathlib.Nat.{add_comm, mul_assoc, mul_comm, mul_left_comm, mul-add, mul-zero, one-mul, div-add-mod', mul-le-mul, pow-zero, pow-succ'}
 use native.Mathlib.Omega.{arith}
 use Rattle.modular.specs.Modulo.{Same}
 use Rattle.modular.proofs.Congruence.{same_refl, same_eq, same_sym, same_mod, same_add, same_mul, same_more, ◌then◌}

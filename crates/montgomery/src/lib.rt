@@ -1,5 +1,7 @@
 // Products modulo an odd q below 2^56 with no division: Montgomery's reduction, in two digits of 28 bits. The product of two numbers comes
 // out divided by 2^56, so that a factor that is used often is held times 2^56.
+#![tactic(auto)]
+
 ghost use Rattle.std.specs.Prelude.{◌≡◌, ◌+◌, ◌*◌, ◌%◌, ◌^◌, ◌≤◌, ◌<◌};
 ghost use Rattle.montgomery.specs.Internal.{radix_inverse, Modulus};
 

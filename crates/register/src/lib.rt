@@ -1,6 +1,7 @@
 // The register of ballots over a lent slice (document 01, "Register and session"): find, admit, withdraw, count, turnout.
+#![tactic(auto)]
+
 ghost use Rattle.std.specs.Prelude.{◌≡◌, ◌+◌, ◌*◌, ◌≤◌, eqb, length};
-ghost use Rattle.codec.specs.Slices.{given, left};
 ghost use Rattle.register.specs.Orders.{admission_tests};
 ghost use Rattle.register.specs.Internal.{Wrote, Withdrew};
 ghost use Rattle.register.specs.Register as def;
@@ -13,7 +14,7 @@ pub const REGISTER: usize = 163840;
 // The first of the n entries that has the mark; n where none has.
 pub fn find(reg: &[u8], mark: u32, n: usize) -> usize
     requires { 40 * n ≤ length reg.now }
-    ensures { (result ≡ def.find (given reg) mark n) × (result ≤ n) }
+    ensures { (result ≡ def.find reg.now mark n) × (result ≤ n) }
 {
     let mut i = 0;
     while i < n {
@@ -28,7 +29,7 @@ pub fn find(reg: &[u8], mark: u32, n: usize) -> usize
 // Whether entry i stands.
 pub fn is_standing(reg: &[u8], i: usize) -> bool
     requires { 40 * i + 40 ≤ length reg.now }
-    ensures { result ≡ eqb (def.state_at (given reg) i) 1 }
+    ensures { result ≡ eqb (def.state_at reg.now i) 1 }
 {
     reg[40 * i + 4] == 1
 }
@@ -36,7 +37,7 @@ pub fn is_standing(reg: &[u8], i: usize) -> bool
 // Writes an entry after n entries: its mark, state and digest.
 fn write_entry(reg: &mut [u8], n: usize, mark: &[u8], state: u8, digest: &[u8])
     requires { (40 * n + 40 ≤ length reg.old) × (length mark.now ≡ 4) × (length digest.now ≡ 32) }
-    ensures { left reg ≡ def.appended (given reg) n (given mark) state (given digest) }
+    ensures { reg.new ≡ def.appended reg.old n mark.now state digest.now }
 {
     let at = 40 * n;
     codec::copy(reg, at, mark);
@@ -47,7 +48,7 @@ fn write_entry(reg: &mut [u8], n: usize, mark: &[u8], state: u8, digest: &[u8])
 // Writes the entry of a ballot after n entries.
 fn write_admitted(reg: &mut [u8], n: usize, ballot: &[u8])
     requires { (40 * n + 40 ≤ length reg.old) × (4 ≤ length ballot.now) }
-    ensures { left reg ≡ def.admitted (given reg) n (given ballot) }
+    ensures { reg.new ≡ def.admitted reg.old n ballot.now }
 {
     let digest = sha3::hash(ballot);
     write_entry(reg, n, &ballot[0..4], 1, &digest);
@@ -56,8 +57,8 @@ fn write_admitted(reg: &mut [u8], n: usize, ballot: &[u8])
 // Admits a ballot after the used entries: 32, 33, 35.
 pub fn admit(reg: &mut [u8], used: usize, ballot: &[u8]) -> Reply
     requires { (length reg.old ≡ def.register_length) × (used ≤ def.capacity) × (4 ≤ length ballot.now) }
-    ensures { Wrote (admission_tests (given reg) used (def.mark_of (given ballot))) (def.admitted (given reg) used (given ballot)) result
-        (given reg) (left reg) }
+    ensures { Wrote (admission_tests reg.old used (def.mark_of ballot.now)) (def.admitted reg.old used ballot.now) result
+        reg.old reg.new }
 {
     let i = find(reg, codec::read32(ballot, 0), used);
     if i < used {
@@ -85,7 +86,7 @@ pub fn admit(reg: &mut [u8], used: usize, ballot: &[u8]) -> Reply
 // Writes that entry i is withdrawn.
 fn write_withdrawn(reg: &mut [u8], i: usize)
     requires { 40 * i + 40 ≤ length reg.old }
-    ensures { left reg ≡ def.withdrawn (given reg) i }
+    ensures { reg.new ≡ def.withdrawn reg.old i }
 {
     codec::write8(reg, 40 * i + 4, 2);
 }
@@ -93,7 +94,7 @@ fn write_withdrawn(reg: &mut [u8], i: usize)
 // Writes the entry of a mark that is withdrawn before its ballot came, after n entries.
 fn write_early(reg: &mut [u8], n: usize, mark: u32)
     requires { 40 * n + 40 ≤ length reg.old }
-    ensures { left reg ≡ def.withdrawn_early (given reg) n mark }
+    ensures { reg.new ≡ def.withdrawn_early reg.old n mark }
 {
     let mut bytes = [0u8; 4];
     codec::write32(&mut bytes, 0, mark);
@@ -112,7 +113,7 @@ pub struct Withdrawal {
 // mark with no entry, and 33 one with an entry. The search gives 4,096 only where all entries are used and none has the mark.
 pub fn withdraw(reg: &mut [u8], used: usize, mark: u32) -> Withdrawal
     requires { (length reg.old ≡ def.register_length) × (used ≤ def.capacity) }
-    ensures { Withdrew (given reg) used mark result (left reg) }
+    ensures { Withdrew reg.old used mark result reg.new }
 {
     let at = find(reg, mark, used);
     if at == 4096 {
@@ -144,7 +145,7 @@ pub fn withdraw(reg: &mut [u8], used: usize, mark: u32) -> Withdrawal
 // How many of the first n entries stand.
 pub fn count_standing(reg: &[u8], n: usize) -> usize
     requires { 40 * n ≤ length reg.now }
-    ensures { (result ≡ length (def.standing (given reg) n)) × (result ≤ n) }
+    ensures { (result ≡ length (def.standing reg.now n)) × (result ≤ n) }
 {
     let mut i = 0;
     let mut count = 0;
@@ -160,7 +161,7 @@ pub fn count_standing(reg: &[u8], n: usize) -> usize
 // The standing ones of the first n entries in thousandths of the enrolled, half up.
 pub fn turnout(reg: &[u8], n: usize, enrolled: u64) -> u32
     requires { (40 * n ≤ length reg.now) × (n ≤ 4096) × (1 ≤ enrolled) × (enrolled ≤ 1000000) }
-    ensures { result ≡ def.turnout (given reg) n enrolled }
+    ensures { result ≡ def.turnout reg.now n enrolled }
 {
     let count = count_standing(reg, n) as u64;
     ((2000 * count + enrolled) / (2 * enrolled)) as u32

@@ -1,6 +1,8 @@
 // Polynomials modulo X^n + 1 and q over lent bytes (document 01, "Ring and scheme"), for q below 2^56 and n at most 2048.
 // A polynomial is 8n bytes. Scratch is a row of slots of 8n bytes, and a slot is named by its place in bytes: at, from, room.
 // A lent polynomial is loaded into a slot by `codec::copy`; the product has a crate of its own.
+#![tactic(auto)]
+
 ghost use Rattle.std.specs.Prelude.{◌≡◌, ◌+◌, ◌-◌, ◌*◌, ◌/◌, ◌%◌, ◌^◌, ◌≤◌, ◌<◌, length};
 ghost use Rattle.codec.specs.Bytes.{put};
 ghost use Rattle.codec.specs.Lists.{list, all_below};

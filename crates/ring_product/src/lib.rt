@@ -1,6 +1,8 @@
 // The product of polynomials modulo X^n + 1 and q, by which the library multiplies: by transforms where that is faster and a root of
 // X^n + 1 is found, and else by the plain method, in which every coefficient is a sum of n products of a factor by a stretch of a row,
 // with one reduction at its end.
+#![tactic(auto)]
+
 pub mod root;
 
 ghost use Rattle.std.specs.Prelude.{◌≡◌, ◌+◌, ◌-◌, ◌*◌, ◌%◌, ◌^◌, ◌≤◌, ◌<◌, length};

@@ -1,11 +1,11 @@
 -- The transform takes products to products entry by entry: what has the values of a product is taken to the product of the transforms. Assumes nothing.
 use mathlib.Core.Path.{◌≡◌, refl, sym, ap, ap₂, ◌∙◌}
-use mathlib.Core.List.{List, [], ◌∷◌, ◌++◌, map}
-use Prim.Native.Nat.{ℕ, zero, suc, ◌+◌, ◌-◌, ◌*◌, ◌/◌, ◌%◌, ◌^◌, ◌≤◌, ◌<◌}
+use mathlib.Core.List.{List, [], ◌∷◌, ◌++◌}
+use Prim.Native.Nat.{ℕ, zero, suc, ◌+◌, ◌-◌, ◌*◌, ◌/◌, ◌%◌, ◌^◌, ◌<◌}
 use native.Mathlib.Nat.{add-zero, mul_assoc, mul_comm, mul_left_comm, mul-zero, one-mul, mod-lt, mod-eq_of_lt, pow-zero}
 use native.Mathlib.Omega.{arith}
 use lib.Pow.{pow-add}
-use lib.ListN.{length, take, drop}
+use lib.ListN.{take, drop}
 use Rattle.modular.specs.Modulo.{Same}
 use Rattle.modular.specs.Roots.{Root}
 use Rattle.modular.proofs.Congruence.{same_refl, same_eq, same_sym, same_mod, same_add, same_mul, same_negative, ◌then◌}

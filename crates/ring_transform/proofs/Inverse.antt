@@ -1,14 +1,14 @@
 -- The inverse transform of the transform of s is 2^l s. Assumes nothing.
 use mathlib.Core.Path.{◌≡◌, refl, sym, ap, ap₂, ◌∙◌}
-use mathlib.Core.List.{List, [], ◌∷◌, ◌++◌, map}
+use mathlib.Core.List.{List, ◌∷◌, ◌++◌, map}
 use Prim.Native.Nat.{ℕ, zero, suc, ◌+◌, ◌-◌, ◌*◌, ◌/◌, ◌%◌, ◌^◌, ◌≤◌, ◌<◌}
-use native.Mathlib.Nat.{add-zero, zero-add, add_assoc, add_comm, add_left_comm, mul_assoc, mul_comm, mul_left_comm, mul-add, add-mul, mul-zero, zero-mul, one-mul, mul-suc, mod-lt, mod-eq_of_lt}
+use native.Mathlib.Nat.{add-zero, zero-add, add_assoc, add_left_comm, mul_assoc, mul_comm, mul_left_comm, mul-add, add-mul, mul-zero, one-mul, mod-lt, mod-eq_of_lt}
 use native.Mathlib.Omega.{arith}
 use lib.Pow.{pow-add}
 use lib.ListN.{take, drop, take-append-drop}
 use Rattle.modular.specs.Modulo.{Same}
 use Rattle.modular.specs.Roots.{Root}
-use Rattle.modular.proofs.Congruence.{same_refl, same_eq, same_sym, same_mod, same_add, same_mul, same_negative, same_opposite, ◌then◌}
+use Rattle.modular.proofs.Congruence.{same_refl, same_eq, same_mod, same_add, same_mul, same_negative, same_opposite, ◌then◌}
 use Rattle.vector.specs.Vector.{Each, none, more}
 use Rattle.vector.specs.Internal.{Vector}
 use Rattle.vector.proofs.Vectors.{take_each, drop_each}

@@ -1,10 +1,10 @@
 -- Numbers that stand in scratch: what is written there as words is read again, beside them nothing changes, and two halves that are written after each other are one row. Assumes nothing.
 use mathlib.Core.Path.{◌≡◌, refl, sym, ap, ap₂, ◌∙◌}
 use mathlib.Core.List.{List, [], ◌∷◌, ◌++◌}
-use Prim.Native.Nat.{ℕ, zero, suc, ◌+◌, ◌-◌, ◌*◌, ◌^◌, ◌≤◌, ◌<◌}
+use Prim.Native.Nat.{ℕ, zero, suc, ◌+◌, ◌*◌, ◌^◌, ◌≤◌, ◌<◌}
 use native.Mathlib.Nat.{add-zero, add-suc}
 use native.Mathlib.Omega.{arith}
-use lib.ListN.{length, get_or, take, drop, length-append}
+use lib.ListN.{length, get_or, take, drop}
 use lib.Seq.{ext_get_or, take-append-le, take_all, drop_at}
 use Rattle.codec.specs.Bytes.{Bytes, words, put}
 use Rattle.codec.specs.Lists.{list}
@@ -17,7 +17,6 @@ use Rattle.ring.proofs.Bridge.{poly_encode, slot_later, slot_put, slot_put_befor
 use Rattle.vector.specs.Internal.{Vector}
 use Rattle.vector.proofs.Vectors.{at_each, each_length}
 use Rattle.ring_transform.specs.Internal.{numbers, zip}
-use Rattle.ring_transform.proofs.Vectors.{zip_each}
 
 -- ---- lists of coefficients
 

@@ -7,7 +7,6 @@ use native.Mathlib.Omega.{arith}
 use borrow.Author.Tests.{ltb-true, lt-ltb, eqb-true, eq-eqb}
 use lib.Dec.{eqb, ltb}
 use Rattle.codec.proofs.Laws.{both}
-use Rattle.modular.specs.Modulo.{Same}
 use Rattle.modular.specs.Roots.{Root, is_root}
 
 -- -1 is below q

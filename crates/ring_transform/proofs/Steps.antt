@@ -11,7 +11,7 @@ use Rattle.modular.proofs.Congruence.{same_refl, same_eq, same_mod, same_mul, â—
 use Rattle.montgomery.specs.Internal.{Modulus, radix_inverse}
 use Rattle.montgomery.proofs.Reduction.{radix_times}
 use Rattle.vector.specs.Internal.{Vector}
-use Rattle.vector.proofs.Vectors.{append_each, take_each, drop_each, each_length}
+use Rattle.vector.proofs.Vectors.{append_each, take_each, drop_each}
 use Rattle.ring_transform.specs.Internal.{zip, numbers, two_to, plus_twiddled, minus_twiddled, level, transform, back_sum, back_twiddled, united, untransform, Powers}
 use Rattle.ring_transform.proofs.Vectors.{take_join, drop_join, zip_each}
 use Rattle.ring_transform.proofs.Convolve.{plus_vec, minus_vec, transform_vec}

@@ -1,15 +1,14 @@
 -- The table of powers of a root, each times 2^56, and the exponent of a power of two. Assumes nothing.
-use mathlib.Core.Path.{◌≡◌, refl, sym, ap, ap₂, ◌∙◌}
+use mathlib.Core.Path.{◌≡◌, refl, sym, ap, ◌∙◌}
 use mathlib.Core.List.{List}
-use Prim.Native.Nat.{ℕ, zero, suc, ◌+◌, ◌-◌, ◌*◌, ◌/◌, ◌%◌, ◌^◌, ◌≤◌, ◌<◌}
+use Prim.Native.Nat.{ℕ, zero, suc, ◌+◌, ◌*◌, ◌%◌, ◌^◌, ◌≤◌, ◌<◌}
 use native.Mathlib.Decide.{dec_lt}
 use native.Mathlib.Nat.{mul_assoc, mul_comm, mul_left_comm, one-mul, pow-zero, pow-succ', pow-le-pow_right}
 use native.Mathlib.Numerals.{add-one}
 use native.Mathlib.Omega.{arith}
-use lib.ListN.{length, get_or, set, length-set}
+use lib.ListN.{length, set, length-set}
 use lib.Pow.{pow-add}
 use lib.Seq.{get_or-set_same, get_or-set_other}
-use Rattle.modular.specs.Modulo.{Same}
 use Rattle.modular.proofs.Congruence.{same_refl, same_eq, same_mod, same_mul, ◌then◌}
 use Rattle.montgomery.specs.Internal.{Modulus, radix_inverse}
 use Rattle.montgomery.proofs.Reduction.{radix_times}

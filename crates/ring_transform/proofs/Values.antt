@@ -1,7 +1,7 @@
 -- The values of a product modulo X^N + 1: where X^N is -1, the value of a b is the product of the values of a and b. Assumes nothing.
 use mathlib.Core.Path.{◌≡◌, refl, sym, ap, ap₂, ◌∙◌}
 use mathlib.Core.List.{List, [], ◌∷◌, ◌++◌}
-use Prim.Native.Nat.{ℕ, zero, suc, ◌+◌, ◌-◌, ◌*◌, ◌%◌, ◌^◌, ◌≤◌, ◌<◌}
+use Prim.Native.Nat.{ℕ, zero, suc, ◌+◌, ◌-◌, ◌*◌, ◌^◌, ◌≤◌, ◌<◌}
 use native.Mathlib.Nat.{add-zero, zero-add, add_assoc, add_comm, mul_assoc, mul_comm, mul_left_comm, mul-add, mul-zero, one-mul, pow-zero, pow-succ'}
 use native.Mathlib.Omega.{arith}
 use lib.Pow.{pow-add}

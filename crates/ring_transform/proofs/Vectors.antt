@@ -1,12 +1,12 @@
 -- Lists entry by entry, and the value of a polynomial: of a sum, of a part, of a product by X. Assumes nothing.
 use mathlib.Core.Path.{◌≡◌, refl, sym, ap, ap₂, ◌∙◌}
 use mathlib.Core.List.{List, [], ◌∷◌, ◌++◌, map}
-use Prim.Native.Nat.{ℕ, zero, suc, ◌+◌, ◌-◌, ◌*◌, ◌/◌, ◌%◌, ◌^◌, ◌≤◌, ◌<◌}
-use native.Mathlib.Nat.{zero-add, suc-add, add_assoc, add_left_comm, mul_assoc, mul_left_comm, mul-add, mul-zero, pow-zero, pow-succ'}
+use Prim.Native.Nat.{ℕ, zero, suc, ◌+◌, ◌*◌, ◌%◌, ◌^◌, ◌≤◌}
+use native.Mathlib.Nat.{add_assoc, add_left_comm, mul_assoc, mul_left_comm, mul-add, mul-zero, pow-zero, pow-succ'}
 use native.Mathlib.Omega.{arith}
-use lib.ListN.{length, get_or, take, drop}
+use lib.ListN.{length, take, drop}
 use Rattle.modular.specs.Modulo.{Same}
-use Rattle.modular.proofs.Congruence.{same_refl, same_eq, same_sym, same_mod, same_add, same_mul, ◌then◌}
+use Rattle.modular.proofs.Congruence.{same_refl, same_eq, same_mod, same_add, same_mul, ◌then◌}
 use Rattle.vector.specs.Vector.{Each, none, more}
 use Rattle.ring_transform.specs.Internal.{zip}
 

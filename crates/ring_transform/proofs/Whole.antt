@@ -1,7 +1,7 @@
 -- The product by transforms is the ring's. Assumes nothing.
 use mathlib.Core.Path.{◌≡◌, refl, sym, ap, ap₂, ◌∙◌}
-use mathlib.Core.List.{List, [], ◌∷◌, ◌++◌, map}
-use Prim.Native.Nat.{ℕ, zero, suc, ◌+◌, ◌-◌, ◌*◌, ◌/◌, ◌%◌, ◌^◌, ◌≤◌, ◌<◌}
+use mathlib.Core.List.{List, ◌∷◌, map}
+use Prim.Native.Nat.{ℕ, zero, suc, ◌-◌, ◌*◌, ◌%◌, ◌<◌}
 use native.Mathlib.Nat.{mul_assoc, mul-one, one-mul, mod-lt, mod-eq_of_lt}
 use native.Mathlib.Numerals.{add-one}
 use native.Mathlib.Omega.{arith}
@@ -14,7 +14,7 @@ use Rattle.vector.specs.Vector.{Each, none, more}
 use Rattle.vector.specs.Internal.{Vector}
 use Rattle.vector.proofs.Vectors.{append_each}
 use Rattle.ring_transform.specs.Internal.{zip, two_to, transform, untransform}
-use Rattle.ring_transform.proofs.Vectors.{map_each, eval, eval_map}
+use Rattle.ring_transform.proofs.Vectors.{map_each, eval_map}
 use Rattle.ring_transform.proofs.Values.{eval_mul}
 use Rattle.ring_transform.proofs.Convolve.{Values, root_pos, recast, convolve}
 use Rattle.ring_transform.proofs.Inverse.{back_and_forth}

@@ -1,6 +1,8 @@
 // The product of polynomials modulo X^n + 1 and q by number-theoretic transforms, over slots of scratch, for a power of two n of 2 to 2048,
 // an odd q below 2^56 and a root w: w^n is -1 modulo q. q need not be prime: nothing is inverted but powers of two and of w, whose inverses
 // are powers of (q + 1) / 2 and -w^(n - k) for w^k.
+#![tactic(auto)]
+
 ghost use Rattle.std.specs.Prelude.{◌≡◌, length};
 ghost use Prim.Native.Nat.{◌+◌, ◌-◌, ◌*◌, ◌%◌, ◌^◌, ◌≤◌, ◌<◌};
 ghost use Rattle.codec.specs.Bytes.{put, zeros, words};

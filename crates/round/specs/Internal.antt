@@ -9,7 +9,7 @@ use Rattle.ring.specs.Poly.{Poly, Below}
 use Rattle.stern.specs.Argument.{Drawn}
 use Rattle.stern.specs.Shortness.{in_range, answer_tests}
 use Rattle.round.specs.Layout.{ballot_length, u_at, head_length, share_at, answers_length, pairs_of, digests_at, opening_of, answer_at}
-use Rattle.std.specs.Borrow.{Bor}
+use Rattle.std.specs.Borrow.{Bor, MutBor}
 use Rattle.codec.specs.Slices.{Slice, given}
 use Rattle.round.specs.Producer.{Material, material_of, half_of, s_in, e_in, hides_sin, hides_ein, drawn_in, committed_pair, pairs_bytes, opening_bytes, answers_bytes, produced_head, produced_shares, produced_claims}
 use Rattle.round.specs.Writes.{FirstRoom, first_room, SecondRoom, second_room}
@@ -41,10 +41,10 @@ abbrev pub material_now : (secrets s0 e0 masks0 masks1 vectors permutations salt
 material_now secrets s0 e0 masks0 masks1 vectors permutations salts ballots =
     material_of secrets.now s0.now e0.now masks0.now masks1.now vectors.now permutations.now salts.now ballots.now
 
-abbrev pub first_now : (head shares0 shares1 claims scratch : Bor Bytes) → FirstRoom
+abbrev pub first_now : (head shares0 shares1 claims scratch : MutBor Bytes) → FirstRoom
 first_now head shares0 shares1 claims scratch = first_room head.now shares0.now shares1.now claims.now scratch.now
 
-abbrev pub second_now : (opening answers scratch : Bor Bytes) → SecondRoom
+abbrev pub second_now : (opening answers scratch : MutBor Bytes) → SecondRoom
 second_now opening answers scratch = second_room opening.now answers.now scratch.now
 
 -- a round from its slices one by one

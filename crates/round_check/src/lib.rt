@@ -64,9 +64,9 @@ fn check_answers<'a>(
     requires { Loaded k public.now × (length work.old ≡ scratch_length) × (count ≤ 4096)
         × RoundInRange k.modulus k.ring count k.repeats
         (round_of side challenges.now ballots.now claims.now head.now shares0.now shares1.now opening.now answers.now) }
-    ensures { Judged (answers_tests (parameters k (given public)) (given head) (given challenges) (given answers)
-        ++ votes_tests k.modulus k.ring (plain k) (mask_bound_of k) count (slot (given opening) 0) (given ballots) (given claims)
-        (given shares0) (given shares1) (of_side side (given shares0) (given shares1))) result (given work) (left work) }
+    ensures { Judged (answers_tests (parameters k public.now) head.now challenges.now answers.now
+        ++ votes_tests k.modulus k.ring (plain k) (mask_bound_of k) count (slot opening.now 0) ballots.now claims.now
+        shares0.now shares1.now (of_side side shares0.now shares1.now)) result work.old work.new }
 {
     let answered = test_repetitions(work, k, public, head, challenges, answers);
     let Reply::Taken = answered else {
@@ -97,7 +97,7 @@ fn check_ranged<'a>(
         × RoundInRange k.modulus k.ring count k.repeats
         (round_of side challenges.now ballots.now claims.now head.now shares0.now shares1.now opening.now answers.now) }
     ensures { let x = round_in side challenges ballots claims head shares0 shares1 opening answers in
-        Judged (round_later (parameters k (given public)) count x) result (given work) (left work) }
+        Judged (round_later (parameters k public.now) count x) result work.old work.new }
 {
     if !splits(work, k, public, head) {
         return refused(6);
@@ -132,7 +132,7 @@ pub fn check_round<'a>(
         × Lengths (parameters k public.now) count
         (round_of side challenges.now ballots.now claims.now head.now shares0.now shares1.now opening.now answers.now) }
     ensures { let x = round_in side challenges ballots claims head shares0 shares1 opening answers in
-        Judged (round_tests (parameters k (given public)) count x) result (given work) (left work) }
+        Judged (round_tests (parameters k public.now) count x) result work.old work.new }
 {
     if !round_ranged(
         k, side, challenges, ballots, claims, head, shares0, shares1, opening, answers, count,

@@ -24,7 +24,7 @@ fn both(a: bool, b: bool) -> bool
 // Copies the pair that stands in scratch into 16n bytes of room.
 fn keep_pair(room: &mut [u8], work: &[u8], n: usize)
     requires { (16 * n ≤ length room.old) × (49152 + 8 * n ≤ length work.now) }
-    ensures { left room ≡ put (given room) 0 (part (given work) 0 (8 * n) ++ part (given work) 49152 (8 * n)) }
+    ensures { room.new ≡ put room.old 0 (part work.now 0 (8 * n) ++ part work.now 49152 (8 * n)) }
 {
     codec::copy(room, 0, &work[0..8 * n]);
     codec::copy(
@@ -37,7 +37,7 @@ fn keep_pair(room: &mut [u8], work: &[u8], n: usize)
 // Whether the pair that stands in scratch is the one that was kept.
 fn is_kept(room: &[u8], work: &[u8], n: usize) -> bool
     requires { (16 * n ≤ length room.now) × (49152 + 8 * n ≤ length work.now) }
-    ensures { result ≡ same (part (given room) 0 (16 * n)) (part (given work) 0 (8 * n) ++ part (given work) 49152 (8 * n)) }
+    ensures { result ≡ same (part room.now 0 (16 * n)) (part work.now 0 (8 * n) ++ part work.now 49152 (8 * n)) }
 {
     let one = codec::equal(&room[0..8 * n], &work[0..8 * n]);
     let two = codec::equal(
@@ -63,9 +63,9 @@ fn pairs_agree(
 ) -> bool
     requires { Ground q n k.now c.now work.old room.old × MaskedVectors q n u.now r.now × (first + 6 * n ≤ 42 * n)
         × (message + n ≤ 42 * n) × (from + 4 * n ≤ 8 * n) }
-    ensures { let pair = equation_pair q n (keys_of n (given k)) (given c) in
-        ComparedBy (pair_bytes q n (pair true (given u) first message from)) (pair_bytes q n (pair false (given r) first message from)) result
-        (given work) (left work) (given room) (left room) }
+    ensures { let pair = equation_pair q n (keys_of n k.now) c.now in
+        ComparedBy (pair_bytes q n (pair true u.now first message from)) (pair_bytes q n (pair false r.now first message from)) result
+        work.old work.new room.old room.new }
 {
     equation_pair(work, k, c, true, u, first, message, from, n, q);
     keep_pair(room, work, n);
@@ -85,9 +85,9 @@ fn equations_agree(
     q: u64,
 ) -> bool
     requires { Ground q n k.now c.now work.old room.old × MaskedVectors q n u.now r.now }
-    ensures { ComparedBy (words (subtract q (equations q n (keys_of n (given k)) (take (14 * n) (vector (given u))))
-        (right_hand_sides q n (given c)))) (words (equations q n (keys_of n (given k)) (take (14 * n) (vector (given r))))) result (given work)
-        (left work) (given room) (left room) }
+    ensures { ComparedBy (words (subtract q (equations q n (keys_of n k.now) (take (14 * n) (vector u.now)))
+        (right_hand_sides q n c.now))) (words (equations q n (keys_of n k.now) (take (14 * n) (vector r.now)))) result work.old
+        work.new room.old room.new }
 {
     let of_s = pairs_agree(work, room, k, c, u, r, 2 * n, 0, 0, n, q);
     let of_e = pairs_agree(work, room, k, c, u, r, 8 * n, n, 4 * n, n, q);
@@ -97,8 +97,8 @@ fn equations_agree(
 // Whether answers 2 and 3 have one salt 1 and one P.
 fn starts_agree(answer2: &[u8], answer3: &[u8], n: usize) -> bool
     requires { (n ≤ 2048) × (length answer2.now ≡ 504 * n + 64) × (length answer3.now ≡ 504 * n + 64) }
-    ensures { result ≡ same ((answer2_of n (given answer2)).salt1
-        ++ (answer2_of n (given answer2)).p) ((answer3_of n (given answer3)).salt1 ++ (answer3_of n (given answer3)).p) }
+    ensures { result ≡ same ((answer2_of n answer2.now).salt1
+        ++ (answer2_of n answer2.now).p) ((answer3_of n answer3.now).salt1 ++ (answer3_of n answer3.now).p) }
 {
     let salt = 504 * n;
     let salts = codec::equal(&answer2[salt..salt + 32], &answer3[salt..salt + 32]);
@@ -120,9 +120,9 @@ fn first_agrees(
     requires { Ground q n k.now c.now work.old room.old × (length answer2.now ≡ 504 * n + 64)
         × (length answer3.now ≡ 504 * n + 64) × (all_below q (vector (answer2_of n answer2.now).u) ≡ true)
         × (all_below q (vector (answer3_of n answer3.now).r) ≡ true) }
-    ensures { let s = setting q n (keys_of n (given k)) (given c) in
-        ComparedBy (one_by2 s (answer2_of n (given answer2))) (one_by3 s (answer3_of n (given answer3))) result (given work) (left work)
-        (given room) (left room) }
+    ensures { let s = setting q n (keys_of n k.now) c.now in
+        ComparedBy (one_by2 s (answer2_of n answer2.now)) (one_by3 s (answer3_of n answer3.now)) result work.old work.new
+        room.old room.new }
 {
     let starts = starts_agree(answer2, answer3, n);
     let rest = equations_agree(
@@ -144,7 +144,7 @@ fn first_agrees(
 fn is_gathered(work: &mut [u8], p: &[u8], x: &[u8], t: &[u8], n: usize) -> bool
     requires { (n ≤ 2048) × (length work.old ≡ scratch_length) × (length p.now ≡ 168 * n) × (length x.now ≡ 336 * n)
         × (all_below (42 * n) (entries p.now) ≡ true) }
-    ensures { Compared (given t) (words (apply (entries (given p)) (vector (given x)))) result (given work) (left work) }
+    ensures { Compared t.now (words (apply (entries p.now) (vector x.now))) result work.old work.new }
 {
     vector::gather(work, 0, p, x, 42 * n);
     codec::equal(t, &work[0..336 * n])
@@ -154,9 +154,9 @@ fn is_gathered(work: &mut [u8], p: &[u8], x: &[u8], t: &[u8], n: usize) -> bool
 fn second_agrees(work: &mut [u8], answer1: &[u8], answer3: &[u8], n: usize) -> bool
     requires { (n ≤ 2048) × (length work.old ≡ scratch_length) × (length answer1.now ≡ 378 * n + 64)
         × (length answer3.now ≡ 504 * n + 64) × (all_below (42 * n) (entries (answer3_of n answer3.now).p) ≡ true) }
-    ensures { let one = answer1_of n (given answer1) in let three = answer3_of n (given answer3) in
+    ensures { let one = answer1_of n answer1.now in let three = answer3_of n answer3.now in
         Compared (string2 one.salt2 one.t) (string2 three.salt2 (words (apply (entries three.p) (vector three.r)))) result
-        (given work) (left work) }
+        work.old work.new }
 {
     let one = 378 * n;
     let three = 504 * n + 32;
@@ -178,8 +178,8 @@ fn sums_agree(w: &[u8], t: &[u8], p: &[u8], u: &[u8], n: usize, q: u64) -> bool
     requires lt_q { (1 < q) × (q < 2 ^ 56) × (length w.now ≡ n) × (length t.now ≡ 8 * n) × (length p.now ≡ 4 * n)
         × (length u.now ≡ 8 * n) }
     requires t_value { (all_below q (vector t.now) ≡ true) × (all_below q (vector u.now) ≡ true) × (all_below n (entries p.now) ≡ true) }
-    ensures { result ≡ same (words (add q (ternaries q (given w)) (vector (given t))))
-        (words (apply (entries (given p)) (vector (given u)))) }
+    ensures { result ≡ same (words (add q (ternaries q w.now) (vector t.now)))
+        (words (apply (entries p.now) (vector u.now))) }
 {
     let mut i = 0;
     while i < n {
@@ -198,7 +198,7 @@ fn third_agrees(answer1: &[u8], answer2: &[u8], n: usize, q: u64) -> bool
     requires n_bound { (n ≤ 2048) × (1 < q) × (q < 2 ^ 56) × (length answer1.now ≡ 378 * n + 64) × (length answer2.now ≡ 504 * n + 64) }
     requires answer1_value { (all_below q (vector (answer1_of n answer1.now).t) ≡ true) × (all_below q (vector (answer2_of n answer2.now).u) ≡ true)
         × (all_below (42 * n) (entries (answer2_of n answer2.now).p) ≡ true) }
-    ensures { let one = answer1_of n (given answer1) in let two = answer2_of n (given answer2) in
+    ensures { let one = answer1_of n answer1.now in let two = answer2_of n answer2.now in
         result ≡ same (string3 one.salt3 (add q (ternaries q one.w) (vector one.t)))
         (string3 two.salt3 (apply (entries two.p) (vector two.u))) }
 {
@@ -248,9 +248,9 @@ pub fn collision(
     q: u64,
 ) -> u8
     requires { Ground q n k.now c.now work.old room.old × ThreeAnswers q n answer1.now answer2.now answer3.now }
-    ensures { let s = setting q n (keys_of n (given k)) (given c) in
-        Searched s (answer1_of n (given answer1)) (answer2_of n (given answer2)) (answer3_of n (given answer3)) result (given work)
-        (left work) (given room) (left room) }
+    ensures { let s = setting q n (keys_of n k.now) c.now in
+        Searched s (answer1_of n answer1.now) (answer2_of n answer2.now) (answer3_of n answer3.now) result work.old
+        work.new room.old room.new }
 {
     let one = first_agrees(work, room, k, c, answer2, answer3, n, q);
     let two = second_agrees(work, answer1, answer3, n);

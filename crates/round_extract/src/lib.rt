@@ -49,8 +49,8 @@ fn openings_tests<'a>(
 ) -> Reply
     requires { Loaded k public.now }
     ensures { let x = openings_in head shares0 shares1 ballots claims opening0 opening1 repetition answer1 answer2 answer3 in
-        (result ≡ first (openings_tests (parameters k (given public)) x (extract_in out scratch)))
-        × (left scratch ≡ zeroized result (given scratch)) }
+        (result ≡ first (openings_tests (parameters k public.now) x (extract_in out scratch)))
+        × (scratch.new ≡ zeroized result scratch.old) }
 {
     let n = k.ring as usize;
     let repeats = k.repeats as usize;
@@ -92,7 +92,7 @@ pub fn extract<'a>(
 ) -> Extraction
     requires { Loaded k public.now }
     ensures { let x = openings_in head shares0 shares1 ballots claims opening0 opening1 repetition answer1 answer2 answer3 in
-        ExtractWritten (parameters k (given public)) x (extract_in out scratch) result (extract_out out scratch) }
+        ExtractWritten (parameters k public.now) x (extract_in out scratch) result (extract_out out scratch) }
 {
     let reply = openings_tests(
         k, public, head, shares0, shares1, ballots, claims, opening0, opening1, repetition,

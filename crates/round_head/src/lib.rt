@@ -36,10 +36,10 @@ fn digests_at(
         × (permutation + 168 * n ≤ length permutations.now) × (salt + 96 ≤ length salts.now)
         × RepetitionMaterial q n secrets.now (part vectors.now vector (336 * n)) (part permutations.now permutation (168 * n))
         (part salts.now salt 96) }
-    ensures { let drawn = drawn_of (part (given permutations) permutation (168 * n)) (part (given vectors) vector (336 * n))
-        (part (given salts) salt 96) in
-        (left out ≡ put (given out) at (honest_digests q n (keys_of n (given k)) (given secrets) drawn))
-        × Free (given work) (left work) }
+    ensures { let drawn = drawn_of (part permutations.now permutation (168 * n)) (part vectors.now vector (336 * n))
+        (part salts.now salt 96) in
+        (out.new ≡ put out.old at (honest_digests q n (keys_of n k.now) secrets.now drawn))
+        × Free work.old work.new }
 {
     stern_answers::writing::write_digests(
         out,
@@ -68,10 +68,10 @@ fn write_digests(
 )
     requires { Loaded k public.now × (length work.old ≡ scratch_length) × (length head.old ≡ head_length k.ring k.repeats)
         × Drawings k.modulus k.ring k.repeats secrets.now vectors.now permutations.now salts.now }
-    ensures { let digests = digests_bytes k.modulus k.ring k.repeats (given secrets) (given vectors) (given permutations)
-        (given salts) in
-        (left head ≡ put (given head) (80 * k.ring) (digests (keys_of k.ring (key_bytes k (given public)))))
-        × Free (given work) (left work) }
+    ensures { let digests = digests_bytes k.modulus k.ring k.repeats secrets.now vectors.now permutations.now
+        salts.now in
+        (head.new ≡ put head.old (80 * k.ring) (digests (keys_of k.ring (key_bytes k public.now))))
+        × Free work.old work.new }
 {
     let n = k.ring as usize;
     let q = k.modulus;
@@ -111,7 +111,7 @@ fn write_digests(
 // Writes the pair that stands in scratch out: its first half at the head, its second where the message stood.
 fn write_halves(out: &mut [u8], at: usize, work: &[u8], n: usize)
     requires { (n ≤ 2048) × (at + 16 * n ≤ length out.old) × (length work.now ≡ scratch_length) }
-    ensures { left out ≡ put (given out) at (part (given work) 0 (8 * n) ++ part (given work) 49152 (8 * n)) }
+    ensures { out.new ≡ put out.old at (part work.now 0 (8 * n) ++ part work.now 49152 (8 * n)) }
 {
     scratch::write_out(out, at, work, 0, n);
     scratch::write_out(out, at + 8 * n, work, commitment::MESSAGE, n);
@@ -121,9 +121,9 @@ fn write_halves(out: &mut [u8], at: usize, work: &[u8], n: usize)
 fn pair_difference(work: &mut [u8], k: &[u8], x: &[u8], x0: &[u8], r: &[u8], n: usize, q: u64)
     requires { PublicKeys n q k.now × Polynomial n q x0.now × (length x.now ≡ n) × (length r.now ≡ 3 * n)
         × (length work.old ≡ scratch_length) }
-    ensures { let half = other q (ternary q (given x)) (poly (given x0)) in
-        let made = committed q n (keys_of n (given k)) (three_of q n (given r)) half in
-        PairInSlots q n made (given work) (left work) }
+    ensures { let half = other q (ternary q x.now) (poly x0.now) in
+        let made = committed q n (keys_of n k.now) (three_of q n r.now) half in
+        PairInSlots q n made work.old work.new }
 {
     commitment::load_three(work, r, n, q);
     ring::load_ternary(work, commitment::MESSAGE, x, q);
@@ -145,10 +145,10 @@ fn both_pairs(
 )
     requires { PublicKeys n q k.now × Polynomial n q x0.now × (length x.now ≡ n) × (length r.now ≡ 6 * n)
         × (length work.old ≡ scratch_length) × (at + 32 * n ≤ length out.old) }
-    ensures { let one = committed_pair q n (keys_of n (given k)) (part (given r) 0 (3 * n)) (poly (given x0)) in
-        let half = other q (ternary q (given x)) (poly (given x0)) in
-        let two = committed_pair q n (keys_of n (given k)) (part (given r) (3 * n) (3 * n)) half in
-        (left out ≡ put (given out) at (one ++ two)) × Free (given work) (left work) }
+    ensures { let one = committed_pair q n (keys_of n k.now) (part r.now 0 (3 * n)) (poly x0.now) in
+        let half = other q (ternary q x.now) (poly x0.now) in
+        let two = committed_pair q n (keys_of n k.now) (part r.now (3 * n) (3 * n)) half in
+        (out.new ≡ put out.old at (one ++ two)) × Free work.old work.new }
 {
     commitment::pair(work, k, x0, &r[0..3 * n], n, q);
     write_halves(out, at, work, n);
@@ -168,9 +168,9 @@ fn write_pairs(
 )
     requires { Loaded k public.now × Polynomial k.ring k.modulus s0.now × Polynomial k.ring k.modulus e0.now
         × (length secrets.now ≡ 14 * k.ring) × (length work.old ≡ scratch_length) × (80 * k.ring ≤ length head.old) }
-    ensures { let keys = keys_of k.ring (key_bytes k (given public)) in
-        let pairs = pairs_bytes k.modulus k.ring (given secrets) (given s0) (given e0) keys in
-        (left head ≡ put (given head) (16 * k.ring) pairs) × Free (given work) (left work) }
+    ensures { let keys = keys_of k.ring (key_bytes k public.now) in
+        let pairs = pairs_bytes k.modulus k.ring secrets.now s0.now e0.now keys in
+        (head.new ≡ put head.old (16 * k.ring) pairs) × Free work.old work.new }
 {
     let n = k.ring as usize;
     let q = k.modulus;
@@ -212,9 +212,9 @@ fn write_keys(
 )
     requires { Loaded k public.now × Polynomial k.ring k.modulus s0.now × Polynomial k.ring k.modulus e0.now
         × (length secrets.now ≡ 14 * k.ring) × (length work.old ≡ scratch_length) × (16 * k.ring ≤ length head.old) }
-    ensures { let a = poly (a_of k (given public)) in
-        let b = key_bytes_of k.modulus k.ring (given secrets) (given s0) (given e0) (plain k) a in
-        (left head ≡ put (given head) 0 (b 0 ++ b 1)) × Free (given work) (left work) }
+    ensures { let a = poly (a_of k public.now) in
+        let b = key_bytes_of k.modulus k.ring secrets.now s0.now e0.now (plain k) a in
+        (head.new ≡ put head.old 0 (b 0 ++ b 1)) × Free work.old work.new }
 {
     let n = k.ring as usize;
     let p = sheet_numbers::plain(k);
@@ -251,9 +251,9 @@ pub fn write_head(
     requires { Loaded k public.now × Polynomial k.ring k.modulus s0.now × Polynomial k.ring k.modulus e0.now
         × (length work.old ≡ scratch_length) × (length head.old ≡ head_length k.ring k.repeats)
         × Drawings k.modulus k.ring k.repeats secrets.now vectors.now permutations.now salts.now }
-    ensures { let P = parameters k (given public) in
-        (left head ≡ head_bytes P (given secrets) (given s0) (given e0) (given vectors) (given permutations) (given salts))
-        × (left work ≡ zeros (length (given work))) }
+    ensures { let P = parameters k public.now in
+        (head.new ≡ head_bytes P secrets.now s0.now e0.now vectors.now permutations.now salts.now)
+        × (work.new ≡ zeros (length work.old)) }
 {
     write_keys(k, public, secrets, s0, e0, head, work);
     write_pairs(k, public, secrets, s0, e0, head, work);

@@ -18,7 +18,7 @@ fn times(a: usize, b: usize) -> usize
 // How many ballots stand in a slice.
 pub fn count_of(ballots: &[u8], n: usize) -> usize
     requires { n ≤ 2048 }
-    ensures { result ≡ count_of n (given ballots) }
+    ensures { result ≡ count_of n ballots.now }
 {
     ballots.len() / (4 + 16 * n)
 }
@@ -109,7 +109,7 @@ pub fn first_sized(
 // The length of the answers to challenges, end to end.
 fn answers_length(challenges: &[u8], n: usize) -> usize
     requires { (n ≤ 2048) × (length challenges.now ≤ 256) }
-    ensures { result ≡ answers_length n (given challenges) }
+    ensures { result ≡ answers_length n challenges.now }
 {
     let mut i = 0;
     let mut sum = 0;
@@ -130,7 +130,7 @@ pub fn second_sized(
     n: usize,
 ) -> bool
     requires { (n ≤ 2048) × (repeats ≤ 256) }
-    ensures { result ≡ second_sized n repeats (given challenges) (given opening) (given answers) (given scratch) }
+    ensures { result ≡ second_sized n repeats challenges.now opening.now answers.now scratch.now }
 {
     if challenges.len() != repeats {
         return false;
@@ -154,7 +154,7 @@ pub fn message_sized(
     n: usize,
 ) -> bool
     requires { (n ≤ 2048) × (count ≤ 4096) × (repeats ≤ 256) }
-    ensures { result ≡ message_sized n repeats count (given head) (given shares0) (given shares1) (given ballots) (given claims) }
+    ensures { result ≡ message_sized n repeats count head.now shares0.now shares1.now ballots.now claims.now }
 {
     let share = times(8 * n, count);
     scratch::sized(
@@ -189,8 +189,8 @@ pub fn openings_sized(
     n: usize,
 ) -> bool
     requires { n ≤ 2048 }
-    ensures { result ≡ openings_sized n (given opening0) (given opening1) (given answer1) (given answer2) (given answer3)
-        (given out) (given scratch) }
+    ensures { result ≡ openings_sized n opening0.now opening1.now answer1.now answer2.now answer3.now
+        out.now scratch.now }
 {
     if !scratch::sized(
         [

@@ -8,7 +8,7 @@ use sheet_numbers::Numbers;
 // Whether the sheet's b is a s + p e, for the secrets, which begin with s and e, in ternary bytes.
 pub fn matches(work: &mut [u8], k: Numbers, public: &[u8], secrets: &[u8]) -> bool
     requires { Loaded k public.now × (length work.old ≡ scratch_length) × (length secrets.now ≡ 14 * k.ring) }
-    ensures { (result ≡ key_matches (parameters k (given public)) (given secrets)) × Free (given work) (left work) }
+    ensures { (result ≡ key_matches (parameters k public.now) secrets.now) × Free work.old work.new }
 {
     let n = k.ring as usize;
     bgv::noisy(

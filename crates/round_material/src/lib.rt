@@ -32,9 +32,9 @@ fn test_secret(
     requires { Loaded k public.now × (length work.old ≡ scratch_length) × (count ≤ 4096) × (length secrets.now ≡ 14 * k.ring)
         × (length s0.now ≡ 8 * k.ring) × (length e0.now ≡ 8 * k.ring)
         × (length ballots.now ≡ ballot_length k.ring * count) }
-    ensures { let P = parameters k (given public) in
-        (result ≡ first (secret_tests P count asked (given secrets) (given s0) (given e0) (given vectors) (given ballots)))
-        × Free (given work) (left work) }
+    ensures { let P = parameters k public.now in
+        (result ≡ first (secret_tests P count asked secrets.now s0.now e0.now vectors.now ballots.now))
+        × Free work.old work.new }
 {
     if !asked {
         return Reply::Refused {
@@ -80,10 +80,10 @@ fn test_each(
 ) -> Reply
     requires { Usable k × (length work.old ≡ scratch_length) × (count ≤ 4096)
         × EachReady k count secrets.now masks0.now masks1.now permutations.now ballots.now }
-    ensures { let masks = mask_tests k.ring (mask_bound_of k) count (given masks0) (given masks1) in
-        let noise = noise_tests k.modulus k.ring (noise_bound_of k) count (given secrets) (given ballots) in
-        (result ≡ first (masks ++ (permutation_tests k.ring k.repeats (given permutations) ++ noise)))
-        × (left work ≡ zeros (length (given work))) }
+    ensures { let masks = mask_tests k.ring (mask_bound_of k) count masks0.now masks1.now in
+        let noise = noise_tests k.modulus k.ring (noise_bound_of k) count secrets.now ballots.now in
+        (result ≡ first (masks ++ (permutation_tests k.ring k.repeats permutations.now ++ noise)))
+        × (work.new ≡ zeros (length work.old)) }
 {
     let masked = masks::test_masks(k, masks0, masks1, count);
     let permuting = permutations::test_permutations(work, k, permutations);
@@ -113,7 +113,7 @@ pub fn test_material(
         Loaded k public.now × (length scratch.old ≡ scratch_length) × (count ≤ 4096)
         × MaterialSized (parameters k public.now) count x }
     ensures { let x = material_in secrets s0 e0 masks0 masks1 vectors permutations salts ballots in
-        MaterialTested (parameters k (given public)) count x asked result (given scratch) (left scratch) }
+        MaterialTested (parameters k public.now) count x asked result scratch.old scratch.new }
 {
     let secret = test_secret(
         scratch, k, public, secrets, s0, e0, vectors, ballots, count, asked,

@@ -9,7 +9,7 @@ use sheet_numbers::Numbers;
 // Whether every number of two lent masks is at most a bound in size.
 fn both_bounded(mask0: &[u8], mask1: &[u8], bound: u64, n: usize) -> bool
     requires { (8 * n ≤ length mask0.now) × (8 * n ≤ length mask1.now) }
-    ensures { result ≡ (within bound n (lent_mask (given mask0)) && within bound n (lent_mask (given mask1))) }
+    ensures { result ≡ (within bound n (lent_mask mask0.now) && within bound n (lent_mask mask1.now)) }
 {
     if bgv::bounded(mask0, bound, n) {
         bgv::bounded(mask1, bound, n)
@@ -21,7 +21,7 @@ fn both_bounded(mask0: &[u8], mask1: &[u8], bound: u64, n: usize) -> bool
 // The masks of every ballot, in order.
 pub fn test_masks(k: Numbers, masks0: &[u8], masks1: &[u8], count: usize) -> Reply
     requires { Usable k × (count ≤ 4096) × (length masks0.now ≡ 8 * k.ring * count) × (length masks1.now ≡ 8 * k.ring * count) }
-    ensures { result ≡ first (mask_tests k.ring (mask_bound_of k) count (given masks0) (given masks1)) }
+    ensures { result ≡ first (mask_tests k.ring (mask_bound_of k) count masks0.now masks1.now) }
 {
     let n = k.ring as usize;
     let bound = sheet_numbers::mask_bound(k);

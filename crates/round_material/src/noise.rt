@@ -11,7 +11,7 @@ use sheet_numbers::Numbers;
 // Whether the centred coefficients at the head of scratch are at most a bound in size.
 fn head_within(work: &[u8], bound: u64, n: usize, q: u64) -> bool
     requires { (8 * n ≤ length work.now) × Below q n (poly work.now) × (q < 2 ^ 56) }
-    ensures { result ≡ within bound n (centred q (poly (given work))) }
+    ensures { result ≡ within bound n (centred q (poly work.now)) }
 {
     let mut i = 0;
     while i < n {
@@ -27,8 +27,8 @@ fn head_within(work: &[u8], bound: u64, n: usize, q: u64) -> bool
 // Whether the noise of a ciphertext u, v is at most a bound.
 fn is_quiet(work: &mut [u8], s: &[u8], u: &[u8], v: &[u8], bound: u64, n: usize, q: u64) -> bool
     requires { Polynomial n q u.now × Polynomial n q v.now × (length work.old ≡ scratch_length) × (length s.now ≡ n) }
-    ensures { (result ≡ within bound n (centred q (noise_in q n (ternary q (given s)) (poly (given u)) (poly (given v)))))
-        × Free (given work) (left work) }
+    ensures { (result ≡ within bound n (centred q (noise_in q n (ternary q s.now) (poly u.now) (poly v.now))))
+        × Free work.old work.new }
 {
     bgv::noise(work, s, u, v, n, q);
     head_within(work, bound, n, q)
@@ -46,9 +46,9 @@ fn is_quiet_at(
 ) -> bool
     requires { (4 ≤ n) × (n ≤ 2048) × (3 ≤ q) × (q < 2 ^ 56) × (length work.old ≡ scratch_length) × (length secrets.now ≡ 14 * n)
         × (at + 4 + 16 * n ≤ length ballots.now) × Below q (2 * n) (slot ballots.now (at + 4)) }
-    ensures { let u = slot (given ballots) (at + 4) in let v = slot (given ballots) (at + 4 + 8 * n) in
-        (result ≡ within bound n (centred q (noise_in q n (ternary q (s_in n (given secrets))) u v)))
-        × Free (given work) (left work) }
+    ensures { let u = slot ballots.now (at + 4) in let v = slot ballots.now (at + 4 + 8 * n) in
+        (result ≡ within bound n (centred q (noise_in q n (ternary q (s_in n secrets.now)) u v)))
+        × Free work.old work.new }
 {
     let from = at + 4;
     let middle = from + 8 * n;
@@ -75,8 +75,8 @@ pub fn test_noise(
     requires { Usable k × (count ≤ 4096) × (length work.old ≡ scratch_length) × (length secrets.now ≡ 14 * k.ring)
         × (length ballots.now ≡ ballot_length k.ring * count)
         × (ballots_below k.modulus k.ring count ballots.now ≡ true) }
-    ensures { (result ≡ first (noise_tests k.modulus k.ring (noise_bound_of k) count (given secrets) (given ballots)))
-        × Free (given work) (left work) }
+    ensures { (result ≡ first (noise_tests k.modulus k.ring (noise_bound_of k) count secrets.now ballots.now))
+        × Free work.old work.new }
 {
     let n = k.ring as usize;
     let q = k.modulus;

@@ -8,8 +8,8 @@ use sheet_numbers::Numbers;
 // The permutation of every repetition, in order.
 pub fn test_permutations(work: &mut [u8], k: Numbers, permutations: &[u8]) -> Reply
     requires { Usable k × (length work.old ≡ scratch_length) × (length permutations.now ≡ 168 * k.ring * k.repeats) }
-    ensures { (result ≡ first (permutation_tests k.ring k.repeats (given permutations)))
-        × Free (given work) (left work) }
+    ensures { (result ≡ first (permutation_tests k.ring k.repeats permutations.now))
+        × Free work.old work.new }
 {
     let n = k.ring as usize;
     let repeats = k.repeats as usize;

@@ -17,8 +17,8 @@ pub fn in_range(
 ) -> bool
     requires { (k.ring ≤ 2048) × (count ≤ 4096) × (length s0.now ≡ 8 * k.ring) × (length e0.now ≡ 8 * k.ring)
         × (length ballots.now ≡ ballot_length k.ring * count) }
-    ensures { result ≡ material_ranged k.modulus k.ring count (given secrets) (given s0) (given e0) (given vectors)
-        (given ballots) }
+    ensures { result ≡ material_ranged k.modulus k.ring count secrets.now s0.now e0.now vectors.now
+        ballots.now }
 {
     let q = k.modulus;
     if !ring::is_ternary(secrets) {

@@ -68,7 +68,7 @@ fn test_call(
 ) -> Reply
     requires { Loaded k public.now × (count ≡ count_of k.ring ballots.now) × (count ≤ 4096) × ScratchFits fits scratch.old }
     ensures { let x = material_in secrets s0 e0 masks0 masks1 vectors permutations salts ballots in
-        Tested (call_tests (parameters k (given public)) x fits asked) result (given scratch) (left scratch) }
+        Tested (call_tests (parameters k public.now) x fits asked) result scratch.old scratch.new }
 {
     if !material_sized(
         k,
@@ -130,7 +130,7 @@ pub fn produce_first(
     requires { Loaded k public.now }
     ensures { let x = material_in secrets s0 e0 masks0 masks1 vectors permutations salts ballots in
         let before = first_in head shares0 shares1 claims scratch in let after = first_out head shares0 shares1 claims scratch in
-        FirstWritten (parameters k (given public)) x before result after }
+        FirstWritten (parameters k public.now) x before result after }
 {
     let count = count_of(ballots, k.ring as usize);
     if count > 4096 {
@@ -205,7 +205,7 @@ pub fn produce_second(
     requires { Loaded k public.now }
     ensures { let x = material_in secrets s0 e0 masks0 masks1 vectors permutations salts ballots in
         let before = second_in opening answers scratch in let after = second_out opening answers scratch in
-        SecondWritten (parameters k (given public)) x side (given challenges) before result after }
+        SecondWritten (parameters k public.now) x side challenges.now before result after }
 {
     let n = k.ring as usize;
     let repeats = k.repeats as usize;

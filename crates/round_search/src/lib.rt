@@ -16,7 +16,7 @@ use sheet_numbers::Numbers;
 // Number i of the unknowns: that of extended + R less that of R.
 fn unknown(u: &[u8], r: &[u8], i: usize, n: usize, q: u64) -> u64
     requires { (n ≤ 2048) × (q < 2 ^ 56) × (i < 14 * n) × MaskedVectors q n u.now r.now }
-    ensures { (result ≡ get_or (unknowns_of q n (given u) (given r)) i 0) × (result < q) }
+    ensures { (result ≡ get_or (unknowns_of q n u.now r.now) i 0) × (result < q) }
 {
     modular::subtract(vector::component(u, i), vector::component(r, i), q)
 }
@@ -27,7 +27,7 @@ fn unknown(u: &[u8], r: &[u8], i: usize, n: usize, q: u64) -> u64
 fn excess(r0: &[u8], r1: &[u8], u: &[u8], r: &[u8], first: usize, i: usize, n: usize, q: u64) -> u64
     requires { (n ≤ 2048) × (3 ≤ q) × (q < 2 ^ 56) × (length r0.now ≡ 3 * n) × (length r1.now ≡ 3 * n)
         × MaskedVectors q n u.now r.now × (first + 6 * n ≤ 14 * n) × (i < 3 * n) }
-    ensures { result ≡ excess q n (given r0) (given r1) (unknowns_of q n (given u) (given r)) first i % q }
+    ensures { result ≡ excess q n r0.now r1.now (unknowns_of q n u.now r.now) first i % q }
 {
     let x = ring::from_ternary(r0[i], q);
     let y = ring::from_ternary(r1[i], q);
@@ -51,7 +51,7 @@ fn write_excess(
 )
     requires { (n ≤ 2048) × (3 ≤ q) × (q < 2 ^ 56) × (length r0.now ≡ 3 * n) × (length r1.now ≡ 3 * n)
         × MaskedVectors q n u.now r.now × (first + 6 * n ≤ 14 * n) × (length out.old ≡ 24 * n) }
-    ensures { left out ≡ encode (3 * n) (modulo q (excess q n (given r0) (given r1) (unknowns_of q n (given u) (given r)) first)) }
+    ensures { out.new ≡ encode (3 * n) (modulo q (excess q n r0.now r1.now (unknowns_of q n u.now r.now) first)) }
 {
     let mut i = 0;
     while i < 3 * n {
@@ -77,9 +77,9 @@ fn vanishes(
     requires { (n ≤ 2048) × (3 ≤ q) × (q < 2 ^ 56) × (at + 3 * n ≤ length opening0.now) × (at + 3 * n ≤ length opening1.now)
         × MaskedVectors q n u.now r.now × (first + 6 * n ≤ 14 * n) × (length out.old ≡ 24 * n)
         × (length work.old ≡ scratch_length) × (at ≤ 19 * n) }
-    ensures { let z = unknowns_of q n (given u) (given r) in (result ≡ same (left out) (zeros (24 * n)))
-        × ((left out ≡ encode (3 * n) (modulo q (excess q n (part (given opening0) at (3 * n)) (part (given opening1) at (3 * n)) z first)))
-        × Free (given work) (left work)) }
+    ensures { let z = unknowns_of q n u.now r.now in (result ≡ same out.new (zeros (24 * n)))
+        × ((out.new ≡ encode (3 * n) (modulo q (excess q n (part opening0.now at (3 * n)) (part opening1.now at (3 * n)) z first)))
+        × Free work.old work.new) }
 {
     let end = at + 3 * n;
     write_excess(
@@ -114,7 +114,7 @@ fn to_ternary(v: u64) -> u8
 // The first two polynomials of the unknowns, s and e, as ternary bytes.
 fn write_secrets(out: &mut [u8], u: &[u8], r: &[u8], n: usize, q: u64)
     requires { (n ≤ 2048) × (q < 2 ^ 56) × MaskedVectors q n u.now r.now × (length out.old ≡ 24 * n) }
-    ensures { left out ≡ put (given out) 0 (ternary_bytes q (2 * n) (from (unknowns_of q n (given u) (given r)) 0)) }
+    ensures { out.new ≡ put out.old 0 (ternary_bytes q (2 * n) (from (unknowns_of q n u.now r.now) 0)) }
 {
     let mut i = 0;
     while i < 2 * n {
@@ -127,8 +127,8 @@ fn write_secrets(out: &mut [u8], u: &[u8], r: &[u8], n: usize, q: u64)
 // s and e, and then zeros.
 fn write_key(out: &mut [u8], u: &[u8], r: &[u8], n: usize, q: u64)
     requires { (n ≤ 2048) × (q < 2 ^ 56) × MaskedVectors q n u.now r.now × (length out.old ≡ 24 * n) }
-    ensures { left out ≡ ternary_bytes q n (polynomial n (unknowns_of q n (given u) (given r)) 0)
-        ++ (ternary_bytes q n (polynomial n (unknowns_of q n (given u) (given r)) 1) ++ zeros (22 * n)) }
+    ensures { out.new ≡ ternary_bytes q n (polynomial n (unknowns_of q n u.now r.now) 0)
+        ++ (ternary_bytes q n (polynomial n (unknowns_of q n u.now r.now) 1) ++ zeros (22 * n)) }
 {
     write_secrets(out, u, r, n, q);
     vector::clear(out, 2 * n, 22 * n);
@@ -147,8 +147,8 @@ fn solve(
 ) -> u8
     requires { (n ≤ 2048) × (3 ≤ q) × (q < 2 ^ 56) × (length work.old ≡ scratch_length) × (length out.old ≡ 24 * n)
         × (length opening0.now ≡ 22 * n) × (length opening1.now ≡ 22 * n) × MaskedVectors q n u.now r.now }
-    ensures { let z = unknowns_of q n (given u) (given r) in (result ≡ solved_by q n (given opening0) (given opening1) z)
-        × ((left out ≡ written_by q n (given opening0) (given opening1) z) × Free (given work) (left work)) }
+    ensures { let z = unknowns_of q n u.now r.now in (result ≡ solved_by q n opening0.now opening1.now z)
+        × ((out.new ≡ written_by q n opening0.now opening1.now z) × Free work.old work.new) }
 {
     if !vanishes(work, out, opening0, opening1, u, r, 16 * n, 2 * n, n, q) {
         return 4;
@@ -178,8 +178,8 @@ pub fn find(
         × (80 * k.ring ≤ length head.now) × (length opening0.now ≡ 22 * k.ring) × (length opening1.now ≡ 22 * k.ring)
         × (all_below k.modulus (vector (pairs_of k.ring head.now)) ≡ true)
         × ThreeAnswers k.modulus k.ring answer1.now answer2.now answer3.now }
-    ensures { Finds (parameters k (given public)) (given head) (given opening0) (given opening1) (given answer1) (given answer2)
-        (given answer3) result (left out) × (left work ≡ zeros (length (given work))) }
+    ensures { Finds (parameters k public.now) head.now opening0.now opening1.now answer1.now answer2.now
+        answer3.now result out.new × (work.new ≡ zeros (length work.old)) }
 {
     let n = k.ring as usize;
     let q = k.modulus;

@@ -1,5 +1,5 @@
 -- What the contracts of inner functions and the proofs go by: no exported contract and no claim cites this file. Assumes nothing.
-use Rattle.std.specs.Borrow.{Bor}
+use Rattle.std.specs.Borrow.{MutBor}
 use Rattle.std.specs.Prelude.{◌≡◌, ℕ, ◌+◌, ◌*◌, ◌≤◌, ◌<◌, length}
 use Rattle.codec.specs.Bytes.{Bytes, part, put, zeros}
 use Rattle.codec.specs.Lists.{list}
@@ -11,7 +11,7 @@ use Rattle.scratch.specs.Call.{scratch_length}
 use Rattle.scratch.specs.Internal.{Free}
 use Rattle.bgv.specs.Scheme.{residues, decrypted, other, lent_mask, share}
 use Rattle.round.specs.Layout.{ballot_length, u_at}
-use Rattle.codec.specs.Slices.{Slice, given, left}
+use Rattle.codec.specs.Slices.{MutSlice, lent, left}
 use Rattle.round.specs.Producer.{shares_bytes, claims_bytes}
 
 -- ---- what the writing of shares and claims is given and lent, what it comes to, and what stands in scratch on the way
@@ -33,12 +33,12 @@ pub record Room : Type 0 where
 abbrev pub room_of : (shares0 shares1 claims scratch : Bytes) → Room
 room_of shares0 shares1 claims scratch = record { shares0 = shares0; shares1 = shares1; claims = claims; scratch = scratch }
 
-abbrev pub room_now : (shares0 shares1 claims scratch : Bor Bytes) → Room
+abbrev pub room_now : (shares0 shares1 claims scratch : MutBor Bytes) → Room
 room_now shares0 shares1 claims scratch = room_of shares0.now shares1.now claims.now scratch.now
 
-module _ (shares0 shares1 claims scratch : Slice) where
+module _ (shares0 shares1 claims scratch : MutSlice) where
   abbrev pub room_in : Room
-  room_in = room_of (given shares0) (given shares1) (given claims) (given scratch)
+  room_in = room_of (lent shares0) (lent shares1) (lent claims) (lent scratch)
 
   abbrev pub room_out : Room
   room_out = room_of (left shares0) (left shares1) (left claims) (left scratch)

@@ -27,8 +27,8 @@ const ROOM: usize = 65536;
 // s u at 0 and s0 u behind it, for ternary bytes s.
 fn products(work: &mut [u8], s: &[u8], s0: &[u8], u: &[u8], n: usize, q: u64)
     requires { Polynomial n q s0.now × Polynomial n q u.now × (length s.now ≡ n) × (length work.old ≡ scratch_length) }
-    ensures { let u = poly (given u) in
-        TwoStand q n (mul q n (ternary q (given s)) u) (mul q n (poly (given s0)) u) (given work) (left work) }
+    ensures { let u = poly u.now in
+        TwoStand q n (mul q n (ternary q s.now) u) (mul q n (poly s0.now) u) work.old work.new }
 {
     ring::load_ternary(work, 0, s, q);
     codec::copy(work, LENT, s0);
@@ -49,9 +49,9 @@ fn write_masked(
 )
     requires { (n ≤ 2048) × (3 ≤ q) × (q < 2 ^ 56) × (length mask.now ≡ 8 * n) × (length work.old ≡ scratch_length)
         × (from + 8 * n ≤ 49152) × Below q n (slot work.old from) × (at + 8 * n ≤ length out.old) × (p < q) }
-    ensures { let sum = masked_product q p (slot (given work) from) (given mask) in
-        (left out ≡ put (given out) at (coefficient_bytes q n sum)) × Free (given work) (left work)
-        × (part (left work) 0 from ≡ part (given work) 0 from) }
+    ensures { let sum = masked_product q p (slot work.old from) mask.now in
+        (out.new ≡ put out.old at (coefficient_bytes q n sum)) × Free work.old work.new
+        × (part work.new 0 from ≡ part work.old 0 from) }
 {
     ring::load_signed(work, MASK, mask, n, q);
     ring::scale_slot(work, MASK, p, n, q);
@@ -74,11 +74,11 @@ fn write_shares(
     requires { (n ≤ 2048) × (3 ≤ q) × (q < 2 ^ 56) × (length mask0.now ≡ 8 * n) × (length mask1.now ≡ 8 * n)
         × (length work.old ≡ scratch_length) × Below q n (slot work.old 0) × Below q n (slot work.old 16384)
         × (at + 8 * n ≤ length shares0.old) × (at + 8 * n ≤ length shares1.old) × (p < q) }
-    ensures { let w = given work in let t0 = masked_product q p (slot w 16384) (given mask0) in
-        let t1 = masked_product q p (minus q (slot w 0) (slot w 16384)) (given mask1) in
-        (left shares0 ≡ put (given shares0) at (coefficient_bytes q n t0))
-        × (left shares1 ≡ put (given shares1) at (coefficient_bytes q n t1))
-        × Free w (left work) × (part (left work) 0 16384 ≡ part w 0 16384) }
+    ensures { let w = work.old in let t0 = masked_product q p (slot w 16384) mask0.now in
+        let t1 = masked_product q p (minus q (slot w 0) (slot w 16384)) mask1.now in
+        (shares0.new ≡ put shares0.old at (coefficient_bytes q n t0))
+        × (shares1.new ≡ put shares1.old at (coefficient_bytes q n t1))
+        × Free w work.new × (part work.new 0 16384 ≡ part w 0 16384) }
 {
     ring::copy_slot(work, OTHER, 0, n);
     ring::subtract_slot(work, OTHER, LENT, n, q);
@@ -90,8 +90,8 @@ fn write_shares(
 fn write_claim(claims: &mut [u8], at: usize, work: &mut [u8], v: &[u8], p: u64, n: usize, q: u64)
     requires { Polynomial n q v.now × (length work.old ≡ scratch_length) × Below q n (slot work.old 0)
         × (at + n ≤ length claims.old) × (0 < p) × (p ≤ 251) }
-    ensures { let vote = list n (plaintext q p (minus q (poly (given v)) (slot (given work) 0))) in
-        (left claims ≡ put (given claims) at vote) × Free (given work) (left work) }
+    ensures { let vote = list n (plaintext q p (minus q (poly v.now) (slot work.old 0))) in
+        (claims.new ≡ put claims.old at vote) × Free work.old work.new }
 {
     ring::scale_slot(work, 0, q - 1, n, q);
     ring::add(work, 0, v, n, q);
@@ -118,8 +118,8 @@ fn write_ballot(
         × Polynomial k.ring k.modulus v.now × (length s.now ≡ k.ring) × (length mask0.now ≡ 8 * k.ring)
         × (length mask1.now ≡ 8 * k.ring) × Fits k.ring at claim (room_now shares0 shares1 claims work) }
     ensures { let before = room_in shares0 shares1 claims work in let after = room_out shares0 shares1 claims work in
-        let s = ternary k.modulus (given s) in
-        BallotWritten k s (poly (given s0)) (poly (given u)) (poly (given v)) (given mask0) (given mask1) at claim before after }
+        let s = ternary k.modulus s.now in
+        BallotWritten k s (poly s0.now) (poly u.now) (poly v.now) mask0.now mask1.now at claim before after }
 {
     let n = k.ring as usize;
     let p = sheet_numbers::plain(k);
@@ -150,9 +150,9 @@ fn ballot_at(
     requires { let n = k.ring in Usable k × Polynomial n k.modulus s0.now × (length secrets.now ≡ 14 * n)
         × BallotPlaces k.modulus n at sent ballots.now masks0.now masks1.now
         × Fits n sent claim (room_now shares0 shares1 claims work) }
-    ensures { let n = k.ring in let s = ternary k.modulus (s_in n (given secrets)) in
-        let u = slot (given ballots) (at + 4) in let v = slot (given ballots) (at + 4 + 8 * n) in
-        BallotWritten k s (poly (given s0)) u v (part (given masks0) sent (8 * n)) (part (given masks1) sent (8 * n)) sent claim
+    ensures { let n = k.ring in let s = ternary k.modulus (s_in n secrets.now) in
+        let u = slot ballots.now (at + 4) in let v = slot ballots.now (at + 4 + 8 * n) in
+        BallotWritten k s (poly s0.now) u v (part masks0.now sent (8 * n)) (part masks1.now sent (8 * n)) sent claim
         (room_in shares0 shares1 claims work) (room_out shares0 shares1 claims work) }
 {
     let n = k.ring as usize;
@@ -193,7 +193,7 @@ pub fn write_ballots(
         × (length shares1.old ≡ 8 * k.ring * count) × (length claims.old ≡ k.ring * count)
         × (length work.old ≡ scratch_length) }
     ensures { let before = room_in shares0 shares1 claims work in let after = room_out shares0 shares1 claims work in
-        BallotsWritten k count (given secrets) (given s0) (given masks0) (given masks1) (given ballots) before after }
+        BallotsWritten k count secrets.now s0.now masks0.now masks1.now ballots.now before after }
 {
     let n = k.ring as usize;
     let mut j = 0;

@@ -16,7 +16,7 @@ use sheet_numbers::Numbers;
 // Whether b0, b1 and the committed pairs, with which the head of a first message begins, are below q.
 fn head_ranged(k: Numbers, head: &[u8]) -> bool
     requires { (k.ring ≤ 2048) × (80 * k.ring ≤ length head.now) }
-    ensures { result ≡ head_ranged k.modulus k.ring (given head) }
+    ensures { result ≡ head_ranged k.modulus k.ring head.now }
 {
     let n = k.ring as usize;
     ring::in_range(&head[0..80 * n], k.modulus)
@@ -25,7 +25,7 @@ fn head_ranged(k: Numbers, head: &[u8]) -> bool
 // Whether the two polynomials of an opening are below q, and the bytes behind them ternary.
 pub fn opening_ranged(k: Numbers, opening: &[u8]) -> bool
     requires { (k.ring ≤ 2048) × (length opening.now ≡ 22 * k.ring) }
-    ensures { result ≡ opening_ranged k.modulus k.ring (given opening) }
+    ensures { result ≡ opening_ranged k.modulus k.ring opening.now }
 {
     let n = k.ring as usize;
     if !ring::in_range(&opening[0..16 * n], k.modulus) {
@@ -37,7 +37,7 @@ pub fn opening_ranged(k: Numbers, opening: &[u8]) -> bool
 // Whether a challenge is 1, 2 or 3, and the numbers of its answer are in range.
 fn challenge_ranged(k: Numbers, challenge: u8, answer: &[u8]) -> bool
     requires { (k.ring ≤ 2048) × (length answer.now ≡ answer_length k.ring challenge) }
-    ensures { result ≡ (is_challenge challenge && in_range k.modulus k.ring challenge (given answer)) }
+    ensures { result ≡ (is_challenge challenge && in_range k.modulus k.ring challenge answer.now) }
 {
     if challenge < 1 {
         return false;
@@ -52,7 +52,7 @@ fn challenge_ranged(k: Numbers, challenge: u8, answer: &[u8]) -> bool
 pub fn answers_ranged(k: Numbers, challenges: &[u8], answers: &[u8]) -> bool
     requires { (k.ring ≤ 2048) × (k.repeats ≤ 256) × (length challenges.now ≡ k.repeats)
         × (length answers.now ≡ answers_length k.ring challenges.now) }
-    ensures { result ≡ answers_ranged k.modulus k.ring k.repeats (given challenges) (given answers) }
+    ensures { result ≡ answers_ranged k.modulus k.ring k.repeats challenges.now answers.now }
 {
     let n = k.ring as usize;
     let repeats = k.repeats as usize;
@@ -82,8 +82,8 @@ pub fn message_ranged(
 ) -> bool
     requires { (k.ring ≤ 2048) × (count ≤ 4096) × (length ballots.now ≡ ballot_length k.ring * count)
         × (80 * k.ring ≤ length head.now) }
-    ensures { result ≡ message_ranged k.modulus k.ring (plain k) count (given ballots) (given claims) (given head) (given shares0)
-        (given shares1) }
+    ensures { result ≡ message_ranged k.modulus k.ring (plain k) count ballots.now claims.now head.now shares0.now
+        shares1.now }
 {
     let q = k.modulus;
     if !round_tests::ranges::ballots_in_range(ballots, count, k.ring as usize, q) {
@@ -106,7 +106,7 @@ pub fn message_ranged(
 // Whether b0 and b1 of a first message add to b.
 pub fn splits(work: &mut [u8], k: Numbers, public: &[u8], head: &[u8]) -> bool
     requires { Loaded k public.now × Head k.modulus k.ring k.repeats head.now × (length work.old ≡ scratch_length) }
-    ensures { (result ≡ round.splits (parameters k (given public)) (given head)) × (left work ≡ zeros (length (given work))) }
+    ensures { (result ≡ round.splits (parameters k public.now) head.now) × (work.new ≡ zeros (length work.old)) }
 {
     let n = k.ring as usize;
     round_tests::halves::adds(
@@ -131,8 +131,8 @@ fn opens_key(
     requires { Loaded k public.now × Opened k.modulus k.ring opening.now × (length work.old ≡ scratch_length)
         × (at + 8 * k.ring ≤ length head.now) }
     ensures { ((side : ℕ) → at ≡ 8 * k.ring * side
-        → result ≡ opens_key (parameters k (given public)) (given head) side (opening_of k.ring (given opening)))
-        × (left work ≡ zeros (length (given work))) }
+        → result ≡ opens_key (parameters k public.now) head.now side (opening_of k.ring opening.now))
+        × (work.new ≡ zeros (length work.old)) }
 {
     let n = k.ring as usize;
     round_tests::halves::is_key(
@@ -157,8 +157,8 @@ fn opens_pairs(
     requires { Loaded k public.now × Opened k.modulus k.ring opening.now × (length work.old ≡ scratch_length)
         × (at + 48 * k.ring ≤ length head.now) }
     ensures { ((side : ℕ) → at ≡ 16 * k.ring + 16 * k.ring * side
-        → result ≡ opens_pairs (parameters k (given public)) (given head) side (opening_of k.ring (given opening)))
-        × (left work ≡ zeros (length (given work))) }
+        → result ≡ opens_pairs (parameters k public.now) head.now side (opening_of k.ring opening.now))
+        × (work.new ≡ zeros (length work.old)) }
 {
     let n = k.ring as usize;
     let end = at + 48 * n;
@@ -187,8 +187,8 @@ pub fn test_opening(
 ) -> Reply
     requires { Loaded k public.now × Opened k.modulus k.ring opening.now × (length work.old ≡ scratch_length)
         × (80 * k.ring ≤ length head.now) × (side < 2) }
-    ensures { Judged (half_tests (parameters k (given public)) (given head) side (opening_of k.ring (given opening))) result
-        (given work) (left work) }
+    ensures { Judged (half_tests (parameters k public.now) head.now side (opening_of k.ring opening.now)) result
+        work.old work.new }
 {
     let n = k.ring as usize;
     if !opens_key(work, k, public, head, 8 * n * side, opening) {
@@ -215,9 +215,9 @@ pub fn test_votes<'a>(
     requires { Usable k × Opened k.modulus k.ring opening.now × (length work.old ≡ scratch_length) × (count ≤ 4096)
         × (side < 2) × Batch k.modulus k.ring count ballots.now claims.now × SharesLent k.modulus k.ring count shares0.now
         × SharesLent k.modulus k.ring count shares1.now }
-    ensures { Judged (votes_tests k.modulus k.ring (plain k) (mask_bound_of k) count (slot (given opening) 0)
-        (given ballots) (given claims) (given shares0) (given shares1) (of_side side (given shares0) (given shares1))) result (given work)
-        (left work) }
+    ensures { Judged (votes_tests k.modulus k.ring (plain k) (mask_bound_of k) count (slot opening.now 0)
+        ballots.now claims.now shares0.now shares1.now (of_side side shares0.now shares1.now)) result work.old
+        work.new }
 {
     let n = k.ring as usize;
     round_tests::ballots::test_ballots(

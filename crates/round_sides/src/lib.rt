@@ -32,9 +32,9 @@ fn test_side<'a>(
     requires { Loaded k public.now × Opened k.modulus k.ring opening.now × (length work.old ≡ scratch_length)
         × (80 * k.ring ≤ length head.now) × (side < 2) × (count ≤ 4096) × Batch k.modulus k.ring count ballots.now claims.now
         × SharesLent k.modulus k.ring count shares0.now × SharesLent k.modulus k.ring count shares1.now }
-    ensures { Judged (side_tests (parameters k (given public)) count (given head) (given ballots) (given claims)
-        (given shares0) (given shares1) side (of_side side (given shares0) (given shares1)) (opening_of k.ring (given opening))) result
-        (given work) (left work) }
+    ensures { Judged (side_tests (parameters k public.now) count head.now ballots.now claims.now
+        shares0.now shares1.now side (of_side side shares0.now shares1.now) (opening_of k.ring opening.now)) result
+        work.old work.new }
 {
     let reply = test_opening(work, k, public, head, side as usize, opening);
     let Reply::Taken = reply else {
@@ -51,8 +51,8 @@ fn test_side<'a>(
 fn answers_ranged(k: Numbers, answer1: &[u8], answer2: &[u8], answer3: &[u8]) -> bool
     requires { (k.ring ≤ 2048) × (length answer1.now ≡ answer_length k.ring 1) × (length answer2.now ≡ answer_length k.ring 2)
         × (length answer3.now ≡ answer_length k.ring 3) }
-    ensures { result ≡ (in_range k.modulus k.ring 1 (given answer1)
-        && (in_range k.modulus k.ring 2 (given answer2) && in_range k.modulus k.ring 3 (given answer3))) }
+    ensures { result ≡ (in_range k.modulus k.ring 1 answer1.now
+        && (in_range k.modulus k.ring 2 answer2.now && in_range k.modulus k.ring 3 answer3.now)) }
 {
     let n = k.ring as usize;
     let q = k.modulus;
@@ -78,8 +78,8 @@ fn test_answer(
 ) -> Reply
     requires { Loaded k public.now × (length work.old ≡ scratch_length) × Head k.modulus k.ring k.repeats head.now
         × (digests + 96 ≤ length head.now) × AnswerLent k.modulus k.ring challenge answer.now }
-    ensures { Judged (answer_tests k.modulus k.ring (keys_of k.ring (key_bytes k (given public)))
-        (pairs_of k.ring (given head)) (part (given head) digests 96) place challenge (given answer)) result (given work) (left work) }
+    ensures { Judged (answer_tests k.modulus k.ring (keys_of k.ring (key_bytes k public.now))
+        (pairs_of k.ring head.now) (part head.now digests 96) place challenge answer.now) result work.old work.new }
 {
     round_tests::repetitions::test_at(
         work,
@@ -109,8 +109,8 @@ fn test_answers(
     requires { Loaded k public.now × (length work.old ≡ scratch_length) × (repetition < k.repeats)
         × Head k.modulus k.ring k.repeats head.now × AnswerLent k.modulus k.ring 1 answer1.now
         × AnswerLent k.modulus k.ring 2 answer2.now × AnswerLent k.modulus k.ring 3 answer3.now }
-    ensures { Judged (three_tests (parameters k (given public)) (given head) repetition (given answer1) (given answer2)
-        (given answer3)) result (given work) (left work) }
+    ensures { Judged (three_tests (parameters k public.now) head.now repetition answer1.now answer2.now
+        answer3.now) result work.old work.new }
 {
     let digests = 80 * (k.ring as usize) + 96 * (repetition as usize);
     let place = repetition as u32;
@@ -188,7 +188,7 @@ fn test_ranged<'a>(
         (openings_of head.now shares0.now shares1.now ballots.now claims.now opening0.now opening1.now repetition
         answer1.now answer2.now answer3.now) }
     ensures { let x = openings_in head shares0 shares1 ballots claims opening0 opening1 repetition answer1 answer2 answer3 in
-        Judged (extract_later (parameters k (given public)) count x) result (given work) (left work) }
+        Judged (extract_later (parameters k public.now) count x) result work.old work.new }
 {
     if !splits(work, k, public, head) {
         return refused(6);
@@ -230,7 +230,7 @@ pub fn check_openings<'a>(
         × Lent (parameters k public.now) count (openings_of head.now shares0.now shares1.now ballots.now claims.now
         opening0.now opening1.now repetition answer1.now answer2.now answer3.now) }
     ensures { let x = openings_in head shares0 shares1 ballots claims opening0 opening1 repetition answer1 answer2 answer3 in
-        Judged (extract_tests (parameters k (given public)) count x) result (given work) (left work) }
+        Judged (extract_tests (parameters k public.now) count x) result work.old work.new }
 {
     if !openings_ranged(
         k, head, shares0, shares1, ballots, claims, opening0, opening1, repetition, answer1,

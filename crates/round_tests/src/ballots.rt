@@ -27,10 +27,10 @@ fn test_at<'a>(
 ) -> Reply
     requires { Polynomial k.ring k.modulus s.now × Usable k × (length work.old ≡ scratch_length)
         × BallotAt k.modulus k.ring ballots.now at claims.now claim side shares0.now shares1.now share place }
-    ensures { Tried (vote_tests k.modulus k.ring (plain k) (mask_bound_of k) place (poly (given s))
-        (slot (given ballots) (at + 4)) (slot (of_side side (given shares0) (given shares1)) share) (part (given claims) claim k.ring)
-        (slot (given ballots) (at + 4 + 8 * k.ring)) (slot (given shares0) share) (slot (given shares1) share)) result (given work)
-        (left work) }
+    ensures { Tried (vote_tests k.modulus k.ring (plain k) (mask_bound_of k) place (poly s.now)
+        (slot ballots.now (at + 4)) (slot (of_side side shares0.now shares1.now) share) (part claims.now claim k.ring)
+        (slot ballots.now (at + 4 + 8 * k.ring)) (slot shares0.now share) (slot shares1.now share)) result work.old
+        work.new }
 {
     let n = k.ring as usize;
     let end = share + 8 * n;
@@ -64,8 +64,8 @@ pub fn test_ballots<'a>(
     requires { Polynomial k.ring k.modulus s.now × Usable k × (length work.old ≡ scratch_length) × (count ≤ 4096)
         × (side < 2) × Batch k.modulus k.ring count ballots.now claims.now × SharesLent k.modulus k.ring count shares0.now
         × SharesLent k.modulus k.ring count shares1.now }
-    ensures { Judged (votes_tests k.modulus k.ring (plain k) (mask_bound_of k) count (poly (given s)) (given ballots)
-        (given claims) (given shares0) (given shares1) (of_side side (given shares0) (given shares1))) result (given work) (left work) }
+    ensures { Judged (votes_tests k.modulus k.ring (plain k) (mask_bound_of k) count (poly s.now) ballots.now
+        claims.now shares0.now shares1.now (of_side side shares0.now shares1.now)) result work.old work.new }
 {
     let n = k.ring as usize;
     let mut j = 0;

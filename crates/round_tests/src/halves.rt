@@ -11,8 +11,8 @@ use sheet_numbers::Numbers;
 // Whether two lent halves of the key add to b.
 pub fn adds(work: &mut [u8], b0: &[u8], b1: &[u8], b: &[u8], n: usize, q: u64) -> bool
     requires { Polynomial n q b0.now × Polynomial n q b1.now × Polynomial n q b.now × (length work.old ≡ scratch_length) }
-    ensures { (result ≡ same (encode n (modulo q (plus (poly (given b0)) (poly (given b1))))) (encode n (modulo q (poly (given b)))))
-        × (left work ≡ zeros (length (given work))) }
+    ensures { (result ≡ same (encode n (modulo q (plus (poly b0.now) (poly b1.now)))) (encode n (modulo q (poly b.now))))
+        × (work.new ≡ zeros (length work.old)) }
 {
     codec::copy(work, 0, b0);
     ring::add(work, 0, b1, n, q);
@@ -25,9 +25,9 @@ pub fn adds(work: &mut [u8], b0: &[u8], b1: &[u8], b: &[u8], n: usize, q: u64) -
 pub fn is_key(work: &mut [u8], k: Numbers, a: &[u8], half: &[u8], s: &[u8], e: &[u8]) -> bool
     requires { Usable k × Polynomial k.ring k.modulus a.now × Polynomial k.ring k.modulus s.now
         × Polynomial k.ring k.modulus e.now × (length work.old ≡ scratch_length) }
-    ensures { (result ≡ same (given half) (encode k.ring
-        (modulo k.modulus (key k.modulus k.ring (plain k) (poly (given a)) (poly (given s)) (poly (given e))))))
-        × (left work ≡ zeros (length (given work))) }
+    ensures { (result ≡ same half.now (encode k.ring
+        (modulo k.modulus (key k.modulus k.ring (plain k) (poly a.now) (poly s.now) (poly e.now)))))
+        × (work.new ≡ zeros (length work.old)) }
 {
     let n = k.ring as usize;
     bgv::noisy_lent(work, a, s, e, sheet_numbers::plain(k), n, k.modulus);
@@ -52,9 +52,9 @@ pub fn opens_pairs(
     requires { PublicKeys n q k.now × Polynomial n q s.now × Polynomial n q e.now × (length rs.now ≡ 3 * n)
         × (length re.now ≡ 3 * n) × (length work.old ≡ scratch_length) × (length first.now ≡ 16 * n)
         × (length second.now ≡ 16 * n) }
-    ensures { (result ≡ (opens q n (keys_of n (given k)) (given first) (three_of q n (given rs)) (poly (given s))
-        && opens q n (keys_of n (given k)) (given second) (three_of q n (given re)) (poly (given e))))
-        × (left work ≡ zeros (length (given work))) }
+    ensures { (result ≡ (opens q n (keys_of n k.now) first.now (three_of q n rs.now) (poly s.now)
+        && opens q n (keys_of n k.now) second.now (three_of q n re.now) (poly e.now)))
+        × (work.new ≡ zeros (length work.old)) }
 {
     if commitment::opens(work, k, first, s, rs, n, q) {
         let both = commitment::opens(work, k, second, e, re, n, q);

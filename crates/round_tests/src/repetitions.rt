@@ -24,9 +24,9 @@ pub fn test_at(
         × (digests + 96 ≤ length head.now) × (size ≡ answer_length k.ring challenge) × (at + size ≤ length answers.now)
         × (all_below k.modulus (vector (pairs_of k.ring head.now)) ≡ true)
         × (in_range k.modulus k.ring challenge (part answers.now at size) ≡ true) }
-    ensures { let keys = keys_of k.ring (key_bytes k (given public)) in
-        Judged (answer_tests k.modulus k.ring keys (pairs_of k.ring (given head)) (part (given head) digests 96) place challenge
-        (part (given answers) at size)) result (given work) (left work) }
+    ensures { let keys = keys_of k.ring (key_bytes k public.now) in
+        Judged (answer_tests k.modulus k.ring keys (pairs_of k.ring head.now) (part head.now digests 96) place challenge
+        (part answers.now at size)) result work.old work.new }
 {
     let n = k.ring as usize;
     stern_answers::testing::test_answer(
@@ -54,8 +54,8 @@ pub fn test_repetitions(
     requires { Loaded k public.now × (length work.old ≡ scratch_length) × (length head.now ≡ head_length k.ring k.repeats)
         × (all_below k.modulus (vector (pairs_of k.ring head.now)) ≡ true)
         × Answers k.modulus k.ring k.repeats challenges.now answers.now }
-    ensures { Judged (answers_tests (parameters k (given public)) (given head) (given challenges) (given answers)) result
-        (given work) (left work) }
+    ensures { Judged (answers_tests (parameters k public.now) head.now challenges.now answers.now) result
+        work.old work.new }
 {
     let n = k.ring as usize;
     let repeats = k.repeats as usize;

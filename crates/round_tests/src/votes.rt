@@ -14,7 +14,7 @@ use sheet_numbers::Numbers;
 fn is_vote(work: &[u8], k: Numbers, claim: &[u8]) -> bool
     requires { Usable k × (8 * k.ring ≤ length work.now) × (length claim.now ≡ k.ring)
         × Below k.modulus k.ring (poly work.now) }
-    ensures { result ≡ same (given claim) (list k.ring (scheme.plaintext k.modulus (plain k) (poly (given work)))) }
+    ensures { result ≡ same claim.now (list k.ring (scheme.plaintext k.modulus (plain k) (poly work.now))) }
 {
     let n = k.ring as usize;
     let p = sheet_numbers::plain(k);
@@ -33,8 +33,8 @@ fn is_vote(work: &[u8], k: Numbers, claim: &[u8]) -> bool
 fn is_claim(work: &mut [u8], k: Numbers, claim: &[u8], v: &[u8], t0: &[u8], t1: &[u8]) -> bool
     requires { Usable k × Polynomial k.ring k.modulus v.now × Polynomial k.ring k.modulus t0.now
         × Polynomial k.ring k.modulus t1.now × (length work.old ≡ scratch_length) × (length claim.now ≡ k.ring) }
-    ensures { (result ≡ same (given claim) (list k.ring (scheme.plaintext k.modulus (plain k) (rebuilt k.modulus (poly (given v))
-        (poly (given t0)) (poly (given t1)))))) × Free (given work) (left work) }
+    ensures { (result ≡ same claim.now (list k.ring (scheme.plaintext k.modulus (plain k) (rebuilt k.modulus (poly v.now)
+        (poly t0.now) (poly t1.now))))) × Free work.old work.new }
 {
     bgv::rebuilt(work, v, t0, t1, k.ring as usize, k.modulus);
     is_vote(work, k, claim)
@@ -57,8 +57,8 @@ pub fn test_ballot(
         × Polynomial k.ring k.modulus v.now × Polynomial k.ring k.modulus t0.now
         × Polynomial k.ring k.modulus t1.now × Polynomial k.ring k.modulus t.now × (length work.old ≡ scratch_length)
         × (length claim.now ≡ k.ring) }
-    ensures { Tried (vote_tests k.modulus k.ring (plain k) (mask_bound_of k) place (poly (given s)) (poly (given u))
-        (poly (given t)) (given claim) (poly (given v)) (poly (given t0)) (poly (given t1))) result (given work) (left work) }
+    ensures { Tried (vote_tests k.modulus k.ring (plain k) (mask_bound_of k) place (poly s.now) (poly u.now)
+        (poly t.now) claim.now (poly v.now) (poly t0.now) (poly t1.now)) result work.old work.new }
 {
     let p = sheet_numbers::plain(k);
     let bound = sheet_numbers::mask_bound(k);

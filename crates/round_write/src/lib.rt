@@ -18,8 +18,8 @@ use sheet_numbers::Numbers;
 // The halves that were lent.
 fn lent_halves(opening: &mut [u8], s0: &[u8], e0: &[u8], n: usize, q: u64)
     requires { Polynomial n q s0.now × Polynomial n q e0.now × (16 * n ≤ length opening.old) }
-    ensures { let halves = coefficient_bytes q n (poly (given s0)) ++ coefficient_bytes q n (poly (given e0)) in
-        left opening ≡ put (given opening) 0 halves }
+    ensures { let halves = coefficient_bytes q n (poly s0.now) ++ coefficient_bytes q n (poly e0.now) in
+        opening.new ≡ put opening.old 0 halves }
 {
     codec::copy(opening, 0, s0);
     codec::copy(opening, 8 * n, e0);
@@ -37,10 +37,10 @@ fn other_halves(
 )
     requires { Polynomial n q s0.now × Polynomial n q e0.now × (length secrets.now ≡ 14 * n) × (length work.old ≡ scratch_length)
         × (16 * n ≤ length opening.old) }
-    ensures { let s1 = other q (ternary q (s_in n (given secrets))) (poly (given s0)) in
-        let e1 = other q (ternary q (e_in n (given secrets))) (poly (given e0)) in
-        (left opening ≡ put (given opening) 0 (coefficient_bytes q n s1 ++ coefficient_bytes q n e1))
-        × Free (given work) (left work) }
+    ensures { let s1 = other q (ternary q (s_in n secrets.now)) (poly s0.now) in
+        let e1 = other q (ternary q (e_in n secrets.now)) (poly e0.now) in
+        (opening.new ≡ put opening.old 0 (coefficient_bytes q n s1 ++ coefficient_bytes q n e1))
+        × Free work.old work.new }
 {
     bgv::difference(work, 0, &secrets[0..n], s0, n, q);
     scheme::hand_out(opening, 0, work, n);
@@ -51,8 +51,8 @@ fn other_halves(
 // The three r of a half of s and those of a half of e, from places of the secrets.
 fn hiding(opening: &mut [u8], secrets: &[u8], s: usize, e: usize, n: usize)
     requires { (n ≤ 2048) × (s + 3 * n ≤ length secrets.now) × (e + 3 * n ≤ length secrets.now) × (22 * n ≤ length opening.old) }
-    ensures { let hides = part (given secrets) s (3 * n) ++ part (given secrets) e (3 * n) in
-        left opening ≡ put (given opening) (16 * n) hides }
+    ensures { let hides = part secrets.now s (3 * n) ++ part secrets.now e (3 * n) in
+        opening.new ≡ put opening.old (16 * n) hides }
 {
     codec::copy(opening, 16 * n, &secrets[s..s + 3 * n]);
     codec::copy(opening, 19 * n, &secrets[e..e + 3 * n]);
@@ -71,8 +71,8 @@ fn write_opening(
     requires { Polynomial k.ring k.modulus s0.now × Polynomial k.ring k.modulus e0.now
         × (length secrets.now ≡ 14 * k.ring)
         × (length work.old ≡ scratch_length) × (side < 2) × (length opening.old ≡ 22 * k.ring) }
-    ensures { (left opening ≡ opening_bytes k.modulus k.ring (given secrets) (given s0) (given e0) side)
-        × Free (given work) (left work) }
+    ensures { (opening.new ≡ opening_bytes k.modulus k.ring secrets.now s0.now e0.now side)
+        × Free work.old work.new }
 {
     let n = k.ring as usize;
     let q = k.modulus;
@@ -108,9 +108,9 @@ fn answer_at(
         × (salt + 96 ≤ length salts.now)
         × RepetitionMaterial q n secrets.now (part vectors.now vector (336 * n)) (part permutations.now permutation (168 * n))
         (part salts.now salt 96) }
-    ensures { let drawn = drawn_of (part (given permutations) permutation (168 * n)) (part (given vectors) vector (336 * n))
-        (part (given salts) salt 96) in
-        left answers ≡ put (given answers) at (honest_answer q n (given secrets) drawn challenge) }
+    ensures { let drawn = drawn_of (part permutations.now permutation (168 * n)) (part vectors.now vector (336 * n))
+        (part salts.now salt 96) in
+        answers.new ≡ put answers.old at (honest_answer q n secrets.now drawn challenge) }
 {
     stern_answers::writing::write_answer(
         &mut answers[at..at + size],
@@ -136,9 +136,9 @@ fn write_answers(
 )
     requires { Usable k × Drawings k.modulus k.ring k.repeats secrets.now vectors.now permutations.now salts.now
         × (length challenges.now ≡ k.repeats) × (length answers.old ≡ answers_length k.ring challenges.now) }
-    ensures { let drawn = answers_bytes k.modulus k.ring k.repeats (given secrets) (given vectors) (given permutations)
-        (given salts) in
-        left answers ≡ drawn (given challenges) }
+    ensures { let drawn = answers_bytes k.modulus k.ring k.repeats secrets.now vectors.now permutations.now
+        salts.now in
+        answers.new ≡ drawn challenges.now }
 {
     let n = k.ring as usize;
     let q = k.modulus;
@@ -197,7 +197,7 @@ pub fn write_first(
         Loaded k public.now × FirstReady k x (first_now head shares0 shares1 claims scratch) }
     ensures { let x = material_in secrets s0 e0 masks0 masks1 vectors permutations salts ballots in
         let before = first_in head shares0 shares1 claims scratch in let after = first_out head shares0 shares1 claims scratch in
-        FirstProduced (parameters k (given public)) (count_of k.ring (given ballots)) x before after }
+        FirstProduced (parameters k public.now) (count_of k.ring ballots.now) x before after }
 {
     round_head::write_head(
         k,
@@ -235,8 +235,8 @@ pub fn write_second(
     requires { let room = second_now opening answers scratch in
         SecondReady k secrets.now s0.now e0.now vectors.now permutations.now salts.now side challenges.now room }
     ensures { let before = second_in opening answers scratch in let after = second_out opening answers scratch in
-        SecondProduced k (given secrets) (given s0) (given e0) (given vectors) (given permutations) (given salts) side
-        (given challenges) before after }
+        SecondProduced k secrets.now s0.now e0.now vectors.now permutations.now salts.now side
+        challenges.now before after }
 {
     write_opening(opening, scratch, k, secrets, s0, e0, side);
     codec::wipe(scratch);

@@ -15,7 +15,7 @@ use sheet_numbers::Numbers;
 // What stands at the head of scratch is written out at a place, and scratch zeroed.
 pub fn hand_out(out: &mut [u8], at: usize, scratch: &mut [u8], n: usize)
     requires { (at + 8 * n ≤ length out.old) × (8 * n ≤ length scratch.old) }
-    ensures { WrittenAt at (part (given scratch) 0 (8 * n)) (given out) (left out) (given scratch) (left scratch) }
+    ensures { WrittenAt at (part scratch.old 0 (8 * n)) out.old out.new scratch.old scratch.new }
 {
     scratch::write_out(out, at, scratch, 0, n);
     codec::wipe(scratch);
@@ -34,8 +34,8 @@ pub fn share(
     scratch: &mut [u8],
 ) -> Reply
     requires { Usable k }
-    ensures { Computed (share_tests k (given half) (given u) (given mask) (given t) (given scratch))
-        (share_writes k (given half) (given u) (given mask)) result (given t) (left t) (given scratch) (left scratch) }
+    ensures { Computed (share_tests k half.now u.now mask.now t.old scratch.old)
+        (share_writes k half.now u.now mask.now) result t.old t.new scratch.old scratch.new }
 {
     let n = k.ring as usize;
     if !scratch::sized(
@@ -60,7 +60,7 @@ pub fn share(
 // v, t0 and t1 are in range.
 fn reconstruct_ranged(v: &[u8], t0: &[u8], t1: &[u8], n: usize, q: u64) -> bool
     requires { (length v.now ≡ 8 * n) × (length t0.now ≡ 8 * n) × (length t1.now ≡ 8 * n) }
-    ensures { result ≡ coefficients_below q n (given v ∷ given t0 ∷ given t1 ∷ []) }
+    ensures { result ≡ coefficients_below q n (v.now ∷ t0.now ∷ t1.now ∷ []) }
 {
     if ring::in_range(v, q) {
         scratch::both_in_range(t0, t1, n, q)
@@ -79,8 +79,8 @@ pub fn reconstruct(
     scratch: &mut [u8],
 ) -> Reply
     requires { Usable k }
-    ensures { Computed (reconstruct_tests k (given v) (given t0) (given t1) (given vote) (given scratch))
-        (reconstruct_writes k (given v) (given t0) (given t1)) result (given vote) (left vote) (given scratch) (left scratch) }
+    ensures { Computed (reconstruct_tests k v.now t0.now t1.now vote.old scratch.old)
+        (reconstruct_writes k v.now t0.now t1.now) result vote.old vote.new scratch.old scratch.new }
 {
     let n = k.ring as usize;
     if !scratch::sized(
@@ -112,9 +112,9 @@ pub fn commitment(
     scratch: &mut [u8],
 ) -> Reply
     requires { Loaded k public.now }
-    ensures { Computed (commitment_tests k (given m) (given r) (given pair) (given scratch))
-        (commitment_writes (parameters k (given public)) (given m) (given r)) result
-        (given pair) (left pair) (given scratch) (left scratch) }
+    ensures { Computed (commitment_tests k m.now r.now pair.old scratch.old)
+        (commitment_writes (parameters k public.now) m.now r.now) result
+        pair.old pair.new scratch.old scratch.new }
 {
     let n = k.ring as usize;
     if !scratch::sized(

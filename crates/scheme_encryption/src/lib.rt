@@ -12,7 +12,7 @@ use sheet_numbers::Numbers;
 
 // r, e' and e'' are ternary, and m is a message.
 fn encrypt_ranged(r: &[u8], e1: &[u8], e2: &[u8], m: &[u8], p: u64) -> bool
-    ensures { result ≡ bytes_below 3 (given r ∷ given e1 ∷ given e2 ∷ []) && bytes_below p (given m ∷ []) }
+    ensures { result ≡ bytes_below 3 (r.now ∷ e1.now ∷ e2.now ∷ []) && bytes_below p (m.now ∷ []) }
 {
     if !ring::is_ternary(r) {
         return false;
@@ -35,9 +35,9 @@ pub fn encrypt(
     scratch: &mut [u8],
 ) -> Reply
     requires { Loaded k public.now }
-    ensures { Computed (encrypt_tests k (given r) (given e1) (given e2) (given m) (given ciphertext) (given scratch))
-        (encrypt_writes (parameters k (given public)) (given r) (given e1) (given e2) (given m)) result
-        (given ciphertext) (left ciphertext) (given scratch) (left scratch) }
+    ensures { Computed (encrypt_tests k r.now e1.now e2.now m.now ciphertext.old scratch.old)
+        (encrypt_writes (parameters k public.now) r.now e1.now e2.now m.now) result
+        ciphertext.old ciphertext.new scratch.old scratch.new }
 {
     let n = k.ring as usize;
     let q = k.modulus;
@@ -75,8 +75,8 @@ pub fn decrypt(
     scratch: &mut [u8],
 ) -> Reply
     requires { Usable k }
-    ensures { Computed (decrypt_tests k (given s) (given ciphertext) (given vote) (given scratch))
-        (decrypt_writes k (given s) (given ciphertext)) result (given vote) (left vote) (given scratch) (left scratch) }
+    ensures { Computed (decrypt_tests k s.now ciphertext.now vote.old scratch.old)
+        (decrypt_writes k s.now ciphertext.now) result vote.old vote.new scratch.old scratch.new }
 {
     let n = k.ring as usize;
     let q = k.modulus;

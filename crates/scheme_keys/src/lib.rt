@@ -21,8 +21,8 @@ pub fn keygen(
     scratch: &mut [u8],
 ) -> Reply
     requires { Loaded k public.now }
-    ensures { Computed (keygen_tests k (given s) (given e) (given b) (given scratch))
-        (keygen_writes (parameters k (given public)) (given s) (given e)) result (given b) (left b) (given scratch) (left scratch) }
+    ensures { Computed (keygen_tests k s.now e.now b.old scratch.old)
+        (keygen_writes (parameters k public.now) s.now e.now) result b.old b.new scratch.old scratch.new }
 {
     let n = k.ring as usize;
     if !scratch::sized(
@@ -43,7 +43,7 @@ pub fn keygen(
 // s and e are ternary, and s0 and e0 in range.
 fn split_ranged(s: &[u8], e: &[u8], s0: &[u8], e0: &[u8], n: usize, q: u64) -> bool
     requires { (length s0.now ≡ 8 * n) × (length e0.now ≡ 8 * n) }
-    ensures { result ≡ bytes_below 3 (given s ∷ given e ∷ []) && coefficients_below q n (given s0 ∷ given e0 ∷ []) }
+    ensures { result ≡ bytes_below 3 (s.now ∷ e.now ∷ []) && coefficients_below q n (s0.now ∷ e0.now ∷ []) }
 {
     if scratch::both_ternary(s, e) {
         scratch::both_in_range(s0, e0, n, q)
@@ -64,9 +64,9 @@ pub fn split(
     scratch: &mut [u8],
 ) -> Reply
     requires { Loaded k public.now }
-    ensures { Computed (split_tests k (given s) (given e) (given s0) (given e0) (given out) (given scratch))
-        (split_writes (parameters k (given public)) (given s) (given e) (given s0) (given e0)) result
-        (given out) (left out) (given scratch) (left scratch) }
+    ensures { Computed (split_tests k s.now e.now s0.now e0.now out.old scratch.old)
+        (split_writes (parameters k public.now) s.now e.now s0.now e0.now) result
+        out.old out.new scratch.old scratch.new }
 {
     let n = k.ring as usize;
     let q = k.modulus;

@@ -23,8 +23,8 @@ fn sized(x: usize, y: usize, product: usize, scratch: usize, n: usize) -> bool
 // x y by the plain method.
 pub fn product(k: Numbers, x: &[u8], y: &[u8], product: &mut [u8], scratch: &mut [u8]) -> Reply
     requires { Usable k }
-    ensures { Computed (product_tests k (given x) (given y) (given product) (given scratch))
-        (product_writes k (given x) (given y)) result (given product) (left product) (given scratch) (left scratch) }
+    ensures { Computed (product_tests k x.now y.now product.old scratch.old)
+        (product_writes k x.now y.now) result product.old product.new scratch.old scratch.new }
 {
     let n = k.ring as usize;
     if !sized(x.len(), y.len(), product.len(), scratch.len(), n) {
@@ -49,8 +49,8 @@ pub fn multiply(
     scratch: &mut [u8],
 ) -> Reply
     requires { Usable k }
-    ensures { Computed (multiply_tests k (given x) (given y) root (given product) (given scratch))
-        (product_writes k (given x) (given y)) result (given product) (left product) (given scratch) (left scratch) }
+    ensures { Computed (multiply_tests k x.now y.now root product.old scratch.old)
+        (product_writes k x.now y.now) result product.old product.new scratch.old scratch.new }
 {
     let n = k.ring as usize;
     if !sized(x.len(), y.len(), product.len(), scratch.len(), n) {

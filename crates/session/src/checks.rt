@@ -59,7 +59,7 @@ impl Session {
         scratch: &mut [u8],
     ) -> Stepped
         ensures { CheckDone round (inputs_in sheet ballots claims head shares0 shares1 opening answers scratch) self result
-            (left scratch) }
+            scratch.new }
     {
         let progress = self.progress;
         let numbers = self.numbers;
@@ -89,7 +89,7 @@ impl Session {
 
     // Writes the side and the challenges that were drawn for a round.
     pub fn challenges(self, round: u64, out: &mut [u8]) -> Reply
-        ensures { Wrote (challenges_tests self round (given out)) (challenges_out self round) result (given out) (left out) }
+        ensures { Wrote (challenges_tests self round out.old) (challenges_out self round) result out.old out.new }
     {
         let progress = self.progress;
         if !progress.has_challenges(self.numbers, round) {

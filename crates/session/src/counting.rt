@@ -19,7 +19,7 @@ fn times(bytes: u64, ballots: u64) -> usize
 impl Session {
     // Takes the claims.
     pub fn claim(self, claims: &[u8]) -> Stepped
-        ensures { DoneAlone (claim (given claims)) self result }
+        ensures { DoneAlone (claim claims.now) self result }
     {
         let progress = self.progress;
         let numbers = self.numbers;
@@ -47,7 +47,7 @@ impl Session {
     // Whether a first message has its lengths.
     fn message_sized(self, head: &[u8], shares0: &[u8], shares1: &[u8]) -> bool
         requires { valid self ≡ true }
-        ensures { result ≡ same (length (given head) ∷ length (given shares0) ∷ length (given shares1) ∷ [])
+        ensures { result ≡ same (length head.now ∷ length shares0.now ∷ length shares1.now ∷ [])
             (head_length self.numbers.ring self.numbers.repeats ∷ 8 * self.numbers.ring * self.progress.closed
             ∷ 8 * self.numbers.ring * self.progress.closed ∷ []) }
     {
@@ -62,7 +62,7 @@ impl Session {
 
     // Takes the first message of the next round.
     pub fn commit(self, round: u64, head: &[u8], shares0: &[u8], shares1: &[u8]) -> Stepped
-        ensures { DoneAlone (commit round (given head) (given shares0) (given shares1)) self result }
+        ensures { DoneAlone (commit round head.now shares0.now shares1.now) self result }
     {
         let progress = self.progress;
         if !progress.may_commit(self.numbers, round) {
@@ -92,7 +92,7 @@ impl Session {
 
     // Takes the seed, once all rounds are committed.
     pub fn draw(self, seed: &[u8]) -> Stepped
-        ensures { DoneAlone (draw (given seed)) self result }
+        ensures { DoneAlone (draw seed.now) self result }
     {
         let progress = self.progress;
         if !progress.may_draw(self.numbers) {

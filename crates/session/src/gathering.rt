@@ -13,7 +13,7 @@ use session_progress::Progress;
 impl Session {
     // Starts anew, on a sheet and with an empty register, from any session.
     pub fn clear(self, reg: &mut [u8], text: &[u8]) -> Stepped
-        ensures { Done (clear (on (given text))) (state self (given reg)) result (left reg) }
+        ensures { Done (clear (on text.now)) (state self reg.old) result reg.new }
     {
         if reg.len() != register::REGISTER {
             return self.refused(1);
@@ -45,7 +45,7 @@ impl Session {
 
     // Admits a ballot.
     pub fn admit(self, reg: &mut [u8], ballot: &[u8]) -> Stepped
-        ensures { Done (admit (given ballot)) (state self (given reg)) result (left reg) }
+        ensures { Done (admit ballot.now) (state self reg.old) result reg.new }
     {
         let progress = self.progress;
         let numbers = self.numbers;
@@ -78,7 +78,7 @@ impl Session {
 
     // Withdraws a mark, whether its ballot has come or not.
     pub fn withdraw(self, reg: &mut [u8], mark: u32) -> Stepped
-        ensures { Done (withdraw mark) (state self (given reg)) result (left reg) }
+        ensures { Done (withdraw mark) (state self reg.old) result reg.new }
     {
         let progress = self.progress;
         let numbers = self.numbers;
@@ -100,7 +100,7 @@ impl Session {
 
     // Closes the batch of the standing entries.
     pub fn close(self, reg: &[u8]) -> Stepped
-        ensures { Done close (state self (given reg)) result (given reg) }
+        ensures { Done close (state self reg.now) result reg.now }
     {
         let progress = self.progress;
         let numbers = self.numbers;
@@ -128,7 +128,7 @@ impl Session {
 
     // The standing entries in thousandths of the enrolled.
     pub fn turnout(self, reg: &[u8], enrolled: u64) -> Turnout
-        ensures { result ≡ turnout_by (first (turnout_tests self (given reg) enrolled)) (turnout (given reg) self.progress.used
+        ensures { result ≡ turnout_by (first (turnout_tests self reg.now enrolled)) (turnout reg.now self.progress.used
             enrolled) }
     {
         let progress = self.progress;

@@ -13,7 +13,7 @@ use sheet_numbers::Numbers;
 
 // A session. It keeps its phase and counts; the sheet's numbers before a and the sheet's digest; the closing and the claim digest; the
 // seed; and the digests of the rounds' first messages, 32 bytes each.
-#[derive(Drop)]
+#[derive(Clone, Copy)]
 pub struct Session {
     pub progress: Progress,
     pub numbers: Numbers,

@@ -1,7 +1,7 @@
 -- The check of a round against what a session holds (document 01, "Refused because of the state", the order of check after 31): the sheet's 1 to 5, then 1, 16, and the
 -- round's own 5 to 13. What is held, what is lent, 1 and 16 stand in specs/Stored.antt. Assumes nothing.
 use Rattle.std.specs.Prelude.{List, ◌++◌}
-use Rattle.codec.specs.Slices.{Slice, given}
+use Rattle.codec.specs.Slices.{Slice, MutSlice, given, lent}
 use Rattle.codec.specs.Reply.{Test}
 use Rattle.sheet.specs.Sheet.{order}
 use Rattle.round.specs.Round.{round_tests}
@@ -21,6 +21,6 @@ module _ (s : Stored) where
   late_tests x = round_tests (parameters_of x.sheet) s.closed (drawn_round s x)
 
 -- what is lent, from the names of its slices in a contract
-abbrev pub inputs_in : (sheet ballots claims head shares0 shares1 opening answers scratch : Slice) → Inputs
+abbrev pub inputs_in : (sheet ballots claims head shares0 shares1 opening answers : Slice) (scratch : MutSlice) → Inputs
 inputs_in sheet ballots claims head shares0 shares1 opening answers scratch =
-    inputs_of (given sheet) (given ballots) (given claims) (given head) (given shares0) (given shares1) (given opening) (given answers) (given scratch)
+    inputs_of (given sheet) (given ballots) (given claims) (given head) (given shares0) (given shares1) (given opening) (given answers) (lent scratch)

@@ -15,7 +15,7 @@ use codec::Reply;
 use sheet_numbers::Numbers;
 
 // What a check comes to: stopped before the round was looked at, failed by the round itself, or passed.
-#[derive(Drop)]
+#[derive(Clone, Copy)]
 pub enum Verdict {
     Stopped { number: u8, place: u32 },
     Failed { number: u8, place: u32 },
@@ -76,7 +76,7 @@ fn check_drawn<'a>(
     requires { Within held × ((sheet_of sheet.now).numbers ≡ k) × Loaded k public.now × (side ≡ side_of held)
         × (challenges.now ≡ challenges_of held) }
     ensures { let x = inputs_in sheet ballots claims head shares0 shares1 opening answers scratch in
-        TakenChecked (parameters k (given public)) held x result (left scratch) }
+        TakenChecked (parameters k public.now) held x result scratch.new }
 {
     let early = crate::stored::test_lent(
         held, k, challenges, sheet, ballots, claims, head, shares0, shares1, opening, answers,
@@ -123,7 +123,7 @@ fn check_taken<'a>(
 ) -> Verdict
     requires { Within held × ((sheet_of sheet.now).numbers ≡ k) × Loaded k public.now }
     ensures { let x = inputs_in sheet ballots claims head shares0 shares1 opening answers scratch in
-        TakenChecked (parameters k (given public)) held x result (left scratch) }
+        TakenChecked (parameters k public.now) held x result scratch.new }
 {
     let repeats = held.numbers.repeats as usize;
     let drawn = challenges_of(&held.seed, held.round, repeats);
@@ -160,7 +160,7 @@ pub fn check<'a>(
     scratch: &mut [u8],
 ) -> Verdict
     requires { Within held }
-    ensures { CheckMade held (inputs_in sheet ballots claims head shares0 shares1 opening answers scratch) result (left scratch) }
+    ensures { CheckMade held (inputs_in sheet ballots claims head shares0 shares1 opening answers scratch) result scratch.new }
 {
     let mut public = [0u8; 81920];
     let reading = sheet::load(sheet, &mut public);

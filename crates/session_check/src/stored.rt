@@ -12,7 +12,7 @@ use sheet_numbers::Numbers;
 
 // What a session holds for the check of a round: the sheet's numbers, how many ballots were closed, the digests of the sheet, of closing,
 // of the claims and of the round's first message, the seed, and the round.
-#[derive(Drop)]
+#[derive(Clone, Copy)]
 pub struct Stored {
     pub numbers: Numbers,
     pub closed: usize,

@@ -1,3 +1,4 @@
 pub mod Range
 pub mod Laws
 pub mod Parts
+pub mod Drawn

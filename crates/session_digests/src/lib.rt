@@ -1,4 +1,6 @@
 // The digests by which a session holds what it was lent (document 01, "Register and session").
+#![tactic(auto)]
+
 pub mod drawing;
 
 ghost use Rattle.std.specs.Prelude.{◌≡◌, ◌+◌, ◌*◌, ◌≤◌, ◌<◌, length};

@@ -46,7 +46,7 @@ pub const IMAGE: usize = TRAIL + 4096;
 // The 32 bytes at a place.
 fn read_digest(image: &[u8], at: usize) -> [u8; 32]
     requires { at + 32 ≤ length image.now }
-    ensures { result ≡ part (given image) at 32 }
+    ensures { result ≡ part image.now at 32 }
 {
     let mut digest = [0u8; 32];
     codec::copy(&mut digest, 0, &image[at..at + 32]);
@@ -56,7 +56,7 @@ fn read_digest(image: &[u8], at: usize) -> [u8; 32]
 // The digests of the first messages.
 fn read_trail(image: &[u8]) -> [u8; 4096]
     requires { length image.now ≡ image_length }
-    ensures { result ≡ (decode (given image)).trail }
+    ensures { result ≡ (decode image.now).trail }
 {
     let mut trail = [0u8; 4096];
     codec::copy(&mut trail, 0, &image[TRAIL..IMAGE]);
@@ -66,7 +66,7 @@ fn read_trail(image: &[u8]) -> [u8; 4096]
 // The sheet's numbers.
 fn read_numbers(image: &[u8]) -> Numbers
     requires { length image.now ≡ image_length }
-    ensures { result ≡ (decode (given image)).numbers }
+    ensures { result ≡ (decode image.now).numbers }
 {
     Numbers {
         ring: codec::read64(image, RING),
@@ -80,7 +80,7 @@ fn read_numbers(image: &[u8]) -> Numbers
 // The session that an image holds.
 pub fn load(image: &[u8]) -> Session
     requires { length image.now ≡ image_length }
-    ensures { result ≡ decode (given image) }
+    ensures { result ≡ decode image.now }
 {
     let phase = image[PHASE];
     let numbers = read_numbers(image);
@@ -114,7 +114,7 @@ pub fn load(image: &[u8]) -> Session
 // Writes the phase, the sheet's numbers and the sheet's digest.
 fn store_head(session: Session, image: &mut [u8])
     requires { length image.old ≡ image_length }
-    ensures { left image ≡ put (given image) 0 (flatten (contents_of head_fields session)) }
+    ensures { image.new ≡ put image.old 0 (flatten (contents_of head_fields session)) }
 {
     let numbers = session.numbers;
     codec::write8(image, PHASE, session.progress.phase);
@@ -129,7 +129,7 @@ fn store_head(session: Session, image: &mut [u8])
 // Writes the counts and the digests of the batch.
 fn store_batch(session: Session, image: &mut [u8])
     requires { length image.old ≡ image_length }
-    ensures { left image ≡ put (given image) (size head_fields) (flatten (contents_of batch_fields session)) }
+    ensures { image.new ≡ put image.old (size head_fields) (flatten (contents_of batch_fields session)) }
 {
     codec::write64(image, USED, session.progress.used);
     codec::write64(image, CLOSED, session.progress.closed);
@@ -140,7 +140,7 @@ fn store_batch(session: Session, image: &mut [u8])
 // Writes the counts of rounds, the seed, and the digests of the first messages.
 fn store_rounds(session: Session, image: &mut [u8])
     requires { length image.old ≡ image_length }
-    ensures { left image ≡ put (given image) (size head_fields + size batch_fields) (flatten (contents_of round_fields session)) }
+    ensures { image.new ≡ put image.old (size head_fields + size batch_fields) (flatten (contents_of round_fields session)) }
 {
     codec::write64(image, COMMITTED, session.progress.committed);
     codec::copy(image, SEED, &session.seed);
@@ -151,7 +151,7 @@ fn store_rounds(session: Session, image: &mut [u8])
 // Writes the image of a session.
 pub fn store(session: Session, image: &mut [u8])
     requires { length image.old ≡ image_length }
-    ensures { left image ≡ image_of session }
+    ensures { image.new ≡ image_of session }
 {
     store_head(session, image);
     store_batch(session, image);
@@ -161,7 +161,7 @@ pub fn store(session: Session, image: &mut [u8])
 // Stores the session that a step leaves, and answers for the step.
 pub fn keep(stepped: Stepped, image: &mut [u8]) -> u64
     requires { length image.old ≡ image_length }
-    ensures { (result ≡ packed stepped.reply) × (left image ≡ image_of stepped.session) }
+    ensures { (result ≡ packed stepped.reply) × (image.new ≡ image_of stepped.session) }
 {
     let reply = stepped.reply;
     let session = stepped.session;

@@ -1,5 +1,7 @@
 // The phase and the counts of a session (document 01, "Register and session"): which step is due, and how each moves them. A value that
 // each step takes and hands back.
+#![tactic(auto)]
+
 ghost use Rattle.std.specs.Prelude.{◌≡◌, ◌&&◌, ◌≤◌, ◌<◌, eqb, ltb};
 ghost use Rattle.session_progress.specs.Progress.{drawn, in_limits, commit_due, draw_due, check_due, challenges_due, initial, with_entry};
 ghost use Rattle.session_progress.specs.Progress.{with_batch, with_claims, with_message, with_seed, with_refusal, with_acceptance};
@@ -8,7 +10,7 @@ use sheet_numbers::Numbers;
 
 // The phase is 0 gathering, 1 closed, 2 claimed, 3 drawn, 4 ended refused, 5 ended accepted; then how many entries of the register are
 // used, how many ballots were closed, and how many rounds are committed and checked.
-#[derive(Drop)]
+#[derive(Clone, Copy)]
 pub struct Progress {
     pub phase: u8,
     pub used: u64,

@@ -1,4 +1,6 @@
 // SHA3-256 of FIPS 202 over the proved sponge: the padding, the digest, and both as a call.
+#![tactic(auto)]
+
 pub mod sponge;
 
 ghost use Rattle.std.specs.Prelude.{◌≡◌, ◌<◌};

@@ -15,7 +15,7 @@ use Rattle.codec.specs.declared.Reply.TheVariants as reply
 use Rattle.sheet_lines.specs.Form.{number_keys, list_keys}
 use Rattle.sheet.specs.Form.{Sheet}
 use Rattle.sheet_lines.specs.Reader.{block, preceded_by, rows}
-use Rattle.sheet.specs.Reader.{whole, formed, sheet_from, sheet_of}
+use Rattle.sheet.specs.Reader.{formed, sheet_from, sheet_of}
 use Rattle.sheet_lines.specs.Internal.{largest, outlined, seen}
 use Rattle.sheet.specs.Internal.{judged}
 use Rattle.sheet_numbers.specs.Rules.{outside, unsound}

@@ -9,7 +9,6 @@ use Rattle.sheet.specs.Sheet.{unfit, reading, polynomials}
 use Rattle.sheet_numbers.specs.declared.Numbers.{Numbers}
 use Rattle.sheet.specs.declared.Reading.{Reading}
 use Rattle.sheet.specs.declared.Reading.TheVariants.{Taken, Refused}
-use Rattle.codec.specs.declared.Reply.TheVariants as reply
 
 -- ---- for the contracts of the crate's inner functions: what is put out of the lines of a text, and what is said of it by what the code keeps of its lines
 

@@ -11,7 +11,7 @@ use sheet_numbers::Numbers;
 // Writes N, D, B and L.
 fn write_description(k: Numbers, out: &mut [u8])
     requires { (outside k ≡ false) × (length out.old ≡ 32) }
-    ensures { left out ≡ description k }
+    ensures { out.new ≡ description k }
 {
     codec::write64(out, 0, k.ring);
     codec::write64(out, 8, sheet_numbers::noise_bound(k));
@@ -21,7 +21,7 @@ fn write_description(k: Numbers, out: &mut [u8])
 
 // Reads a sheet, and writes N, D, B and L into 32 lent bytes.
 pub fn describe(text: &[u8], out: &mut [u8]) -> Reply
-    ensures { (result ≡ describe_reply (given text) (given out)) × (left out ≡ describe_out (given text) (given out)) }
+    ensures { (result ≡ describe_reply text.now out.old) × (out.new ≡ describe_out text.now out.old) }
 {
     if out.len() != 32 {
         return Reply::Refused {

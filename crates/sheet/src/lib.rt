@@ -1,4 +1,6 @@
 // The parameter sheet (document 01, "Sheet"): what is said of a text, and its polynomials.
+#![tactic(auto)]
+
 pub mod calls;
 mod writer;
 

@@ -1,4 +1,6 @@
 // Lines of a sheet's text: what they hold, without keeping their numbers.
+#![tactic(auto)]
+
 ghost use Rattle.std.specs.Prelude.{◌≡◌, ◌+◌, ◌≤◌, ◌<◌, [], ◌++◌, eqb, drop, take, get_or};
 ghost use Rattle.sheet_lines.specs.Form.{number_keys, list_keys};
 ghost use Rattle.codec.specs.Lists.{every, all_below};

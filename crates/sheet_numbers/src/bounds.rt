@@ -48,6 +48,7 @@ pub fn unknowns(n: u64) -> u64
 }
 
 // Refusal 3: a number outside its range, or a ring that is no power of two.
+#[tactic(auto, using(crate::proofs::Ranges::divides), unfolding(crate::specs::Rules::outside, crate::specs::Rules::any))]
 pub fn outside(k: Numbers) -> bool
     ensures { result ≡ rule.outside k }
 {
@@ -85,6 +86,7 @@ pub fn outside(k: Numbers) -> bool
 }
 
 // Refusal 4: 2N does not divide q - 1, or (1 + 2^d) D is not below (q - 1)/2.
+#[tactic(auto, unfolding(crate::specs::Rules::unsound, crate::specs::Rules::any))]
 pub fn unsound(k: Numbers) -> bool
     requires { rule.outside k ≡ false }
     ensures { result ≡ rule.unsound k }

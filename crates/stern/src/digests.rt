@@ -15,7 +15,7 @@ use hasher::Hasher;
 
 // A hasher that has taken in a leading byte and a salt.
 fn begin(lead: u8, salt: &[u8]) -> Hasher
-    ensures { result ≡ holding (lead ∷ given salt) }
+    ensures { result ≡ holding (lead ∷ salt.now) }
 {
     let head = [lead; 1];
     Hasher::new().absorbed(&head).absorbed(salt)
@@ -24,7 +24,7 @@ fn begin(lead: u8, salt: &[u8]) -> Hasher
 // The digest of a leading byte, a salt and a message.
 pub fn tagged(lead: u8, salt: &[u8], m: &[u8]) -> [u8; 32]
     requires { length salt.now ≡ 32 }
-    ensures { result ≡ sha3 (lead ∷ (given salt ++ given m)) }
+    ensures { result ≡ sha3 (lead ∷ (salt.now ++ m.now)) }
 {
     begin(lead, salt).absorbed(m).finish()
 }
@@ -32,7 +32,7 @@ pub fn tagged(lead: u8, salt: &[u8], m: &[u8]) -> [u8; 32]
 // A hasher that takes in a pair too, which stands in scratch.
 fn absorb_pair(h: Hasher, work: &[u8], n: usize) -> Hasher
     requires { 49152 + 8 * n ≤ length work.now }
-    ensures { result ≡ updated h (part (given work) 0 (8 * n) ++ part (given work) 49152 (8 * n)) }
+    ensures { result ≡ updated h (part work.now 0 (8 * n) ++ part work.now 49152 (8 * n)) }
 {
     let one = h.absorbed(&work[0..8 * n]);
     one.absorbed(&work[commitment::MESSAGE..commitment::MESSAGE + 8 * n])
@@ -53,9 +53,9 @@ pub fn equations_digest(
     requires public_keys { PublicKeys n q k.now × (length work.old ≡ scratch_length) × (length x.now ≡ 336 * n)
         × Below q (length x.now / 8) (poly x.now) }
     requires c_len { (less ≡ true → (length c.now ≡ 64 * n) × Below q (length c.now / 8) (poly c.now)) × (length salt.now ≡ 32) }
-    ensures { (result ≡ sha3 (string1 (given salt) (given p)
-        (cond less (subtract q (equations q n (keys_of n (given k)) (take (14 * n) (vector (given x)))) (right_hand_sides q n (given c)))
-        (equations q n (keys_of n (given k)) (take (14 * n) (vector (given x))))))) × Free (given work) (left work) }
+    ensures { (result ≡ sha3 (string1 salt.now p.now
+        (cond less (subtract q (equations q n (keys_of n k.now) (take (14 * n) (vector x.now))) (right_hand_sides q n c.now))
+        (equations q n (keys_of n k.now) (take (14 * n) (vector x.now)))))) × Free work.old work.new }
 {
     let a = begin(1, salt).absorbed(p);
     equation_pair(work, k, c, less, x, 2 * n, 0, 0, n, q);
@@ -75,8 +75,8 @@ pub fn gathered_digest(
 ) -> [u8; 32]
     requires { (n ≤ 2048) × (length work.old ≡ scratch_length) × (length p.now ≡ 168 * n) × (length x.now ≡ 336 * n)
         × (length salt.now ≡ 32) × (all_below (42 * n) (entries p.now) ≡ true) }
-    ensures { (result ≡ sha3 (lead ∷ (given salt ++ words (apply (entries (given p)) (vector (given x))))))
-        × Free (given work) (left work) }
+    ensures { (result ≡ sha3 (lead ∷ (salt.now ++ words (apply (entries p.now) (vector x.now)))))
+        × Free work.old work.new }
 {
     vector::gather(work, 0, p, x, 42 * n);
     tagged(lead, salt, &work[0..336 * n])
@@ -95,8 +95,8 @@ pub fn masked_digest(
     requires n_bound { (n ≤ 2048) × (3 ≤ q) × (q < 2 ^ 56) × (length work.old ≡ scratch_length) × (length p.now ≡ 168 * n)
         × (length x.now ≡ 14 * n) × (length r.now ≡ 336 * n) × (length salt.now ≡ 32) }
     requires p_value { (all_below (42 * n) (entries p.now) ≡ true) × (all_below q (vector r.now) ≡ true) }
-    ensures { (result ≡ sha3 (string3 (given salt) (apply (entries (given p)) (add q (ternaries q (extend (14 * n) (given x)))
-        (vector (given r)))))) × Free (given work) (left work) }
+    ensures { (result ≡ sha3 (string3 salt.now (apply (entries p.now) (add q (ternaries q (extend (14 * n) x.now))
+        (vector r.now))))) × Free work.old work.new }
 {
     let minus = 14 * n - ring::count_of(x, 2);
     let zeros = 14 * n - ring::count_of(x, 0);

@@ -27,8 +27,8 @@ fn test_balanced(
 ) -> Reply
     requires { (n ≤ 2048) × (3 ≤ q) × (q < 2 ^ 56) × (length work.old ≡ scratch_length) × (length w.now ≡ 42 * n)
         × (length t.now ≡ 336 * n) × (length salt2.now ≡ 32) × (length salt3.now ≡ 32) × (all_below q (vector t.now) ≡ true) }
-    ensures { Tried (balanced_tests q n (given two) (given three) (given w) (given t) (given salt2) (given salt3) place) result
-        (given work) (left work) }
+    ensures { Tried (balanced_tests q n two.now three.now w.now t.now salt2.now salt3.now place) result
+        work.old work.new }
 {
     if !vector::tests::is_balanced(w, 14 * n) {
         return Reply::Refused { number: 10, place };
@@ -41,7 +41,7 @@ fn test_balanced(
 
 // Whether two digests are two others.
 fn both_equal(a: &[u8], b: &[u8], c: &[u8], d: &[u8]) -> bool
-    ensures { result ≡ (same (given a) (given b) && same (given c) (given d)) }
+    ensures { result ≡ (same a.now b.now && same c.now d.now) }
 {
     if codec::equal(a, b) {
         codec::equal(c, d)
@@ -52,7 +52,7 @@ fn both_equal(a: &[u8], b: &[u8], c: &[u8], d: &[u8]) -> bool
 
 // 11, unless two digests are two others.
 fn test_digests(a: &[u8], b: &[u8], c: &[u8], d: &[u8], place: u32) -> Reply
-    ensures { result ≡ first (test 11 place (not (same (given a) (given b) && same (given c) (given d))) ∷ []) }
+    ensures { result ≡ first (test 11 place (not (same a.now b.now && same c.now d.now)) ∷ []) }
 {
     if both_equal(a, b, c, d) {
         Reply::Taken
@@ -82,8 +82,8 @@ fn test_permuted(
     requires { PublicKeys n q k.now × (length work.old ≡ scratch_length) × (length p.now ≡ 168 * n) × (length x.now ≡ 336 * n)
         × (length salt1.now ≡ 32) × (length salt.now ≡ 32) × (all_below q (vector x.now) ≡ true) × (length c.now ≡ 64 * n)
         × (all_below q (vector c.now) ≡ true) }
-    ensures { Tried (permuted_tests q n (keys_of n (given k)) (given c) less (given one) lead (given other) (given p) (given x)
-        (given salt1) (given salt) place) result (given work) (left work) }
+    ensures { Tried (permuted_tests q n (keys_of n k.now) c.now less one.now lead other.now p.now x.now
+        salt1.now salt.now place) result work.old work.new }
 {
     if !vector::tests::is_permutation(p, work, 0, 42 * n) {
         return Reply::Refused { number: 9, place };
@@ -97,8 +97,8 @@ fn test_permuted(
 fn test_first(work: &mut [u8], d: &[u8], answer: &[u8], place: u32, n: usize, q: u64) -> Reply
     requires { (n ≤ 2048) × (3 ≤ q) × (q < 2 ^ 56) × (length work.old ≡ scratch_length) × (length d.now ≡ 96)
         × (length answer.now ≡ 378 * n + 64) × (all_below q (vector (answer1_of n answer.now).t) ≡ true) }
-    ensures { Judged (tests1 q n (keys_of n []) [] (given d) place (answer1_of n (given answer))) result (given work)
-        (left work) }
+    ensures { Judged (tests1 q n (keys_of n []) [] d.now place (answer1_of n answer.now)) result work.old
+        work.new }
 {
     let reply = test_balanced(
         work,
@@ -132,9 +132,9 @@ fn test_bytes(
 ) -> Reply
     requires { PublicKeys n q k.now × (length work.old ≡ scratch_length) × (length answer.now ≡ 504 * n + 64)
         × (length c.now ≡ 64 * n) × (all_below q (vector c.now) ≡ true) × (all_below q (vector (answer2_of n answer.now).u) ≡ true) }
-    ensures { let x = answer2_of n (given answer) in
-        Judged (permuted_tests q n (keys_of n (given k)) (given c) less (given one) lead (given other) x.p x.u x.salt1 x.salt3
-        place) result (given work) (left work) }
+    ensures { let x = answer2_of n answer.now in
+        Judged (permuted_tests q n (keys_of n k.now) c.now less one.now lead other.now x.p x.u x.salt1 x.salt3
+        place) result work.old work.new }
 {
     let reply = test_permuted(
         work,
@@ -171,8 +171,8 @@ pub fn test_answer(
     requires { PublicKeys n q k.now × (length work.old ≡ scratch_length) × (length d.now ≡ 96) × (length c.now ≡ 64 * n)
         × (all_below q (vector c.now) ≡ true) × (length answer.now ≡ answer_length n challenge)
         × (in_range q n challenge answer.now ≡ true) }
-    ensures { Judged (answer_tests q n (keys_of n (given k)) (given c) (given d) place challenge (given answer)) result
-        (given work) (left work) }
+    ensures { Judged (answer_tests q n (keys_of n k.now) c.now d.now place challenge answer.now) result
+        work.old work.new }
 {
     if challenge == 1 {
         return test_first(work, d, answer, place, n, q);

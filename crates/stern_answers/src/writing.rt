@@ -28,9 +28,9 @@ pub fn write_digests(
 )
     requires { PublicKeys n q k.now × (length work.old ≡ scratch_length) × (at + 96 ≤ length out.old)
         × RepetitionMaterial q n x.now r.now p.now salts.now }
-    ensures { let drawn = drawn_of (given p) (given r) (given salts) in
-        (left out ≡ put (given out) at (honest_digests q n (keys_of n (given k)) (given x) drawn))
-        × (left work ≡ zeros (length (given work))) }
+    ensures { let drawn = drawn_of p.now r.now salts.now in
+        (out.new ≡ put out.old at (honest_digests q n (keys_of n k.now) x.now drawn))
+        × (work.new ≡ zeros (length work.old)) }
 {
     let second = at + 32;
     let third = at + 64;
@@ -46,7 +46,7 @@ pub fn write_digests(
 // Answer 1: P(extended), P(R), salts 2 and 3.
 pub fn write_answer1(out: &mut [u8], x: &[u8], r: &[u8], p: &[u8], salts: &[u8], n: usize, q: u64)
     requires { (n ≤ 2048) × (length out.old ≡ 378 * n + 64) × RepetitionMaterial q n x.now r.now p.now salts.now }
-    ensures { let drawn = drawn_of (given p) (given r) (given salts) in left out ≡ answer1_bytes (answer1 (14 * n) (given x) drawn) }
+    ensures { let drawn = drawn_of p.now r.now salts.now in out.new ≡ answer1_bytes (answer1 (14 * n) x.now drawn) }
 {
     let minus = 14 * n - ring::count_of(x, 2);
     let zeros = 14 * n - ring::count_of(x, 0);
@@ -59,8 +59,8 @@ pub fn write_answer1(out: &mut [u8], x: &[u8], r: &[u8], p: &[u8], salts: &[u8],
 pub fn write_answer2(out: &mut [u8], x: &[u8], r: &[u8], p: &[u8], salts: &[u8], n: usize, q: u64)
     requires { (n ≤ 2048) × (3 ≤ q) × (q < 2 ^ 56) × (length out.old ≡ 504 * n + 64)
         × RepetitionMaterial q n x.now r.now p.now salts.now }
-    ensures { let drawn = drawn_of (given p) (given r) (given salts) in
-        left out ≡ answer2_bytes (answer2 q (14 * n) (given x) drawn) }
+    ensures { let drawn = drawn_of p.now r.now salts.now in
+        out.new ≡ answer2_bytes (answer2 q (14 * n) x.now drawn) }
 {
     let minus = 14 * n - ring::count_of(x, 2);
     let zeros = 14 * n - ring::count_of(x, 0);
@@ -74,7 +74,7 @@ pub fn write_answer2(out: &mut [u8], x: &[u8], r: &[u8], p: &[u8], salts: &[u8],
 pub fn write_answer3(out: &mut [u8], r: &[u8], p: &[u8], salts: &[u8], n: usize)
     requires { (n ≤ 2048) × (length out.old ≡ 504 * n + 64) × (length r.now ≡ 336 * n) × (length p.now ≡ 168 * n)
         × (length salts.now ≡ 96) }
-    ensures { left out ≡ answer3_bytes (answer3 (drawn_of (given p) (given r) (given salts))) }
+    ensures { out.new ≡ answer3_bytes (answer3 (drawn_of p.now r.now salts.now)) }
 {
     codec::copy(out, 0, p);
     codec::copy(out, 168 * n, r);
@@ -94,7 +94,7 @@ pub fn write_answer(
 )
     requires { (n ≤ 2048) × (3 ≤ q) × (q < 2 ^ 56) × (length out.old ≡ answer_length n challenge)
         × RepetitionMaterial q n x.now r.now p.now salts.now }
-    ensures { left out ≡ honest_answer q n (given x) (drawn_of (given p) (given r) (given salts)) challenge }
+    ensures { out.new ≡ honest_answer q n x.now (drawn_of p.now r.now salts.now) challenge }
 {
     if challenge == 1 {
         write_answer1(out, x, r, p, salts, n, q);

@@ -28,8 +28,8 @@ fn check<'a>(
 ) -> Reply
     requires { Loaded k public.now }
     ensures { let x = round_in side challenges ballots claims head shares0 shares1 opening answers in
-        (result ≡ first (round_check_tests (parameters k (given public)) x (given scratch)))
-        × (left scratch ≡ zeroized result (given scratch)) }
+        (result ≡ first (round_check_tests (parameters k public.now) x scratch.old))
+        × (scratch.new ≡ zeroized result scratch.old) }
 {
     let n = k.ring as usize;
     let repeats = k.repeats as usize;
@@ -66,7 +66,7 @@ pub extern "C" fn test_check_round<'a>(
     scratch: &mut [u8],
 ) -> u64
     ensures { let x = round_in side challenges ballots claims head shares0 shares1 opening answers in
-        RoundCheckCalled (given sheet) x (given scratch) result (left scratch) }
+        RoundCheckCalled sheet.now x scratch.old result scratch.new }
 {
     let mut public = [0u8; 81920];
     let reading = sheet::load(sheet, &mut public);

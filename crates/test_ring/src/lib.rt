@@ -120,7 +120,7 @@ pub extern "C" fn modular_reduce(e: i64, q: u64) -> u64
 // uint64_t ring_count(const uint8_t *t, size_t length, uint8_t v): how often v stands in t.
 #[unsafe(no_mangle)]
 pub extern "C" fn ring_count(t: &[u8], v: u8) -> u64
-    ensures { result ≡ count v (given t) }
+    ensures { result ≡ count v t.now }
 {
     ring::count_of(t, v) as u64
 }
@@ -128,8 +128,8 @@ pub extern "C" fn ring_count(t: &[u8], v: u8) -> u64
 // uint64_t ring_ternary(uint8_t *work, size_t, const uint8_t *t, size_t, uint64_t q): the polynomial of ternary bytes.
 #[unsafe(no_mangle)]
 pub extern "C" fn ring_ternary(work: &mut [u8], t: &[u8], q: u64) -> u64
-    ensures { (result ≡ packed (ternary_reply q (given work) (given t)))
-        × (left work ≡ leaves (ternary_reply q (given work) (given t)) (encode (length (given t)) (ternary q (given t))) (given work)) }
+    ensures { (result ≡ packed (ternary_reply q work.old t.now))
+        × (work.new ≡ leaves (ternary_reply q work.old t.now) (encode (length t.now) (ternary q t.now)) work.old) }
 {
     if q < 2 {
         return 5;
@@ -150,7 +150,7 @@ pub extern "C" fn ring_ternary(work: &mut [u8], t: &[u8], q: u64) -> u64
 // ---- polynomials
 
 fn judge(operation: u64, work: &[u8], a: &[u8], b: &[u8], n: usize, q: u64) -> u64
-    ensures { result ≡ packed (polynomials_reply operation n q (given work) (given a) (given b)) }
+    ensures { result ≡ packed (polynomials_reply operation n q work.now a.now b.now) }
 {
     if 3 < operation {
         return 5;
@@ -187,7 +187,7 @@ fn compute(operation: u64, work: &mut [u8], a: &[u8], b: &[u8], n: usize, q: u64
     requires n_bound { (n ≤ 2048) × (0 < q) × (q < 2 ^ 56) × (length work.old ≡ 32 * n) × (length a.now ≡ 8 * n)
         × (length b.now ≡ 8 * n) }
     requires below { Below q n (poly a.now) × Below q n (poly b.now) }
-    ensures { left work ≡ coefficient_bytes q n (on_polynomials operation n q (poly (given a)) (poly (given b))) ++ zeros (24 * n) }
+    ensures { work.new ≡ coefficient_bytes q n (on_polynomials operation n q (poly a.now) (poly b.now)) ++ zeros (24 * n) }
 {
     codec::wipe(work);
     codec::copy(work, 0, a);
@@ -218,8 +218,8 @@ pub extern "C" fn ring_polynomials(
     n: usize,
     q: u64,
 ) -> u64
-    ensures { (result ≡ packed (polynomials_reply operation n q (given work) (given a) (given b)))
-        × (left work ≡ polynomials_out operation n q (given work) (given a) (given b)) }
+    ensures { (result ≡ packed (polynomials_reply operation n q work.old a.now b.now))
+        × (work.new ≡ polynomials_out operation n q work.old a.now b.now) }
 {
     let refusal = judge(operation, work, a, b, n, q);
     if refusal != 0 {
@@ -254,7 +254,7 @@ fn suits(n: usize, q: u64) -> bool
 }
 
 fn judge_transform(work: &[u8], a: &[u8], b: &[u8], n: usize, root: u64, q: u64) -> u64
-    ensures { result ≡ packed (transform_reply n root q (given work) (given a) (given b)) }
+    ensures { result ≡ packed (transform_reply n root q work.now a.now b.now) }
 {
     if !suits(n, q) {
         return 5;
@@ -289,8 +289,8 @@ pub extern "C" fn ring_by_transform(
     root: u64,
     q: u64,
 ) -> u64
-    ensures { (result ≡ packed (transform_reply n root q (given work) (given a) (given b)))
-        × (left work ≡ transform_out n root q (given work) (given a) (given b)) }
+    ensures { (result ≡ packed (transform_reply n root q work.old a.now b.now))
+        × (work.new ≡ transform_out n root q work.old a.now b.now) }
 {
     let refusal = judge_transform(work, a, b, n, root, q);
     if refusal != 0 {

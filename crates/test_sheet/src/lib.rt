@@ -9,7 +9,7 @@ use sheet::Reading;
 
 // Reads a sheet, and writes its polynomials into 40N lent bytes.
 pub fn polynomials(text: &[u8], out: &mut [u8]) -> Reply
-    ensures { (result ≡ sheet_polynomials_reply (given text) (given out)) × (left out ≡ sheet_polynomials_out (given text) (given out)) }
+    ensures { (result ≡ sheet_polynomials_reply text.now out.old) × (out.new ≡ sheet_polynomials_out text.now out.old) }
 {
     let mut buffer = [0u8; 81920];
     let r = sheet::load(text, &mut buffer);
@@ -32,8 +32,8 @@ pub fn polynomials(text: &[u8], out: &mut [u8]) -> Reply
 // `polynomials` over the C boundary, for tests.
 #[unsafe(no_mangle)]
 pub extern "C" fn sheet_polynomials(text: &[u8], out: &mut [u8]) -> u64
-    ensures { (result ≡ packed (sheet_polynomials_reply (given text) (given out)))
-        × (left out ≡ sheet_polynomials_out (given text) (given out)) }
+    ensures { (result ≡ packed (sheet_polynomials_reply text.now out.old))
+        × (out.new ≡ sheet_polynomials_out text.now out.old) }
 {
     codec::pack(polynomials(text, out))
 }

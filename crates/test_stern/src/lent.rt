@@ -36,8 +36,8 @@ pub fn material_sized(
     n: usize,
 ) -> bool
     requires { n ≤ 2048 }
-    ensures { result ≡ same (lengths (given x) (given r) (given p) (given salts) (given out)
-        (given scratch)) (wanted n room) }
+    ensures { result ≡ same (lengths x.now r.now p.now salts.now out.now
+        scratch.now) (wanted n room) }
 {
     scratch::sized(
         [
@@ -55,7 +55,7 @@ pub fn material_sized(
 // Whether it is in range, and P a permutation, whose indices are marked in scratch.
 pub fn material_ranged(x: &[u8], r: &[u8], p: &[u8], scratch: &mut [u8], n: usize, q: u64) -> Reply
     requires { (n ≤ 2048) × (length p.now ≡ 168 * n) × (length scratch.old ≡ scratch_length) }
-    ensures { Sifted (first (range_tests q n (given x) (given r) (given p))) result (given scratch) (left scratch) }
+    ensures { Sifted (first (range_tests q n x.now r.now p.now)) result scratch.old scratch.new }
 {
     if !ring::is_ternary(x) {
         return codec::refused(5);
@@ -80,8 +80,8 @@ pub fn test_sized(
     n: usize,
 ) -> bool
     requires { n ≤ 2048 }
-    ensures { result ≡ same (length (given keys) ∷ length (given pairs) ∷ length (given digests) ∷ length
-        (given answer) ∷ length (given scratch) ∷ []) (24 * n ∷ 64 * n ∷ 96 ∷ long ∷ scratch_length ∷ []) }
+    ensures { result ≡ same (length keys.now ∷ length pairs.now ∷ length digests.now ∷ length
+        answer.now ∷ length scratch.now ∷ []) (24 * n ∷ 64 * n ∷ 96 ∷ long ∷ scratch_length ∷ []) }
 {
     scratch::sized(
         [
@@ -106,8 +106,8 @@ pub fn test_ranged(
     q: u64,
 ) -> bool
     requires { (n ≤ 2048) × (length answer.now ≡ answer_length n challenge) }
-    ensures { result ≡ all_below q (vector (given keys)) && (all_below q (vector (given pairs)) && in_range q n challenge
-        (given answer)) }
+    ensures { result ≡ all_below q (vector keys.now) && (all_below q (vector pairs.now) && in_range q n challenge
+        answer.now) }
 {
     if !ring::in_range(keys, q) {
         return false;

@@ -29,9 +29,9 @@ pub extern "C" fn stern_digests(
     n: usize,
     q: u64,
 ) -> u64
-    ensures { let is = digests_reply n q (given keys) (given x) (given r) (given p) (given salts) (given out) (given scratch) in
-        let writes = honest_digests q n (keys_of n (given keys)) (given x) (drawn_of (given p) (given r) (given salts)) in
-        CallAnswered is writes result (given out) (left out) (given scratch) (left scratch) }
+    ensures { let is = digests_reply n q keys.now x.now r.now p.now salts.now out.old scratch.old in
+        let writes = honest_digests q n (keys_of n keys.now) x.now (drawn_of p.now r.now salts.now) in
+        CallAnswered is writes result out.old out.new scratch.old scratch.new }
 {
     let reply = orders::digests_tests(keys, x, r, p, salts, out, scratch, n, q);
     let Reply::Taken = reply else {
@@ -57,9 +57,9 @@ pub extern "C" fn stern_answer(
     n: usize,
     q: u64,
 ) -> u64
-    ensures { let is = answer_reply n q challenge (given x) (given r) (given p) (given salts) (given out) (given scratch) in
-        let writes = honest_answer q n (given x) (drawn_of (given p) (given r) (given salts)) challenge in
-        CallAnswered is writes result (given out) (left out) (given scratch) (left scratch) }
+    ensures { let is = answer_reply n q challenge x.now r.now p.now salts.now out.old scratch.old in
+        let writes = honest_answer q n x.now (drawn_of p.now r.now salts.now) challenge in
+        CallAnswered is writes result out.old out.new scratch.old scratch.new }
 {
     let reply = orders::answer_tests(challenge, x, r, p, salts, out, scratch, n, q);
     let Reply::Taken = reply else {
@@ -85,8 +85,8 @@ pub extern "C" fn stern_test(
     n: usize,
     q: u64,
 ) -> u64
-    ensures { let is = test_reply n q challenge place (given keys) (given pairs) (given digests) (given answer) (given scratch) in
-        CallTold is result (given scratch) (left scratch) }
+    ensures { let is = test_reply n q challenge place keys.now pairs.now digests.now answer.now scratch.old in
+        CallTold is result scratch.old scratch.new }
 {
     let reply = orders::tested(
         keys, pairs, digests, challenge, answer, place, scratch, n, q,

@@ -18,8 +18,8 @@ pub fn digests_tests(
     n: usize,
     q: u64,
 ) -> Reply
-    ensures { Sifted (digests_reply n q (given keys) (given x) (given r) (given p) (given salts) (given out)
-        (given scratch)) result (given scratch) (left scratch) }
+    ensures { Sifted (digests_reply n q keys.now x.now r.now p.now salts.now out.now
+        scratch.old) result scratch.old scratch.new }
 {
     if !ring_fits(n, q) {
         return refused(5);
@@ -48,8 +48,8 @@ pub fn answer_tests(
     n: usize,
     q: u64,
 ) -> Reply
-    ensures { Sifted (answer_reply n q challenge (given x) (given r) (given p) (given salts) (given out) (given scratch)) result
-        (given scratch) (left scratch) }
+    ensures { Sifted (answer_reply n q challenge x.now r.now p.now salts.now out.now scratch.old) result
+        scratch.old scratch.new }
 {
     if !ring_fits(n, q) {
         return refused(5);
@@ -73,8 +73,8 @@ pub fn tested(
     n: usize,
     q: u64,
 ) -> Reply
-    ensures { Sifted (test_reply n q challenge place (given keys) (given pairs) (given digests) (given answer)
-        (given scratch)) result (given scratch) (left scratch) }
+    ensures { Sifted (test_reply n q challenge place keys.now pairs.now digests.now answer.now
+        scratch.old) result scratch.old scratch.new }
 {
     if !ring_fits(n, q) {
         return refused(5);

@@ -1,5 +1,5 @@
 -- Permutations of entries, and ternary bytes with as many of each (document 01, "One round"). Assumes nothing.
-use Rattle.std.specs.Prelude.{◌≡◌, Bool, ◌&&◌, List, ◌++◌, map, ℕ, ◌+◌, ◌-◌, ◌*◌, ◌/◌, ◌<◌, eqb, length, get_or, replicate}
+use Rattle.std.specs.Prelude.{◌≡◌, Bool, ◌&&◌, List, ◌++◌, map, ℕ, ◌-◌, ◌*◌, ◌/◌, ◌<◌, eqb, length, get_or, replicate}
 use Rattle.codec.specs.Bytes.{Bytes, number, part, same}
 use Rattle.codec.specs.Lists.{list}
 use Rattle.ring.specs.Ternary.{count}

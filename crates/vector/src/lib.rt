@@ -1,6 +1,8 @@
 // Vectors of numbers modulo q and permutations of their entries, over lent bytes: specs/Vector.antt and specs/Permutation.antt.
 // A number takes 8 bytes, an entry of a permutation 4, a ternary number 1. A ternary vector x of L numbers is never stored in its
 // extended form: `minus` and `zeros` say how many -1s and 0s stand behind x, and each of the 3L numbers is made where it is used.
+#![tactic(auto)]
+
 pub mod tests;
 
 ghost use Rattle.std.specs.Prelude.{◌≡◌, true, cond, ◌+◌, ◌-◌, ◌*◌, ◌^◌, ◌≤◌, ◌<◌, ltb, length, get_or};

@@ -1,0 +1,11 @@
+-- `modular::residue` meets its contract. Assumes nothing.
+use Rattle.std.proofs.Common.{ap, ◌∙◌, w64}
+use mir.ValLaws.{to_z-of_z}
+use Rattle.modular.specs.Modulo.{remainder}
+use Rattle.modular.proofs.residue.Goals as goal
+
+-- what is handed on is the centred form, as a signed number of 64 bits
+pub returns : goal.returns
+returns c =
+    let x = c.centred in
+    c.reduce.ensures ∙ ap (remainder c.args.p) (to_z-of_z w64 x.result (record { sfits = x.type_inv }) ∙ x.ensures)

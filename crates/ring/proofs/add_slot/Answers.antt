@@ -1,0 +1,12 @@
+-- `ring::add_slot` meets its contract. Assumes nothing.
+use mathlib.Core.Path.{ap, ◌∙◌}
+use Rattle.ring.proofs.Polynomials.{scale_one}
+use Rattle.ring.specs.Poly.{Poly, plus}
+use Rattle.ring.specs.Slots.{slot}
+use Rattle.ring.specs.Internal.{store}
+use Rattle.ring.proofs.add_slot.Goals as goal
+
+pub returns : goal.returns
+returns c =
+    let a = c.args in
+    c.combine_slot.ensures ∙ ap (λ (f : Poly). store a.q a.n a.work.now a.at (plus (slot a.work.now a.at) f)) (scale_one (slot a.work.now a.from))
