@@ -11,7 +11,7 @@ DESTDIR ?=
 version = 0.12
 
 ARCHIVE ?=
-library = $(if $(ARCHIVE),$(ARCHIVE),target/staticlib/libjackdawnail.a)
+library = $(if $(ARCHIVE),$(ARCHIVE),crates/jackdawnail/out/libjackdawnail.a)
 
 host_flags = -std=c11 -D_GNU_SOURCE -O2 -Wall -Wextra -Wconversion -Iinclude -DELECTION_VERSION='"$(version)"'
 # the library needs neither: the host's random numbers are libsodium's stream, and it makes rounds side by side
@@ -41,12 +41,12 @@ bench:
 	bench/run
 
 layout:
-	rt fmt
+	for crate in crates/*/; do (cd "$$crate" && rt fmt) || exit 1; done
 
 ifeq ($(ARCHIVE),)
 .PHONY: $(library)
 $(library):
-	rt staticlib jackdawnail
+	cd crates/jackdawnail && rt lib
 endif
 
 target/digest: host/digest.c include/jackdawnail.h $(library)

@@ -23,12 +23,13 @@ fn is_import(line: &str) -> bool {
     words.next() == Some("use")
 }
 
-/// The file of definitions that an import names: `Rattle·codec.specs.Bytes.{..}` is crates/codec/specs/Bytes.antt. What Rattle declares itself, of types of the code, has no file.
+/// The file of definitions that an import names: `Rattle.codec.specs.Bytes.{..}` is crates/codec/specs/Bytes.antt. What Rattle declares itself, of types of the code, has no file,
+/// and what the kit's libraries define has none in this tree.
 fn imported(line: &str) -> Option<String> {
-    let (_, behind) = line.split_once("use Rattle·")?;
+    let (_, behind) = line.split_once("use Rattle.")?;
     let (name, rest) = behind.split_once(".specs.")?;
     let file = rest.split(['.', ' ', ';']).next()?;
-    let path = format!("crates/{}/specs/{file}.antt", name.trim_end_matches("·specs"));
+    let path = format!("crates/{name}/specs/{file}.antt");
     Path::new(&top().join(&path)).exists().then_some(path)
 }
 

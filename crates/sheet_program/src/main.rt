@@ -1,14 +1,16 @@
 // The sheet program (document 01, "Sheet"): reads a sheet from standard input and prints the verdict, and of a sheet that is taken N, D,
 // B and L.
+#![tactic(auto)]
+
 ghost use Rattle.std.specs.Prelude.{◌≡◌, false, ◌+◌, ◌≤◌, length, take};
 ghost use Rattle.io.specs.Counts.{IsPrefixLen};
 ghost use Rattle.sheet_numbers.specs.Rules.{outside};
 ghost use Rattle.sheet.specs.declared.Reading.TheVariants.{Taken};
 ghost use Rattle.sheet_program.specs.Print.{printed_line, printed_by, printed, Puts};
 
-use libc::{STDIN_FILENO, STDOUT_FILENO};
 use sheet::Reading;
 use sheet_numbers::Numbers;
+use std::io::Read;
 
 // Puts a printed line into out at a place: a key with its =, and a number. Answers the place after it.
 fn put_line(out: &mut [u8], at: usize, key: &[u8], n: u64) -> usize
@@ -50,10 +52,11 @@ fn report(text: &[u8], out: &mut [u8; 160]) -> usize
     }
 }
 
-fn main() {
-    let mut text = [0u8; 65537];
-    let n = io::read_full(STDIN_FILENO, &mut text);
+// A text of more than 65,536 bytes is verdict 1, so no more than 65,537 bytes are read.
+fn main(rt: HostRuntime) -> std::io::Result<()> {
+    let mut text = Vec::new(rt.alloc());
+    rt.stdin().take(65537).read_to_end(&mut text)?;
     let mut out = [0u8; 160];
-    let m = report(&text[..n], &mut out);
-    io::write_all(STDOUT_FILENO, &out[..m]);
+    let m = report(&text, &mut out);
+    rt.write_all(&out[..m])
 }

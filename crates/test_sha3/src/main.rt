@@ -1,6 +1,8 @@
 // Writes SHA3-256 of the published example messages in hexadecimal, a line each; the file `stdout` has the published digests.
+#![tactic(auto)]
+
 use hasher::Hasher;
-use libc::STDOUT_FILENO;
+use std::io;
 
 const DIGITS: [u8; 16] = *b"0123456789abcdef";
 
@@ -15,7 +17,7 @@ fn low(b: u8) -> u8 {
 }
 
 // Writes a digest as a line.
-fn line(d: [u8; 32]) {
+fn line(rt: &impl Print, d: [u8; 32]) -> io::Result<()> {
     let mut text = [b'\n'; 65];
     let mut i = 0;
     while i < 32 {
@@ -23,7 +25,7 @@ fn line(d: [u8; 32]) {
         text[2 * i + 1] = low(d[i]);
         i += 1;
     }
-    io::write_all(STDOUT_FILENO, &text);
+    rt.write_all(&text)
 }
 
 // A message of n times the same bytes, taken in part by part.
@@ -37,15 +39,21 @@ fn repeated(part: &[u8], n: usize) -> [u8; 32] {
     h.finish()
 }
 
-fn main() {
-    line(sha3::hash(b""));
-    line(sha3::hash(b"abc"));
-    line(sha3::hash(b"abcdbcdecdefdefgefghfghighijhijkijkljklmklmnlmnomnopnopq"));
-    line(sha3::hash(
-        b"abcdefghbcdefghicdefghijdefghijkefghijklfghijklmghijklmnhijklmnoijklmnopjklmnopqklmnopqrlmnopqrsmnopqrstnopqrstu",
-    ));
+fn main(rt: HostRuntime) -> io::Result<()> {
+    line(&rt, sha3::hash(b""))?;
+    line(&rt, sha3::hash(b"abc"))?;
+    line(
+        &rt,
+        sha3::hash(b"abcdbcdecdefdefgefghfghighijhijkijkljklmklmnlmnomnopnopq"),
+    )?;
+    line(
+        &rt,
+        sha3::hash(
+            b"abcdefghbcdefghicdefghijdefghijkefghijklfghijklmghijklmnhijklmnoijklmnopjklmnopqklmnopqrlmnopqrsmnopqrstnopqrstu",
+        ),
+    )?;
     let bits1600 = [0xA3u8; 200];
-    line(sha3::hash(&bits1600));
+    line(&rt, sha3::hash(&bits1600))?;
     let letters = [b'a'; 1000];
-    line(repeated(&letters, 1000));
+    line(&rt, repeated(&letters, 1000))
 }
