@@ -1,20 +1,20 @@
 -- `sheet_program::show` meets its contract. Assumes nothing.
 use native.Mathlib.Omega.{arith}
 use borrow.Author.Rules.{rules}
-use Rattle.sheet_numbers.proofs.Ranges.{in_range_lem}
+use Rattle.sheet_numbers.proofs.Ranges.{in_range}
 use Rattle.sheet_program.specs.Print.{printed_by}
 use Rattle.sheet_program.proofs.Print.{puts_more}
 use Rattle.sheet_program.proofs.show.Statement.{statement}
 use Rattle.sheet_program.proofs.show.Tie as tie
 
 noise-bound-requires : tie.Need-noise-bound-requires
-noise-bound-requires c κs = let i = in_range_lem c.before.before.before.before.before.before.before.before.before.before.before.before.before.args.k c.before.before.before.before.before.before.before.before.before.before.before.before.before.requires.0 in (omega arith, omega arith, omega arith)
+noise-bound-requires c κs = let i = in_range c.before.before.before.before.before.before.before.before.before.before.before.before.before.args.k c.before.before.before.before.before.before.before.before.before.before.before.before.before.requires.0 in (omega arith, omega arith, omega arith)
 
 mask-bound-requires : tie.Need-mask-bound-requires
-mask-bound-requires c κs = let i = in_range_lem c.before.before.before.before.before.before.before.before.before.before.before.before.before.before.before.before.before.before.before.args.k c.before.before.before.before.before.before.before.before.before.before.before.before.before.before.before.before.before.before.before.requires.0 in (omega arith, omega arith, omega arith, omega arith)
+mask-bound-requires c κs = let i = in_range c.before.before.before.before.before.before.before.before.before.before.before.before.before.before.before.before.before.before.before.args.k c.before.before.before.before.before.before.before.before.before.before.before.before.before.before.before.before.before.before.before.requires.0 in (omega arith, omega arith, omega arith, omega arith)
 
 unknowns-requires : tie.Need-unknowns-requires
-unknowns-requires c κs = let i = in_range_lem c.before.before.before.before.before.before.before.before.before.before.before.before.before.before.before.before.before.before.before.before.before.before.before.before.before.args.k c.before.before.before.before.before.before.before.before.before.before.before.before.before.before.before.before.before.before.before.before.before.before.before.before.before.requires.0 in omega arith
+unknowns-requires c κs = let i = in_range c.before.before.before.before.before.before.before.before.before.before.before.before.before.before.before.before.before.before.before.before.before.before.before.before.before.args.k c.before.before.before.before.before.before.before.before.before.before.before.before.before.before.before.before.before.before.before.before.before.before.before.before.before.requires.0 in omega arith
 
 returns : tie.Need-returns
 unfolding printed_by
