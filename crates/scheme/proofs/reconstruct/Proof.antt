@@ -47,7 +47,7 @@ plain-requires-2 c κs =
     let u = c.before.before.before.before.before.before.before.before.before.before.before.before.before.before.before.before.requires in
     let o = c.before.before.before.before.rebuilt.ensures in
     let e = c.before.before.before.before.before.before.plain.ensures in
-    (omega (arith, o.sized, u.in_range_lem.ring_high, length_asked _ _ 4 c.before.before.before.before.before.before.before.before.before.before.sized.ensures c.before.before.before.before.before.before.before.before.before.if1.false), length_asked _ _ 3 c.before.before.before.before.before.before.before.before.before.before.sized.ensures c.before.before.before.before.before.before.before.before.before.if1.false, omega (arith, u.in_range_lem.modulus_low), stands_below a.k.modulus a.k.ring _ _ _ o (omega (arith, u.in_range_lem.modulus_low)) u.in_range_lem.modulus_high, omega (arith, e, u.in_range_lem.plain_low), omega (arith, e, u.in_range_lem.plain_high), u.in_range_lem.modulus_high)
+    (omega (arith, o.sized, u.in_range.ring_high, length_asked _ _ 4 c.before.before.before.before.before.before.before.before.before.before.sized.ensures c.before.before.before.before.before.before.before.before.before.if1.false), length_asked _ _ 3 c.before.before.before.before.before.before.before.before.before.before.sized.ensures c.before.before.before.before.before.before.before.before.before.if1.false, omega (arith, u.in_range.modulus_low), stands_below a.k.modulus a.k.ring _ _ _ o (omega (arith, u.in_range.modulus_low)) u.in_range.modulus_high, omega (arith, e, u.in_range.plain_low), omega (arith, e, u.in_range.plain_high), u.in_range.modulus_high)
 
 returns-3 : tie.Need-returns-3
 unfolding same reconstruct_writes
@@ -57,7 +57,7 @@ returns-3 c =
     let o = c.before.before.before.before.before.before.before.before.before.before.before.rebuilt.ensures in
     let went : Taken ≡ first (tests c.before.before.before.before.before.before.before.before.before.before.before.before.before.before.before.before.before.before.before.before.before.before.before) = follows 1 c.before.before.before.before.before.before.before.before.before.before.before.before.before.before.before.before.before.sized.ensures _ c.before.before.before.before.before.before.before.before.before.before.before.before.before.before.before.before.if1.false (follows 5 c.before.before.before.before.before.before.before.before.before.before.before.before.before.before.before.reconstruct_ranged.ensures _ c.before.before.before.before.before.before.before.before.before.before.before.before.before.before.if2.false done) in
     let voted = ap (λ (i : ℕ). list a.k.ring (plaintext a.k.modulus i (rebuilt a.k.modulus (poly a.v.now) (poly a.t0.now) (poly a.t1.now)))) c.before.before.before.before.before.before.before.before.before.before.before.before.before.plain.ensures in
-    worked_taken went refl (c.before.before.before.before.before.before.plain2.ensures ∙ plain_stands a.k.modulus _ a.k.ring _ _ _ (omega (arith, u.in_range_lem.modulus_low)) u.in_range_lem.modulus_high o ∙ voted) (c.before.before.wipe.ensures ∙ ap zeros o.sized)
+    worked_taken went refl (c.before.before.before.before.before.before.plain2.ensures ∙ plain_stands a.k.modulus _ a.k.ring _ _ _ (omega (arith, u.in_range.modulus_low)) u.in_range.modulus_high o ∙ voted) (c.before.before.wipe.ensures ∙ ap zeros o.sized)
 
 pub reconstruct_spec : {M : Type 1} → statement M
 reconstruct_spec = tie.close (tie.spec (λ c. search rules) (λ c. search rules) (λ c. search rules) (λ c κs. search rules) (λ c κs. search rules) returns reconstruct-ranged-requires (λ c κs. search rules) returns-2 (λ c κs. search rules) rebuilt-requires plain-requires-2 (λ c κs. search rules) (λ c. search rules) (λ c. search rules) returns-3)

@@ -55,7 +55,7 @@ share-requires c κs =
 hand-out-requires : tie.Need-hand-out-requires
 hand-out-requires c κs =
     let u = c.before.before.before.before.before.before.before.before.before.before.before.before.before.before.before.before.before.before.before.requires in
-    (omega (arith, length_asked _ _ 3 c.before.before.before.before.before.before.before.before.before.before.before.before.before.sized.ensures c.before.before.before.before.before.before.before.before.before.before.before.before.if1.false), omega (arith, c.before.before.before.before.share.ensures.sized, u.in_range_lem.ring_high, length_asked _ _ 4 c.before.before.before.before.before.before.before.before.before.before.before.before.before.sized.ensures c.before.before.before.before.before.before.before.before.before.before.before.before.if1.false))
+    (omega (arith, length_asked _ _ 3 c.before.before.before.before.before.before.before.before.before.before.before.before.before.sized.ensures c.before.before.before.before.before.before.before.before.before.before.before.before.if1.false), omega (arith, c.before.before.before.before.share.ensures.sized, u.in_range.ring_high, length_asked _ _ 4 c.before.before.before.before.before.before.before.before.before.before.before.before.before.sized.ensures c.before.before.before.before.before.before.before.before.before.before.before.before.if1.false))
 
 returns-4 : tie.Need-returns-4
 unfolding same share_writes
