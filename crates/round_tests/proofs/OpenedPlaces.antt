@@ -3,7 +3,7 @@ use mathlib.Core.Path.{◌≡◌, refl, sym, ap, ap₂, ◌∙◌}
 use mathlib.Core.Logic.{◌≢◌}
 use mathlib.Core.Bool.{Bool, true, false, cond}
 use mathlib.Core.List.{[]}
-use Prim.Native.Nat.{ℕ, suc, ◌+◌, ◌*◌, ◌/◌, ◌%◌, ◌≤◌, ◌<◌}
+use Prim.Native.Nat.{ℕ, suc, ◌+◌, ◌-◌, ◌*◌, ◌/◌, ◌%◌, ◌≤◌, ◌<◌}
 use native.Mathlib.Nat.{mul-suc, mul-le-mul, mul_comm, mul-mod_right, mul-div_right, div-add-mod'}
 use native.Mathlib.Omega.{arith}
 use borrow.Author.Tests.{eqb-true, leb-true, ltb-true, eq-eqb, le-leb, lt-ltb}
@@ -81,6 +81,22 @@ module _ (side N : ℕ) (shares0 shares1 : Bytes) (j : ℕ) where
         let o = there in
         let f : 8 * N * j ≡ at = omega (arith, o.begins) in
         ap (λ (b : Bool). cond b (part (of_side side shares0 shares1) (8 * N * j) (8 * N)) []) o.holds ∙ ap₂ (part (of_side side shares0 shares1)) f (sym l)
+
+  -- where there is one: its end, and side 0's
+  pub opened_ends : opened_place side N (length shares0) (length shares1) j ≢ 0 → opened_place side N (length shares0) (length shares1) j + 8 * N ≤ length shares0 + 1
+  opened_ends d =
+      let o = place_opened side N (length shares0) (length shares1) j _ refl d in
+      omega (arith, o.begins, o.ends)
+
+  pub share_first : opened_place side N (length shares0) (length shares1) j ≢ 0 → side ≡ 0
+      → opened_share side N shares0 shares1 j ≡ part shares0 (opened_place side N (length shares0) (length shares1) j - 1)
+      (opened_place side N (length shares0) (length shares1) j - 1 + 8 * N - (opened_place side N (length shares0) (length shares1) j - 1))
+  share_first d z =
+      let p = opened_place side N (length shares0) (length shares1) j in
+      let e : p ≡ p - 1 + 1 = omega arith in
+      let l : p - 1 + 8 * N - (p - 1) ≡ 8 * N = omega arith in
+      share_at_lem (p - 1) (p - 1 + 8 * N - (p - 1)) e l
+      ∙ ap (λ (i : ℕ). part (of_side i shares0 shares1) (p - 1) (p - 1 + 8 * N - (p - 1))) z
 
   -- of m whole ballots, ballot j among them: it is that stretch of the side's slice
   module _ (m : ℕ) (one : side < 2) (low : 4 ≤ N) (high : N ≤ 2048) (size : power 12 N ≡ true) (l0 : length shares0 ≡ 8 * N * m) (l1 : length shares1 ≡ 8 * N * m) (h : j < m) where

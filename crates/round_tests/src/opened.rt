@@ -32,6 +32,7 @@ pub fn opened_place(side: u64, n: usize, length0: usize, length1: usize, j: usiz
 }
 
 // The stretch itself.
+#[tactic(auto, using(crate::proofs::OpenedPlaces::opened_ends, crate::proofs::OpenedPlaces::share_first))]
 pub fn opened_share<'a>(
     side: u64,
     n: usize,
