@@ -1,5 +1,4 @@
 -- `equations::sums` meets its contract. Assumes nothing.
-use mathlib.Core.Path.{◌∙◌}
 use Prim.Native.Nat.{◌<◌}
 use native.Mathlib.Omega.{arith}
 use Rattle.codec.specs.Bytes.{Octets}
