@@ -1,4 +1,6 @@
 // The decryption shares of both sides and the claims of a round (document 01, "One round"), as crates/round/specs/Producer.antt says.
+#![tactic(auto)]
+
 ghost use Rattle.std.specs.Prelude.{◌≡◌, ◌+◌, ◌*◌, ◌≤◌, ◌<◌, ◌^◌, length};
 ghost use Rattle.round.specs.Vocabulary.{part, put, list, Below, coefficient_bytes, poly, slot, ternary, scratch_length, Polynomial, Free};
 ghost use Rattle.round.specs.Vocabulary.{given, left, Usable, s_in};
