@@ -1,23 +1,21 @@
 -- What is known of the lent slices where a call is taken: that its tests were passed. Assumes nothing.
 use mathlib.Core.Path.{◌≡◌, refl, sym}
-use mathlib.Core.Bool.{true, not, ◌&&◌}
+use mathlib.Core.Bool.{true, ◌&&◌}
 use mathlib.Core.List.{List, [], ◌∷◌}
 use Prim.Native.Nat.{ℕ, ◌*◌, ◌^◌, ◌≤◌, ◌<◌}
 use lib.ListN.{length}
 use Rattle.codec.specs.Bytes.{Bytes}
-use Rattle.codec.specs.Reply.{test, first}
+use Rattle.codec.specs.Reply.{first}
 use Rattle.codec.specs.declared.Reply.TheVariants.{Taken}
 use Rattle.codec.proofs.Laws.{both}
 use Rattle.codec.specs.Lists.{list, all_below}
 use Rattle.ring.specs.Slots.{poly}
-use Rattle.sheet_numbers.specs.Plain.{mask_bound_of}
 use Rattle.sheet_numbers.specs.Internal.{Usable}
 use Rattle.sheet_numbers.specs.declared.Numbers.{Numbers}
 use Rattle.scratch.specs.Call.{bytes_below, coefficients_below}
 use Rattle.scratch.specs.Internal.{Polynomial}
 use Rattle.scratch.proofs.Order.{length_at, passed}
 use Rattle.scratch.proofs.Ranges.{ranged}
-use Rattle.bgv.specs.Scheme.{within, lent_mask}
 use Rattle.scheme.specs.Calls.{share_tests, reconstruct_tests, commitment_tests}
 
 -- no test is left
@@ -51,7 +49,7 @@ module _ (k : Numbers) (u : Usable k) where
   share_passed x v m d w i =
       let xs : List ℕ = length x ∷ length v ∷ length m ∷ length d ∷ length w ∷ [] in
       let ys : List ℕ = 8 * n ∷ 8 * n ∷ 8 * n ∷ 8 * n ∷ 1048576 ∷ [] in
-      let h = passed xs ys (coefficients_below q n (x ∷ v ∷ [])) (test 12 0 (not (within (mask_bound_of k) n (lent_mask m))) ∷ []) (sym i) in
+      let h = passed xs ys (coefficients_below q n (x ∷ v ∷ [])) _ (sym i) in
       let l = h.0 in
       (both_ranged x v (length_at xs ys 0 l) (length_at xs ys 1 l) h.1, length_at xs ys 2 l, length_at xs ys 4 l, length_at xs ys 3 l)
 
