@@ -1,5 +1,7 @@
 // The tests of what the producer of a round is lent (document 01, the producer's order after the lengths: 5, 14, 12, 9, 15), in the
 // stretches of crates/round/specs/Producer.antt.
+#![tactic(auto)]
+
 mod keys;
 mod masks;
 mod noise;

@@ -8,7 +8,7 @@ pub multiply-requires : goal.multiply-requires
 multiply-requires c =
     let a = c.args in
     let p = c.requires in
-    let o : Octets a.s0.now = λ i l. omega (arith, c.shared_slice_known-2-1.given i) in
+    let o : Octets a.s0.now = λ i _. omega (arith, c.type_inv.s0 i) in
     let some = p.0.modulus_low in
     let high = p.0.ring_high in
     let h = first_asks a.q a.n a.work.now c.load_ternary.new.work c.copy.new.d a.s.now a.s0.now a.u.now p.0 o p.2 p.3 c.load_ternary.ensures c.copy.ensures in
@@ -18,7 +18,7 @@ pub multiply-requires-2 : goal.multiply-requires-2
 multiply-requires-2 c =
     let a = c.args in
     let p = c.requires in
-    let o : Octets a.s0.now = λ i l. omega (arith, c.shared_slice_known-2-1.given i) in
+    let o : Octets a.s0.now = λ i _. omega (arith, c.type_inv.s0 i) in
     let some = p.0.modulus_low in
     let high = p.0.ring_high in
     let h = second_asks a.q a.n a.work.now c.load_ternary.new.work c.copy.new.d a.s.now a.s0.now a.u.now p.0 o p.2 p.3 c.load_ternary.ensures c.copy.ensures c.multiply.new.work c.multiply.ensures in
@@ -28,5 +28,5 @@ pub returns : goal.returns
 returns c =
     let a = c.args in
     let p = c.requires in
-    let o : Octets a.s0.now = λ i l. omega (arith, c.shared_slice_known-2-1.given i) in
+    let o : Octets a.s0.now = λ i _. omega (arith, c.type_inv.s0 i) in
     products_stand a.q a.n a.work.now c.load_ternary.new.work c.copy.new.d a.s.now a.s0.now a.u.now p.0 o p.2 p.3 c.load_ternary.ensures c.copy.ensures c.multiply.new.work c.multiply.ensures c.multiply-2.new.work c.multiply-2.ensures

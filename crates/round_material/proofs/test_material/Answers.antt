@@ -1,0 +1,37 @@
+-- `test_material` meets its contract. Assumes nothing.
+use mathlib.Core.Path.{◌∙◌}
+use Rattle.scratch.proofs.Zeroizing.{length_zeros}
+use Rattle.round.specs.Producer.{Material, material_of}
+use Rattle.commitment.specs.Parameters.{Parameters, parameters}
+use Rattle.round_material.proofs.Sequence.{stopped, ended, ballots_passed}
+use Rattle.round_material.proofs.test_material.Goals.{Start}
+use Rattle.round_material.proofs.test_material.Goals as goal
+
+abbrev x : Start → Material
+x s = let a = s.args in material_of a.secrets.now a.s0.now a.e0.now a.masks0.now a.masks1.now a.vectors.now a.permutations.now a.salts.now a.ballots.now
+
+abbrev P : Start → Parameters
+P s = parameters s.args.k s.args.public.now
+
+pub returns-in-Refused : goal.returns-in-Refused
+returns-in-Refused c = stopped (P (goal.at.returns-in-Refused c).Start) c.args.count (x (goal.at.returns-in-Refused c).Start) c.args.asked c.test_secret-secret.ensures c.wipe.ensures _ _ c.in-Refused.is
+
+pub test_each-requires : goal.test_each-requires
+test_each-requires c =
+    let z = c.requires.3 in
+    let t = c.test_secret-secret.ensures in (
+      c.requires.0.numbers,
+      length_zeros c.wipe.ensures ∙ t.1 ∙ c.requires.1,
+      c.requires.2,
+      record {
+        secrets = z.secrets;
+        masks0 = z.masks0;
+        masks1 = z.masks1;
+        permutations = z.permutations;
+        ballots = z.ballots;
+        below = ballots_passed (P (goal.at.test_each-requires c).Start) c.args.count (x (goal.at.test_each-requires c).Start) c.args.asked t.0 c.in-Taken.is;
+      },
+    )
+
+pub returns : goal.returns
+returns c = ended (P (goal.at.returns c).Start) c.args.count (x (goal.at.returns c).Start) c.args.asked c.test_secret-secret.ensures c.wipe.ensures c.in-Taken.is c.test_each.ensures
