@@ -1,5 +1,7 @@
 // BGV encryption and decryption shares over slots of scratch (document 000, sections 5.3 and 6.1): what is worked on stands at 0, a
 // second operand at ERROR, and a product has its room from ROOM on. p is lent. What is made from secrets is left in scratch.
+#![tactic(auto)]
+
 ghost use Rattle.std.specs.Prelude.{◌≡◌, ◌+◌, ◌*◌, ◌≤◌, ◌<◌, ◌^◌, length};
 ghost use Rattle.scratch.specs.Vocabulary.{given, left, put, all_below, plus, minus, Below, poly, slot, scratch_length, Polynomial, Free};
 ghost use Rattle.codec.specs.Lists.{list};

@@ -1,5 +1,7 @@
 // The commitment to a polynomial (document 01, "Ring and scheme"), worked out in the slots of scratch: specs/Commitment.antt, with its
 // laws in proofs/Additive.antt and proofs/Opening.antt.
+#![tactic(auto)]
+
 ghost use Rattle.std.specs.Prelude.{◌≡◌, ◌+◌, ◌*◌, ◌≤◌, length};
 ghost use Rattle.scratch.specs.Vocabulary.{given, left, Below, poly, slot, scratch_length, Polynomial, Free};
 ghost use Rattle.ring.specs.Internal.{Slots};

@@ -1,5 +1,7 @@
 // What the calls that are lent the sheet have in common: scratch and how it is zeroized, the tests of lengths and ranges, and a polynomial
 // of scratch written out.
+#![tactic(auto)]
+
 ghost use Rattle.std.specs.Prelude.{◌≡◌, ◌&&◌, [], ◌∷◌, ◌+◌, ◌*◌, ◌≤◌, length};
 ghost use Rattle.codec.specs.Bytes.{part, put, same};
 ghost use Rattle.scratch.specs.Call.{bytes_below, coefficients_below, zeroized};

@@ -27,11 +27,11 @@ flatten_more ss s = flatten_append ss (s ∷ []) ∙ ap (λ (u : Bytes). flatten
 
 pub length_closing_digest : (sheet : Bytes) (ds : List Bytes) → length (closing_digest sheet ds) ≡ 32
 unfolding closing_digest
-length_closing_digest sheet ds = length_sha3 (sheet ++ flatten ds)
+length_closing_digest sheet ds = length_sha3 _
 
 pub length_claim_digest : (closing claims : Bytes) → length (claim_digest closing claims) ≡ 32
 unfolding claim_digest
-length_claim_digest closing claims = length_sha3 (closing ++ claims)
+length_claim_digest closing claims = length_sha3 _
 
 pub length_round_digest : (claim : Bytes) (round : ℕ) (head shares0 shares1 : Bytes) → length (round_digest claim round head shares0 shares1) ≡ 32
 unfolding round_digest

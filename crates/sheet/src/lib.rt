@@ -51,7 +51,8 @@ pub fn read(text: &[u8]) -> Reading
         return Reading::Refused { number: 2 };
     }
     let tail = sheet_lines::scan_lines(text, head.next, 5);
-    if !tail.whole {
+    let lists_whole = tail.whole;
+    if !lists_whole {
         return Reading::Refused { number: 2 };
     }
     if tail.next < text.len() {

@@ -1,22 +1,20 @@
 -- What the call of a product by transforms has shown where it is taken, and what it leaves. Assumes nothing.
-use mathlib.Core.Path.{◌≡◌, refl, sym, ap, ap₂, ◌∙◌}
-use mathlib.Core.Bool.{true, ◌&&◌, not}
-use mathlib.Core.List.{List, [], ◌∷◌, ◌++◌, append-nil}
-use Prim.Native.Nat.{ℕ, ◌+◌, ◌*◌, ◌/◌, ◌%◌, ◌^◌, ◌≤◌, ◌<◌}
+use mathlib.Core.Path.{◌≡◌, sym, ap, ◌∙◌}
+use mathlib.Core.Bool.{true, not}
+use mathlib.Core.List.{◌++◌}
+use Prim.Native.Nat.{ℕ, ◌+◌, ◌*◌, ◌%◌, ◌^◌, ◌≤◌, ◌<◌}
 use native.Mathlib.Omega.{arith}
 use borrow.Author.Tests.{ltb-false, leb-false, eqb-true, not-true, not-false}
 use lib.Dec.{eqb, leb, ltb}
-use lib.ListN.{length, drop, length-append, length-replicate}
-use lib.Seq.{drop-length, drop-append-le}
+use lib.ListN.{length, length-append, length-replicate}
 use Rattle.codec.specs.Bytes.{Bytes, put, zeros}
-use Rattle.codec.specs.Reply.{first, leaves, packed}
+use Rattle.codec.specs.Reply.{leaves, packed}
 use Rattle.codec.specs.declared.Reply.{Reply}
 use Rattle.codec.specs.Lists.{list, all_below}
 use Rattle.codec.proofs.Laws.{both, length_put, put_put, put_append, put_whole}
 use Rattle.codec.proofs.Replies.{taken_exactly}
-use Rattle.modular.specs.Roots.{is_root}
 use Rattle.modular.proofs.Congruence.{same_eq}
-use Rattle.ring.specs.Poly.{Poly, mul, modulo, Below}
+use Rattle.ring.specs.Poly.{mul, modulo, Below}
 use Rattle.ring.specs.Slots.{poly, slot, encode}
 use Rattle.ring.specs.Internal.{store}
 use Rattle.ring.proofs.Bridge.{length_encode, slot_put, store_alike}
@@ -24,7 +22,6 @@ use Rattle.ring.proofs.Polynomials.{alike_mul, alike_refl}
 use Rattle.ring.proofs.Ranges.{below_sound}
 use Rattle.ring_transform.specs.Internal.{Transformable}
 use Rattle.ring_transform.proofs.Roots.{root_sound}
-use Rattle.sheet_numbers.specs.Bounds.{power}
 use Rattle.sheet_numbers.proofs.Ranges.{divides, power_of}
 use Rattle.test_ring.specs.Calls.{suited, transform_reply}
 use Rattle.test_ring.proofs.Outcome.{none}

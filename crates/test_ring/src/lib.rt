@@ -3,6 +3,8 @@
 // leaves every byte as it was. A call that writes answers 0 where it is taken; one that answers a number has it above the low byte, as
 // 256 * value. Two answer a plain number: `modular_centred`, whose refusal is 2^62, and `ring_count`, which refuses nothing. In C a slice
 // is `uint8_t *, size_t`, and `const` where it is lent to be read.
+#![tactic(auto)]
+
 ghost use Rattle.std.specs.Prelude.{◌≡◌, ◌+◌, ◌*◌, ◌%◌, ◌≤◌, ◌<◌, ◌^◌, pos, leb, eqb, [], ◌∷◌, ◌++◌, length};
 ghost use Rattle.codec.specs.Slices.{given, left};
 ghost use Rattle.codec.specs.Bytes.{zeros};

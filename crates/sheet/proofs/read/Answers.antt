@@ -22,13 +22,13 @@ returns-then-not-head c =
     let h = c.scan_lines-head in
     no_form t c.if-text-eq0.false (omega arith) (head_broken t h.result h.ensures.told (not-true _ c.if-not-head.true))
 
-pub returns-then-not-tail : goal.returns-then-not-tail
-returns-then-not-tail c =
+pub returns-then-not-lists_whole : goal.returns-then-not-lists_whole
+returns-then-not-lists_whole c =
     let t = c.args.text.now in
     let h = c.scan_lines-head in
     let l = c.scan_lines-tail in
     no_form t c.if-text-eq0.false (omega arith)
-    (tail_broken t h.result h.ensures.told (not-false _ c.if-not-head.false) l.result l.ensures.told (not-true _ c.if-not-tail.true))
+    (tail_broken t h.result h.ensures.told (not-false _ c.if-not-head.false) l.result l.ensures.told c.if-not-lists_whole.true)
 
 pub returns-then-tail-text : goal.returns-then-tail-text
 returns-then-tail-text c =
@@ -36,7 +36,7 @@ returns-then-tail-text c =
     let h = c.scan_lines-head in
     let l = c.scan_lines-tail in
     no_form t c.if-text-eq0.false (omega arith)
-    (more_text t h.result h.ensures.told (not-false _ c.if-not-head.false) l.result l.ensures.told (not-false _ c.if-not-tail.false) (omega arith))
+    (more_text t h.result h.ensures.told (not-false _ c.if-not-head.false) l.result l.ensures.told c.if-not-lists_whole.false (omega arith))
 
 pub returns-then-not-all_are : goal.returns-then-not-all_are
 returns-then-not-all_are c =
@@ -44,7 +44,7 @@ returns-then-not-all_are c =
     let h = c.scan_lines-head in
     let l = c.scan_lines-tail in
     no_form t c.if-text-eq0.false (omega arith)
-    (not_single t h.result h.ensures.told (not-false _ c.if-not-head.false) l.result l.ensures.told (not-false _ c.if-not-tail.false) (omega arith)
+    (not_single t h.result h.ensures.told (not-false _ c.if-not-head.false) l.result l.ensures.told c.if-not-lists_whole.false (omega arith)
     (sym c.all_are.ensures ∙ c.if-not-all_are.true))
 
 pub returns : goal.returns
@@ -53,7 +53,7 @@ returns c =
     let h = c.scan_lines-head in
     let l = c.scan_lines-tail in
     let w : h.result.whole ≡ true = not-false _ c.if-not-head.false in
-    let x : l.result.whole ≡ true = not-false _ c.if-not-tail.false in
+    let x : l.result.whole ≡ true = c.if-not-lists_whole.false in
     let z : length t ≤ l.result.next = omega arith in
     let y = sym c.all_are.ensures ∙ c.if-not-all_are.false in
     c.judge.ensures

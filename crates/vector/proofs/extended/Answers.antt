@@ -24,7 +24,7 @@ pub bounds-x-i : goal.bounds-x-i
 bounds-x-i c = rw c.below-i.ensures (if_index c.args.j (length c.args.x.now) (omega arith))
 
 pub overflow_cast-x : goal.overflow_cast-x
-overflow_cast-x c = omega (arith, c.shared_slice_known-2-1.given c.below-i.result)
+overflow_cast-x c = omega (arith, c.type_inv.x c.below-i.result)
 
 pub overflow_sub-two : goal.overflow_sub-two
 overflow_sub-two c =

@@ -1,0 +1,28 @@
+-- `bgv::noisy` meets its contract. Assumes nothing.
+use native.Mathlib.Omega.{arith}
+use Rattle.ring.specs.Slots.{poly}
+use Rattle.ring.specs.Ternary.{ternary}
+use Rattle.scratch.proofs.Loads.{both_asks, ternary_load, loaded_length}
+use Rattle.bgv.proofs.Steps.{stands_noisy}
+use Rattle.bgv.proofs.noisy.Goals as goal
+
+pub combine-requires : goal.combine-requires
+combine-requires c =
+    let a = c.args in
+    let p = c.requires in
+    let w1 = c.load_ternary.new.work in
+    let w2 = c.load_ternary-2.new.work in
+    let x = ternary_load a.q a.n p.0.ring_high p.0.modulus_low p.0.modulus_high a.work.now w1 0 p.1 (omega (arith, p.0.ring_high)) a.x.now p.2 c.load_ternary.ensures in
+    let y = ternary_load a.q a.n p.0.ring_high p.0.modulus_low p.0.modulus_high w1 w2 16384 (loaded_length a.q a.n p.0.ring_high p.0.modulus_low p.0.modulus_high (ternary a.q a.x.now) a.work.now w1 p.1 x) (omega (arith, p.0.ring_high)) a.y.now p.3 c.load_ternary-2.ensures in
+    let h = both_asks a.q a.n p.0.ring_high p.0.modulus_low p.0.modulus_high (ternary a.q a.x.now) (ternary a.q a.y.now) a.work.now w1 w2 p.1 x y in
+    record { polynomial = (p.0, h.0, p.4); below = (h.1, h.2) }
+
+pub returns : goal.returns
+returns c =
+    let a = c.args in
+    let p = c.requires in
+    let w1 = c.load_ternary.new.work in
+    let w2 = c.load_ternary-2.new.work in
+    let x = ternary_load a.q a.n p.0.ring_high p.0.modulus_low p.0.modulus_high a.work.now w1 0 p.1 (omega (arith, p.0.ring_high)) a.x.now p.2 c.load_ternary.ensures in
+    let y = ternary_load a.q a.n p.0.ring_high p.0.modulus_low p.0.modulus_high w1 w2 16384 (loaded_length a.q a.n p.0.ring_high p.0.modulus_low p.0.modulus_high (ternary a.q a.x.now) a.work.now w1 p.1 x) (omega (arith, p.0.ring_high)) a.y.now p.3 c.load_ternary-2.ensures in
+    stands_noisy a.q a.n p.0.ring_high p.0.modulus_low p.0.modulus_high a.p (ternary a.q a.x.now) (ternary a.q a.y.now) a.work.now w1 w2 p.1 x y (poly a.a.now) c.combine.new.work c.combine.ensures
