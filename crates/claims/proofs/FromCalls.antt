@@ -110,8 +110,8 @@ module _ (sheet : Bytes) (start : Host) (before between later last : List Step) 
     uncleared_last = uncleared last (host_after (draw seed) h3) (after (draw seed) t3.now) s3.1 c.uncleared_last;
   }
 
-  module _ (material : Material) (room : FirstRoom) (out told : Bytes) (second_room_lem second_wrote : SecondRoom) (scratch : Bytes) (first : FirstCalled sheet material room Taken wrote)
-      (answered : ChallengesCalled h4.image round 0 out told) (second : SecondCalled sheet material (get_or told 0 0) (drop 1 told) second_room_lem Taken second_wrote) where
+  module _ (material : Material) (room : FirstRoom) (out told : Bytes) (second_room second_wrote : SecondRoom) (scratch : Bytes) (first : FirstCalled sheet material room Taken wrote)
+      (answered : ChallengesCalled h4.image round 0 out told) (second : SecondCalled sheet material (get_or told 0 0) (drop 1 told) second_room Taken second_wrote) where
     abbrev P : Parameters
     P = parameters_of sheet
 
@@ -183,6 +183,6 @@ module _ (sheet : Bytes) (start : Host) (before between later last : List Step) 
         (subst (λ (n : ℕ). Produced P n material s.seed round x) count made) size
 
 pub from_calls : FromCalls
-from_calls sheet start before between later last round seed material room wrote out told second_room_lem second_wrote scratch first ballots c answered second size =
-    accepted sheet start before between later last round seed wrote c material room out told second_room_lem second_wrote scratch first answered second
+from_calls sheet start before between later last round seed material room wrote out told second_room second_wrote scratch first ballots c answered second size =
+    accepted sheet start before between later last round seed wrote c material room out told second_room second_wrote scratch first answered second
     (ballots ∙ ap flatten (unfold own_initial in roll_over before (host_after (clear (on sheet)) start) (own_initial (on sheet)) (hosts.keeps_initial start (on sheet) c.starts))) size

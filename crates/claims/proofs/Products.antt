@@ -213,9 +213,9 @@ factor_size : length factor ≡ 32
 unfolding words bytes
 factor_size = refl
 
-in_range_lem : all_below 697 (list 4 (poly factor)) ≡ true
+in_range : all_below 697 (list 4 (poly factor)) ≡ true
 unfolding all_below list poly number words bytes
-in_range_lem = refl
+in_range = refl
 
 pub some_product : SomeProduct
 some_product = record {
@@ -239,7 +239,7 @@ some_product = record {
 }
   where
     below : Below (parameters_of sheet).q (parameters_of sheet).N (poly factor)
-    below = rw (ring, modulus) (below_sound 697 4 (poly factor) in_range_lem)
+    below = rw (ring, modulus) (below_sound 697 4 (poly factor) in_range)
 
 -- ---- a sheet without a root
 

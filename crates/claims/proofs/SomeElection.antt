@@ -101,9 +101,9 @@ sized : MaterialSized P 1 material
 unfolding words bytes list flat_map
 sized = rw (ring, repeats) (record { secrets = refl; s0 = refl; e0 = refl; masks0 = refl; masks1 = refl; vectors = refl; permutations = refl; salts = refl; ballots = refl })
 
-in_range_lem : all_below 97 (vector (drop 4 ballot)) ≡ true
+in_range : all_below 97 (vector (drop 4 ballot)) ≡ true
 unfolding all_below vector list poly number words bytes
-in_range_lem = refl
+in_range = refl
 
 one_ballot : ballot ≡ flatten (list 1 (λ i. ballot))
 unfolding flatten list words bytes
@@ -126,7 +126,7 @@ countable = record {
   early_marks = λ i j l h. absurd (omega arith);
   apart = λ i j l h q. omega (arith, mark_zero, q);
   ballot_size = λ i l. rw ring size;
-  ballot_range = λ i l. rw modulus ((each_exactly 97 (vector (drop 4 ballot))).0 in_range_lem);
+  ballot_range = λ i l. rw modulus ((each_exactly 97 (vector (drop 4 ballot))).0 in_range);
   marks = λ i j l h. absurd (omega arith);
   over_batch = λ k l. one_ballot;
   sized = λ k l. sized;

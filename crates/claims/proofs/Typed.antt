@@ -37,7 +37,7 @@ module _ (b : Bytes) (l : length b ≡ image_length) (o : Octets b) where
   unfolding decode
   typed_decode = record {
     phase_fits = o 0 (omega arith);
-    ring_fits_lem = eight "ring" (omega arith);
+    ring_fits = eight "ring" (omega arith);
     modulus_fits = eight "modulus" (omega arith);
     drown_fits = eight "drown" (omega arith);
     rounds_fits = eight "rounds" (omega arith);
@@ -59,7 +59,7 @@ typed_changed : (s : Session) (g : Progress) (closing claimed seed trail : Bytes
     → Typed (changed s g closing claimed seed trail)
 typed_changed s _ closing claimed seed trail t a b c d e f g h i = record {
   phase_fits = a;
-  ring_fits_lem = t.ring_fits_lem;
+  ring_fits = t.ring_fits;
   modulus_fits = t.modulus_fits;
   drown_fits = t.drown_fits;
   rounds_fits = t.rounds_fits;
@@ -81,7 +81,7 @@ typed_cleared reg b c =
     let r = c.sheet.inside in
     record {
       phase_fits = omega arith;
-      ring_fits_lem = omega (arith, r.ring_high);
+      ring_fits = omega (arith, r.ring_high);
       modulus_fits = omega (arith, r.modulus_high);
       drown_fits = omega (arith, r.drown_high);
       rounds_fits = omega (arith, r.rounds_high);

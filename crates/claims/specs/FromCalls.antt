@@ -48,7 +48,7 @@ module _ (sheet : Bytes) (start : Host) (before between later last : List Step) 
 
 abbrev pub FromCalls : Type 0
 FromCalls = (sheet : Bytes) (start : Host) (before between later last : List Step) (round : ℕ) (seed : Bytes) (material : Material)
-    (room wrote : FirstRoom) (out told : Bytes) (second_room_lem second_wrote : SecondRoom) (scratch : Bytes)
+    (room wrote : FirstRoom) (out told : Bytes) (second_room second_wrote : SecondRoom) (scratch : Bytes)
     -- jdn_produce_first is taken for the ballots that were admitted and not withdrawn at the claim, and leaves `wrote`, which is lodged
     → FirstCalled sheet material room Taken wrote
     → material.ballots ≡ flatten (host_roll before (host_after (clear (on sheet)) start) [])
@@ -56,7 +56,7 @@ FromCalls = (sheet : Bytes) (start : Host) (before between later last : List Ste
     → let h = at_end sheet start before between later last round seed wrote in
     -- jdn_challenges answers 0 and leaves `told`, and jdn_produce_second is taken with the side and the challenges in it
     ChallengesCalled h.image round 0 out told
-    → SecondCalled sheet material (get_or told 0 0) (drop 1 told) second_room_lem Taken second_wrote
+    → SecondCalled sheet material (get_or told 0 0) (drop 1 told) second_room Taken second_wrote
     -- then jdn_check is taken, lent what they left
     → length scratch ≡ scratch_length
     → host_reply

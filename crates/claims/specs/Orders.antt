@@ -54,8 +54,8 @@ pub record OrdersAsWritten : Type 0 where
   pub claim : (claims : Bytes) (st : State) → refusal_numbers (tests (claim claims) st) ≡ 31 ∷ 1 ∷ 5 ∷ []
   pub commit : (round : ℕ) (head shares0 shares1 : Bytes) (st : State) → refusal_numbers (tests (commit round head shares0 shares1) st) ≡ 31 ∷ 1 ∷ []
   pub draw : (seed : Bytes) (st : State) → refusal_numbers (tests (draw seed) st) ≡ 31 ∷ 1 ∷ []
-  pub check_early_lem : (s : Session) (round : ℕ) (x : Inputs) → refusal_numbers (check_early s round x) ≡ 31 ∷ 1 ∷ 2 ∷ 3 ∷ 4 ∷ 5 ∷ 1 ∷ 16 ∷ 16 ∷ 16 ∷ 16 ∷ 16 ∷ []
-  pub check_late_lem : (P : Parameters) (m : ℕ) (r : Round)
+  pub early_check : (s : Session) (round : ℕ) (x : Inputs) → refusal_numbers (check_early s round x) ≡ 31 ∷ 1 ∷ 2 ∷ 3 ∷ 4 ∷ 5 ∷ 1 ∷ 16 ∷ 16 ∷ 16 ∷ 16 ∷ 16 ∷ []
+  pub late_check : (P : Parameters) (m : ℕ) (r : Round)
       → refusals (round_tests P m r) ≡ (5, 0) ∷ (6, 0) ∷ (7, 0) ∷ (8, 0) ∷ (joined P.repeats (λ i. answer_refusals (challenge_at r i) i) ++ vote_refusals m)
   pub produce_first : (P : Parameters) (x : Material) (room : FirstRoom) → refusals (first_tests P x room) ≡ producer_refusals P.repeats (count_of P.N x.ballots)
   pub produce_second : (P : Parameters) (x : Material) (side : ℕ) (challenges : Bytes) (room : SecondRoom)

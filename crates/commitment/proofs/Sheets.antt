@@ -33,7 +33,7 @@ module _ {text public : Bytes} {k : Numbers} (h : Lent text public k) (from long
 
   pub lent_keys : PublicKeys n k.modulus keys
   lent_keys = record {
-    sized = length_part public from long (omega (arith, h.sized, h.ranged.in_range_lem.ring_high)) ∙ ends;
+    sized = length_part public from long (omega (arith, h.sized, h.ranged.in_range.ring_high)) ∙ ends;
     one = subst (Polynomial n k.modulus) (sym (third 0 (omega arith))) (h.polynomial 2 (from + 0) (8 * n) (omega arith) (omega arith) refl);
     two = subst (Polynomial n k.modulus) (sym (third (8 * n) (omega arith))) (h.polynomial 3 (from + 8 * n) (8 * n) (omega arith) (omega arith) refl);
     three = subst (Polynomial n k.modulus) (sym (third (16 * n) (omega arith))) (h.polynomial 4 (from + 16 * n) (8 * n) (omega arith) (omega arith) refl);
@@ -48,7 +48,7 @@ sheet_loaded {text} {public} {k} h =
       a = h.polynomial 0 0 (8 * n) (omega arith) (omega arith) refl;
       b = h.polynomial 1 (8 * n) (8 * n) (omega arith) (omega arith) refl;
       keys = lent_keys h (16 * n) (24 * n) refl refl;
-      sized = omega (arith, h.sized, h.ranged.in_range_lem.ring_high);
+      sized = omega (arith, h.sized, h.ranged.in_range.ring_high);
     }
 
 -- ---- the parameters

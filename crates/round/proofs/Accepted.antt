@@ -38,15 +38,15 @@ module _ (P : Parameters) (m : ℕ) (positive : 0 < P.q) (fits : P.q ≤ 2 ^ 64)
   module _ (sized : length r.head ≡ head_length N repeats) (octets : Octets r.head) where
     -- ---- a round in range
 
-    module _ (in_range_lem : InRange P m r) where
+    module _ (in_range : InRange P m r) where
       side_means : None (side_tests P m head r.ballots r.claims r.shares0 r.shares1 r.side (shares_of r r.side) opening)
           ↔ SideOpened P m r.ballots r.claims head r.shares0 r.shares1 r.side opening
-      side_means = side_exactly P m positive fits r.ballots r.claims head r.shares0 r.shares1 sized octets in_range_lem.message.in_head r.side in_range_lem.side opening
+      side_means = side_exactly P m positive fits r.ballots r.claims head r.shares0 r.shares1 sized octets in_range.message.in_head r.side in_range.side opening
 
       answer_means : (i : ℕ) → i < repeats
           → None (answer_tests_lem P m r i) ↔ Answered q N k (pairs_of N head) (digests_at N head i) (challenge_at r i) (answer_at N r.challenges r.answers i)
       answer_means i l =
-          let c = in_range_lem.challenges i l in
+          let c = in_range.challenges i l in
           answered_exactly q N k (pairs_of N head) (digests_at N head i) i (answer_at N r.challenges r.answers i) (challenge_at r i) c.0 c.1
 
     -- ---- both ways
@@ -54,27 +54,27 @@ module _ (P : Parameters) (m : ℕ) (positive : 0 < P.q) (fits : P.q ≤ 2 ^ 64)
     accepted : None (round_tests P m r) → Accepted P m r
     unfolding round_tests
     accepted none =
-        let in_range_lem = (ranged_exactly P m r).0 (not-false (ranged P m r) none.0) in
+        let in_range = (ranged_exactly P m r).0 (not-false (ranged P m r) none.0) in
         let rest = append_none (joined repeats (answer_tests_lem P m r)) (joined m (ballot_tests_lem P m r)) none.1.1.1.1 in
         record {
-          in_range_lem = in_range_lem;
+          in_range = in_range;
           key_splits = (splits_exactly P m positive fits head).0 (not-false _ none.1.0);
-          opened = (side_means in_range_lem).0 (none.1.1.0, (none.1.1.1.0, rest.1));
-          answered = λ i l. (answer_means in_range_lem i l).0 (none_each repeats (answer_tests_lem P m r) rest.0 i l);
+          opened = (side_means in_range).0 (none.1.1.0, (none.1.1.1.0, rest.1));
+          answered = λ i l. (answer_means in_range i l).0 (none_each repeats (answer_tests_lem P m r) rest.0 i l);
         }
 
     tests_pass : Accepted P m r → None (round_tests P m r)
     unfolding round_tests
     tests_pass c =
-        let side = (side_means c.in_range_lem).1 c.opened in (
-          ap not ((ranged_exactly P m r).1 c.in_range_lem),
+        let side = (side_means c.in_range).1 c.opened in (
+          ap not ((ranged_exactly P m r).1 c.in_range),
           (
             ap not ((splits_exactly P m positive fits head).1 c.key_splits),
             (
               side.0,
               (
                 side.1.0,
-                none_append (joined repeats (answer_tests_lem P m r)) (joined m (ballot_tests_lem P m r)) (each_none repeats (answer_tests_lem P m r) (λ i l. (answer_means c.in_range_lem i l).1 (c.answered i l)))
+                none_append (joined repeats (answer_tests_lem P m r)) (joined m (ballot_tests_lem P m r)) (each_none repeats (answer_tests_lem P m r) (λ i l. (answer_means c.in_range i l).1 (c.answered i l)))
                     side.1.1,
               ),
             ),

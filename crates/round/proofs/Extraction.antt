@@ -44,13 +44,13 @@ module _ (P : Parameters) (m : ℕ) (x : Openings) where
       accepted = (openings_exactly P m x (omega arith) fits lent).0 none
 
       passes1 : Passes1 (argument P m x) (first_of (digests P m x)) (read1 P m x)
-      passes1 = none_passes1 q N k (pairs P m x) (digests P m x) x.repetition x.answer1 lent.answer1 ((each_exactly q (vector (read1 P m x).t)).1 (accepted.in_range_lem.answer1.to1 refl)) (groups P m x none).2
+      passes1 = none_passes1 q N k (pairs P m x) (digests P m x) x.repetition x.answer1 lent.answer1 ((each_exactly q (vector (read1 P m x).t)).1 (accepted.in_range.answer1.to1 refl)) (groups P m x none).2
 
       passes2 : Passes2 (argument P m x) (first_of (digests P m x)) (read2 P m x)
-      passes2 = none_passes2 q N k (pairs P m x) (digests P m x) x.repetition x.answer2 lent.answer2 ((each_exactly q (vector (read2 P m x).u)).1 (accepted.in_range_lem.answer2.to2 refl)) (groups P m x none).3
+      passes2 = none_passes2 q N k (pairs P m x) (digests P m x) x.repetition x.answer2 lent.answer2 ((each_exactly q (vector (read2 P m x).u)).1 (accepted.in_range.answer2.to2 refl)) (groups P m x none).3
 
       passes3 : Passes3 (argument P m x) (first_of (digests P m x)) (read3 P m x)
-      passes3 = none_passes3 q N k (pairs P m x) (digests P m x) x.repetition x.answer3 lent.answer3 ((each_exactly q (vector (read3 P m x).r)).1 (accepted.in_range_lem.answer3.to3 refl)) (groups P m x none).4
+      passes3 = none_passes3 q N k (pairs P m x) (digests P m x) x.repetition x.answer3 lent.answer3 ((each_exactly q (vector (read3 P m x).r)).1 (accepted.in_range.answer3.to3 refl)) (groups P m x none).4
 
       -- equal strings give unknowns that meet the equations
       meets : one_by2 (argument P m x) (read2 P m x) ≡ one_by3 (argument P m x) (read3 P m x) → two_by1 (argument P m x) (read1 P m x) ≡ two_by3 (argument P m x) (read3 P m x) → three_by1 (argument P m x) (read1 P m x) ≡ three_by2 (argument P m x) (read2 P m x) → Meets q N k (pairs P m x) (unknowns P m x)

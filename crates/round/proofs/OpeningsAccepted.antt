@@ -102,13 +102,13 @@ module _ (P : Parameters) (m : ℕ) (x : Openings) where
     accepted : None (extract_tests P m x) → OpeningsAccepted P m x
     unfolding extract_tests
     accepted none =
-        let in_range_lem = openings_ranged.0 (not-false (lent_ranged P m x) none.0) in
+        let in_range = openings_ranged.0 (not-false (lent_ranged P m x) none.0) in
         let g = groups none in
         record {
-          in_range_lem = in_range_lem;
+          in_range = in_range;
           key_splits = (splits_exactly P m positive fits x.head).0 (not-false _ none.1.0);
-          side0 = (side_means in_range_lem.message.in_head 0 (omega arith) (open0 P m x)).0 g.0;
-          side1 = (side_means in_range_lem.message.in_head 1 (omega arith) (open1 P m x)).0 g.1;
+          side0 = (side_means in_range.message.in_head 0 (omega arith) (open0 P m x)).0 g.0;
+          side1 = (side_means in_range.message.in_head 1 (omega arith) (open1 P m x)).0 g.1;
           answered1 = (answer_means 1 (omega arith) (omega arith) x.answer1).0 g.2;
           answered2 = (answer_means 2 (omega arith) (omega arith) x.answer2).0 g.3;
           answered3 = (answer_means 3 (omega arith) (omega arith) x.answer3).0 g.4;
@@ -117,8 +117,8 @@ module _ (P : Parameters) (m : ℕ) (x : Openings) where
     refuses_none : OpeningsAccepted P m x → None (extract_tests P m x)
     unfolding extract_tests
     refuses_none c =
-        let head = c.in_range_lem.message.in_head in (
-          ap not (openings_ranged.1 c.in_range_lem),
+        let head = c.in_range.message.in_head in (
+          ap not (openings_ranged.1 c.in_range),
           (
             ap not ((splits_exactly P m positive fits x.head).1 c.key_splits),
             none_append (side_tests_lem 0 (open0 P m x)) (side_tests_lem 1 (open1 P m x) ++ all_three) ((side_means head 0 (omega arith) (open0 P m x)).1 c.side0)

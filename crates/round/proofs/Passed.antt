@@ -59,10 +59,10 @@ module _ (P : Parameters) (m : ℕ) (x : Material) where
 
   -- ---- 5
 
-  abbrev in_range_lem : Bool
-  in_range_lem = material_ranged q N m x.secrets x.s0 x.e0 x.vectors x.ballots
+  abbrev in_range : Bool
+  in_range = material_ranged q N m x.secrets x.s0 x.e0 x.vectors x.ballots
 
-  ranges_say : in_range_lem ≡ true → (EachBelow 3 x.secrets × Below q N (poly x.s0) × Below q N (poly x.e0) × EachBelow q (vector x.vectors) × BallotsRanged P m x.ballots)
+  ranges_say : in_range ≡ true → (EachBelow 3 x.secrets × Below q N (poly x.s0) × Below q N (poly x.e0) × EachBelow q (vector x.vectors) × BallotsRanged P m x.ballots)
   unfolding ballots_ranged
   ranges_say e =
       let r = both (all_below 3 x.secrets) _ e in
@@ -76,7 +76,7 @@ module _ (P : Parameters) (m : ℕ) (x : Material) where
         (ballots_exactly P m x.ballots).0 u.1,
       )
 
-  ranges_hold : Suitable P m x → in_range_lem ≡ true
+  ranges_hold : Suitable P m x → in_range ≡ true
   unfolding ballots_ranged
   ranges_hold f =
       ap₂ ◌&&◌ ((each_exactly 3 x.secrets).1 f.ternary)
@@ -92,7 +92,7 @@ module _ (P : Parameters) (m : ℕ) (x : Material) where
     suits none =
         let r = append_none (joined m mask_test_lem) _ none.1.1 in
         let s = append_none (joined repeats permutation_test) (joined m noise_test) r.1 in
-        let range = ranges_say (not-false in_range_lem none.0) in
+        let range = ranges_say (not-false in_range none.0) in
         record {
           ternary = range.0;
           s0 = range.1;
@@ -144,7 +144,7 @@ module _ (P : Parameters) (m : ℕ) (x : Material) where
 
       asked_first : (asked : Bool) → None (producer_tests P m x asked) → (asked ≡ true) × None (producer_tests P m x true)
       unfolding producer_tests
-      asked_first asked none = let r = both asked in_range_lem (not-false _ none.0) in (r.0, (ap not r.1, none.1))
+      asked_first asked none = let r = both asked in_range (not-false _ none.0) in (r.0, (ap not r.1, none.1))
 
       pub second_exactly : None (producer_tests P m x (asked_ranged P m x side challenges)) ↔ (Asked P m x side challenges × Suitable P m x)
       second_exactly = (

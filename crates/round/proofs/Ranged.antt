@@ -236,9 +236,9 @@ module _ (P : Parameters) (m : ℕ) where
 
     -- ---- the round
 
-    in_range_lem : ranged P m r ≡ true → InRange P m r
+    range_holds : ranged P m r ≡ true → InRange P m r
     unfolding ranged
-    in_range_lem h =
+    range_holds h =
         let after_side = both (ltb r.side 2) _ h in
         let after_answers = both (answers_ranged P.q P.N P.repeats r.challenges r.answers) _ after_side.1 in
         let opened = opening_ranged P.q P.N r.opening in
@@ -260,4 +260,4 @@ module _ (P : Parameters) (m : ℕ) where
         ∙ ap₂ ◌&&◌ ((message_exactly r.ballots r.claims r.head r.shares0 r.shares1).1 s.message) ((opening_exactly r.opening).1 s.opening)))
 
     pub ranged_exactly : (ranged P m r ≡ true) ↔ InRange P m r
-    ranged_exactly = (in_range_lem, range_passes)
+    ranged_exactly = (range_holds, range_passes)

@@ -35,8 +35,8 @@ module _ (P : Parameters) (m : ℕ) (r : Round) where
   unfolding ranged opened_ranged
   ranged_parts = swap (ltb r.side 2) (answers_ranged P.q P.N P.repeats r.challenges r.answers) _
 
-  abbrev in_range_lem : ℕ → Bool
-  in_range_lem i = is_challenge (challenge_at r i) && in_range q N (challenge_at r i) (answer_at N r.challenges r.answers i)
+  abbrev answer_in_range : ℕ → Bool
+  answer_in_range i = is_challenge (challenge_at r i) && in_range q N (challenge_at r i) (answer_at N r.challenges r.answers i)
 
   parted : None (round_tests P m r) → None (opening_tests P m r) × ((i : ℕ) → i < repeats → None (repetition_tests P m r i))
   unfolding round_tests opening_tests repetition_tests answers_ranged
@@ -44,14 +44,14 @@ module _ (P : Parameters) (m : ℕ) (r : Round) where
       let range = both (answers_ranged P.q P.N P.repeats r.challenges r.answers) (opened_ranged P m r) (sym ranged_parts ∙ not-false (ranged P m r) none.0) in
       let rest = append_none (joined repeats (answer_tests_lem P m r)) (joined m (ballot_tests_lem P m r)) none.1.1.1.1 in (
         (ap not range.1, (none.1.0, (none.1.1.0, (none.1.1.1.0, rest.1)))),
-        λ i l. (ap not (all_sound repeats (λ j. in_range_lem j) range.0 i l), none_each repeats (answer_tests_lem P m r) rest.0 i l),
+        λ i l. (ap not (all_sound repeats (λ j. answer_in_range j) range.0 i l), none_each repeats (answer_tests_lem P m r) rest.0 i l),
       )
 
   whole : None (opening_tests P m r) × ((i : ℕ) → i < repeats → None (repetition_tests P m r i)) → None (round_tests P m r)
   unfolding round_tests opening_tests repetition_tests answers_ranged
   whole parts =
       let o = parts.0 in
-      let answered = all_complete repeats (λ i. in_range_lem i) (λ i l. not-false (in_range_lem i) (parts.1 i l).0) in (
+      let answered = all_complete repeats (λ i. answer_in_range i) (λ i l. not-false (answer_in_range i) (parts.1 i l).0) in (
         ap not (ranged_parts ∙ ap₂ ◌&&◌ answered (not-false (opened_ranged P m r) o.0)),
         (
           o.1.0,

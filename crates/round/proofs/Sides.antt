@@ -29,14 +29,14 @@ module _ (P : Parameters) (m : ℕ) (positive : 0 < P.q) (fits : P.q ≤ 2 ^ 64)
   abbrev ballot : ℕ → List Test
   ballot j = mask_test q N p B o.s ballots shares j ∷ claim_test q N p ballots claims shares0 shares1 j ∷ []
 
-  in_range_lem : head_ranged P.q P.N head ≡ true
-  in_range_lem = (head_exactly P m head).1 ranged
+  in_range : head_ranged P.q P.N head ≡ true
+  in_range = (head_exactly P m head).1 ranged
 
   opens_side : None (side_tests P m head ballots claims shares0 shares1 side shares o) → SideOpened P m ballots claims head shares0 shares1 side o
   opens_side n =
-      let pairs = (pairs_exactly P m positive fits head sized octets in_range_lem side low o).0 (not-false _ n.1.0) in
+      let pairs = (pairs_exactly P m positive fits head sized octets in_range side low o).0 (not-false _ n.1.0) in
       record {
-        key_opened = (key_exactly P m positive fits head sized octets in_range_lem side low o).0 (not-false _ n.0);
+        key_opened = (key_exactly P m positive fits head sized octets in_range side low o).0 (not-false _ n.0);
         s_committed = pairs.0;
         e_committed = pairs.1;
         masked = λ j l. within_sound B N _ (not-false _ (none_each m ballot n.1.1 j l).0);
@@ -45,9 +45,9 @@ module _ (P : Parameters) (m : ℕ) (positive : 0 < P.q) (fits : P.q ≤ 2 ^ 64)
 
   side_opened : SideOpened P m ballots claims head shares0 shares1 side o → None (side_tests P m head ballots claims shares0 shares1 side shares o)
   side_opened s = (
-    ap not ((key_exactly P m positive fits head sized octets in_range_lem side low o).1 s.key_opened),
+    ap not ((key_exactly P m positive fits head sized octets in_range side low o).1 s.key_opened),
     (
-      ap not ((pairs_exactly P m positive fits head sized octets in_range_lem side low o).1 (s.s_committed, s.e_committed)),
+      ap not ((pairs_exactly P m positive fits head sized octets in_range side low o).1 (s.s_committed, s.e_committed)),
       each_none m ballot (λ j l. (ap not (within_complete B N _ (s.masked j l)), (ap not (equal_same (s.claimed j l)), tt))),
     ),
   )

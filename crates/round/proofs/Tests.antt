@@ -79,14 +79,14 @@ module _ (P : Parameters) (m : ℕ) (positive : 0 < P.q) (fits : P.q ≤ 2 ^ 64)
   splits_exactly = (λ e. encode_decides q N positive fits (same_equal _ _ e), λ l. equal_same (encode_alike l))
 
   module _ (sized : length head ≡ head_length N repeats) (octets : Octets head) (ranged : head_ranged P.q P.N head ≡ true) where
-    in_range_lem : HeadRanged P m head
-    in_range_lem = (head_exactly P m head).0 ranged
+    in_range : HeadRanged P m head
+    in_range = (head_exactly P m head).0 ranged
 
     pub key_exactly : (side : ℕ) → side < 2 → (o : Opening) → (opens_key P head side o ≡ true) ↔ Alike q N (key_at N head side) (key q N p a o.s o.e)
     unfolding opens_key
     key_exactly side low o = (
       λ e. slot_alike q N positive fits head (8 * N * side) (key q N p a o.s o.e) (same_equal _ _ e),
-      λ l. equal_same (encode_slot q N head (8 * N * side) octets (omega (arith, stretch (8 * N) side 2 low)) (in_range_lem.keys side low) ∙ encode_alike l),
+      λ l. equal_same (encode_slot q N head (8 * N * side) octets (omega (arith, stretch (8 * N) side 2 low)) (in_range.keys side low) ∙ encode_alike l),
     )
 
     -- ---- 8: the pairs
@@ -94,7 +94,7 @@ module _ (P : Parameters) (m : ℕ) (positive : 0 < P.q) (fits : P.q ≤ 2 ^ 64)
     pub pair_exactly : (i : ℕ) → i < 4 → (r : Three) (f : Poly) → (opens q N k (pair_at N head i) r f ≡ true) ↔ Opens q N k (pair_of N (pair_at N head i)) r f
     pair_exactly i four =
         opens_exactly q N positive fits (pair_at N head i) (octets_part head (16 * N + 16 * N * i) (16 * N) octets)
-        (length_part head (16 * N + 16 * N * i) (16 * N) (omega (arith, stretch (16 * N) i 4 four))) (in_range_lem.first_halves i four) (in_range_lem.second_halves i four) k
+        (length_part head (16 * N + 16 * N * i) (16 * N) (omega (arith, stretch (16 * N) i 4 four))) (in_range.first_halves i four) (in_range.second_halves i four) k
 
     -- the pairs of s_i and e_i
     pub pairs_exactly : (side : ℕ) → side < 2 → (o : Opening) → (opens_pairs P head side o ≡ true)

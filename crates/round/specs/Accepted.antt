@@ -117,7 +117,7 @@ module _ (P : Parameters) (m : ℕ) where
   -- ---- all of it
 
   pub record Accepted (r : Round) : Type 0 where
-    pub in_range_lem : InRange r  -- 5
+    pub in_range : InRange r  -- 5
     pub key_splits : KeySplits r.head  -- 6
     pub opened : SideOpened r.ballots r.claims r.head r.shares0 r.shares1 r.side (opening_of N r.opening)  -- 7, 8, 12, 13
     -- 9, 10, 11: each repetition is answered

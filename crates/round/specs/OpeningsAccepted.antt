@@ -20,7 +20,7 @@ module _ (P : Parameters) (m : ℕ) (x : Openings) where
     pub answer3 : AnswerRanged q N 3 x.answer3
 
   pub record OpeningsAccepted : Type 0 where
-    pub in_range_lem : OpeningsRanged  -- 5
+    pub in_range : OpeningsRanged  -- 5
     pub key_splits : KeySplits P m x.head  -- 6
     pub side0 : SideOpened P m x.ballots x.claims x.head x.shares0 x.shares1 0 (open0 P m x)  -- 7, 8, 12, 13
     pub side1 : SideOpened P m x.ballots x.claims x.head x.shares0 x.shares1 1 (open1 P m x)  -- 7, 8, 12, 13

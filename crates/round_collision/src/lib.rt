@@ -1,5 +1,7 @@
 // The lowest digest for which answers open two different strings (document 01, the extractor's paragraph). The strings are compared
 // part by part: salts, permutations, equations and vectors. Nothing is hashed.
+#![tactic(auto)]
+
 ghost use Rattle.std.specs.Prelude.{◌≡◌, true, false, ◌&&◌, ◌++◌, ◌+◌, ◌*◌, ◌≤◌, ◌<◌, ◌^◌, length, take};
 ghost use Rattle.scratch.specs.Vocabulary.{part, put, words, same, given, left, all_below, scratch_length};
 ghost use Rattle.commitment.specs.Commitment.{keys_of, pair_bytes};

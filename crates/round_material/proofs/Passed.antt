@@ -36,13 +36,13 @@ pub record Passed (P : Parameters) (m : ℕ) (x : Material) : Type 0 where
 module _ (P : Parameters) (m : ℕ) (x : Material) (asked : Bool) (taken : first (producer_tests P m x asked) ≡ Taken) where
   open P use {q, N, repeats}
 
-  in_range_lem : (asked ≡ true) × (material_ranged q N m x.secrets x.s0 x.e0 x.vectors x.ballots ≡ true)
+  in_range : (asked ≡ true) × (material_ranged q N m x.secrets x.s0 x.e0 x.vectors x.ballots ≡ true)
   unfolding producer_tests
-  in_range_lem = both asked _ (not-false _ ((taken_exactly (producer_tests P m x asked)).0 taken).0)
+  in_range = both asked _ (not-false _ ((taken_exactly (producer_tests P m x asked)).0 taken).0)
 
   -- what the call was given beside the material is in range too, and no test refuses
   pub none_refused : (asked ≡ true) × None (producer_tests P m x true)
-  none_refused = (in_range_lem.0, (taken_exactly (producer_tests P m x true)).0 (ap (λ (t : Bool). first (producer_tests P m x t)) (sym in_range_lem.0) ∙ taken))
+  none_refused = (in_range.0, (taken_exactly (producer_tests P m x true)).0 (ap (λ (t : Bool). first (producer_tests P m x t)) (sym in_range.0) ∙ taken))
 
   module _ (ring_low : 4 ≤ N) (ring_high : N ≤ 2048) (modulus_low : 3 ≤ q) (modulus_high : q < 2 ^ 56) where
     -- it matches b, and masks and noise are within their bounds
@@ -51,7 +51,7 @@ module _ (P : Parameters) (m : ℕ) (x : Material) (asked : Bool) (taken : first
 
     pub passed : MaterialSized P m x → Passed P m x
     passed sized =
-        let r = all_below_lem q N m x.secrets x.s0 x.e0 x.vectors x.ballots in_range_lem.1 in
+        let r = all_below_lem q N m x.secrets x.s0 x.e0 x.vectors x.ballots in_range.1 in
         let f = fit in
         record {
           secrets = r.0;

@@ -48,7 +48,7 @@ module _ (k : Numbers) (s : Bytes) (x : Material) (public : Loaded k s) where
     sizes = material_sizes P count x e
 
     fit : Passed P count x
-    fit = let u = public.numbers in passed P count x asked t u.in_range_lem.ring_low u.in_range_lem.ring_high u.in_range_lem.modulus_low u.in_range_lem.modulus_high sizes
+    fit = let u = public.numbers in passed P count x asked t u.in_range.ring_low u.in_range.ring_high u.in_range.modulus_low u.in_range.modulus_high sizes
 
     drawings : Drawings q n k.repeats x.secrets x.vectors x.permutations x.salts
     drawings = record {

@@ -41,10 +41,10 @@ module _ (k : Numbers) (u : Usable k) where
   q = k.modulus
 
   pub both_ranged : (x y : Bytes) → length x ≡ 8 * n → length y ≡ 8 * n → coefficients_below q n (x ∷ y ∷ []) ≡ true → Polynomial n q x × Polynomial n q y
-  both_ranged = two_ranged n q u.in_range_lem.ring_low u.in_range_lem.ring_high u.in_range_lem.modulus_low u.in_range_lem.modulus_high
+  both_ranged = two_ranged n q u.in_range.ring_low u.in_range.ring_high u.in_range.modulus_low u.in_range.modulus_high
 
   one_ranged : (x : Bytes) → length x ≡ 8 * n → all_below q (list n (poly x)) ≡ true → Polynomial n q x
-  one_ranged = ranged n q u.in_range_lem.ring_low u.in_range_lem.ring_high u.in_range_lem.modulus_low u.in_range_lem.modulus_high
+  one_ranged = ranged n q u.in_range.ring_low u.in_range.ring_high u.in_range.modulus_low u.in_range.modulus_high
 
   pub share_passed : (x v m d w : Bytes) → Taken ≡ first (share_tests k x v m d w)
       → (Polynomial n q x × Polynomial n q v) × (length m ≡ 8 * n) × (length w ≡ 1048576) × (length d ≡ 8 * n)

@@ -1,8 +1,10 @@
 // The calls of decryption shares (document 000, section 6.1) and of the commitment once the sheet is taken: the tests of the lent slices,
 // and then the work in scratch. `hand_out` ends the work of every call that writes a polynomial, here and in the crates of the other
 // calls: `scheme_keys`, `scheme_encryption` and `scheme_products`.
+#![tactic(auto)]
+
 ghost use Rattle.std.specs.Prelude.{◌+◌, ◌*◌, ◌≤◌, length, ◌≡◌, [], ◌∷◌};
-ghost use Rattle.scratch.specs.Vocabulary.{part, given, left, Usable, coefficients_below, Computed};
+ghost use Rattle.scratch.specs.Vocabulary.{part, Usable, coefficients_below, Computed};
 ghost use Rattle.scheme.specs.Internal.{WrittenAt};
 ghost use Rattle.scheme.specs.Calls.{share_tests, share_writes, reconstruct_tests, reconstruct_writes, commitment_tests};
 ghost use Rattle.scheme.specs.Calls.{commitment_writes};

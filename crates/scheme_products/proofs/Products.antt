@@ -88,11 +88,11 @@ product_written k x y d w f more h copied made out went =
 
 pub transformable : (k : Numbers) → Usable k → (root : ℕ) {tested : Bool} → tested ≡ is_root k.modulus k.ring root → not tested ≡ false → Transformable k.modulus k.ring root
 transformable k u root {tested} e f = record {
-  modulus_low = omega (arith, u.in_range_lem.modulus_low);
-  modulus_high = u.in_range_lem.modulus_high;
+  modulus_low = omega (arith, u.in_range.modulus_low);
+  modulus_high = u.in_range.modulus_high;
   odd = u.odd;
-  ring_low = omega (arith, u.in_range_lem.ring_low);
-  ring_high = u.in_range_lem.ring_high;
-  ring_power = u.in_range_lem.ring_power;
-  root = root_sound k.modulus k.ring root (omega (arith, u.in_range_lem.modulus_low)) (sym e ∙ not-false tested f);
+  ring_low = omega (arith, u.in_range.ring_low);
+  ring_high = u.in_range.ring_high;
+  ring_power = u.in_range.ring_power;
+  root = root_sound k.modulus k.ring root (omega (arith, u.in_range.modulus_low)) (sym e ∙ not-false tested f);
 }

@@ -18,8 +18,8 @@ pub length_at : (xs ys : List ℕ) (i : ℕ) → same xs ys ≡ true → get_or 
 length_at xs ys i e = ap (λ (l : List ℕ). get_or l i 0) (same_equal xs ys e)
 
 -- the same where code asks x
-pub length_asked : {x : Bool} (xs ys : List ℕ) (i : ℕ) → x ≡ same xs ys → not x ≡ false → get_or xs i 0 ≡ get_or ys i 0
-length_asked {x} xs ys i e h = length_at xs ys i (sym e ∙ not-false x h)
+pub length_asked : {x : Bool} (xs ys : List ℕ) (i : ℕ) → x ≡ same xs ys → x ≡ true → get_or xs i 0 ≡ get_or ys i 0
+length_asked {x} xs ys i e h = length_at xs ys i (sym e ∙ h)
 
 -- where a call is taken whose first tests are of lengths and of ranges
 pub passed : (xs ys : List ℕ) (b : Bool) (ts : List Test) → first (length_test xs ys ∷ test 5 0 (not b) ∷ ts) ≡ Taken → (same xs ys ≡ true) × (b ≡ true)
@@ -27,11 +27,11 @@ passed xs ys b ts e = let n = (taken_exactly (length_test xs ys ∷ test 5 0 (no
 
 -- code asks x, which is b: it refuses where x does not hold, and goes on to the tests after where it does
 module _ (n : ℕ) {b x : Bool} (e : x ≡ b) {r : Reply} where
-  pub stops : (ts : List Test) → not x ≡ true → r ≡ Refused n 0 → r ≡ first (test n 0 (not b) ∷ ts)
+  pub stops : (ts : List Test) → x ≡ false → r ≡ Refused n 0 → r ≡ first (test n 0 (not b) ∷ ts)
   unfolding first
   stops ts h k = rw (sym e, h) k
 
-  pub follows : (ts : List Test) → not x ≡ false → r ≡ first ts → r ≡ first (test n 0 (not b) ∷ ts)
+  pub follows : (ts : List Test) → x ≡ true → r ≡ first ts → r ≡ first (test n 0 (not b) ∷ ts)
   unfolding first
   follows ts h k = rw (sym e, h) k
 

@@ -20,11 +20,11 @@ use Rattle.session_check.specs.declared.stored.Stored.{Stored}
 
 -- a test by what was compared: it refuses, or the rest of the order decides
 module _ (number place : ℕ) (passing : Bool) (ts : List Test) {x : Bool} (is : x ≡ passing) where
-  pub refused_by_lem : not x ≡ true → Refused number place ≡ first (test number place (not passing) ∷ ts)
-  refused_by_lem e = refuses number place (not passing) ts (ap not (sym is) ∙ e)
+  pub refused_by_lem : x ≡ false → Refused number place ≡ first (test number place (not passing) ∷ ts)
+  refused_by_lem e = refuses number place (not passing) ts (ap not (sym is ∙ e))
 
-  pub passed_by : {r : Reply} → not x ≡ false → r ≡ first ts → r ≡ first (test number place (not passing) ∷ ts)
-  passed_by e f = f ∙ sym (passes number place (not passing) ts (ap not (sym is) ∙ e))
+  pub passed_by : {r : Reply} → x ≡ true → r ≡ first ts → r ≡ first (test number place (not passing) ∷ ts)
+  passed_by e f = f ∙ sym (passes number place (not passing) ts (ap not (sym is ∙ e)))
 
 pub none_left : Taken ≡ first []
 unfolding first
@@ -38,10 +38,10 @@ pub numbers_told : (m : Numbers) {k n : Numbers} {x : Bool} → x ≡ same_numbe
 numbers_told m f g = f ∙ ap (λ (n : Numbers). same_numbers n m) (sym g)
 
 -- the lengths are right: that of the ballots
-pub ballots_sized : (s : Stored) (x : Inputs) {b : Bool} → b ≡ inputs_sized s x → not b ≡ false → length x.ballots ≡ ballot_length s.numbers.ring * s.closed
+pub ballots_sized : (s : Stored) (x : Inputs) {b : Bool} → b ≡ inputs_sized s x → b ≡ true → length x.ballots ≡ ballot_length s.numbers.ring * s.closed
 unfolding inputs_sized
 ballots_sized s x {b} e f =
     let n = s.numbers.ring in
     let r = s.numbers.repeats in
-    let h = both (message_sized n r s.closed x.head x.shares0 x.shares1 x.ballots x.claims) (second_sized n r (challenges_of s) x.opening x.answers x.scratch) (sym e ∙ not-false b f) in
+    let h = both (message_sized n r s.closed x.head x.shares0 x.shares1 x.ballots x.claims) (second_sized n r (challenges_of s) x.opening x.answers x.scratch) (sym e ∙ f) in
     (message_sizes n r s.closed x.head x.shares0 x.shares1 x.ballots x.claims h.0).3

@@ -114,7 +114,7 @@ module _ (s : Session) (h : History) (k : Kept s h) (m : Measured s h) (round : 
             (λ e. apart 32 (lent_batch h x) h.batch (long_ballot_digests _ (length h.batch) x.ballots) m.batch (length_ballot_digests _ (length h.batch) x.ballots) (append_cancel_left (sha3 h.sheet) _ _ e))
             lent_closing;
         claims = agrees (claims_string h) x.claims h.claims (λ e. append_cancel_left (sha3 (batch_string h h.batch)) _ _ e) lent_claim;
-        first_message_lem = agrees (message_string h round) (lent_message x) (h.firsts round)
+        first_message = agrees (message_string h round) (lent_message x) (h.firsts round)
             (λ e. message_apart (lent_message x) (h.firsts round) (r.lengths.head ∙ sym z.head) (r.lengths.shares0 ∙ sym z.shares0)
             (append_cancel_left (bytes 2 round) _ _ (append_cancel_left (sha3 (claims_string h h.claims)) _ _ e)))
             lent_round_lem;

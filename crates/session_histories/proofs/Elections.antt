@@ -91,7 +91,7 @@ module _ (sheet : Bytes) (m : ℕ) (ballot : ℕ → Bytes) (material : ℕ → 
       let x = material 0 in
       let a = honest_accepted P m x (sheet_sound sheet k (reads sheet sheet_taken)) three fits (c.sized 0 some_rounds) ((producer_exactly P m x (omega arith) fits).1 (c.suitable 0 some_rounds))
       (drawn_side seed 0) (side_range seed 0) (drawn_challenges seed 0 P.repeats) (length_challenges seed 0 P.repeats) (challenge_range seed 0 P.repeats) in
-      subst (EachBelow P.p) (c.votes 0 some_rounds) a.in_range_lem.message.in_claims
+      subst (EachBelow P.p) (c.votes 0 some_rounds) a.in_range.message.in_claims
 
   claims_size : length claims ≡ k.ring * m
   claims_size = sym (ap length (c.votes 0 some_rounds)) ∙ length_produced_claims P m (material 0)
@@ -240,7 +240,7 @@ module _ (sheet : Bytes) (m : ℕ) (ballot : ℕ → Bytes) (material : ℕ → 
       sheet = sym h.closed.on_sheet.sheet_is;
       batch = h.closed.batched;
       claims = sym h.claimed;
-      first_message_lem = sym (h.firsts n l);
+      first_message = sym (h.firsts n l);
       made = rw (h.closed.count, h.drawn) made;
       scratch = length-replicate {A = ℕ} scratch_length 0;
     }

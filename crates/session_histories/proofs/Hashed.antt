@@ -93,7 +93,7 @@ hashed h k x l o =
       sheet = (o.sheet, l.sheet);
       batch = (behind h.sheet (flatten (lent_batch h x)) (octets_ballot_digests _ _ x.ballots), behind h.sheet (flatten h.batch) l.batch);
       claims = (behind batch x.claims o.claims, behind batch h.claims l.claims);
-      first_message_lem = (behind claims _ (octets_message k (lent_message x) sent), behind claims _ (octets_message k (h.firsts k) (l.firsts k)));
+      first_message = (behind claims _ (octets_message k (lent_message x) sent), behind claims _ (octets_message k (h.firsts k) (l.firsts k)));
     }
 
 pub checks_hashed : ChecksHashed

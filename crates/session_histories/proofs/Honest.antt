@@ -135,7 +135,7 @@ module _ (l : Trace) (k : Kept l.session l.history) (material : Material) (round
         numbers = numbers;
         ballots = ap (closing_digest s.sheet) batch ∙ sym (k.digests.closing (omega arith));
         claims = ap (claim_digest s.closing) turn.claims ∙ sym (k.digests.claim (omega arith));
-        message = ap (message_digest s.claim round) turn.first_message_lem ∙ sym (k.digests.trail (omega arith) round (omega arith));
+        message = ap (message_digest s.claim round) turn.first_message ∙ sym (k.digests.trail (omega arith) round (omega arith));
       }
 
   pub turn_accepted : first (check_tests s round x) ≡ Taken

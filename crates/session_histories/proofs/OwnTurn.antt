@@ -189,7 +189,7 @@ module _ (b : Beginning) (readable : Begins b) (before between later last : List
         sheet = sheet ∙ sym sheet_is;
         batch = rw (ring, batch_is, ballots) (roll_is_batch b before (omega (arith, closed_then))).2;
         claims = claimed ∙ sym claims_are;
-        first_message_lem = first ∙ sym message_is;
+        first_message = first ∙ sym message_is;
         made = subst (λ (m : ℕ). Produced (parameters_of x.sheet) m material with_seed_trace.now.session.seed round x) closed_count made;
         scratch = scratch;
       }

@@ -47,14 +47,14 @@ module _ (h : History) where
     pub sheet : Agrees (λ (text : Bytes). text) x.sheet h.sheet
     pub batch : Agrees batch_string (lent_batch x) h.batch
     pub claims : Agrees claims_string x.claims h.claims
-    pub first_message_lem : Agrees (message_string k) (lent_message x) (h.firsts k)
+    pub first_message : Agrees (message_string k) (lent_message x) (h.firsts k)
 
   -- a collision among these is one of byte strings
   pub record BoundBytes (k : ℕ) (x : Inputs) : Type 0 where
     pub sheet : Hashes (λ (text : Bytes). text) x.sheet h.sheet
     pub batch : Hashes batch_string (lent_batch x) h.batch
     pub claims : Hashes claims_string x.claims h.claims
-    pub first_message_lem : Hashes (message_string k) (lent_message x) (h.firsts k)
+    pub first_message : Hashes (message_string k) (lent_message x) (h.firsts k)
 
 -- ---- where what is lent is bytes, as a C host lends it
 

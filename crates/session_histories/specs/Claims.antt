@@ -56,6 +56,6 @@ pub record Turn (s : Session) (h : History) (material : Material) (round : ℕ) 
   pub sheet : x.sheet ≡ h.sheet
   pub batch : ballot_digests (ballot_length (sheet_of x.sheet).numbers.ring) (length h.batch) x.ballots ≡ h.batch
   pub claims : x.claims ≡ h.claims
-  pub first_message_lem : message x.head x.shares0 x.shares1 ≡ h.firsts round
+  pub first_message : message x.head x.shares0 x.shares1 ≡ h.firsts round
   pub made : Produced (parameters_of x.sheet) (length h.batch) material s.seed round x
   pub scratch : length x.scratch ≡ scratch_length

@@ -79,7 +79,7 @@ module _ (s : Session) (t : Typed s) where
   load_store =
       rw (
         first,
-        word "ring" s.numbers.ring refl t.ring_fits_lem,
+        word "ring" s.numbers.ring refl t.ring_fits,
         word "modulus" s.numbers.modulus refl t.modulus_fits,
         word "drown" s.numbers.drown refl t.drown_fits,
         word "rounds" s.numbers.rounds refl t.rounds_fits,

@@ -5,7 +5,7 @@ use Rattle.session.specs.declared.Session.{Session}
 -- what the types of the fields say
 pub record Typed (s : Session) : Type 0 where
   pub phase_fits : s.progress.phase < 256
-  pub ring_fits_lem : s.numbers.ring < 2 ^ 64
+  pub ring_fits : s.numbers.ring < 2 ^ 64
   pub modulus_fits : s.numbers.modulus < 2 ^ 64
   pub drown_fits : s.numbers.drown < 2 ^ 64
   pub rounds_fits : s.numbers.rounds < 2 ^ 64

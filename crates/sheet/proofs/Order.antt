@@ -30,7 +30,7 @@ use Rattle.codec.specs.Lists.{every, all_below}
 use Rattle.sheet_lines.proofs.LineForm.{lined}
 use Rattle.sheet.proofs.Form.{single, one}
 use Rattle.sheet_lines.proofs.Blocks.{rows_append, rows_broken, Five, five, not_five}
-use Rattle.sheet_numbers.proofs.Ranges.{in_range_lem}
+use Rattle.sheet_numbers.proofs.Ranges.{in_range}
 use Rattle.sheet.proofs.Fits.{fits_all}
 
 -- ---- lists of five
@@ -191,7 +191,7 @@ judged_by_lem s counts tops c t = go (outside s.numbers) refl
         ≡ after_form s.numbers o (unsound s.numbers) (not (every (fits s.numbers.ring s.numbers.modulus) (lists s)))
     go true o = refl
     go false o =
-        let q : 0 < s.numbers.modulus = omega (arith, (in_range_lem s.numbers o).modulus_low) in
+        let q : 0 < s.numbers.modulus = omega (arith, (in_range s.numbers o).modulus_low) in
         rw (c, t, fits_all s.numbers.ring s.numbers.modulus q (lists s))
         (by_fit s.numbers (unsound s.numbers) (every (fits s.numbers.ring s.numbers.modulus) (lists s)))
 

@@ -24,7 +24,7 @@ use Rattle.codec.proofs.Lists.{all_below_at}
 use Rattle.codec.specs.Lists.{every, all_below}
 use Rattle.sheet.proofs.Form.{written_is}
 use Rattle.sheet_numbers.specs.Ranges.{NumbersInRange, NumbersSound}
-use Rattle.sheet_numbers.proofs.Ranges.{in_range_lem, sound_exactly}
+use Rattle.sheet_numbers.proofs.Ranges.{in_range, sound_exactly}
 use Rattle.sheet.proofs.Filling.{all_size}
 
 -- ---- the order of a call that is lent the sheet
@@ -95,7 +95,7 @@ taken text {k} e = by (first (order text)) refl e
           form = not-false (formed text) n.1.0;
           numbers = q;
           inside = rw q at n.1.1.0;
-          ranged = rw q at (in_range_lem (sheet_of text).numbers n.1.1.0);
+          ranged = rw q at (in_range (sheet_of text).numbers n.1.1.0);
           sound = rw q at ((sound_exactly (sheet_of text).numbers).0 n.1.1.1.0);
           fit = n.1.1.1.1.0;
         }

@@ -162,8 +162,8 @@ range_exactly k = (says, holds)
           ),
         )
 
-pub in_range_lem : (k : Numbers) → outside k ≡ false → NumbersInRange k
-in_range_lem k e = (range_exactly k).0 e
+pub in_range : (k : Numbers) → outside k ≡ false → NumbersInRange k
+in_range k e = (range_exactly k).0 e
 
 -- ---- the conditions
 
@@ -198,7 +198,7 @@ module _ (k : Numbers) (i : NumbersInRange k) (s : NumbersSound k) where
 
   pub usable : Usable k
   usable = record {
-    in_range_lem = i;
+    in_range = i;
     ring_found = power_found 12 k.ring i.ring_power.0 (low_power k.ring i.ring_power.0 i.ring_high i.ring_power.1) i.ring_power.1;
     odd = odd;
     plain_below = plain_below;

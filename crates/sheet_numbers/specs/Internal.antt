@@ -9,7 +9,7 @@ use Rattle.sheet_numbers.specs.declared.Numbers.{Numbers}
 -- ---- what the functions that are lent a sheet's numbers rely on: it holds where the sheet was taken
 
 pub record Usable (k : Numbers) : Type 0 where
-  pub in_range_lem : NumbersInRange k
+  pub in_range : NumbersInRange k
   -- the ring is a power of two, as the code tests it
   pub ring_found : power 12 k.ring ≡ true
   -- 2N divides q - 1

@@ -1,5 +1,5 @@
 -- What the theorems on the shortness argument of a round speak of: an honest split, and what a solution says in polynomials. Assumes nothing.
-use Rattle.std.specs.Prelude.{◌≡◌, true, List, ◌++◌, ℕ, ◌+◌, ◌*◌, ◌≤◌, ◌<◌, nat_abs, length}
+use Rattle.std.specs.Prelude.{◌≡◌, true, List, ◌++◌, ℕ, ◌*◌, ◌≤◌, ◌<◌, nat_abs, length}
 use Rattle.codec.specs.Bytes.{Bytes, part}
 use Rattle.codec.specs.Lists.{all_below}
 use Rattle.modular.specs.Modulo.{centre}

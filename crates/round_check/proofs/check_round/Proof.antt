@@ -19,7 +19,7 @@ round-ranged-requires : tie.Need-round-ranged-requires
 round-ranged-requires c κs =
     let p = c.before.before.before.before.before.before.before.before.before.before.requires in
     let l = p.3 in
-    (p.0.numbers.in_range_lem.ring_high, p.2, p.0.numbers.in_range_lem.repeats_high, l.challenges, l.answers, l.ballots, omega (arith, l.head), l.opening)
+    (p.0.numbers.in_range.ring_high, p.2, p.0.numbers.in_range.repeats_high, l.challenges, l.answers, l.ballots, omega (arith, l.head), l.opening)
 
 returns : tie.Need-returns
 unfolding round_tests

@@ -56,7 +56,7 @@ add_at c =
     let p = c.before.before.before.before.before.before.before.before.before.before.before.before.before.before.before.before.before.requires in
     let l = c.before.before.before.before.before.before.before.before.loop in
     let k = a.k in
-    omega (arith, (digests_end k.modulus k.ring k.repeats (lent k a.public.now) a.secrets.now a.vectors.now a.permutations.now a.salts.now a.head.now p.2 l.i l.at l.vector l.permutation l.salt l.head l.work l.invariant (omega arith)).1, p.0.a.ring_high, p.0.numbers.in_range_lem.repeats_high)
+    omega (arith, (digests_end k.modulus k.ring k.repeats (lent k a.public.now) a.secrets.now a.vectors.now a.permutations.now a.salts.now a.head.now p.2 l.i l.at l.vector l.permutation l.salt l.head l.work l.invariant (omega arith)).1, p.0.a.ring_high, p.0.numbers.in_range.repeats_high)
 
 mul-vector : tie.Need-overflow-mul-vector invariant-loop decreases-loop
 mul-vector c = omega (arith, c.before.before.before.before.before.before.before.before.before.before.before.before.before.before.before.before.before.requires.0.a.ring_high)
@@ -65,13 +65,13 @@ mul-permutation : tie.Need-overflow-mul-permutation invariant-loop decreases-loo
 mul-permutation c = omega (arith, c.before.before.before.before.before.before.before.before.before.before.before.before.before.before.before.before.before.requires.0.a.ring_high)
 
 add_vector : tie.Need-overflow-add-vector invariant-loop decreases-loop
-add_vector c = let k = c.before.before.before.before.before.before.before.before.before.before.before.before.before.before.before.before.before.args.k in let p = c.before.before.before.before.before.before.before.before.before.before.before.before.before.before.before.before.before.requires.0 in let l = c.before.before.before.before.before.before.before.before.loop in omega (arith, (placed_fit k.ring k.repeats l.i l.vector l.permutation l.salt l.invariant.placed (omega arith) p.a.ring_high p.numbers.in_range_lem.repeats_high).0)
+add_vector c = let k = c.before.before.before.before.before.before.before.before.before.before.before.before.before.before.before.before.before.args.k in let p = c.before.before.before.before.before.before.before.before.before.before.before.before.before.before.before.before.before.requires.0 in let l = c.before.before.before.before.before.before.before.before.loop in omega (arith, (placed_fit k.ring k.repeats l.i l.vector l.permutation l.salt l.invariant.placed (omega arith) p.a.ring_high p.numbers.in_range.repeats_high).0)
 
 add-permutation : tie.Need-overflow-add-permutation invariant-loop decreases-loop
-add-permutation c = let k = c.before.before.before.before.before.before.before.before.before.before.before.before.before.before.before.before.before.args.k in let p = c.before.before.before.before.before.before.before.before.before.before.before.before.before.before.before.before.before.requires.0 in let l = c.before.before.before.before.before.before.before.before.loop in omega (arith, (placed_fit k.ring k.repeats l.i l.vector l.permutation l.salt l.invariant.placed (omega arith) p.a.ring_high p.numbers.in_range_lem.repeats_high).1)
+add-permutation c = let k = c.before.before.before.before.before.before.before.before.before.before.before.before.before.before.before.before.before.args.k in let p = c.before.before.before.before.before.before.before.before.before.before.before.before.before.before.before.before.before.requires.0 in let l = c.before.before.before.before.before.before.before.before.loop in omega (arith, (placed_fit k.ring k.repeats l.i l.vector l.permutation l.salt l.invariant.placed (omega arith) p.a.ring_high p.numbers.in_range.repeats_high).1)
 
 add-salt : tie.Need-overflow-add-salt invariant-loop decreases-loop
-add-salt c = let k = c.before.before.before.before.before.before.before.before.before.before.before.before.before.before.before.before.before.args.k in let p = c.before.before.before.before.before.before.before.before.before.before.before.before.before.before.before.before.before.requires.0 in let l = c.before.before.before.before.before.before.before.before.loop in omega (arith, (placed_fit k.ring k.repeats l.i l.vector l.permutation l.salt l.invariant.placed (omega arith) p.a.ring_high p.numbers.in_range_lem.repeats_high).2)
+add-salt c = let k = c.before.before.before.before.before.before.before.before.before.before.before.before.before.before.before.before.before.args.k in let p = c.before.before.before.before.before.before.before.before.before.before.before.before.before.before.before.before.before.requires.0 in let l = c.before.before.before.before.before.before.before.before.loop in omega (arith, (placed_fit k.ring k.repeats l.i l.vector l.permutation l.salt l.invariant.placed (omega arith) p.a.ring_high p.numbers.in_range.repeats_high).2)
 
 loop-again : tie.Need-loop-preserved invariant-loop decreases-loop
 loop-again c =

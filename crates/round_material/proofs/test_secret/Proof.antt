@@ -17,18 +17,18 @@ returns c = let a = c.before.before.before.before.before.before.before.before.ar
 
 returns-2 : tie.Need-returns-2
 returns-2 c =
-    let r = c.before.in_range_lem in
+    let r = c.before.in_range in
     (first_fails 5 14 0 _ _ (judged c.before.before.before.before.before.before.before.before.before.before.args.asked _ r.ensures c.before.before.if1.false (not-true r.result c.if2.true)), refl)
 
 returns-3 : tie.Need-returns-3
 returns-3 c =
-    let r = c.before.before.before.before.before.before.in_range_lem in
+    let r = c.before.before.before.before.before.before.in_range in
     let m = c.before.before.before.matches in
     (second_fails 5 14 0 _ _ (judged c.before.before.before.before.before.before.before.before.before.before.before.before.before.before.before.args.asked _ r.ensures c.before.before.before.before.before.before.before.if1.false (not-false r.result c.before.before.before.before.before.if2.false)) (ap not (sym m.ensures.0 ∙ not-true m.result c.if3.true)), m.ensures.1)
 
 returns-4 : tie.Need-returns-4
 returns-4 c =
-    let r = c.before.before.before.before.before.before.in_range_lem in
+    let r = c.before.before.before.before.before.before.in_range in
     let m = c.before.before.before.matches in
     (both_hold 5 14 0 _ _ (judged c.before.before.before.before.before.before.before.before.before.before.before.before.before.before.before.args.asked _ r.ensures c.before.before.before.before.before.before.before.if1.false (not-false r.result c.before.before.before.before.before.if2.false)) (ap not (sym m.ensures.0 ∙ not-false m.result c.if3.false)), m.ensures.1)
 

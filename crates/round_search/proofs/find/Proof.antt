@@ -41,9 +41,9 @@ solve-requires c κs =
     let e = c.before.before.before.before.before.before.before.before.before.collision.ensures in
     let l : 504 * n - 168 * n ≡ 336 * n = omega arith in
     let k = p.0.numbers in (
-      k.in_range_lem.ring_high,
-      k.in_range_lem.modulus_low,
-      k.in_range_lem.modulus_high,
+      k.in_range.ring_high,
+      k.in_range.modulus_low,
+      k.in_range.modulus_high,
       still e.cleared_work ∙ p.1,
       still e.cleared_room ∙ p.2,
       p.4,

@@ -24,19 +24,19 @@ write-shares-requires c κs =
     let p = c.before.before.before.before.before.before.before.before.before.before.before.before.before.before.before.before.before.before.requires in
     let q = a.k.modulus in
     let n = a.k.ring in
-    let some = p.0.in_range_lem.modulus_low in
+    let some = p.0.in_range.modulus_low in
     let z : 0 < q = omega arith in
     let m = c.before.before.before.before.before.products in
     let s = mul q n (ternary q a.s.now) (poly a.u.now) in
     let t = mul q n (poly a.s0.now) (poly a.u.now) in (
-      p.0.in_range_lem.ring_high,
+      p.0.in_range.ring_high,
       some,
-      p.0.in_range_lem.modulus_high,
+      p.0.in_range.modulus_high,
       p.5,
       p.6,
       m.ensures.sized ∙ p.7.scratch,
-      encoded_below q n p.0.in_range_lem.ring_high z p.0.in_range_lem.modulus_high m.new.0 0 s m.ensures.one,
-      encoded_below q n p.0.in_range_lem.ring_high z p.0.in_range_lem.modulus_high m.new.0 16384 t m.ensures.two,
+      encoded_below q n p.0.in_range.ring_high z p.0.in_range.modulus_high m.new.0 0 s m.ensures.one,
+      encoded_below q n p.0.in_range.ring_high z p.0.in_range.modulus_high m.new.0 16384 t m.ensures.two,
       p.7.shares0,
       p.7.shares1,
       omega (arith, c.before.before.before.before.before.before.before.plain.ensures, p.0.plain_below),
@@ -48,8 +48,8 @@ write-claim-requires c κs =
     let p = c.before.before.before.before.before.before.before.before.before.before.before.before.before.before.before.before.before.before.before.before.before.before.before.before.before.before.before.requires in
     let q = a.k.modulus in
     let n = a.k.ring in
-    let some = p.0.in_range_lem.modulus_low in
-    let high = p.0.in_range_lem.ring_high in
+    let some = p.0.in_range.modulus_low in
+    let high = p.0.in_range.ring_high in
     let z : 0 < q = omega arith in
     let m = c.before.before.before.before.before.before.before.before.before.before.before.before.before.before.products in
     let w = c.before.before.before.before.before.before.before.before.write_shares in
@@ -57,10 +57,10 @@ write-claim-requires c κs =
     let k = kept_head m.new.0 w.new.1.1.1.0 16384 (8 * n) (omega arith) w.ensures.3 in (
       p.3,
       w.ensures.2 ∙ m.ensures.sized ∙ p.7.scratch,
-      encoded_below q n high z p.0.in_range_lem.modulus_high w.new.1.1.1.0 0 s (k ∙ m.ensures.one),
+      encoded_below q n high z p.0.in_range.modulus_high w.new.1.1.1.0 0 s (k ∙ m.ensures.one),
       p.7.claims,
-      omega (arith, c.before.before.before.before.before.before.before.before.before.before.before.before.before.before.before.before.plain.ensures, p.0.in_range_lem.plain_low),
-      omega (arith, c.before.before.before.before.before.before.before.before.before.before.before.before.before.before.before.before.plain.ensures, p.0.in_range_lem.plain_high),
+      omega (arith, c.before.before.before.before.before.before.before.before.before.before.before.before.before.before.before.before.plain.ensures, p.0.in_range.plain_low),
+      omega (arith, c.before.before.before.before.before.before.before.before.before.before.before.before.before.before.before.before.plain.ensures, p.0.in_range.plain_high),
     )
 
 returns : tie.Need-returns
@@ -69,8 +69,8 @@ returns c =
     let p = c.before.before.before.before.before.before.before.before.before.before.before.before.before.before.before.before.before.before.before.before.before.before.before.before.before.before.before.before.before.before.before.before.requires in
     let q = a.k.modulus in
     let n = a.k.ring in
-    let some = p.0.in_range_lem.modulus_low in
-    let high = p.0.in_range_lem.ring_high in
+    let some = p.0.in_range.modulus_low in
+    let high = p.0.in_range.ring_high in
     let z : 0 < q = omega arith in
     let i = c.before.before.before.before.before.before.before.before.before.before.before.before.before.before.before.before.before.before.before.before.before.plain.result in
     let is = c.before.before.before.before.before.before.before.before.before.before.before.before.before.before.before.before.before.before.before.before.before.plain.ensures in
@@ -81,9 +81,9 @@ returns c =
     let s0 = poly a.s0.now in
     let u = poly a.u.now in
     let k = kept_head m.new.0 w.new.1.1.1.0 16384 (8 * n) (omega arith) w.ensures.3 in
-    let one = encoded_alike q n high z p.0.in_range_lem.modulus_high m.new.0 0 (mul q n s u) m.ensures.one in
-    let two = encoded_alike q n high z p.0.in_range_lem.modulus_high m.new.0 16384 (mul q n s0 u) m.ensures.two in
-    let last = encoded_alike q n high z p.0.in_range_lem.modulus_high w.new.1.1.1.0 0 (mul q n s u) (k ∙ m.ensures.one) in
+    let one = encoded_alike q n high z p.0.in_range.modulus_high m.new.0 0 (mul q n s u) m.ensures.one in
+    let two = encoded_alike q n high z p.0.in_range.modulus_high m.new.0 16384 (mul q n s0 u) m.ensures.two in
+    let last = encoded_alike q n high z p.0.in_range.modulus_high w.new.1.1.1.0 0 (mul q n s u) (k ∙ m.ensures.one) in
     record {
       shares0 =
           w.ensures.0 ∙ ap (put a.shares0.now a.at) (lent_share q n i s s0 u (lent_mask a.mask0.now) two

@@ -32,22 +32,22 @@ ballot-at-requires c κs =
 
 -- the places of the next ballot
 add-at-2 : tie.Need-overflow-add-at-2 invariant-loop decreases-loop
-add-at-2 c = let a = c.before.before.before.before.before.before.before.before.before.before.before.before.before.before.before.before.before.before.before.before.before.before.before.before.args in let p = c.before.before.before.before.before.before.before.before.before.before.before.before.before.before.before.before.before.before.before.before.before.before.before.before.requires in let l = c.before.before.before.before.before.before.before.before.before.before.before.before.before.before.loop in omega (arith, (places_fit a.k.modulus a.k.ring (plain a.k) a.count a.secrets.now a.s0.now a.masks0.now a.masks1.now a.ballots.now a.shares0.now a.shares1.now a.claims.now p.4 p.5 p.6 p.7 l.j l.at l.claim l.sent l.shares0 l.shares1 l.claims l.work l.invariant (omega arith) p.0.in_range_lem.ring_high p.3).0)
+add-at-2 c = let a = c.before.before.before.before.before.before.before.before.before.before.before.before.before.before.before.before.before.before.before.before.before.before.before.before.args in let p = c.before.before.before.before.before.before.before.before.before.before.before.before.before.before.before.before.before.before.before.before.before.before.before.before.requires in let l = c.before.before.before.before.before.before.before.before.before.before.before.before.before.before.loop in omega (arith, (places_fit a.k.modulus a.k.ring (plain a.k) a.count a.secrets.now a.s0.now a.masks0.now a.masks1.now a.ballots.now a.shares0.now a.shares1.now a.claims.now p.4 p.5 p.6 p.7 l.j l.at l.claim l.sent l.shares0 l.shares1 l.claims l.work l.invariant (omega arith) p.0.in_range.ring_high p.3).0)
 
 add-claim : tie.Need-overflow-add-claim invariant-loop decreases-loop
-add-claim c = let a = c.before.before.before.before.before.before.before.before.before.before.before.before.before.before.before.before.before.before.before.before.before.before.before.before.args in let p = c.before.before.before.before.before.before.before.before.before.before.before.before.before.before.before.before.before.before.before.before.before.before.before.before.requires in let l = c.before.before.before.before.before.before.before.before.before.before.before.before.before.before.loop in omega (arith, (places_fit a.k.modulus a.k.ring (plain a.k) a.count a.secrets.now a.s0.now a.masks0.now a.masks1.now a.ballots.now a.shares0.now a.shares1.now a.claims.now p.4 p.5 p.6 p.7 l.j l.at l.claim l.sent l.shares0 l.shares1 l.claims l.work l.invariant (omega arith) p.0.in_range_lem.ring_high p.3).1)
+add-claim c = let a = c.before.before.before.before.before.before.before.before.before.before.before.before.before.before.before.before.before.before.before.before.before.before.before.before.args in let p = c.before.before.before.before.before.before.before.before.before.before.before.before.before.before.before.before.before.before.before.before.before.before.before.before.requires in let l = c.before.before.before.before.before.before.before.before.before.before.before.before.before.before.loop in omega (arith, (places_fit a.k.modulus a.k.ring (plain a.k) a.count a.secrets.now a.s0.now a.masks0.now a.masks1.now a.ballots.now a.shares0.now a.shares1.now a.claims.now p.4 p.5 p.6 p.7 l.j l.at l.claim l.sent l.shares0 l.shares1 l.claims l.work l.invariant (omega arith) p.0.in_range.ring_high p.3).1)
 
 add-sent : tie.Need-overflow-add-sent invariant-loop decreases-loop
-add-sent c = let a = c.before.before.before.before.before.before.before.before.before.before.before.before.before.before.before.before.before.before.before.before.before.before.before.before.args in let p = c.before.before.before.before.before.before.before.before.before.before.before.before.before.before.before.before.before.before.before.before.before.before.before.before.requires in let l = c.before.before.before.before.before.before.before.before.before.before.before.before.before.before.loop in omega (arith, (places_fit a.k.modulus a.k.ring (plain a.k) a.count a.secrets.now a.s0.now a.masks0.now a.masks1.now a.ballots.now a.shares0.now a.shares1.now a.claims.now p.4 p.5 p.6 p.7 l.j l.at l.claim l.sent l.shares0 l.shares1 l.claims l.work l.invariant (omega arith) p.0.in_range_lem.ring_high p.3).2)
+add-sent c = let a = c.before.before.before.before.before.before.before.before.before.before.before.before.before.before.before.before.before.before.before.before.before.before.before.before.args in let p = c.before.before.before.before.before.before.before.before.before.before.before.before.before.before.before.before.before.before.before.before.before.before.before.before.requires in let l = c.before.before.before.before.before.before.before.before.before.before.before.before.before.before.loop in omega (arith, (places_fit a.k.modulus a.k.ring (plain a.k) a.count a.secrets.now a.s0.now a.masks0.now a.masks1.now a.ballots.now a.shares0.now a.shares1.now a.claims.now p.4 p.5 p.6 p.7 l.j l.at l.claim l.sent l.shares0 l.shares1 l.claims l.work l.invariant (omega arith) p.0.in_range.ring_high p.3).2)
 
 mul_at : tie.Need-overflow-mul-at invariant-loop decreases-loop
-mul_at c = omega (arith, c.before.before.before.before.before.before.before.before.before.before.before.before.before.before.before.before.before.before.before.before.before.before.before.before.requires.0.in_range_lem.ring_high)
+mul_at c = omega (arith, c.before.before.before.before.before.before.before.before.before.before.before.before.before.before.before.before.before.before.before.before.before.before.before.before.requires.0.in_range.ring_high)
 
 add_at : tie.Need-overflow-add-at invariant-loop decreases-loop
-add_at c = omega (arith, c.before.before.before.before.before.before.before.before.before.before.before.before.before.before.before.before.before.before.before.before.before.before.before.before.requires.0.in_range_lem.ring_high)
+add_at c = omega (arith, c.before.before.before.before.before.before.before.before.before.before.before.before.before.before.before.before.before.before.before.before.before.before.before.before.requires.0.in_range.ring_high)
 
 mul-sent : tie.Need-overflow-mul-sent invariant-loop decreases-loop
-mul-sent c = omega (arith, c.before.before.before.before.before.before.before.before.before.before.before.before.before.before.before.before.before.before.before.before.before.before.before.before.requires.0.in_range_lem.ring_high)
+mul-sent c = omega (arith, c.before.before.before.before.before.before.before.before.before.before.before.before.before.before.before.before.before.before.before.before.before.before.before.before.requires.0.in_range.ring_high)
 
 loop-again : tie.Need-loop-preserved invariant-loop decreases-loop
 loop-again c =

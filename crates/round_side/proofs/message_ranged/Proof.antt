@@ -27,7 +27,7 @@ returns-4 c =
     goes_on _ _ c.before.before.before.before.before.before.before.before.ballots_in_range.ensures (not-false c.before.before.before.before.before.before.before.before.ballots_in_range.result c.before.before.before.before.before.before.before.if1.false)
     (goes_on _ _ (c.before.before.before.before.before.is_message.ensures ∙ ap (λ (p : ℕ). all_below p c.before.before.before.before.before.before.before.before.before.before.before.before.before.before.args.claims.now) c.before.before.before.before.before.before.plain.ensures) (not-false c.before.before.before.before.before.is_message.result c.before.before.before.before.if2.false)
     (goes_on _ _ c.before.before.before.head_ranged_lem.ensures (not-false c.before.before.before.head_ranged_lem.result c.before.before.if3.false)
-    (fails _ _ c.before.in_range_lem.ensures (not-true c.before.in_range_lem.result c.if4.true))))
+    (fails _ _ c.before.in_range.ensures (not-true c.before.in_range.result c.if4.true))))
 
 returns-5 : tie.Need-returns-5
 unfolding vector
@@ -35,7 +35,7 @@ returns-5 c =
     goes_on _ _ c.before.before.before.before.before.before.before.before.before.ballots_in_range.ensures (not-false c.before.before.before.before.before.before.before.before.before.ballots_in_range.result c.before.before.before.before.before.before.before.before.if1.false)
     (goes_on _ _ (c.before.before.before.before.before.before.is_message.ensures ∙ ap (λ (p : ℕ). all_below p c.before.before.before.before.before.before.before.before.before.before.before.before.before.before.before.args.claims.now) c.before.before.before.before.before.before.before.plain.ensures) (not-false c.before.before.before.before.before.before.is_message.result c.before.before.before.before.before.if2.false)
     (goes_on _ _ c.before.before.before.before.head_ranged_lem.ensures (not-false c.before.before.before.before.head_ranged_lem.result c.before.before.before.if3.false)
-    (goes_on _ _ c.before.before.in_range_lem.ensures (not-false c.before.before.in_range_lem.result c.before.if4.false) c.in_range-2.ensures)))
+    (goes_on _ _ c.before.before.in_range.ensures (not-false c.before.before.in_range.result c.before.if4.false) c.in_range-2.ensures)))
 
 pub message_ranged_spec : {M : Type 1} → statement M
 message_ranged_spec = tie.close (tie.spec (λ c κs. search rules) returns (λ c κs. search rules) (λ c κs. search rules) returns-2 (λ c κs. search rules) returns-3 (λ c κs. search rules) returns-4 (λ c κs. search rules) returns-5)

@@ -19,7 +19,7 @@ unfolding opening_ranged
 returns c =
     let a = c.before.before.before.before.args in
     let s = a.opening.now in
-    fails (all_below a.k.modulus (list (2 * a.k.ring) (poly s))) (all_below 3 (part s (16 * a.k.ring) (6 * a.k.ring))) (c.before.in_range_lem.ensures ∙ front_range a.k.modulus s (16 * a.k.ring - 0) (2 * a.k.ring) (omega arith) (omega (arith, c.before.before.before.before.requires.1))) (not-true c.before.in_range_lem.result c.if1.true)
+    fails (all_below a.k.modulus (list (2 * a.k.ring) (poly s))) (all_below 3 (part s (16 * a.k.ring) (6 * a.k.ring))) (c.before.in_range.ensures ∙ front_range a.k.modulus s (16 * a.k.ring - 0) (2 * a.k.ring) (omega arith) (omega (arith, c.before.before.before.before.requires.1))) (not-true c.before.in_range.result c.if1.true)
 
 returns-2 : tie.Need-returns-2
 unfolding opening_ranged
@@ -27,7 +27,7 @@ returns-2 c =
     let a = c.before.before.before.before.before.before.args in
     let s = a.opening.now in
     let e : 22 * a.k.ring - 16 * a.k.ring ≡ 6 * a.k.ring = omega arith in
-    goes_on (all_below a.k.modulus (list (2 * a.k.ring) (poly s))) (all_below 3 (part s (16 * a.k.ring) (6 * a.k.ring))) (c.before.before.before.in_range_lem.ensures ∙ front_range a.k.modulus s (16 * a.k.ring - 0) (2 * a.k.ring) (omega arith) (omega (arith, c.before.before.before.before.before.before.requires.1))) (not-false c.before.before.before.in_range_lem.result c.before.before.if1.false)
+    goes_on (all_below a.k.modulus (list (2 * a.k.ring) (poly s))) (all_below 3 (part s (16 * a.k.ring) (6 * a.k.ring))) (c.before.before.before.in_range.ensures ∙ front_range a.k.modulus s (16 * a.k.ring - 0) (2 * a.k.ring) (omega arith) (omega (arith, c.before.before.before.before.before.before.requires.1))) (not-false c.before.before.before.in_range.result c.before.before.if1.false)
     (c.is_ternary.ensures ∙ ap (λ (k : ℕ). all_below 3 (take k (drop (16 * a.k.ring) s))) e)
 
 pub opening_ranged_spec : {M : Type 1} → statement M

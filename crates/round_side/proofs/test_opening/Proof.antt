@@ -12,16 +12,16 @@ use Rattle.round_side.proofs.test_opening.Statement.{statement}
 use Rattle.round_side.proofs.test_opening.Tie as tie
 
 mul-opens-key-2 : tie.Need-overflow-mul-opens-key-2
-mul-opens-key-2 c = omega (arith, half_ends c.before.before.before.before.before.args.k.ring c.before.before.before.before.before.args.side c.before.before.before.before.before.requires.4, c.before.before.before.before.before.requires.0.numbers.in_range_lem.ring_high)
+mul-opens-key-2 c = omega (arith, half_ends c.before.before.before.before.before.args.k.ring c.before.before.before.before.before.args.side c.before.before.before.before.before.requires.4, c.before.before.before.before.before.requires.0.numbers.in_range.ring_high)
 
 opens-key-requires : tie.Need-opens-key-requires
 opens-key-requires c κs = let p = c.before.before.before.before.before.requires in (p.0, p.1, p.2, omega (arith, half_ends c.before.before.before.before.before.args.k.ring c.before.before.before.before.before.args.side p.4, p.3))
 
 mul-opens-pairs-3 : tie.Need-overflow-mul-opens-pairs-3
-mul-opens-pairs-3 c = omega (arith, pairs_end c.before.before.before.before.before.before.before.before.before.before.args.k.ring c.before.before.before.before.before.before.before.before.before.before.args.side c.before.before.before.before.before.before.before.before.before.before.requires.4, c.before.before.before.before.before.before.before.before.before.before.requires.0.numbers.in_range_lem.ring_high)
+mul-opens-pairs-3 c = omega (arith, pairs_end c.before.before.before.before.before.before.before.before.before.before.args.k.ring c.before.before.before.before.before.before.before.before.before.before.args.side c.before.before.before.before.before.before.before.before.before.before.requires.4, c.before.before.before.before.before.before.before.before.before.before.requires.0.numbers.in_range.ring_high)
 
 add-opens-pairs : tie.Need-overflow-add-opens-pairs
-add-opens-pairs c = omega (arith, pairs_end c.before.before.before.before.before.before.before.before.before.before.args.k.ring c.before.before.before.before.before.before.before.before.before.before.args.side c.before.before.before.before.before.before.before.before.before.before.requires.4, c.before.before.before.before.before.before.before.before.before.before.requires.0.numbers.in_range_lem.ring_high)
+add-opens-pairs c = omega (arith, pairs_end c.before.before.before.before.before.before.before.before.before.before.args.k.ring c.before.before.before.before.before.before.before.before.before.before.args.side c.before.before.before.before.before.before.before.before.before.before.requires.4, c.before.before.before.before.before.before.before.before.before.before.requires.0.numbers.in_range.ring_high)
 
 returns : tie.Need-returns
 returns c =

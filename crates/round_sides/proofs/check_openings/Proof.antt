@@ -18,7 +18,7 @@ openings-ranged-requires : tie.Need-openings-ranged-requires
 openings-ranged-requires c κs =
     let p = c.before.before.before.before.before.before.before.before.before.before.before.before.requires in
     let l = p.3 in
-    (p.0.numbers.in_range_lem.ring_high, p.2, record { ballots = l.ballots; head = omega (arith, l.head); opening0 = l.opening0; opening1 = l.opening1; answer1 = l.answer1; answer2 = l.answer2; answer3 = l.answer3 })
+    (p.0.numbers.in_range.ring_high, p.2, record { ballots = l.ballots; head = omega (arith, l.head); opening0 = l.opening0; opening1 = l.opening1; answer1 = l.answer1; answer2 = l.answer2; answer3 = l.answer3 })
 
 returns : tie.Need-returns
 unfolding extract_tests

@@ -23,7 +23,7 @@ shared-slice-read-challenge : tie.Need-shared-slice-read-challenge invariant-loo
 shared-slice-read-challenge c = omega (arith, c.before.before.before.before.before.before.before.before.before.requires.2)
 
 answer-length-requires : tie.Need-answer-length-requires invariant-loop decreases-loop
-answer-length-requires c κs = c.before.before.before.before.before.before.before.before.before.requires.0.in_range_lem.ring_high
+answer-length-requires c κs = c.before.before.before.before.before.before.before.before.before.requires.0.in_range.ring_high
 
 answer-at-requires : tie.Need-answer-at-requires invariant-loop decreases-loop
 answer-at-requires c κs =
@@ -33,9 +33,9 @@ answer-at-requires c κs =
     let s = c.before.answer_length.ensures in
     let e = drawn_ends a.k.ring a.k.repeats l.i l.vector l.permutation l.salt l.invariant.placed (omega arith) a.k.modulus a.secrets.now a.vectors.now a.permutations.now a.salts.now p.1 in
     let y = answer_ends a.k.modulus a.k.ring a.k.repeats a.secrets.now a.vectors.now a.permutations.now a.salts.now a.challenges.now a.answers.now p.1 p.2 p.3 l.i l.at l.vector l.permutation l.salt l.answers l.invariant (omega arith) in (
-      p.0.in_range_lem.ring_high,
-      p.0.in_range_lem.modulus_low,
-      p.0.in_range_lem.modulus_high,
+      p.0.in_range.ring_high,
+      p.0.in_range.modulus_low,
+      p.0.in_range.modulus_high,
       s,
       omega (arith, s, y),
       e.0,
@@ -53,19 +53,19 @@ add_at c =
     omega (arith, c.before.before.before.before.answer_length.ensures, c.before.before.answer_at.auto.0)
 
 mul-vector : tie.Need-overflow-mul-vector invariant-loop decreases-loop
-mul-vector c = omega (arith, c.before.before.before.before.before.before.before.before.before.before.before.before.before.before.requires.0.in_range_lem.ring_high)
+mul-vector c = omega (arith, c.before.before.before.before.before.before.before.before.before.before.before.before.before.before.requires.0.in_range.ring_high)
 
 mul-permutation : tie.Need-overflow-mul-permutation invariant-loop decreases-loop
-mul-permutation c = omega (arith, c.before.before.before.before.before.before.before.before.before.before.before.before.before.before.requires.0.in_range_lem.ring_high)
+mul-permutation c = omega (arith, c.before.before.before.before.before.before.before.before.before.before.before.before.before.before.requires.0.in_range.ring_high)
 
 add_vector : tie.Need-overflow-add-vector invariant-loop decreases-loop
-add_vector c = let a = c.before.before.before.before.before.before.before.before.before.before.before.before.before.before.args in let l = c.before.before.before.before.before.before.before.loop in omega (arith, (placed_fit a.k.ring a.k.repeats l.i l.vector l.permutation l.salt l.invariant.placed (omega arith) c.before.before.before.before.before.before.before.before.before.before.before.before.before.before.requires.0.in_range_lem.ring_high c.before.before.before.before.before.before.before.before.before.before.before.before.before.before.requires.0.in_range_lem.repeats_high).0)
+add_vector c = let a = c.before.before.before.before.before.before.before.before.before.before.before.before.before.before.args in let l = c.before.before.before.before.before.before.before.loop in omega (arith, (placed_fit a.k.ring a.k.repeats l.i l.vector l.permutation l.salt l.invariant.placed (omega arith) c.before.before.before.before.before.before.before.before.before.before.before.before.before.before.requires.0.in_range.ring_high c.before.before.before.before.before.before.before.before.before.before.before.before.before.before.requires.0.in_range.repeats_high).0)
 
 add-permutation : tie.Need-overflow-add-permutation invariant-loop decreases-loop
-add-permutation c = let a = c.before.before.before.before.before.before.before.before.before.before.before.before.before.before.args in let l = c.before.before.before.before.before.before.before.loop in omega (arith, (placed_fit a.k.ring a.k.repeats l.i l.vector l.permutation l.salt l.invariant.placed (omega arith) c.before.before.before.before.before.before.before.before.before.before.before.before.before.before.requires.0.in_range_lem.ring_high c.before.before.before.before.before.before.before.before.before.before.before.before.before.before.requires.0.in_range_lem.repeats_high).1)
+add-permutation c = let a = c.before.before.before.before.before.before.before.before.before.before.before.before.before.before.args in let l = c.before.before.before.before.before.before.before.loop in omega (arith, (placed_fit a.k.ring a.k.repeats l.i l.vector l.permutation l.salt l.invariant.placed (omega arith) c.before.before.before.before.before.before.before.before.before.before.before.before.before.before.requires.0.in_range.ring_high c.before.before.before.before.before.before.before.before.before.before.before.before.before.before.requires.0.in_range.repeats_high).1)
 
 add-salt : tie.Need-overflow-add-salt invariant-loop decreases-loop
-add-salt c = let a = c.before.before.before.before.before.before.before.before.before.before.before.before.before.before.args in let l = c.before.before.before.before.before.before.before.loop in omega (arith, (placed_fit a.k.ring a.k.repeats l.i l.vector l.permutation l.salt l.invariant.placed (omega arith) c.before.before.before.before.before.before.before.before.before.before.before.before.before.before.requires.0.in_range_lem.ring_high c.before.before.before.before.before.before.before.before.before.before.before.before.before.before.requires.0.in_range_lem.repeats_high).2)
+add-salt c = let a = c.before.before.before.before.before.before.before.before.before.before.before.before.before.before.args in let l = c.before.before.before.before.before.before.before.loop in omega (arith, (placed_fit a.k.ring a.k.repeats l.i l.vector l.permutation l.salt l.invariant.placed (omega arith) c.before.before.before.before.before.before.before.before.before.before.before.before.before.before.requires.0.in_range.ring_high c.before.before.before.before.before.before.before.before.before.before.before.before.before.before.requires.0.in_range.repeats_high).2)
 
 loop-again : tie.Need-loop-preserved invariant-loop decreases-loop
 loop-again c =

@@ -16,7 +16,7 @@ write-head-requires : tie.Need-write-head-requires
 write-head-requires c κs = let p = c.before.before.before.before.before.before.before.before.before.before.before.before.before.before.before.before.before.requires.0 in let r = c.before.before.before.before.before.before.before.before.before.before.before.before.before.before.before.before.before.requires.1 in (p, r.s0, r.e0, r.scratch, r.head, r.drawings)
 
 count-of-requires : tie.Need-count-of-requires
-count-of-requires c κs = c.before.before.before.before.before.before.before.before.before.before.before.before.before.before.before.before.before.before.before.before.before.before.requires.0.numbers.in_range_lem.ring_high
+count-of-requires c κs = c.before.before.before.before.before.before.before.before.before.before.before.before.before.before.before.before.before.before.before.before.before.before.requires.0.numbers.in_range.ring_high
 
 write-ballots-requires : tie.Need-write-ballots-requires
 write-ballots-requires c κs =

@@ -51,8 +51,8 @@ noise-requires c κs =
     let u = c.before.before.before.before.before.before.before.before.before.before.before.before.requires in
     let went : Taken ≡ first (tests c.before.before.before.before.before.before.before.before.before.before.before.before) = follows 1 c.before.before.before.before.before.before.before.sized.ensures _ c.before.before.before.before.before.before.if1.false (follows 5 c.before.before.before.before.before.ternary_and_in_range.ensures _ c.before.before.before.before.if2.false done) in
     let p = decrypt_passed a.k a.s.now a.ciphertext.now a.vote.now a.scratch.now went in (
-      half_public n a.k.modulus u.in_range_lem.ring_low u.in_range_lem.ring_high u.in_range_lem.modulus_low u.in_range_lem.modulus_high a.ciphertext.now p.1 p.2 0 0 (8 * n - 0) (omega arith) (omega arith) (omega arith),
-      half_public n a.k.modulus u.in_range_lem.ring_low u.in_range_lem.ring_high u.in_range_lem.modulus_low u.in_range_lem.modulus_high a.ciphertext.now p.1 p.2 n (8 * n) (16 * n - 8 * n) (omega arith) (omega arith) (omega arith),
+      half_public n a.k.modulus u.in_range.ring_low u.in_range.ring_high u.in_range.modulus_low u.in_range.modulus_high a.ciphertext.now p.1 p.2 0 0 (8 * n - 0) (omega arith) (omega arith) (omega arith),
+      half_public n a.k.modulus u.in_range.ring_low u.in_range.ring_high u.in_range.modulus_low u.in_range.modulus_high a.ciphertext.now p.1 p.2 n (8 * n) (16 * n - 8 * n) (omega arith) (omega arith) (omega arith),
       p.4,
       p.0,
     )
@@ -63,7 +63,7 @@ plain-requires-2 c κs =
     let u = c.before.before.before.before.before.before.before.before.before.before.before.before.before.before.before.before.before.requires in
     let o = c.before.before.before.before.noise.ensures in
     let e = c.before.before.before.before.before.before.before.before.plain.ensures in
-    (omega (arith, o.sized, length_asked _ _ 3 c.before.before.before.before.before.before.before.before.before.before.before.before.sized.ensures c.before.before.before.before.before.before.before.before.before.before.before.if1.false, u.in_range_lem.ring_high), length_asked _ _ 2 c.before.before.before.before.before.before.before.before.before.before.before.before.sized.ensures c.before.before.before.before.before.before.before.before.before.before.before.if1.false, omega (arith, u.in_range_lem.modulus_low), stands_below a.k.modulus a.k.ring _ _ _ o (omega (arith, u.in_range_lem.modulus_low)) u.in_range_lem.modulus_high, omega (arith, e, u.in_range_lem.plain_low), omega (arith, e, u.in_range_lem.plain_high), u.in_range_lem.modulus_high)
+    (omega (arith, o.sized, length_asked _ _ 3 c.before.before.before.before.before.before.before.before.before.before.before.before.sized.ensures c.before.before.before.before.before.before.before.before.before.before.before.if1.false, u.in_range.ring_high), length_asked _ _ 2 c.before.before.before.before.before.before.before.before.before.before.before.before.sized.ensures c.before.before.before.before.before.before.before.before.before.before.before.if1.false, omega (arith, u.in_range.modulus_low), stands_below a.k.modulus a.k.ring _ _ _ o (omega (arith, u.in_range.modulus_low)) u.in_range.modulus_high, omega (arith, e, u.in_range.plain_low), omega (arith, e, u.in_range.plain_high), u.in_range.modulus_high)
 
 returns-3 : tie.Need-returns-3
 unfolding same decrypt_writes
@@ -74,11 +74,11 @@ returns-3 c =
     let l = c.before.before.before.before.before.before.before.before.before.before.before.before.before.before.before.before.before.before.before.before.before.before.before.before.requires in
     let went : Taken ≡ first (tests c.before.before.before.before.before.before.before.before.before.before.before.before.before.before.before.before.before.before.before.before.before.before.before.before) = follows 1 c.before.before.before.before.before.before.before.before.before.before.before.before.before.before.before.before.before.before.before.sized.ensures _ c.before.before.before.before.before.before.before.before.before.before.before.before.before.before.before.before.before.before.if1.false (follows 5 c.before.before.before.before.before.before.before.before.before.before.before.before.before.before.before.before.before.ternary_and_in_range.ensures _ c.before.before.before.before.before.before.before.before.before.before.before.before.before.before.before.before.if2.false done) in
     let p = decrypt_passed a.k a.s.now a.ciphertext.now a.vote.now a.scratch.now went in
-    let u = half_alike n q l.in_range_lem.ring_low l.in_range_lem.ring_high l.in_range_lem.modulus_low l.in_range_lem.modulus_high a.ciphertext.now p.1 p.2 0 0 (8 * n - 0) (omega arith) (omega arith) (omega arith) in
-    let v = half_alike n q l.in_range_lem.ring_low l.in_range_lem.ring_high l.in_range_lem.modulus_low l.in_range_lem.modulus_high a.ciphertext.now p.1 p.2 n (8 * n) (16 * n - 8 * n) (omega arith) (omega arith) (omega arith) in
+    let u = half_alike n q l.in_range.ring_low l.in_range.ring_high l.in_range.modulus_low l.in_range.modulus_high a.ciphertext.now p.1 p.2 0 0 (8 * n - 0) (omega arith) (omega arith) (omega arith) in
+    let v = half_alike n q l.in_range.ring_low l.in_range.ring_high l.in_range.modulus_low l.in_range.modulus_high a.ciphertext.now p.1 p.2 n (8 * n) (16 * n - 8 * n) (omega arith) (omega arith) (omega arith) in
     let o = stands_alike c.before.before.before.before.before.before.before.before.before.before.before.noise.ensures (noise_alike q n (ternary q a.s.now) u v) in
     let voted = ap (λ (i : ℕ). list n (plaintext q i (noise_in q n (ternary q a.s.now) (slot a.ciphertext.now 0) (slot a.ciphertext.now (8 * n))))) c.before.before.before.before.before.before.before.before.before.before.before.before.before.before.before.plain.ensures in
-    worked_taken went refl (c.before.before.before.before.before.before.plain2.ensures ∙ plain_stands q _ n _ _ _ (omega (arith, l.in_range_lem.modulus_low)) l.in_range_lem.modulus_high o ∙ voted) (c.before.before.wipe.ensures ∙ ap zeros o.sized)
+    worked_taken went refl (c.before.before.before.before.before.before.plain2.ensures ∙ plain_stands q _ n _ _ _ (omega (arith, l.in_range.modulus_low)) l.in_range.modulus_high o ∙ voted) (c.before.before.wipe.ensures ∙ ap zeros o.sized)
 
 pub decrypt_spec : {M : Type 1} → statement M
 decrypt_spec = tie.close (tie.spec (λ c. search rules) (λ c κs. search rules) (λ c κs. search rules) returns (λ c. search rules) ternary-and-in-range-requires (λ c κs. search rules) returns-2 (λ c κs. search rules) (λ c. search rules) (λ c. search rules) (λ c. search rules) part-noise-end (λ c. search rules) (λ c. search rules) (λ c. search rules) (λ c. search rules) part-noise-end-2 noise-requires plain-requires-2 (λ c κs. search rules) (λ c. search rules) (λ c. search rules) returns-3)

@@ -72,8 +72,8 @@ add-message-requires c κs =
     let u = c.before.before.before.before.before.before.before.before.before.before.before.before.before.before.before.before.before.before.before.before.before.before.before.before.before.before.before.before.before.before.requires.numbers in
     let ranged = c.before.before.before.before.before.before.before.before.before.before.before.before.before.before.before.before.before.before.before.encrypt_ranged.ensures ∙ ap (λ (p : ℕ). bytes_below 3 (a.r.now ∷ a.e1.now ∷ a.e2.now ∷ []) && bytes_below p (a.m.now ∷ [])) c.before.before.before.before.before.before.before.before.before.before.before.before.before.before.before.before.before.before.before.before.plain.ensures in
     let h = encrypt_passed a.k a.r.now a.e1.now a.e2.now a.m.now a.ciphertext.now a.scratch.now u.plain_below (follows 1 c.before.before.before.before.before.before.before.before.before.before.before.before.before.before.before.before.before.before.before.before.before.before.sized.ensures _ c.before.before.before.before.before.before.before.before.before.before.before.before.before.before.before.before.before.before.before.before.before.if1.false (follows 5 ranged _ c.before.before.before.before.before.before.before.before.before.before.before.before.before.before.before.before.before.before.if2.false done)) in
-    let some = u.in_range_lem.modulus_low in
-    (u.in_range_lem.ring_high, u.in_range_lem.modulus_low, u.in_range_lem.modulus_high, omega (arith, h.6, c.before.before.before.before.before.before.before.before.before.before.before.before.before.before.before.noisy.auto.0, c.before.before.before.before.before.before.before.before.before.before.hand_out.auto.1, c.before.before.before.noisy2.auto.0), h.3, h.4, holds_below (omega arith) (stands_holds (omega arith) u.in_range_lem.modulus_high c.before.before.before.noisy2.ensures))
+    let some = u.in_range.modulus_low in
+    (u.in_range.ring_high, u.in_range.modulus_low, u.in_range.modulus_high, omega (arith, h.6, c.before.before.before.before.before.before.before.before.before.before.before.before.before.before.before.noisy.auto.0, c.before.before.before.before.before.before.before.before.before.before.hand_out.auto.1, c.before.before.before.noisy2.auto.0), h.3, h.4, holds_below (omega arith) (stands_holds (omega arith) u.in_range.modulus_high c.before.before.before.noisy2.ensures))
 
 mul-hand-out : tie.Need-overflow-mul-hand-out
 mul-hand-out c = let h = c.before.before.before.before.before.before.before.requires.a.ring_high in search rules
@@ -92,8 +92,8 @@ returns-3 c =
     let k = a.k in
     let q = k.modulus in
     let n = k.ring in
-    let few = c.before.before.before.before.before.before.before.before.before.before.before.before.before.before.before.before.before.before.before.before.before.before.before.before.before.before.before.before.before.before.before.before.before.before.before.before.before.before.before.before.requires.numbers.in_range_lem.modulus_high in
-    let some = c.before.before.before.before.before.before.before.before.before.before.before.before.before.before.before.before.before.before.before.before.before.before.before.before.before.before.before.before.before.before.before.before.before.before.before.before.before.before.before.before.requires.numbers.in_range_lem.modulus_low in
+    let few = c.before.before.before.before.before.before.before.before.before.before.before.before.before.before.before.before.before.before.before.before.before.before.before.before.before.before.before.before.before.before.before.before.before.before.before.before.before.before.before.before.requires.numbers.in_range.modulus_high in
+    let some = c.before.before.before.before.before.before.before.before.before.before.before.before.before.before.before.before.before.before.before.before.before.before.before.before.before.before.before.before.before.before.before.before.before.before.before.before.before.before.before.before.requires.numbers.in_range.modulus_low in
     let l = length a.scratch.now in
     let ranged = c.before.before.before.before.before.before.before.before.before.before.before.before.before.before.before.before.before.before.before.before.before.before.before.before.before.before.before.before.before.encrypt_ranged.ensures ∙ ap (λ (p : ℕ). bytes_below 3 (a.r.now ∷ a.e1.now ∷ a.e2.now ∷ []) && bytes_below p (a.m.now ∷ [])) c.before.before.before.before.before.before.before.before.before.before.before.before.before.before.before.before.before.before.before.before.before.before.before.before.before.before.before.before.before.before.plain.ensures in
     let x = handed c.before.before.before.before.before.before.before.before.before.before.before.before.before.before.before.before.before.before.before.before.before.before.before.before.before.noisy.ensures c.before.before.before.before.before.before.before.before.before.before.before.before.before.before.before.before.before.before.before.before.hand_out.ensures in

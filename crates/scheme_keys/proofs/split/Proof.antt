@@ -35,7 +35,7 @@ halves s went = let a = s.args in (split_passed a.k s.requires.numbers a.s.now a
 
 -- the other half of s or of e, where it is put at the head of scratch
 stands : (s : tie.Start) (f : Poly) (w w1 : Bytes) → let k = s.args.k in length w ≡ 1048576 → w1 ≡ put w 0 (coefficient_bytes k.modulus k.ring f) → InSlot k.modulus k.ring f w w1
-stands s f w w1 l e = let k = s.args.k in let u = s.requires.numbers in stands_put k.modulus k.ring u.in_range_lem.ring_high u.in_range_lem.modulus_low u.in_range_lem.modulus_high f w w1 l e
+stands s f w w1 l e = let k = s.args.k in let u = s.requires.numbers in stands_put k.modulus k.ring u.in_range.ring_high u.in_range.modulus_low u.in_range.modulus_high f w w1 l e
 
 mul-t20 : tie.Need-overflow-mul-t20
 mul-t20 c = let h = c.before.before.before.before.before.before.before.requires.a.ring_high in search rules

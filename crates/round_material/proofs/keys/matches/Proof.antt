@@ -38,10 +38,10 @@ returns c =
     let s = a.secrets.now in
     let made = c.before.before.before.before.before.before.noisy in
     let b : Bytes = take (16 * n - 8 * n) (drop (8 * n) a.public.now) in
-    let in_range_lem : Polynomial n q b = subst (Polynomial n q) (sym (b_cut a.k a.public.now)) p.0.b in
+    let in_range : Polynomial n q b = subst (Polynomial n q) (sym (b_cut a.k a.public.now)) p.0.b in
     let octets : Octets b = octets_part a.public.now (8 * n) (16 * n - 8 * n) (λ i l. omega (arith, c.before.before.before.before.before.before.before.before.before.before.before.before.before.shared-slice-known.given i)) in
     let x : 8 * n - 0 ≡ 8 * n = omega arith in
-    let is_key = c.equal.ensures ∙ ap (λ (k : ℕ). same (take k made.new.0) b) x ∙ ap₂ same made.ensures.bytes (encode_bytes q n b octets in_range_lem.sized in_range_lem.below)
+    let is_key = c.equal.ensures ∙ ap (λ (k : ℕ). same (take k made.new.0) b) x ∙ ap₂ same made.ensures.bytes (encode_bytes q n b octets in_range.sized in_range.below)
     ∙ ap (λ (i : ℕ). same (coefficient_bytes q n (key q n i (poly (take (8 * n - 0) a.public.now)) (ternary q (take (n - 0) s)) (ternary q (take (2 * n - n) (drop n s))))) (coefficient_bytes q n (poly b))) c.before.before.before.before.before.before.before.plain.ensures in
     (key_cut a.k a.public.now s is_key, made.ensures.sized)
 

@@ -42,10 +42,10 @@ is-quiet-at-requires c κs =
     let p = c.before.before.before.before.before.before.before.requires in
     let l = c.before.before.loop in
     let h : l.at + ballot_length n ≤ ballot_length n * a.count = walked_ends l.invariant.1 (omega arith) in (
-      p.0.in_range_lem.ring_low,
-      p.0.in_range_lem.ring_high,
-      p.0.in_range_lem.modulus_low,
-      p.0.in_range_lem.modulus_high,
+      p.0.in_range.ring_low,
+      p.0.in_range.ring_high,
+      p.0.in_range.modulus_low,
+      p.0.in_range.modulus_high,
       l.invariant.0 ∙ p.2,
       p.3,
       omega (arith, p.4),

@@ -36,7 +36,7 @@ is-permutation-requires c κs =
     let l = c.before.before.before.loop in
     let h : l.at + 168 * n ≤ 168 * n * a.k.repeats = walked_ends l.invariant.1 (omega arith) in (
       omega (arith, lent_length a.permutations.now l.at (l.at + 168 * n - l.at) (168 * n) (omega arith) (omega (arith, c.before.before.before.before.before.before.requires.2))),
-      omega (arith, l.invariant.0, c.before.before.before.before.before.before.requires.1, c.before.before.before.before.before.before.requires.0.in_range_lem.ring_high),
+      omega (arith, l.invariant.0, c.before.before.before.before.before.before.requires.1, c.before.before.before.before.before.before.requires.0.in_range.ring_high),
     )
 
 -- the marks are made in scratch, and its length is kept
@@ -50,7 +50,7 @@ returns c =
     let b = c.before.before.before.is_permutation in
     let e : l.at + 168 * a.k.ring - l.at ≡ 168 * a.k.ring = omega arith in (
       walked_refused l.invariant.1 9 (omega arith) (sym (b.ensures.0 ∙ ap₂ (λ (x y : ℕ). permutes (42 * a.k.ring) (entries (part a.permutations.now x y))) l.invariant.1.place e) ∙ not-true b.result c.if1.true),
-      kept a.k.ring l.work _ (omega (arith, l.invariant.0, c.before.before.before.before.before.before.before.before.before.before.requires.1, c.before.before.before.before.before.before.before.before.before.before.requires.0.in_range_lem.ring_high)) b.ensures.1 ∙ l.invariant.0,
+      kept a.k.ring l.work _ (omega (arith, l.invariant.0, c.before.before.before.before.before.before.before.before.before.before.requires.1, c.before.before.before.before.before.before.before.before.before.before.requires.0.in_range.ring_high)) b.ensures.1 ∙ l.invariant.0,
     )
 
 loop-again : tie.Need-loop-preserved invariant-loop decreases-loop
@@ -59,7 +59,7 @@ loop-again c =
     let l = c.before.before.before.before.before.before.before.loop in
     let b = c.before.before.before.is_permutation in
     let e : l.at + 168 * a.k.ring - l.at ≡ 168 * a.k.ring = omega arith in (
-      kept a.k.ring l.work _ (omega (arith, l.invariant.0, c.before.before.before.before.before.before.before.before.before.before.requires.1, c.before.before.before.before.before.before.before.before.before.before.requires.0.in_range_lem.ring_high)) b.ensures.1 ∙ l.invariant.0,
+      kept a.k.ring l.work _ (omega (arith, l.invariant.0, c.before.before.before.before.before.before.before.before.before.before.requires.1, c.before.before.before.before.before.before.before.before.before.before.requires.0.in_range.ring_high)) b.ensures.1 ∙ l.invariant.0,
       walked_more l.invariant.1 _ (omega arith) (omega arith) (sym (b.ensures.0 ∙ ap₂ (λ (x y : ℕ). permutes (42 * a.k.ring) (entries (part a.permutations.now x y))) l.invariant.1.place e) ∙ not-false b.result c.if1.false),
     )
 

@@ -29,7 +29,7 @@ test-at-requires c κs =
     let a = c.before.before.before.before.before.before.before.before.before.args in
     let p = c.before.before.before.before.before.before.before.before.before.requires in
     let l = c.before.before.loop in
-    (p.0, p.1, l.invariant.long, ballot_stands a.k.modulus a.k.ring (plain a.k) (mask_bound_of a.k) a.s.now a.ballots.now a.claims.now a.side a.shares0.now a.shares1.now a.count l.j l.at l.claim l.share l.work l.invariant (omega arith) p.4 p.1.in_range_lem.ring_low p.1.in_range_lem.ring_high p.1.ring_found p.5 p.6 p.7)
+    (p.0, p.1, l.invariant.long, ballot_stands a.k.modulus a.k.ring (plain a.k) (mask_bound_of a.k) a.s.now a.ballots.now a.claims.now a.side a.shares0.now a.shares1.now a.count l.j l.at l.claim l.share l.work l.invariant (omega arith) p.4 p.1.in_range.ring_low p.1.in_range.ring_high p.1.ring_found p.5 p.6 p.7)
 
 returns : tie.Need-returns invariant-loop decreases-loop
 returns c =

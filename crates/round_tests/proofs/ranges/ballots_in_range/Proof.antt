@@ -51,7 +51,7 @@ returns : tie.Need-returns invariant-loop decreases-loop
 returns c =
     let a = c.before.before.before.before.before.before.args in
     let l = c.before.before.before.before.loop in
-    let b = c.before.in_range_lem in
+    let b = c.before.in_range in
     let r = ranged a.q a.n a.ballots.now (l.at + 4) (l.at + 4 + 16 * a.n - (l.at + 4)) (omega arith) (omega (arith, walked_ends l.invariant (omega arith), c.before.before.before.before.before.before.requires.2)) b.ensures in
     walked_fails l.invariant (omega arith) (sym (r ∙ ap (λ (x : ℕ). all_below a.q (list (2 * a.n) (slot a.ballots.now (x + 4)))) l.invariant.place) ∙ not-true b.result c.if1.true)
 
@@ -59,7 +59,7 @@ loop-again : tie.Need-loop-preserved invariant-loop decreases-loop
 loop-again c =
     let a = c.before.before.before.before.before.before.args in
     let l = c.before.before.before.before.loop in
-    let b = c.before.in_range_lem in
+    let b = c.before.in_range in
     let r = ranged a.q a.n a.ballots.now (l.at + 4) (l.at + 4 + 16 * a.n - (l.at + 4)) (omega arith) (omega (arith, walked_ends l.invariant (omega arith), c.before.before.before.before.before.before.requires.2)) b.ensures in
     walked_more l.invariant _ (omega arith) (omega arith) (sym (r ∙ ap (λ (x : ℕ). all_below a.q (list (2 * a.n) (slot a.ballots.now (x + 4)))) l.invariant.place) ∙ not-false b.result c.if1.false)
 

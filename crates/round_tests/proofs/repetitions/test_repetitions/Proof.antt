@@ -26,16 +26,16 @@ answer-length-requires : tie.Need-answer-length-requires invariant-loop decrease
 answer-length-requires c κs = c.before.before.before.before.before.before.before.before.requires.0.a.ring_high
 
 cast-test-at : tie.Need-overflow-cast-test-at invariant-loop decreases-loop
-cast-test-at c = omega (arith, c.before.before.before.before.before.before.before.before.before.before.requires.0.numbers.in_range_lem.repeats_high, c.before.before.before.before.loop.invariant.within)
+cast-test-at c = omega (arith, c.before.before.before.before.before.before.before.before.before.before.requires.0.numbers.in_range.repeats_high, c.before.before.before.before.loop.invariant.within)
 
 mul-test-at : tie.Need-overflow-mul-test-at invariant-loop decreases-loop
 mul-test-at c = omega (arith, c.before.before.before.before.before.before.before.before.before.before.requires.0.a.ring_high)
 
 mul-test-at-2 : tie.Need-overflow-mul-test-at-2 invariant-loop decreases-loop
-mul-test-at-2 c = omega (arith, c.before.before.before.before.before.before.before.before.before.before.requires.0.numbers.in_range_lem.repeats_high, c.before.before.before.before.loop.invariant.within)
+mul-test-at-2 c = omega (arith, c.before.before.before.before.before.before.before.before.before.before.requires.0.numbers.in_range.repeats_high, c.before.before.before.before.loop.invariant.within)
 
 add-test-at : tie.Need-overflow-add-test-at invariant-loop decreases-loop
-add-test-at c = omega (arith, c.before.before.before.before.before.before.before.before.before.before.requires.0.a.ring_high, c.before.before.before.before.before.before.before.before.before.before.requires.0.numbers.in_range_lem.repeats_high, c.before.before.before.before.loop.invariant.within)
+add-test-at c = omega (arith, c.before.before.before.before.before.before.before.before.before.before.requires.0.a.ring_high, c.before.before.before.before.before.before.before.before.before.before.requires.0.numbers.in_range.repeats_high, c.before.before.before.before.loop.invariant.within)
 
 test-at-requires : tie.Need-test-at-requires invariant-loop decreases-loop
 test-at-requires c κs =
@@ -66,7 +66,7 @@ add_at : tie.Need-overflow-add-at invariant-loop decreases-loop
 add_at c =
     let a = c.before.before.before.before.before.before.before.before.before.before.before.before.before.before.before.args in
     let l = c.before.before.before.before.before.before.before.before.before.loop in
-    omega (arith, c.before.before.before.before.before.before.answer_length.ensures, answer_ends a.k.modulus a.k.ring (keys_of a.k.ring (key_bytes a.k a.public.now)) a.head.now a.challenges.now a.answers.now a.k.repeats l.i l.at l.work l.invariant (omega arith) c.before.before.before.before.before.before.before.before.before.before.before.before.before.before.before.requires.4, answer_fits a.k.modulus a.k.ring (keys_of a.k.ring (key_bytes a.k a.public.now)) a.head.now a.challenges.now a.answers.now a.k.repeats l.i l.at l.work l.invariant (omega arith) c.before.before.before.before.before.before.before.before.before.before.before.before.before.before.before.requires.4 c.before.before.before.before.before.before.before.before.before.before.before.before.before.before.before.requires.0.a.ring_high c.before.before.before.before.before.before.before.before.before.before.before.before.before.before.before.requires.0.numbers.in_range_lem.repeats_high)
+    omega (arith, c.before.before.before.before.before.before.answer_length.ensures, answer_ends a.k.modulus a.k.ring (keys_of a.k.ring (key_bytes a.k a.public.now)) a.head.now a.challenges.now a.answers.now a.k.repeats l.i l.at l.work l.invariant (omega arith) c.before.before.before.before.before.before.before.before.before.before.before.before.before.before.before.requires.4, answer_fits a.k.modulus a.k.ring (keys_of a.k.ring (key_bytes a.k a.public.now)) a.head.now a.challenges.now a.answers.now a.k.repeats l.i l.at l.work l.invariant (omega arith) c.before.before.before.before.before.before.before.before.before.before.before.before.before.before.before.requires.4 c.before.before.before.before.before.before.before.before.before.before.before.before.before.before.before.requires.0.a.ring_high c.before.before.before.before.before.before.before.before.before.before.before.before.before.before.before.requires.0.numbers.in_range.repeats_high)
 
 loop-again : tie.Need-loop-preserved invariant-loop decreases-loop
 loop-again c =

@@ -27,7 +27,7 @@ cast-if1 c = omega (arith, c.shared-slice-known3.given c.before.before.before.lo
 
 residue-requires : tie.Need-residue-requires invariant-loop decreases-loop
 unfolding poly
-residue-requires c κs = let p = c.before.before.before.before.before.before.before.requires in (rw c.before.read64.ensures (p.3.at c.before.before.before.loop.i (omega arith)), p.0.in_range_lem.modulus_high, omega (arith, p.0.in_range_lem.plain_low, c.before.before.before.before.plain.ensures))
+residue-requires c κs = let p = c.before.before.before.before.before.before.before.requires in (rw c.before.read64.ensures (p.3.at c.before.before.before.loop.i (omega arith)), p.0.in_range.modulus_high, omega (arith, p.0.in_range.plain_low, c.before.before.before.before.plain.ensures))
 
 returns : tie.Need-returns invariant-loop decreases-loop
 unfolding plaintext poly

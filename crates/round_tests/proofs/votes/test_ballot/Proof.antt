@@ -20,7 +20,7 @@ mask-within-requires c κs =
     let p = c.before.before.before.before.before.before.before.before.before.before.before.requires in
     let u = p.0 in
     let e = c.before.before.plain.ensures in
-    (p.1, p.2, p.6, p.7, omega (arith, e, u.in_range_lem.plain_low), omega (arith, e, u.in_range_lem.plain_high), rw e u.apart)
+    (p.1, p.2, p.6, p.7, omega (arith, e, u.in_range.plain_low), omega (arith, e, u.in_range.plain_high), rw e u.apart)
 
 returns : tie.Need-returns
 returns c =

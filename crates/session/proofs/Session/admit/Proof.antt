@@ -30,7 +30,7 @@ returns-4 : tie.Need-returns-4
 returns-4 c =
     let a = c.before.before.before.before.before.before.before.before.before.before.before.before.args in
     let due = sym c.before.before.before.before.before.before.before.is_in.ensures ∙ not-false _ c.before.before.before.before.before.before.if1.false in
-    let range = sym (ranged a.self.numbers.modulus a.ballot.now (omega (arith, c.before.before.before.before.if3.false)) c.before.before.in_range_lem.ensures) ∙ not-true _ c.before.if4.true in
+    let range = sym (ranged a.self.numbers.modulus a.ballot.now (omega (arith, c.before.before.before.before.if3.false)) c.before.before.in_range.ensures) ∙ not-true _ c.before.if4.true in
     stays _ _ (admit_range _ _ _ due c.before.before.before.before.before.if2.false c.before.before.before.before.if3.false range) refl c.refused4.ensures
 
 admit-requires : tie.Need-admit-requires
@@ -44,7 +44,7 @@ unfolding entered_by leaves
 returns-5 c =
     let a = c.before.before.before.before.before.before.before.before.before.before.before.before.before.before.before.before.before.before.args in
     let due = sym c.before.before.before.before.before.before.before.before.before.before.before.before.before.is_in.ensures ∙ not-false _ c.before.before.before.before.before.before.before.before.before.before.before.before.if1.false in
-    let range = sym (ranged a.self.numbers.modulus a.ballot.now (omega (arith, c.before.before.before.before.before.before.before.before.before.before.if3.false)) c.before.before.before.before.before.before.before.before.in_range_lem.ensures) ∙ not-false _ c.before.before.before.before.before.before.before.if4.false in
+    let range = sym (ranged a.self.numbers.modulus a.ballot.now (omega (arith, c.before.before.before.before.before.before.before.before.before.before.if3.false)) c.before.before.before.before.before.before.before.before.in_range.ensures) ∙ not-false _ c.before.before.before.before.before.before.before.if4.false in
     decides _ _ _ (admit_on _ _ _ due c.before.before.before.before.before.before.before.before.before.before.before.if2.false c.before.before.before.before.before.before.before.before.before.before.if3.false range) refl c.before.before.before.before.before.admit.ensures (rw (c.before.enum_told.given.1, c.with_entry.ensures))
 
 returns-6 : tie.Need-returns-6
@@ -52,7 +52,7 @@ unfolding leaves
 returns-6 c =
     let a = c.before.before.before.before.before.before.before.before.before.before.before.before.before.before.before.before.before.args in
     let due = sym c.before.before.before.before.before.before.before.before.before.before.before.before.is_in.ensures ∙ not-false _ c.before.before.before.before.before.before.before.before.before.before.before.if1.false in
-    let range = sym (ranged a.self.numbers.modulus a.ballot.now (omega (arith, c.before.before.before.before.before.before.before.before.before.if3.false)) c.before.before.before.before.before.before.before.in_range_lem.ensures) ∙ not-false _ c.before.before.before.before.before.before.if4.false in
+    let range = sym (ranged a.self.numbers.modulus a.ballot.now (omega (arith, c.before.before.before.before.before.before.before.before.before.if3.false)) c.before.before.before.before.before.before.before.in_range.ensures) ∙ not-false _ c.before.before.before.before.before.before.if4.false in
     decides _ _ _ (admit_on _ _ _ due c.before.before.before.before.before.before.before.before.before.before.if2.false c.before.before.before.before.before.before.before.before.before.if3.false range) refl c.before.before.before.before.admit.ensures (rw c.enum-told2.given.1)
 
 pub admit_spec : {M : Type 1} → statement M

@@ -1,28 +1,28 @@
 -- `bounds::unsound` meets its contract. Assumes nothing.
 use Prim.Native.Nat.{◌+◌}
 use native.Mathlib.Omega.{arith}
-use Rattle.sheet_numbers.proofs.Ranges.{in_range_lem, times}
+use Rattle.sheet_numbers.proofs.Ranges.{in_range, times}
 use Rattle.sheet_numbers.proofs.bounds.unsound.Goals as goal
 
 pub overflow_sub-k : goal.overflow_sub-k
-overflow_sub-k c = let i = in_range_lem c.args.k c.requires in omega arith
+overflow_sub-k c = let i = in_range c.args.k c.requires in omega arith
 
 pub overflow_mul-k : goal.overflow_mul-k
-overflow_mul-k c = let i = in_range_lem c.args.k c.requires in omega arith
+overflow_mul-k c = let i = in_range c.args.k c.requires in omega arith
 
 pub nonzero_rem-k : goal.nonzero_rem-k
-nonzero_rem-k c = let i = in_range_lem c.args.k c.requires in omega arith
+nonzero_rem-k c = let i = in_range c.args.k c.requires in omega arith
 
 pub overflow_sub-k-2 : goal.overflow_sub-k-2
-overflow_sub-k-2 c = let i = in_range_lem c.args.k c.requires in omega arith
+overflow_sub-k-2 c = let i = in_range c.args.k c.requires in omega arith
 
 pub power-requires : goal.power-requires
-power-requires c = let i = in_range_lem c.args.k c.requires in omega arith
+power-requires c = let i = in_range c.args.k c.requires in omega arith
 
 pub noise_bound-requires : goal.noise_bound-requires
-noise_bound-requires c = let i = in_range_lem c.args.k c.requires in (omega arith, omega arith, omega arith)
+noise_bound-requires c = let i = in_range c.args.k c.requires in (omega arith, omega arith, omega arith)
 
 pub overflow_mul-power : goal.overflow_mul-power
 overflow_mul-power c =
-    let i = in_range_lem c.args.k c.requires in
+    let i = in_range c.args.k c.requires in
     omega (arith, times (1 + c.power.result) c.noise_bound.result (omega arith) (omega arith))

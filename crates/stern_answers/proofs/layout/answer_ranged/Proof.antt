@@ -39,7 +39,7 @@ returns-2 c =
     let f : 378 * a.n - 42 * a.n ≡ 336 * a.n = omega arith in
     let w = all_below 3 (answer1_of a.n s).w in
     let t = all_below a.q (vector (answer1_of a.n s).t) in
-    goes_on w t (c.before.before.before.is_ternary.ensures ∙ ap (λ (k : ℕ). all_below 3 (take k s)) e) (not-false c.before.before.before.is_ternary.result c.before.before.if2.false) (c.in_range_lem.ensures ∙ ap (λ (k : ℕ). all_below a.q (vector (take k (drop (42 * a.n) s)))) f) ∙ sym (chosen1 a.challenge (w && t) _ _ c.before.before.before.before.before.if1.true)
+    goes_on w t (c.before.before.before.is_ternary.ensures ∙ ap (λ (k : ℕ). all_below 3 (take k s)) e) (not-false c.before.before.before.is_ternary.result c.before.before.if2.false) (c.in_range.ensures ∙ ap (λ (k : ℕ). all_below a.q (vector (take k (drop (42 * a.n) s)))) f) ∙ sym (chosen1 a.challenge (w && t) _ _ c.before.before.before.before.before.if1.true)
 
 part-in-range-end-2 : tie.Need-slice-bounds-in-range-end-2
 part-in-range-end-2 c = let a = c.before.before.args in let l = c.before.before.requires.1 ∙ answer_longer a.n a.challenge c.if1.false in search rules

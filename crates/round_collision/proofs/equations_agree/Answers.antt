@@ -10,24 +10,23 @@ use Rattle.stern.specs.Internal.{equation_pair}
 use Rattle.stern.proofs.Honest.{length_pair_bytes}
 use Rattle.stern.proofs.Strings.{covered}
 use Rattle.round_collision.proofs.Agreement.{by_parts, still_ground}
-use Rattle.round_collision.proofs.equations_agree.Statement.{statement}
-use Rattle.round_collision.proofs.equations_agree.Tie as tie
+use Rattle.round_collision.proofs.equations_agree.Goals as goal
 
-pairs-agree-requires : tie.Need-pairs-agree-requires
-pairs-agree-requires c κs =
-    let p = c.before.before.before.before.before.before.before.before.requires in
+pub pairs_agree-of_s-requires : goal.pairs_agree-of_s-requires
+pairs_agree-of_s-requires c =
+    let p = c.requires in
     (p.0, p.1, omega arith, omega arith, omega arith)
 
-pairs-agree-requires-2 : tie.Need-pairs-agree-requires-2
-pairs-agree-requires-2 c κs =
-    let p = c.before.before.before.before.before.before.before.before.before.before.before.before.before.before.before.requires in
-    let e = c.before.before.before.before.before.before.pairs_agree.ensures in
+pub pairs_agree-of_e-requires : goal.pairs_agree-of_e-requires
+pairs_agree-of_e-requires c =
+    let p = c.requires in
+    let e = c.pairs_agree-of_s.ensures in
     (still_ground p.0 e.kept_work e.kept_room, p.1, omega arith, omega arith, omega arith)
 
-returns : tie.Need-returns
+pub returns : goal.returns
 returns c =
-    let a = c.before.before.before.before.before.before.before.before.before.before.before.before.before.before.before.before.before.before.before.before.before.args in
-    let p = c.before.before.before.before.before.before.before.before.before.before.before.before.before.before.before.before.before.before.before.before.before.requires in
+    let a = c.args in
+    let p = c.requires in
     let some = p.0.keys.one.modulus_low in
     let z : 0 < a.q = omega arith in
     let k = keys_of a.n a.k.now in
@@ -35,8 +34,8 @@ returns c =
     let t = pair_bytes a.q a.n (equation_pair a.q a.n k a.c.now false a.r.now (2 * a.n) 0 0) in
     let s' = pair_bytes a.q a.n (equation_pair a.q a.n k a.c.now true a.u.now (8 * a.n) a.n (4 * a.n)) in
     let t' = pair_bytes a.q a.n (equation_pair a.q a.n k a.c.now false a.r.now (8 * a.n) a.n (4 * a.n)) in
-    let e = c.before.before.before.before.before.before.before.before.before.before.before.before.pairs_agree in
-    let f = c.before.before.before.before.before.pairs_agree-2 in
+    let e = c.pairs_agree-of_s in
+    let f = c.pairs_agree-of_e in
     record {
       told =
           c.both.ensures ∙ by_parts s t s' t' e.result f.result e.ensures.told f.ensures.told (length_pair_bytes a.q a.n _ ∙ sym (length_pair_bytes a.q a.n _))
@@ -44,6 +43,3 @@ returns c =
       kept_work = f.ensures.kept_work ∙ e.ensures.kept_work;
       kept_room = f.ensures.kept_room ∙ e.ensures.kept_room;
     }
-
-pub equations_agree_spec : {M : Type 1} → statement M
-equations_agree_spec = tie.close (tie.spec (λ c. search rules) pairs-agree-requires (λ c. search rules) (λ c. search rules) pairs-agree-requires-2 (λ c κs. search rules) (λ c. search rules) (λ c. search rules) returns)

@@ -11,13 +11,12 @@ use Rattle.vector.specs.Vector.{vector, subtract}
 use Rattle.stern.specs.Shortness.{equations, right_hand_sides, answer2_of, answer3_of}
 use Rattle.stern.proofs.Answered.{lent_range, lent_length}
 use Rattle.round_collision.proofs.Agreement.{by_parts, string1_parts, start_length, lent_equations}
-use Rattle.round_collision.proofs.first_agrees.Statement.{statement}
-use Rattle.round_collision.proofs.first_agrees.Tie as tie
+use Rattle.round_collision.proofs.first_agrees.Goals as goal
 
-equations-agree-requires : tie.Need-equations-agree-requires
-equations-agree-requires c κs =
-    let a = c.before.before.before.before.before.before.before.before.before.before.before.args in
-    let p = c.before.before.before.before.before.before.before.before.before.before.before.requires in
+pub equations_agree-rest-requires : goal.equations_agree-rest-requires
+equations_agree-rest-requires c =
+    let a = c.args in
+    let p = c.requires in
     let n = a.n in
     let e : 504 * n - 168 * n ≡ 336 * n = omega arith in (
       p.0,
@@ -29,26 +28,23 @@ equations-agree-requires c κs =
       },
     )
 
-returns : tie.Need-returns
+pub returns : goal.returns
 returns c =
-    let a = c.before.before.before.before.before.before.before.before.before.before.before.before.before.before.before.before.before.args in
-    let p = c.before.before.before.before.before.before.before.before.before.before.before.before.before.before.before.before.before.requires in
+    let a = c.args in
+    let p = c.requires in
     let n = a.n in
     let k = keys_of n a.k.now in
     let s = answer2_of n a.answer2.now in
     let t = answer3_of n a.answer3.now in
     let v = words (subtract a.q (equations a.q n k (take (14 * n) (vector s.u))) (right_hand_sides a.q n a.c.now)) in
     let w = words (equations a.q n k (take (14 * n) (vector t.r))) in
-    let e = c.before.before.before.before.before.equations_agree in
+    let e = c.equations_agree-rest in
     record {
       told =
-          c.both.ensures ∙ by_parts (s.salt1 ++ s.p) (t.salt1 ++ t.p) v w c.before.before.before.before.before.before.before.before.before.before.starts_agree.result e.result c.before.before.before.before.before.before.before.before.before.before.starts_agree.ensures
+          c.both.ensures ∙ by_parts (s.salt1 ++ s.p) (t.salt1 ++ t.p) v w c.starts_agree-starts.result e.result c.starts_agree-starts.ensures
           (e.ensures.told ∙ lent_equations a.q n k a.c.now a.answer2.now a.answer3.now (504 * n - 168 * n) (504 * n - 168 * n) (omega arith) (omega arith))
           (start_length n a.answer2.now p.1 ∙ sym (start_length n a.answer3.now p.2))
           ∙ string1_parts s.salt1 s.p v t.salt1 t.p w;
       kept_work = e.ensures.kept_work;
       kept_room = e.ensures.kept_room;
     }
-
-pub first_agrees_spec : {M : Type 1} → statement M
-first_agrees_spec = tie.close (tie.spec (λ c κs. search rules) (λ c. search rules) (λ c. search rules) (λ c. search rules) (λ c. search rules) (λ c. search rules) (λ c. search rules) (λ c. search rules) (λ c. search rules) (λ c. search rules) (λ c. search rules) equations-agree-requires (λ c κs. search rules) (λ c. search rules) (λ c. search rules) returns)
