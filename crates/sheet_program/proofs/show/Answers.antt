@@ -1,18 +1,18 @@
 -- `sheet_program::show` meets its contract. Assumes nothing.
 use native.Mathlib.Omega.{arith}
-use Rattle.sheet_numbers.proofs.Ranges.{in_range_lem}
+use Rattle.sheet_numbers.proofs.Ranges.{in_range}
 use Rattle.sheet_program.specs.Print.{printed_by}
 use Rattle.sheet_program.proofs.Print.{puts_more}
 use Rattle.sheet_program.proofs.show.Goals as goal
 
 pub noise_bound-requires : goal.noise_bound-requires
-noise_bound-requires c = let i = in_range_lem c.args.k c.requires.0 in (omega arith, omega arith, omega arith)
+noise_bound-requires c = let i = in_range c.args.k c.requires.0 in (omega arith, omega arith, omega arith)
 
 pub mask_bound-requires : goal.mask_bound-requires
-mask_bound-requires c = let i = in_range_lem c.args.k c.requires.0 in (omega arith, omega arith, omega arith, omega arith)
+mask_bound-requires c = let i = in_range c.args.k c.requires.0 in (omega arith, omega arith, omega arith, omega arith)
 
 pub unknowns-requires : goal.unknowns-requires
-unknowns-requires c = let i = in_range_lem c.args.k c.requires.0 in omega arith
+unknowns-requires c = let i = in_range c.args.k c.requires.0 in omega arith
 
 pub returns : goal.returns
 unfolding printed_by
