@@ -1,5 +1,7 @@
 // The head of the first message of a round (document 01, "Layouts"): b0 and b1, the committed pairs of s0, s1, e0, e1, and the digests
 // of every repetition, as crates/round/specs/Producer.antt says.
+#![tactic(auto)]
+
 ghost use Rattle.std.specs.Prelude.{◌≡◌, ◌+◌, ◌*◌, ◌≤◌, length, ◌++◌};
 ghost use Rattle.round.specs.Vocabulary.{part, put, scratch_length, Free, keys_of, PublicKeys, Loaded, drawn_of, RepetitionMaterial};
 ghost use Rattle.round.specs.Vocabulary.{key_bytes, head_length, given, left, poly, ternary, Polynomial, other, three_of, zeros, plain};

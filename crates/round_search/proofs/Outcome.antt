@@ -3,9 +3,8 @@ use mathlib.Core.Path.{◌≡◌, refl, sym, ap, ◌∙◌}
 use mathlib.Core.Logic.{◌≢◌}
 use mathlib.Core.Bool.{Bool, true, false, cond, not}
 use mathlib.Core.List.{List, ◌++◌}
-use Prim.Native.Nat.{ℕ, ◌+◌, ◌-◌, ◌*◌, ◌<◌}
+use Prim.Native.Nat.{ℕ, ◌-◌, ◌*◌, ◌<◌}
 use native.Mathlib.Omega.{arith}
-use borrow.Author.Tests.{not-true, not-false}
 use lib.Dec.{ltb}
 use lib.ListN.{take, drop}
 use Rattle.codec.specs.Bytes.{Bytes, part, zeros, same}
@@ -32,22 +31,22 @@ module _ (q N : ℕ) (o0 o1 : Bytes) (z : List ℕ) where
     first : (r1 ≡ is_zero q N (vector_at q N o0 o1 z (16 * N) 2)) × (d1 ≡ three_bytes q N (vector_at q N o0 o1 z (16 * N) 2))
     first = told_excess q N o0 o1 z (16 * N) 2 (2 * N) (omega arith) r1 d1 y1 e1
 
-    pub s_nonzero : not r1 ≡ true → (4 ≡ solved_by q N o0 o1 z) × (d1 ≡ written_by q N o0 o1 z)
+    pub s_nonzero : r1 ≡ false → (4 ≡ solved_by q N o0 o1 z) × (d1 ≡ written_by q N o0 o1 z)
     unfolding solved written_vectors
-    s_nonzero n1 = rw (← first.0, not-true r1 n1) (refl, first.1)
+    s_nonzero n1 = rw (← first.0, n1) (refl, first.1)
 
-    module _ (n1 : not r1 ≡ false) (r2 : Bool) (d2 : Bytes) (y2 : r2 ≡ same d2 (zeros (24 * N)))
+    module _ (n1 : r1 ≡ true) (r2 : Bool) (d2 : Bytes) (y2 : r2 ≡ same d2 (zeros (24 * N)))
         (e2 : d2 ≡ encode (3 * N) (modulo q (excess q N (part o0 (19 * N) (3 * N)) (part o1 (19 * N) (3 * N)) z (8 * N)))) where
       second : (r2 ≡ is_zero q N (vector_at q N o0 o1 z (19 * N) 8)) × (d2 ≡ three_bytes q N (vector_at q N o0 o1 z (19 * N) 8))
       second = told_excess q N o0 o1 z (19 * N) 8 (8 * N) (omega arith) r2 d2 y2 e2
 
-      pub e_nonzero : not r2 ≡ true → (5 ≡ solved_by q N o0 o1 z) × (d2 ≡ written_by q N o0 o1 z)
+      pub e_nonzero : r2 ≡ false → (5 ≡ solved_by q N o0 o1 z) × (d2 ≡ written_by q N o0 o1 z)
       unfolding solved written_vectors
-      e_nonzero n2 = rw (← first.0, not-false r1 n1, ← second.0, not-true r2 n2) (refl, second.1)
+      e_nonzero n2 = rw (← first.0, n1, ← second.0, n2) (refl, second.1)
 
-      pub both_zero : not r2 ≡ false → (6 ≡ solved_by q N o0 o1 z) × (recovered_key q N o0 o1 z ≡ written_by q N o0 o1 z)
+      pub both_zero : r2 ≡ true → (6 ≡ solved_by q N o0 o1 z) × (recovered_key q N o0 o1 z ≡ written_by q N o0 o1 z)
       unfolding solved written_vectors
-      both_zero n2 = rw (← first.0, not-false r1 n1, ← second.0, not-false r2 n2) (refl, refl)
+      both_zero n2 = rw (← first.0, n1, ← second.0, n2) (refl, refl)
 
 -- ---- the kind and the output
 

@@ -1,5 +1,7 @@
 // What two openings and three answers to one first message yield (document 01, the extractor's paragraph): a collision of the
 // digest, a short vector on which the commitment row is zero, or the key. specs/Extractor.antt of `round` says what is found.
+#![tactic(auto)]
+
 ghost use Rattle.std.specs.Prelude.{◌≡◌, true, cond, ◌*◌, ◌≤◌, ◌+◌, ◌%◌, ◌<◌, ◌^◌, length, get_or, ◌++◌, eqb};
 ghost use Rattle.round.specs.Vocabulary.{zeros, given, left, all_below, scratch_length, Loaded, vector, pairs_of, parameters, part, put};
 ghost use Rattle.round.specs.Vocabulary.{same, modulo, encode, Free};

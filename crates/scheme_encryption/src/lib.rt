@@ -1,7 +1,9 @@
 // The calls of encryption and decryption (document 000, section 5.3) once the sheet is taken: the tests of the lent slices, and then the
 // work. Scratch is given back zeroed, or as it was where the call is refused.
+#![tactic(auto)]
+
 ghost use Rattle.std.specs.Prelude.{◌≡◌, ◌&&◌, [], ◌∷◌};
-ghost use Rattle.scratch.specs.Vocabulary.{given, left, Usable, bytes_below, Computed};
+ghost use Rattle.scratch.specs.Vocabulary.{Usable, bytes_below, Computed};
 ghost use Rattle.commitment.specs.Internal.{Loaded};
 ghost use Rattle.commitment.specs.Parameters.{parameters};
 ghost use Rattle.scheme.specs.Calls.{encrypt_tests, encrypt_writes, decrypt_tests, decrypt_writes};

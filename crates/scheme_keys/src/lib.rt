@@ -1,8 +1,10 @@
 // The calls of key generation (document 000, section 5.3) and the key split (6.1) once the sheet is taken: the tests of the lent slices,
 // and then the work.
 // Scratch is given back zeroed, or as it was where the call is refused.
+#![tactic(auto)]
+
 ghost use Rattle.std.specs.Prelude.{◌≡◌, ◌&&◌, [], ◌∷◌, ◌*◌, length};
-ghost use Rattle.scratch.specs.Vocabulary.{given, left, bytes_below, coefficients_below, Computed};
+ghost use Rattle.scratch.specs.Vocabulary.{bytes_below, coefficients_below, Computed};
 ghost use Rattle.commitment.specs.Internal.{Loaded};
 ghost use Rattle.commitment.specs.Parameters.{parameters};
 ghost use Rattle.scheme.specs.Calls.{keygen_tests, keygen_writes, split_tests, split_writes};

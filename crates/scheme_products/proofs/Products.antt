@@ -1,10 +1,9 @@
 -- A product that is made at the head of scratch, by either method: what it asks, and what it leaves. Assumes nothing.
 use mathlib.Core.Path.{◌≡◌, refl, sym, ap, ◌∙◌}
-use mathlib.Core.Bool.{Bool, false, not}
+use mathlib.Core.Bool.{Bool, true}
 use mathlib.Core.List.{List, [], ◌∷◌}
 use Prim.Native.Nat.{ℕ, ◌+◌, ◌*◌, ◌≤◌}
 use native.Mathlib.Omega.{arith}
-use borrow.Author.Tests.{not-false}
 use lib.ListN.{length, length-replicate}
 use Rattle.codec.specs.Bytes.{Bytes, part, put, same, zeros}
 use Rattle.codec.specs.Reply.{Test, first}
@@ -39,10 +38,10 @@ pub record Factors (k : Numbers) (x y d w : Bytes) : Type 0 where
 
 -- the tests of lengths and ranges found them so
 pub factors : (k : Numbers) → Usable k → (x y d w : Bytes) {sized ranged : Bool}
-    → sized ≡ same (length x ∷ length y ∷ length d ∷ length w ∷ []) (8 * k.ring ∷ 8 * k.ring ∷ 8 * k.ring ∷ scratch_length ∷ []) → not sized ≡ false
-    → ranged ≡ coefficients_below k.modulus k.ring (x ∷ y ∷ []) → not ranged ≡ false → Factors k x y d w
-factors k u x y d w {ranged = ranged} e f g h =
-    let r = both_ranged k u x y (length_asked _ _ 0 e f) (length_asked _ _ 1 e f) (sym g ∙ not-false ranged h) in
+    → sized ≡ same (length x ∷ length y ∷ length d ∷ length w ∷ []) (8 * k.ring ∷ 8 * k.ring ∷ 8 * k.ring ∷ scratch_length ∷ []) → sized ≡ true
+    → ranged ≡ coefficients_below k.modulus k.ring (x ∷ y ∷ []) → ranged ≡ true → Factors k x y d w
+factors k u x y d w e f g h =
+    let r = both_ranged k u x y (length_asked _ _ 0 e f) (length_asked _ _ 1 e f) (sym g ∙ h) in
     record { one = r.0; other = r.1; room = length_asked _ _ 2 e f; scratch = length_asked _ _ 3 e f }
 
 -- x is put at the head of scratch
@@ -86,13 +85,13 @@ product_written k x y d w f more h copied made out went =
 
 -- ---- what the method by transforms asks of the sheet's numbers and a root that passed its test
 
-pub transformable : (k : Numbers) → Usable k → (root : ℕ) {tested : Bool} → tested ≡ is_root k.modulus k.ring root → not tested ≡ false → Transformable k.modulus k.ring root
-transformable k u root {tested} e f = record {
+pub transformable : (k : Numbers) → Usable k → (root : ℕ) {tested : Bool} → tested ≡ is_root k.modulus k.ring root → tested ≡ true → Transformable k.modulus k.ring root
+transformable k u root e f = record {
   modulus_low = omega (arith, u.in_range.modulus_low);
   modulus_high = u.in_range.modulus_high;
   odd = u.odd;
   ring_low = omega (arith, u.in_range.ring_low);
   ring_high = u.in_range.ring_high;
   ring_power = u.in_range.ring_power;
-  root = root_sound k.modulus k.ring root (omega (arith, u.in_range.modulus_low)) (sym e ∙ not-false tested f);
+  root = root_sound k.modulus k.ring root (omega (arith, u.in_range.modulus_low)) (sym e ∙ f);
 }

@@ -1,8 +1,10 @@
 // The product of two lent polynomials modulo X^N + 1 and q (document 02, L2) once the sheet is taken: the tests of the lent slices, and
 // then the work. Scratch is given back zeroed, or as it was where the call is refused: the export zeroes it then, unless 1
 // refuses. Both methods write the same bytes.
+#![tactic(auto)]
+
 ghost use Rattle.std.specs.Prelude.{◌≡◌, [], ◌∷◌, ◌*◌, ◌≤◌};
-ghost use Rattle.scratch.specs.Vocabulary.{given, left, same, scratch_length, Usable, Computed};
+ghost use Rattle.scratch.specs.Vocabulary.{same, scratch_length, Usable, Computed};
 ghost use Rattle.scheme.specs.Calls.{product_tests, multiply_tests, product_writes};
 
 use codec::Reply;

@@ -3,6 +3,8 @@
 // for a number out of range, 9 for a P that is no permutation, and what the tests of an answer refuse. A refusal leaves the output as
 // it was. Scratch is zeroed whole, unless the refusal is 1.
 // In C a slice is `uint8_t *, size_t`, and `const` where it is lent to be read.
+#![tactic(auto)]
+
 mod lent;
 mod orders;
 

@@ -2,7 +2,6 @@
 use mathlib.Core.Path.{ap, ◌∙◌}
 use Prim.Native.Nat.{◌*◌}
 use native.Mathlib.Omega.{arith}
-use borrow.Author.Rules.{rules}
 use Rattle.codec.specs.Bytes.{zeros}
 use Rattle.codec.specs.Lists.{all_below}
 use Rattle.codec.proofs.Laws.{both}
@@ -27,7 +26,7 @@ third_agrees-three-requires c =
     let p = c.requires in
     let g = p.0.keys.one in
     let r = p.1 in
-    let some = g.modulus_low in record { n_bound = g.ring_high, omega arith, g.modulus_high, r.sized1, r.sized2); answer1_value = (((both (all_below 3 (answer1_of a.n a.answer1.now).w) (all_below a.q (vector (answer1_of a.n a.answer1.now).t)) r.below1).1, r.below2, permutes_below (42 * a.n) (entries (answer2_of a.n a.answer2.now).p) r.permutes2) }
+    let some = g.modulus_low in record { n_bound = (g.ring_high, omega arith, g.modulus_high, r.sized1, r.sized2); answer1_value = ((both (all_below 3 (answer1_of a.n a.answer1.now).w) (all_below a.q (vector (answer1_of a.n a.answer1.now).t)) r.below1).1, r.below2, permutes_below (42 * a.n) (entries (answer2_of a.n a.answer2.now).p) r.permutes2) }
 
 pub returns : goal.returns
 returns c =

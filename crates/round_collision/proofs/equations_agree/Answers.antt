@@ -3,7 +3,6 @@ use mathlib.Core.Path.{sym, ap₂, ◌∙◌}
 use mathlib.Core.Bool.{true, false}
 use Prim.Native.Nat.{◌*◌, ◌<◌}
 use native.Mathlib.Omega.{arith}
-use borrow.Author.Rules.{rules}
 use Rattle.codec.specs.Bytes.{same}
 use Rattle.commitment.specs.Commitment.{keys_of, pair_bytes}
 use Rattle.stern.specs.Internal.{equation_pair}

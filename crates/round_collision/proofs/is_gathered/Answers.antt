@@ -2,7 +2,6 @@
 use mathlib.Core.Path.{ap, ◌∙◌}
 use Prim.Native.Nat.{◌*◌}
 use native.Mathlib.Omega.{arith}
-use borrow.Author.Rules.{rules}
 use Rattle.codec.specs.Bytes.{same}
 use Rattle.stern.proofs.Gathered.{head_lent, head_length_lem, permuted_length}
 use Rattle.round_collision.proofs.is_gathered.Goals as goal

@@ -3,7 +3,6 @@ use mathlib.Core.Path.{sym, ap, ◌∙◌}
 use mathlib.Core.List.{◌++◌}
 use Prim.Native.Nat.{◌+◌, ◌-◌, ◌*◌}
 use native.Mathlib.Omega.{arith}
-use borrow.Author.Rules.{rules}
 use Rattle.codec.specs.Bytes.{Bytes, part, same}
 use Rattle.codec.proofs.Laws.{length_part}
 use Rattle.round_collision.proofs.Agreement.{by_parts, lent_same, halved}

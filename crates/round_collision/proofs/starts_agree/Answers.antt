@@ -2,7 +2,6 @@
 use mathlib.Core.Path.{sym, ◌∙◌}
 use Prim.Native.Nat.{◌+◌, ◌-◌, ◌*◌}
 use native.Mathlib.Omega.{arith}
-use borrow.Author.Rules.{rules}
 use Rattle.codec.specs.Bytes.{part}
 use Rattle.codec.proofs.Laws.{length_part}
 use Rattle.round_collision.proofs.Agreement.{by_parts, lent_same}

@@ -1,17 +1,9 @@
 -- The invariants of `sums_agree`. Assumes nothing.
-use mathlib.Core.Path.{◌≡◌, sym, ◌∙◌}
+use mathlib.Core.Path.{◌≡◌}
 use Prim.Native.Nat.{ℕ, ◌-◌, ◌<◌, ◌≤◌}
-use native.Mathlib.Omega.{arith}
-use borrow.Author.Rules.{rules}
-use borrow.Author.Count.{below_none, below_more}
 use lib.ListN.{get_or}
-use Rattle.modular.proofs.Centring.{remainder_lt}
-use Rattle.ring.specs.Ternary.{meaning}
 use Rattle.vector.specs.Vector.{vector, ternaries, add}
 use Rattle.vector.specs.Permutation.{entries, apply}
-use Rattle.vector.proofs.Vectors.{length_entries}
-use Rattle.vector.proofs.Gathers.{entry_lt, component_lt, gathered, sum_at}
-use Rattle.round_collision.proofs.Agreement.{other_number, same_numbers_lem, sum_vector, permuted_vector}
 use Rattle.round_collision.proofs.sums_agree.Given as goal
 
 abbrev pub invariant-loop-i : goal.invariant-loop-i

@@ -3,7 +3,6 @@ use mathlib.Core.Path.{sym, ◌∙◌}
 use mathlib.Core.List.{[], ◌∷◌, ◌++◌}
 use Prim.Native.Nat.{◌+◌, ◌-◌, ◌*◌}
 use native.Mathlib.Omega.{arith}
-use borrow.Author.Rules.{rules}
 use Rattle.codec.specs.Bytes.{words}
 use Rattle.codec.proofs.Laws.{length_part}
 use Rattle.vector.specs.Vector.{vector, ternaries, add}
@@ -24,7 +23,7 @@ sums_agree-sums-requires c =
     let lw = lent_length x 0 (42 * n - 0) (42 * n) (omega arith) (omega (arith, p.3)) in
     let lt = lent_length x (42 * n) (378 * n - 42 * n) (336 * n) (omega arith) (omega (arith, p.3)) in
     let lp = lent_length y 0 (168 * n - 0) (168 * n) (omega arith) (omega (arith, p.4)) in
-    let lu = lent_length y (168 * n) (504 * n - 168 * n) (336 * n) (omega arith) (omega (arith, p.4)) in record { lt_q = p.1, p.2, lw, omega arith, omega arith, omega arith); t_value = ((lent_range a.q x (42 * n) (378 * n - 42 * n) (336 * n) (omega arith) r.0, lent_range a.q y (168 * n) (504 * n - 168 * n) (336 * n) (omega arith) r.1, lent_entries (42 * n) y (168 * n - 0) (168 * n) (omega arith) r.2) }
+    let lu = lent_length y (168 * n) (504 * n - 168 * n) (336 * n) (omega arith) (omega (arith, p.4)) in record { lt_q = (p.1, p.2, lw, omega arith, omega arith, omega arith); t_value = (lent_range a.q x (42 * n) (378 * n - 42 * n) (336 * n) (omega arith) r.0, lent_range a.q y (168 * n) (504 * n - 168 * n) (336 * n) (omega arith) r.1, lent_entries (42 * n) y (168 * n - 0) (168 * n) (omega arith) r.2) }
 
 pub returns : goal.returns
 returns c =

@@ -27,7 +27,7 @@ commit-requires c =
     let p = c.requires in
     let t = p.0.one.modulus_low in
     let z : 0 < a.q = omega arith in
-    let o : Octets a.x.now = λ i l. omega (arith, c.shared_slice_known-2-1.given i) in
+    let o : Octets a.x.now = λ i l. omega (arith, c.type_inv.x i) in
     let h = sums_ask a.q a.n p.0.one.ring_high z p.0.one.modulus_high a.work.now _ _ _ _ a.x.now a.first a.message p.1 p.3 p.4 o c.load_sum.ensures c.load_sum-2.ensures c.load_sum-3.ensures c.copy.ensures in
     record { public_keys = (p.0, h.0); below = h.1 }
 
@@ -37,8 +37,5 @@ returns c =
     let p = c.requires in
     let t = p.0.one.modulus_low in
     let z : 0 < a.q = omega arith in
-    let o : Octets a.x.now = λ i l. omega (arith, c.shared_slice_known-2-1.given i) in
+    let o : Octets a.x.now = λ i l. omega (arith, c.type_inv.x i) in
     sums_made a.q a.n p.0.one.ring_high z p.0.one.modulus_high a.work.now _ _ _ _ a.x.now a.first a.message p.1 p.3 p.4 o c.load_sum.ensures c.load_sum-2.ensures c.load_sum-3.ensures c.copy.ensures _ _ c.commit.ensures
-
-pub shape_of-work : goal.shape_of-work
-shape_of-work c = c.work-5-1.given ∙ c.work-4-1.given ∙ c.work-3-1.given ∙ c.work-2-1.given ∙ c.work-1.given
