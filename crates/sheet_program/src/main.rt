@@ -12,6 +12,9 @@ use sheet::Reading;
 use sheet_numbers::Numbers;
 use std::io::Read;
 
+// The longest text that is read as a sheet.
+const LONGEST: usize = 65536;
+
 // Puts a printed line into out at a place: a key with its =, and a number. Answers the place after it.
 fn put_line(out: &mut [u8], at: usize, key: &[u8], n: u64) -> usize
     requires { at + (length key.now + 21) ≤ length out.old }
@@ -42,7 +45,7 @@ fn show(k: Numbers, out: &mut [u8]) -> usize
 fn report(text: &[u8], out: &mut [u8; 160]) -> usize
     ensures { IsPrefixLen result out.new × (take result out.new ≡ printed text.now) }
 {
-    if 65536 < text.len() {
+    if LONGEST < text.len() {
         return put_line(out, 0, b"verdict=", 1);
     }
     let r = sheet::read(text);
@@ -52,10 +55,10 @@ fn report(text: &[u8], out: &mut [u8; 160]) -> usize
     }
 }
 
-// A text of more than 65,536 bytes is verdict 1, so no more than 65,537 bytes are read.
+// Of a text that is too long no more is read than shows that it is.
 fn main(rt: HostRuntime) -> std::io::Result<()> {
     let mut text = Vec::new(rt.alloc());
-    rt.stdin().take(65537).read_to_end(&mut text)?;
+    rt.stdin().take(LONGEST as u64 + 1).read_to_end(&mut text)?;
     let mut out = [0u8; 160];
     let m = report(&text, &mut out);
     rt.write_all(&out[..m])
