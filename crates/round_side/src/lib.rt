@@ -1,4 +1,6 @@
 // The tests of the parts of a round from lent bytes: 5 for each part, 6, 7 and 8 for an opening, 12 and 13 for the ballots by it.
+#![tactic(auto)]
+
 ghost use Rattle.std.specs.Prelude.{◌≡◌, ◌&&◌, ◌*◌, ◌≤◌, ℕ, ◌+◌, ◌<◌, length};
 ghost use Rattle.round.specs.Vocabulary.{plain, answer_length, in_range, ballot_length, answers_length, is_challenge, given, zeros, slot};
 ghost use Rattle.round.specs.Vocabulary.{mask_bound_of, Usable, scratch_length, Judged, Loaded};
