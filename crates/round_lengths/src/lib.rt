@@ -1,7 +1,10 @@
 // Whether the slices that are lent to the calls of a round have their lengths: specs/Calls.antt. The producer, the check and the
 // extractor share them.
+#![tactic(auto)]
+
 ghost use Rattle.std.specs.Prelude.{◌≡◌, ◌+◌, ◌*◌, ◌/◌, ◌≤◌, length};
-ghost use Rattle.round.specs.Vocabulary.{answers_length, given, material_in, first_in, Usable};
+ghost use Rattle.round.specs.Vocabulary.{answers_length, material_in, Usable};
+ghost use Rattle.round.specs.Writes.{first_room};
 ghost use Rattle.round_lengths.specs.Calls.{count_of, material_sized, first_sized, second_sized, message_sized, openings_sized};
 
 use codec::Reply;
@@ -81,7 +84,7 @@ pub fn first_sized(
     count: usize,
 ) -> bool
     requires { Usable k × (count ≤ 4096) }
-    ensures { result ≡ first_sized k.ring k.repeats count (first_in head shares0 shares1 claims scratch) }
+    ensures { result ≡ first_sized k.ring k.repeats count (first_room head.now shares0.now shares1.now claims.now scratch.now) }
 {
     let n = k.ring as usize;
     let repeats = k.repeats as usize;
