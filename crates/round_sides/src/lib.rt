@@ -1,5 +1,7 @@
 // The tests of two openings and three answers to one first message, in the order of the extractor (document 01, "One round" and the
 // orders of refusals).
+#![tactic(auto)]
+
 ghost use Rattle.std.specs.Prelude.{◌≡◌, ◌*◌, ◌≤◌, ◌<◌, ◌+◌, length, ◌&&◌};
 ghost use Rattle.round.specs.Vocabulary.{scratch_length, Judged, Loaded, opening_of, of_side, given, left};
 ghost use Rattle.round.specs.Vocabulary.{parameters, Batch, SharesLent, part};
