@@ -58,7 +58,7 @@ pub shape_of-claims : goal.shape_of-claims
 shape_of-claims c = c.loop-j.invariant.votes.long
 
 pub shape_of-work : goal.shape_of-work
-shape_of-work c = c.work-2-1.given ∙ c.loop-j.invariant.long ∙ sym c.requires.8
+shape_of-work c = omega (arith, c.loop-j.invariant.long, c.requires.8)
 
 pub returns : goal.returns
 returns c =
