@@ -1,6 +1,9 @@
 // The extractor's call once the sheet is taken: the tests of lengths, then the order of refusals, then the work.
+#![tactic(auto)]
+
 ghost use Rattle.std.specs.Prelude.{◌≡◌};
 ghost use Rattle.round.specs.Vocabulary.{given, Loaded, openings_in, extract_in, parameters, left, first, zeroized};
+ghost use Rattle.round.specs.Extractor.{extract_room};
 ghost use Rattle.round.specs.RoundSlices.{extract_out};
 ghost use Rattle.round_extract.specs.Extraction.{answered};
 ghost use Rattle.round_extract.specs.Internal.{ExtractWritten};
@@ -49,7 +52,7 @@ fn openings_tests<'a>(
 ) -> Reply
     requires { Loaded k public.now }
     ensures { let x = openings_in head shares0 shares1 ballots claims opening0 opening1 repetition answer1 answer2 answer3 in
-        (result ≡ first (openings_tests (parameters k public.now) x (extract_in out scratch)))
+        (result ≡ first (openings_tests (parameters k public.now) x (extract_room out.now scratch.old)))
         × (scratch.new ≡ zeroized result scratch.old) }
 {
     let n = k.ring as usize;
