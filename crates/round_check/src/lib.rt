@@ -1,4 +1,6 @@
 // The check of a round: 5, 6, 7, 8; by repetition 9, 10, 11; by ballot 12, 13.
+#![tactic(auto)]
+
 ghost use Rattle.std.specs.Prelude.{◌≡◌, ◌++◌, ◌*◌, ◌≤◌, length};
 ghost use Rattle.round.specs.Vocabulary.{Bytes, given, left, slot, plain, mask_bound_of, scratch_length, Judged, Loaded, ballot_length};
 ghost use Rattle.round.specs.Vocabulary.{answers_length, of_side, answers_tests, votes_tests, round_in, parameters};
@@ -113,6 +115,7 @@ fn check_ranged<'a>(
 }
 
 // The whole check of a round whose lengths are right, for a sheet that was taken and `count` ballots; and scratch zeroed.
+#[tactic(auto, using(crate::proofs::Refused::out_of_range))]
 pub fn check_round<'a>(
     work: &mut [u8],
     k: Numbers,

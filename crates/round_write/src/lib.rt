@@ -1,5 +1,7 @@
 // What the producer of a round writes once its material passed all tests (document 01, "One round", third paragraph):
 // crates/round/specs/Producer.antt.
+#![tactic(auto)]
+
 ghost use Rattle.round.specs.Vocabulary.{given, Loaded, material_in, first_in, first_out, second_in, second_out, material_now, parameters};
 ghost use Rattle.round.specs.Vocabulary.{part, put, left, coefficient_bytes, poly, ternary, scratch_length, Polynomial, Free, other, s_in};
 ghost use Rattle.round.specs.Vocabulary.{Usable, drawn_of, answer_length, RepetitionMaterial, answers_length};

@@ -19,7 +19,7 @@ both_pairs-requires c =
       subst (PublicKeys n a.k.modulus) (sym (keys_cut a.k a.public.now)) p.0.keys,
       p.1,
       lent_length s 0 (n - 0) n (omega arith) (omega (arith, p.3)),
-      lent_length s (2 * n) (8 * n - 2 * n) (6 * n) (omega arith) (omega (arith, p.3)),
+      lent_length s _ _ (6 * n) (omega arith) (omega (arith, p.3)),
       p.4,
       omega (arith, p.5),
     )
@@ -33,8 +33,8 @@ both_pairs-requires-2 c =
     let b = c.both_pairs in (
       subst (PublicKeys n a.k.modulus) (sym (keys_cut a.k a.public.now)) p.0.keys,
       p.2,
-      lent_length s n (2 * n - n) n (omega arith) (omega (arith, p.3)),
-      lent_length s (8 * n) (14 * n - 8 * n) (6 * n) (omega arith) (omega (arith, p.3)),
+      lent_length s _ _ n (omega arith) (omega (arith, p.3)),
+      lent_length s _ _ (6 * n) (omega arith) (omega (arith, p.3)),
       b.ensures.1 ∙ p.4,
       omega (arith, p.5, b.auto.out),
     )
