@@ -1,4 +1,6 @@
 // The check of a round against what a session holds (document 01, the order of check after 31).
+#![tactic(auto)]
+
 pub mod stored;
 
 ghost use Rattle.std.specs.Prelude.{◌≡◌, ◌≤◌, take};
