@@ -1,4 +1,6 @@
 // The producer's two calls once the sheet is taken.
+#![tactic(auto)]
+
 ghost use Rattle.std.specs.Prelude.{◌≡◌, ◌&&◌, ltb, length, get_or, ◌≤◌};
 ghost use Rattle.round.specs.Vocabulary.{all, is_challenge, given, left, Loaded, parameters, material_in, first_in, first_out, second_in};
 ghost use Rattle.round.specs.Vocabulary.{second_out};
