@@ -5,7 +5,7 @@ use Rattle.scratch.specs.Call.{zeroized}
 use Rattle.session_check.specs.Stored.{Inputs}
 use Rattle.session.specs.declared.Session.{Session}
 use Rattle.session.specs.declared.Stepped.{Stepped}
-use Rattle.session.specs.Steps.{cleared, accepted_by, refused_by}
+use Rattle.session.specs.Steps.{accepted_by, refused_by}
 use Rattle.session.specs.Machine.{check, Step, State, state, reply, after}
 use Rattle.session_check.specs.declared.Verdict.{Verdict}
 use Rattle.session_check.specs.declared.Verdict.TheVariants.{Stopped, Failed, Passed}

@@ -1,4 +1,6 @@
 // The session of a count (document 01, "Register and session"): a value that each step takes and hands back with its answer.
+#![tactic(auto)]
+
 mod checks;
 mod counting;
 mod gathering;
