@@ -2,7 +2,7 @@
 use mathlib.Core.Path.{◌≡◌, sym, ap, ◌∙◌}
 use mathlib.Core.Logic.{inl, inr}
 use mathlib.Core.List.{[], ◌∷◌}
-use Prim.Native.Nat.{ℕ, ◌+◌, ◌-◌, ◌*◌, ◌^◌, ◌≤◌, ◌<◌}
+use Prim.Native.Nat.{ℕ, ◌+◌, ◌*◌, ◌^◌, ◌≤◌, ◌<◌}
 use native.Mathlib.Omega.{arith}
 use lib.ListN.{length}
 use Rattle.codec.specs.Bytes.{Bytes, Octets, part, put, zeros}
@@ -135,17 +135,17 @@ module _ (q n : ℕ) (high : n ≤ 2048) (some : 3 ≤ q) (few : q < 2 ^ 56) (w 
             kept_put w2 w3 from from _ long2 (omega arith) (omega arith) e3 ∙ kept_put w1 w2 49152 from _ long1 (omega arith) (omega arith) e2
             ∙ kept_put w w1 49152 from (from_signed q mask) long (omega arith) (omega arith) e1
 
-  -- ---- s u - s0 u at 32,768, from s u at 0 and s0 u at 16,384
+  -- ---- the difference at 32,768 of a slot that is copied there and of the slot at 16,384: s u - s0 u, where those are s u and s0 u
 
-  module _ (one : Below q n (slot w 0)) (two : Below q n (slot w 16384)) (w1 : Bytes) (e1 : w1 ≡ put w 32768 (encode n (slot w 0))) where
+  module _ (from : ℕ) (w1 : Bytes) (e1 : w1 ≡ put w 32768 (encode n (slot w from))) (one : Below q n (slot w from)) (two : Below q n (slot w 16384)) where
     copied_length : length w1 ≡ 1048576
-    copied_length = ap length e1 ∙ length_put w 32768 (encode n (slot w 0)) (omega (arith, length_encode n (slot w 0))) ∙ long
+    copied_length = ap length e1 ∙ length_put w 32768 (encode n (slot w from)) (omega (arith, length_encode n (slot w from))) ∙ long
 
-    copied : Holds q n 32768 (slot w 0) w1
-    copied = loaded q n above few w w1 32768 (omega arith) (slot w 0) one e1
+    copied : Holds q n 32768 (slot w from) w1
+    copied = loaded q n above few w w1 32768 (omega arith) (slot w from) one e1
 
     copy_keeps : part w1 0 32768 ≡ part w 0 32768
-    copy_keeps = kept_put w w1 32768 32768 (slot w 0) long (omega arith) (omega arith) e1
+    copy_keeps = kept_put w w1 32768 32768 (slot w from) long (omega arith) (omega arith) e1
 
     pub subtract_asks : Slots n 32768 16384 w1 × Below q n (slot w1 32768) × Below q n (slot w1 16384)
     subtract_asks = (
@@ -164,26 +164,26 @@ module _ (q n : ℕ) (high : n ≤ 2048) (some : 3 ≤ q) (few : q < 2 ^ 56) (w 
       pub difference_below : Below q n (slot w2 32768)
       difference_below = holds_below above difference
 
-      pub difference_alike : Alike q n (slot w2 32768) (minus q (slot w 0) (slot w 16384))
+      pub difference_alike : Alike q n (slot w2 32768) (minus q (slot w from) (slot w 16384))
       difference_alike = holds_alike difference so alike_minus (holds_alike copied) (kept_alike n w w1 32768 16384 copy_keeps (omega arith))
 
       pub difference_keeps : part w2 0 32768 ≡ part w 0 32768
       unfolding store
       difference_keeps = kept_put w1 w2 32768 32768 _ copied_length (omega arith) (omega arith) e2 ∙ copy_keeps
 
-  -- ---- v - s u, from s u at 0
+  -- ---- v and a multiple of what stands at 0: v - s u, where that is s u and the factor is -1
 
-  module _ (v : Poly) (w1 : Bytes) (e1 : w1 ≡ store q n w 0 (scale (q - 1) (slot w 0))) where
-    negative : Holds q n 0 (scale (q - 1) (slot w 0)) w1
-    negative = stored q n above few w w1 0 (omega arith) (scale (q - 1) (slot w 0)) e1
+  module _ (c : ℕ) (v : Poly) (w1 : Bytes) (e1 : w1 ≡ store q n w 0 (scale c (slot w 0))) where
+    scaled : Holds q n 0 (scale c (slot w 0)) w1
+    scaled = stored q n above few w w1 0 (omega arith) (scale c (slot w 0)) e1
 
-    negative_length : length w1 ≡ length w
-    negative_length = stored_length q n above few w w1 0 (omega arith) (scale (q - 1) (slot w 0)) e1
+    scaled_length : length w1 ≡ length w
+    scaled_length = stored_length q n above few w w1 0 (omega arith) (scale c (slot w 0)) e1
 
     pub add_lent_asks : (8 * n ≤ length w1) × Below q n (slot w1 0)
-    add_lent_asks = (omega (arith, negative_length), holds_below above negative)
+    add_lent_asks = (omega (arith, scaled_length), holds_below above scaled)
 
-    pub opened_stands : (w2 : Bytes) → w2 ≡ store q n w1 0 (plus (slot w1 0) v) → InSlot q n (minus q v (slot w 0)) w w2
+    pub opened_stands : (w2 : Bytes) → w2 ≡ store q n w1 0 (plus (slot w1 0) v) → InSlot q n (plus v (scale c (slot w 0))) w w2
     opened_stands w2 e2 =
-        stands_alike (stands_stored q n (plus (slot w1 0) v) w w1 w2 (omega (arith, negative_length)) negative_length e2)
-        (alike_plus (holds_alike negative) alike_refl so alike_eq (plus_comm (scale (q - 1) (slot w 0)) v))
+        stands_alike (stands_stored q n (plus (slot w1 0) v) w w1 w2 (omega (arith, scaled_length)) scaled_length e2)
+        (alike_plus (holds_alike scaled) alike_refl so alike_eq (plus_comm (scale c (slot w 0)) v))

@@ -131,6 +131,7 @@ fn test_answers(
 // 9, 10, 11.
 
 // 5: whether all that is lent is in range. The polynomials of the sheet, whatever they are, do not enter.
+#[tactic(auto, using(crate::proofs::Beyond::none_such))]
 fn openings_ranged(
     k: Numbers,
     head: &[u8],
