@@ -1,4 +1,6 @@
 // The byte image of a session (document 01, "Register and session"): 4,297 bytes, the fields one after the other, little-endian.
+#![tactic(auto)]
+
 ghost use mathlib.Core.List.{flatten};
 ghost use Rattle.std.specs.Prelude.{◌≡◌, ◌+◌, ◌≤◌, length};
 ghost use Rattle.codec.specs.Reply.{packed};
