@@ -13,7 +13,7 @@ pub slice_bounds-check_drawn-end : goal.slice_bounds-check_drawn-end
 slice_bounds-check_drawn-end c =
     let s = c.args.held in
     let d = c.challenges_of-drawn in
-    let n : min s.numbers.repeats (length d.result) ≡ s.numbers.repeats = sym (length-take s.numbers.repeats d.result) ∙ ap length d.ensures ∙ length_challenges s.seed s.round s.numbers.repeats in
+    let n : min s.numbers.repeats (length d.result) ≡ s.numbers.repeats = sym (length-take s.numbers.repeats d.result) ∙ ap length d.ensures ∙ length_challenges _ _ _ in
     omega (arith, n)
 
 pub check_drawn-requires : goal.check_drawn-requires
