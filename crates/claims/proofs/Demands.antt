@@ -5,7 +5,6 @@ use native.Mathlib.Omega.{arith}
 use lib.ListN.{length, length-replicate}
 use Rattle.codec.specs.Bytes.{Bytes, Octets, zeros}
 use Rattle.codec.specs.Reply.{None}
-use Rattle.sheet.specs.declared.Reading.TheVariants as reading
 use Rattle.scratch.specs.Call.{scratch_length}
 use Rattle.bgv.proofs.Ballot.{honest_noise, honest_decrypts}
 use Rattle.round.specs.Round.{Round, round_tests}

@@ -1,5 +1,7 @@
 // The calls of the C interface, include/jackdawnail.h: no call asks anything of its caller, and each contract gives the reply and every
 // lent byte.
+#![tactic(auto)]
+
 pub mod products;
 pub mod rounds;
 pub mod steps;

@@ -16,7 +16,6 @@ use Rattle.round.specs.Layout.{ballot_length}
 use Rattle.session.specs.Machine.{Step, next, reply}
 use Rattle.session_histories.specs.Runs.{history_after, roll_after}
 use Rattle.session_histories.specs.Internal.{OwnTrace, own_extend, own_trace}
-use Rattle.session_histories.specs.Elections.{batch_bytes}
 use Rattle.session_histories.proofs.Kept.{Kept, kept_extend}
 use Rattle.session_histories.proofs.OwnTurn.{extend_taken}
 

@@ -1,6 +1,5 @@
 -- `codec::pack` meets its contract. Assumes nothing.
 use mathlib.Core.Path.{sym, ap}
-use borrow.Author.Rules.{rules}
 use Rattle.codec.specs.Reply.{packed}
 use Rattle.codec.proofs.pack.Goals as goal
 

@@ -1,7 +1,6 @@
 -- `codec::read16` meets its contract. Assumes nothing.
 use Prim.Native.Nat.{◌+◌}
 use native.Mathlib.Omega.{arith}
-use borrow.Author.Rules.{rules}
 use Rattle.codec.proofs.Numbers.{number_one, number_join}
 use Rattle.codec.proofs.read16.Goals as goal
 

@@ -1,6 +1,5 @@
 -- `codec::read32` meets its contract. Assumes nothing.
 use native.Mathlib.Omega.{arith}
-use borrow.Author.Rules.{rules}
 use Rattle.codec.proofs.Numbers.{number_join}
 use Rattle.codec.proofs.read32.Goals as goal
 

@@ -1,6 +1,5 @@
 -- `codec::read64` meets its contract. Assumes nothing.
 use native.Mathlib.Omega.{arith}
-use borrow.Author.Rules.{rules}
 use Rattle.codec.proofs.Numbers.{number_eight}
 use Rattle.codec.proofs.read64.Goals as goal
 

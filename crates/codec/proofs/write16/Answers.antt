@@ -1,7 +1,6 @@
 -- `codec::write16` meets its contract. Assumes nothing.
 use Prim.Native.Nat.{◌/◌, ◌%◌}
 use native.Mathlib.Omega.{arith}
-use borrow.Author.Rules.{rules}
 use Rattle.codec.proofs.Numbers.{put_join, bytes_one}
 use Rattle.codec.proofs.write16.Goals as goal
 

@@ -1,6 +1,5 @@
 -- `codec::write64` meets its contract. Assumes nothing.
 use native.Mathlib.Omega.{arith}
-use borrow.Author.Rules.{rules}
 use Rattle.codec.proofs.Numbers.{put_join}
 use Rattle.codec.proofs.write64.Goals as goal
 

@@ -1,6 +1,5 @@
 -- `codec::write8` meets its contract. Assumes nothing.
 use mathlib.Core.Path.{sym}
-use borrow.Author.Rules.{rules}
 use Rattle.codec.proofs.Laws.{put_one}
 use Rattle.codec.proofs.write8.Goals as goal
 

@@ -1,8 +1,0 @@
--- `steps::jdn_draw` meets its contract. Assumes nothing.
-use borrow.Author.Rules.{rules}
-use Rattle.session_image.proofs.Over.{wrong, over}
-use Rattle.jackdawnail.proofs.steps.jdn_draw.Statement.{statement}
-use Rattle.jackdawnail.proofs.steps.jdn_draw.Tie as tie
-
-pub jdn_draw_spec : {M : Type 1} → statement M
-jdn_draw_spec = tie.close (tie.spec (λ c. λ register. wrong _ _ c.if1.true) (λ c κs. search rules) (λ c κs. search rules) (λ c κs. search rules) (λ c. search rules) (λ c. λ register. over _ _ c.before.before.before.before.before.before.before.if1.false c.before.before.before.before.before.load.ensures (c.before.before.before.before.draw.ensures register) c.before.before.keep.ensures))
