@@ -3,7 +3,7 @@
 #![tactic(auto)]
 
 ghost use Rattle.std.specs.Prelude.{◌≡◌, ◌+◌, ◌*◌, ◌≤◌, ◌<◌, ◌^◌, length};
-ghost use Rattle.scratch.specs.Vocabulary.{given, left, put, all_below, plus, minus, Below, poly, slot, scratch_length, Polynomial, Free};
+ghost use Rattle.scratch.specs.Vocabulary.{put, all_below, plus, minus, Below, poly, slot, scratch_length, Polynomial, Free};
 ghost use Rattle.codec.specs.Lists.{list};
 ghost use Rattle.modular.specs.Modulo.{centre};
 ghost use Rattle.modular.specs.Division.{divide};

@@ -3,7 +3,7 @@
 #![tactic(auto)]
 
 ghost use Rattle.std.specs.Prelude.{◌≡◌, ◌+◌, ◌*◌, ◌≤◌, length};
-ghost use Rattle.scratch.specs.Vocabulary.{given, left, Below, poly, slot, scratch_length, Polynomial, Free};
+ghost use Rattle.scratch.specs.Vocabulary.{Below, poly, slot, scratch_length, Polynomial, Free};
 ghost use Rattle.ring.specs.Internal.{Slots};
 ghost use Rattle.commitment.specs.Commitment.{keys_of, three_of, committed, opens};
 ghost use Rattle.commitment.specs.Internal.{three_at, PublicKeys, PairInSlots, with_product, with_three};

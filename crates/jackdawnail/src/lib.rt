@@ -6,7 +6,6 @@ pub mod products;
 pub mod rounds;
 pub mod steps;
 
-ghost use Rattle.codec.specs.Slices.{given, left};
 ghost use Rattle.scheme.specs.Orders.{keygen_order, encrypt_order, decrypt_order, split_order, share_order, reconstruct_order};
 ghost use Rattle.scheme.specs.Orders.{commitment_order};
 ghost use Rattle.scheme.specs.Orders.{key_of, ciphertext_of, vote_of, split_of, share_of, vote_of_shares, commitment_of};

@@ -1,5 +1,4 @@
 // The calls that multiply two lent polynomials (document 02, L2): by transforms with a lent root, and by the plain method.
-ghost use Rattle.codec.specs.Slices.{given, left};
 ghost use Rattle.scheme.specs.Orders.{product_order, multiply_order, product_of};
 ghost use Rattle.jackdawnail.specs.Answers.{CallReplied};
 

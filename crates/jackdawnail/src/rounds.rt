@@ -1,6 +1,5 @@
 // The calls of a round: the producer's two, the extractor and the opened share.
 ghost use Rattle.std.specs.Prelude.{◌≡◌, length};
-ghost use Rattle.codec.specs.Slices.{given};
 ghost use Rattle.codec.specs.Reply.{packed};
 ghost use Rattle.round.specs.RoundSlices.{openings_in, extract_in, extract_out};
 ghost use Rattle.round.specs.Lent.{material_in, first_in, first_out, second_in, second_out};

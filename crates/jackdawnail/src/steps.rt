@@ -1,7 +1,6 @@
 // The calls of a session: its eight steps over a lent image, challenges and turnout, and the fixed lengths. A step loads the session from
 // its image, and stores the one that it leaves.
 ghost use Rattle.std.specs.Prelude.{◌≡◌};
-ghost use Rattle.codec.specs.Slices.{given, left};
 ghost use Rattle.scratch.specs.Call.{scratch_length};
 ghost use Rattle.register.specs.Register.{register_length};
 ghost use Rattle.session_check.specs.Check.{inputs_in};

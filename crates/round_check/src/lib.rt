@@ -2,7 +2,7 @@
 #![tactic(auto)]
 
 ghost use Rattle.std.specs.Prelude.{◌≡◌, ◌++◌, ◌*◌, ◌≤◌, length};
-ghost use Rattle.round.specs.Vocabulary.{Bytes, given, left, slot, plain, mask_bound_of, scratch_length, Judged, Loaded, ballot_length};
+ghost use Rattle.round.specs.Vocabulary.{Bytes, slot, plain, mask_bound_of, scratch_length, Judged, Loaded, ballot_length};
 ghost use Rattle.round.specs.Vocabulary.{answers_length, of_side, answers_tests, votes_tests, round_in, parameters};
 ghost use Rattle.round.specs.Round.{ranged, round_later, round_tests};
 ghost use Rattle.round.specs.Internal.{round_of, Lengths};

@@ -3,7 +3,7 @@
 #![tactic(auto)]
 
 ghost use Rattle.std.specs.Prelude.{◌≡◌, true, false, ◌&&◌, ◌++◌, ◌+◌, ◌*◌, ◌≤◌, ◌<◌, ◌^◌, length, take};
-ghost use Rattle.scratch.specs.Vocabulary.{part, put, words, same, given, left, all_below, scratch_length};
+ghost use Rattle.scratch.specs.Vocabulary.{part, put, words, same, all_below, scratch_length};
 ghost use Rattle.commitment.specs.Commitment.{keys_of, pair_bytes};
 ghost use Rattle.vector.specs.Vector.{vector, ternaries, add, subtract};
 ghost use Rattle.vector.specs.Permutation.{entries, apply};

@@ -2,7 +2,7 @@
 #![tactic(auto)]
 
 ghost use Rattle.std.specs.Prelude.{◌≡◌};
-ghost use Rattle.round.specs.Vocabulary.{given, Loaded, openings_in, extract_in, parameters, left, first, zeroized};
+ghost use Rattle.round.specs.Vocabulary.{Loaded, openings_in, extract_in, parameters, first, zeroized};
 ghost use Rattle.round.specs.Extractor.{extract_room};
 ghost use Rattle.round.specs.RoundSlices.{extract_out};
 ghost use Rattle.round_extract.specs.Extraction.{answered};

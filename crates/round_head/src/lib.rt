@@ -4,7 +4,7 @@
 
 ghost use Rattle.std.specs.Prelude.{◌≡◌, ◌+◌, ◌*◌, ◌≤◌, length, ◌++◌};
 ghost use Rattle.round.specs.Vocabulary.{part, put, scratch_length, Free, keys_of, PublicKeys, Loaded, drawn_of, RepetitionMaterial};
-ghost use Rattle.round.specs.Vocabulary.{key_bytes, head_length, given, left, poly, ternary, Polynomial, other, three_of, zeros, plain};
+ghost use Rattle.round.specs.Vocabulary.{key_bytes, head_length, poly, ternary, Polynomial, other, three_of, zeros, plain};
 ghost use Rattle.round.specs.Vocabulary.{parameters};
 ghost use Rattle.stern.specs.Shortness.{honest_digests};
 ghost use Rattle.round.specs.Producer.{digests_bytes, committed_pair, pairs_bytes, key_bytes_of, head_bytes};

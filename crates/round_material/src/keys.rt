@@ -1,6 +1,6 @@
 // 14: the secret matches b.
 ghost use Rattle.std.specs.Prelude.{◌≡◌, ◌*◌, length};
-ghost use Rattle.round.specs.Vocabulary.{scratch_length, Free, Loaded, given, left, parameters};
+ghost use Rattle.round.specs.Vocabulary.{scratch_length, Free, Loaded, parameters};
 ghost use Rattle.round.specs.Producer.{key_matches};
 
 use sheet_numbers::Numbers;

@@ -9,7 +9,7 @@ mod permutations;
 mod ranges;
 
 ghost use Rattle.std.specs.Prelude.{◌≡◌, ◌++◌, ◌*◌, ◌≤◌, length};
-ghost use Rattle.round.specs.Vocabulary.{zeros, first, noise_bound_of, mask_bound_of, scratch_length, Free, Loaded, ballot_length, given, left};
+ghost use Rattle.round.specs.Vocabulary.{zeros, first, noise_bound_of, mask_bound_of, scratch_length, Free, Loaded, ballot_length};
 ghost use Rattle.round.specs.Vocabulary.{material_in, material_now, mask_tests, permutation_tests, noise_tests, parameters, Usable};
 ghost use Rattle.codec.specs.Reply.{leaves};
 ghost use Rattle.round.specs.Producer.{MaterialSized, secret_tests};

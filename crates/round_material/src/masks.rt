@@ -1,6 +1,6 @@
 // 12: the masks of both sides, the lowest ballot first.
 ghost use Rattle.std.specs.Prelude.{◌≡◌, ◌&&◌, ◌*◌, ◌≤◌, length};
-ghost use Rattle.round.specs.Vocabulary.{first, mask_bound_of, within, given, mask_tests, Usable};
+ghost use Rattle.round.specs.Vocabulary.{first, mask_bound_of, within, mask_tests, Usable};
 ghost use Rattle.bgv.specs.Scheme.{lent_mask};
 
 use codec::Reply;

@@ -1,7 +1,7 @@
 // 15: the noise of each ballot, the size of centred v - s u, is at most a bound, the lowest ballot first.
 ghost use Rattle.std.specs.Prelude.{◌≡◌, true, ◌+◌, ◌*◌, ◌≤◌, ◌<◌, ◌^◌, length};
 ghost use Rattle.round.specs.Vocabulary.{first, Below, poly, slot, ternary, noise_bound_of, scratch_length, Polynomial, Free, within};
-ghost use Rattle.round.specs.Vocabulary.{ballot_length, given, left, s_in, noise_tests, Usable};
+ghost use Rattle.round.specs.Vocabulary.{ballot_length, s_in, noise_tests, Usable};
 ghost use Rattle.bgv.specs.Scheme.{centred, noise_in};
 ghost use Rattle.round.specs.Layout.{ballots_below};
 

@@ -1,6 +1,6 @@
 // 9: each P is a permutation, the lowest repetition first.
 ghost use Rattle.std.specs.Prelude.{◌≡◌, ◌*◌, length};
-ghost use Rattle.round.specs.Vocabulary.{first, scratch_length, Free, given, left, permutation_tests, Usable};
+ghost use Rattle.round.specs.Vocabulary.{first, scratch_length, Free, permutation_tests, Usable};
 
 use codec::Reply;
 use sheet_numbers::Numbers;

@@ -1,6 +1,6 @@
 // 5: the secrets are ternary bytes, and every coefficient is below q.
 ghost use Rattle.std.specs.Prelude.{◌≡◌, ◌*◌, ◌≤◌, length};
-ghost use Rattle.round.specs.Vocabulary.{ballot_length, given};
+ghost use Rattle.round.specs.Vocabulary.{ballot_length};
 ghost use Rattle.round.specs.Producer.{material_ranged};
 
 use sheet_numbers::Numbers;

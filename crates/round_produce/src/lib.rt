@@ -2,7 +2,7 @@
 #![tactic(auto)]
 
 ghost use Rattle.std.specs.Prelude.{◌≡◌, ◌&&◌, ltb, length, get_or, ◌≤◌};
-ghost use Rattle.round.specs.Vocabulary.{all, is_challenge, given, left, Loaded, parameters, material_in, first_in, first_out, second_in};
+ghost use Rattle.round.specs.Vocabulary.{all, is_challenge, Loaded, parameters, material_in, first_in, first_out, second_in};
 ghost use Rattle.round.specs.Vocabulary.{second_out};
 ghost use Rattle.round_lengths.specs.Calls.{count_of};
 ghost use Rattle.round_produce.specs.Internal.{call_tests, ScratchFits, Tested, FirstWritten, SecondWritten};

@@ -3,7 +3,7 @@
 #![tactic(auto)]
 
 ghost use Rattle.std.specs.Prelude.{◌≡◌, true, cond, ◌*◌, ◌≤◌, ◌+◌, ◌%◌, ◌<◌, ◌^◌, length, get_or, ◌++◌, eqb};
-ghost use Rattle.round.specs.Vocabulary.{zeros, given, left, all_below, scratch_length, Loaded, vector, pairs_of, parameters, part, put};
+ghost use Rattle.round.specs.Vocabulary.{zeros, all_below, scratch_length, Loaded, vector, pairs_of, parameters, part, put};
 ghost use Rattle.round.specs.Vocabulary.{same, modulo, encode, Free};
 ghost use Rattle.round_collision.specs.Internal.{ThreeAnswers, MaskedVectors};
 ghost use Rattle.round_search.specs.Internal.{Finds, unknowns_of, from, excess, solved_by, written_by};

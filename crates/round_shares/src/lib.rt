@@ -3,7 +3,7 @@
 
 ghost use Rattle.std.specs.Prelude.{◌≡◌, ◌+◌, ◌*◌, ◌≤◌, ◌<◌, ◌^◌, length};
 ghost use Rattle.round.specs.Vocabulary.{part, put, list, Below, coefficient_bytes, poly, slot, ternary, scratch_length, Polynomial, Free};
-ghost use Rattle.round.specs.Vocabulary.{given, left, Usable, s_in};
+ghost use Rattle.round.specs.Vocabulary.{Usable, s_in};
 ghost use Rattle.ring.specs.Poly.{minus, mul};
 ghost use Rattle.bgv.specs.Scheme.{plaintext};
 ghost use Rattle.round_shares.specs.Internal.{room_now, room_in, room_out, Fits, BallotWritten, masked_product, TwoStand, Masked};

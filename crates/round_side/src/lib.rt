@@ -2,9 +2,9 @@
 #![tactic(auto)]
 
 ghost use Rattle.std.specs.Prelude.{◌≡◌, ◌&&◌, ◌*◌, ◌≤◌, ℕ, ◌+◌, ◌<◌, length};
-ghost use Rattle.round.specs.Vocabulary.{plain, answer_length, in_range, ballot_length, answers_length, is_challenge, given, zeros, slot};
+ghost use Rattle.round.specs.Vocabulary.{plain, answer_length, in_range, ballot_length, answers_length, is_challenge, zeros, slot};
 ghost use Rattle.round.specs.Vocabulary.{mask_bound_of, Usable, scratch_length, Judged, Loaded};
-ghost use Rattle.round.specs.Vocabulary.{opening_of, of_side, votes_tests, left, parameters};
+ghost use Rattle.round.specs.Vocabulary.{opening_of, of_side, votes_tests, parameters};
 ghost use Rattle.round.specs.Vocabulary.{Batch, SharesLent};
 ghost use Rattle.round.specs.Round.{opening_ranged, head_ranged, answers_ranged, opens_key, opens_pairs, half_tests};
 ghost use Rattle.round_side.specs.Internal.{message_ranged, Opened, Head};

@@ -3,7 +3,7 @@
 #![tactic(auto)]
 
 ghost use Rattle.std.specs.Prelude.{◌≡◌, ◌*◌, ◌≤◌, ◌<◌, ◌+◌, length, ◌&&◌};
-ghost use Rattle.round.specs.Vocabulary.{scratch_length, Judged, Loaded, opening_of, of_side, given, left};
+ghost use Rattle.round.specs.Vocabulary.{scratch_length, Judged, Loaded, opening_of, of_side};
 ghost use Rattle.round.specs.Vocabulary.{parameters, Batch, SharesLent, part};
 ghost use Rattle.round.specs.Vocabulary.{keys_of, key_bytes, answer_length, in_range, answer_tests, pairs_of, Bytes, openings_in};
 ghost use Rattle.round.specs.Extractor.{side_tests, three_tests, Lent, openings_of, lent_ranged, extract_later, extract_tests};

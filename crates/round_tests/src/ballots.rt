@@ -1,6 +1,6 @@
 // The tests of the ballots in a check: 12, then 13, the lowest ballot first.
 ghost use Rattle.std.specs.Prelude.{◌≡◌, ◌+◌, ◌*◌, ◌≤◌, ◌<◌, length};
-ghost use Rattle.round.specs.Vocabulary.{part, given, left, poly, slot, plain, mask_bound_of, Usable};
+ghost use Rattle.round.specs.Vocabulary.{part, poly, slot, plain, mask_bound_of, Usable};
 ghost use Rattle.round.specs.Vocabulary.{scratch_length, Polynomial, Judged, Tried};
 ghost use Rattle.round.specs.Vocabulary.{of_side, votes_tests, Batch, SharesLent};
 ghost use Rattle.round_tests.specs.Internal.{vote_tests, BallotAt};

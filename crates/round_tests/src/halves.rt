@@ -1,6 +1,6 @@
 // The tests of an opened half of the key: 6, 7, 8. Scratch is given back zeroed.
 ghost use Rattle.std.specs.Prelude.{◌≡◌, ◌&&◌, ◌*◌, length};
-ghost use Rattle.round.specs.Vocabulary.{same, zeros, given, left, modulo, poly, encode, plain, Usable, scratch_length, Polynomial};
+ghost use Rattle.round.specs.Vocabulary.{same, zeros, modulo, poly, encode, plain, Usable, scratch_length, Polynomial};
 ghost use Rattle.round.specs.Vocabulary.{keys_of, three_of, PublicKeys};
 ghost use Rattle.ring.specs.Poly.{plus};
 ghost use Rattle.bgv.specs.Scheme.{key};

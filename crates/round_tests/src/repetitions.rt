@@ -1,7 +1,7 @@
 // The tests of the answers in a check: by repetition 9, 10, 11, the lowest repetition first.
 ghost use Rattle.std.specs.Prelude.{◌≡◌, true, ◌+◌, ◌*◌, ◌≤◌, length};
 ghost use Rattle.round.specs.Vocabulary.{part, all_below, scratch_length, Judged, keys_of, key_bytes, Loaded, vector, answer_length, in_range};
-ghost use Rattle.round.specs.Vocabulary.{answer_tests, head_length, pairs_of, answers_tests, given, left, parameters};
+ghost use Rattle.round.specs.Vocabulary.{answer_tests, head_length, pairs_of, answers_tests, parameters};
 ghost use Rattle.round.specs.Internal.{Answers};
 
 use codec::Reply;

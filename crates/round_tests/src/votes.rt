@@ -1,6 +1,6 @@
 // The tests of one ballot by the opened half of the secret: 12, then 13.
 ghost use Rattle.std.specs.Prelude.{◌≡◌, ◌*◌, ◌≤◌, length};
-ghost use Rattle.round.specs.Vocabulary.{same, given, left, list, Below, poly, plain, mask_bound_of};
+ghost use Rattle.round.specs.Vocabulary.{same, list, Below, poly, plain, mask_bound_of};
 ghost use Rattle.round.specs.Vocabulary.{Usable, scratch_length, Polynomial, Tried};
 ghost use Rattle.round.specs.Vocabulary.{Free};
 ghost use Rattle.bgv.specs.Scheme as scheme;

@@ -2,8 +2,8 @@
 // crates/round/specs/Producer.antt.
 #![tactic(auto)]
 
-ghost use Rattle.round.specs.Vocabulary.{given, Loaded, material_in, first_in, first_out, second_in, second_out, material_now, parameters};
-ghost use Rattle.round.specs.Vocabulary.{part, put, left, coefficient_bytes, poly, ternary, scratch_length, Polynomial, Free, other, s_in};
+ghost use Rattle.round.specs.Vocabulary.{Loaded, material_in, first_in, first_out, second_in, second_out, material_now, parameters};
+ghost use Rattle.round.specs.Vocabulary.{part, put, coefficient_bytes, poly, ternary, scratch_length, Polynomial, Free, other, s_in};
 ghost use Rattle.round.specs.Vocabulary.{Usable, drawn_of, answer_length, RepetitionMaterial, answers_length};
 ghost use Rattle.round.specs.Internal.{first_now, second_now, FirstProduced, SecondProduced};
 ghost use Rattle.round_lengths.specs.Calls.{count_of};

@@ -1,6 +1,5 @@
 // The check of a round, and what was drawn for it.
 ghost use Rattle.std.specs.Prelude.{◌≡◌, ◌<◌};
-ghost use Rattle.round.specs.Vocabulary.{given, left};
 ghost use Rattle.register.specs.Internal.{Wrote};
 ghost use Rattle.session_check.specs.Check.{inputs_in};
 ghost use Rattle.session_check.specs.Internal.{reply_of_verdict};

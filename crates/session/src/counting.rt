@@ -1,6 +1,6 @@
 // The steps of the count: claim, commit, draw.
 ghost use Rattle.std.specs.Prelude.{◌≡◌, true, [], ◌∷◌, ◌*◌, ◌≤◌, length};
-ghost use Rattle.round.specs.Vocabulary.{same, given, head_length};
+ghost use Rattle.round.specs.Vocabulary.{same, head_length};
 ghost use Rattle.session.specs.Session.{valid};
 ghost use Rattle.session.specs.Machine.{claim, commit, draw};
 ghost use Rattle.session.specs.Internal.{DoneAlone};

@@ -1,6 +1,6 @@
 // The steps up to closing: clear, admit, withdraw, close; and turnout.
 ghost use Rattle.std.specs.Prelude.{◌≡◌};
-ghost use Rattle.round.specs.Vocabulary.{given, left, first};
+ghost use Rattle.round.specs.Vocabulary.{first};
 ghost use Rattle.register.specs.Register.{turnout};
 ghost use Rattle.session.specs.Steps.{on, turnout_tests, turnout_by};
 ghost use Rattle.session.specs.Machine.{clear, admit, withdraw, close, state};

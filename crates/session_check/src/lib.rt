@@ -4,7 +4,7 @@
 pub mod stored;
 
 ghost use Rattle.std.specs.Prelude.{◌≡◌, ◌≤◌, take};
-ghost use Rattle.round.specs.Vocabulary.{left, given, Loaded, parameters};
+ghost use Rattle.round.specs.Vocabulary.{Loaded, parameters};
 ghost use Rattle.session_check.specs.Check.{inputs_in};
 ghost use Rattle.session_check.specs.Internal.{reply_of_verdict, CheckMade, Within, verdict, TakenChecked};
 ghost use Rattle.codec.specs.declared.Reply.TheVariants.{Taken};

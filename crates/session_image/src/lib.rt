@@ -4,7 +4,7 @@
 ghost use mathlib.Core.List.{flatten};
 ghost use Rattle.std.specs.Prelude.{◌≡◌, ◌+◌, ◌≤◌, length};
 ghost use Rattle.codec.specs.Reply.{packed};
-ghost use Rattle.scratch.specs.Vocabulary.{given, left, part, put};
+ghost use Rattle.scratch.specs.Vocabulary.{part, put};
 ghost use Rattle.session_image.specs.Image.{image_length, size, contents_of, image_of, decode, head_fields, batch_fields, round_fields};
 ghost use Rattle.session_image.specs.Images.{counted_answer};
 

@@ -1,6 +1,5 @@
 // The sheet as a call: N, D, B and L in 32 bytes.
 ghost use Rattle.std.specs.Prelude.{◌≡◌, false, length};
-ghost use Rattle.codec.specs.Slices.{given, left};
 ghost use Rattle.sheet_numbers.specs.Rules.{outside};
 ghost use Rattle.sheet.specs.Calls.{description, describe_reply, describe_out};
 

@@ -1,6 +1,6 @@
 // The digests of a repetition: SHA3-256 over a leading byte, a salt and what the digest covers.
 ghost use Rattle.std.specs.Prelude.{◌≡◌, true, cond, ◌∷◌, ◌++◌, ◌+◌, ◌*◌, ◌/◌, ◌≤◌, ◌<◌, ◌^◌, length, take};
-ghost use Rattle.scratch.specs.Vocabulary.{given, left, part, words, all_below, Below, poly, scratch_length, Free};
+ghost use Rattle.scratch.specs.Vocabulary.{part, words, all_below, Below, poly, scratch_length, Free};
 ghost use Rattle.sha3.specs.Sponge.{sha3};
 ghost use Rattle.hasher.specs.Internal.{holding, updated};
 ghost use Rattle.commitment.specs.Commitment.{keys_of};

@@ -1,6 +1,6 @@
 // The tests of an answer in a check: 9, then 10, then 11 (document 01, "One round" and "Refused because of the input").
 ghost use Rattle.std.specs.Prelude.{◌≡◌, true, not, ◌&&◌, [], ◌∷◌, ◌+◌, ◌*◌, ◌≤◌, ◌<◌, ◌^◌, length};
-ghost use Rattle.scratch.specs.Vocabulary.{same, first, given, left, all_below, scratch_length};
+ghost use Rattle.scratch.specs.Vocabulary.{same, first, all_below, scratch_length};
 ghost use Rattle.codec.specs.Reply.{test};
 ghost use Rattle.scratch.specs.Internal.{Judged, Tried};
 ghost use Rattle.commitment.specs.Commitment.{keys_of};

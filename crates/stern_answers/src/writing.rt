@@ -1,7 +1,7 @@
 // What the producer writes for a repetition, from the unknowns x in ternary bytes, the mask vector r, the permutation p and three salts:
 // the digests, and the answer to a challenge.
 ghost use Rattle.std.specs.Prelude.{◌≡◌, ◌+◌, ◌*◌, ◌≤◌, ◌<◌, ◌^◌, length};
-ghost use Rattle.scratch.specs.Vocabulary.{put, given, left, scratch_length};
+ghost use Rattle.scratch.specs.Vocabulary.{put, scratch_length};
 ghost use Rattle.codec.specs.Bytes.{zeros};
 ghost use Rattle.commitment.specs.Commitment.{keys_of};
 ghost use Rattle.commitment.specs.Internal.{PublicKeys};

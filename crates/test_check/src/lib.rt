@@ -3,7 +3,7 @@
 // In C a slice is `uint8_t *, size_t`, and `const` where it is lent to be read.
 #![tactic(auto)]
 
-ghost use Rattle.round.specs.Vocabulary.{given, left, round_in, first, zeroized, Loaded, parameters};
+ghost use Rattle.round.specs.Vocabulary.{round_in, first, zeroized, Loaded, parameters};
 ghost use Rattle.test_check.specs.Replies.{RoundCheckCalled, round_check_tests};
 ghost use Rattle.std.specs.Prelude.{◌≡◌};
 

@@ -2,7 +2,6 @@
 #![tactic(auto)]
 
 ghost use Rattle.std.specs.Prelude.{◌≡◌};
-ghost use Rattle.codec.specs.Slices.{given, left};
 ghost use Rattle.codec.specs.Reply.{packed};
 ghost use Rattle.test_sheet.specs.Polynomials.{sheet_polynomials_reply, sheet_polynomials_out};
 

@@ -1,7 +1,6 @@
 // What is lent to a call, one test at a time.
 ghost use Rattle.std.specs.Prelude.{◌≡◌, ◌&&◌, ◌∷◌, [], ◌*◌, ◌≤◌, length};
-ghost use Rattle.scratch.specs.Vocabulary.{same, first, all_below, given, left, scratch_length};
-ghost use Rattle.codec.specs.declared.Reply.TheVariants.{Refused};
+ghost use Rattle.scratch.specs.Vocabulary.{same, first, all_below, scratch_length};
 ghost use Rattle.vector.specs.Vector.{vector};
 ghost use Rattle.stern.specs.Shortness.{answer_length, in_range};
 ghost use Rattle.test_stern.specs.Calls.{ring_fits, range_tests, lengths, wanted, Sifted};

@@ -8,7 +8,6 @@
 mod lent;
 mod orders;
 
-ghost use Rattle.scratch.specs.Vocabulary.{given, left};
 ghost use Rattle.commitment.specs.Commitment.{keys_of};
 ghost use Rattle.stern.specs.Shortness.{drawn_of, honest_digests, honest_answer};
 ghost use Rattle.test_stern.specs.Calls.{digests_reply, answer_reply, test_reply, CallAnswered, CallTold};

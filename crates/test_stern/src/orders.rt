@@ -1,5 +1,4 @@
 // The tests of a call in their order: specs/Calls.antt.
-ghost use Rattle.scratch.specs.Vocabulary.{given, left};
 ghost use Rattle.test_stern.specs.Calls.{digests_reply, answer_reply, test_reply, Sifted};
 
 use crate::lent::{material_ranged, material_sized, ring_fits, test_ranged, test_sized};
