@@ -13,6 +13,7 @@ ghost use Rattle.ring.specs.Slots.{poly, slot, encode};
 ghost use Rattle.ring.specs.Internal.{store, Slots};
 ghost use Rattle.vector.specs.Internal.{Vector};
 ghost use Rattle.ring_transform.specs.Internal.{numbers, two_to, level, united, Powers, Node, Transformable};
+ghost use Rattle.ring_transform.specs.Internal.{transform as transformed, untransform as untransformed};
 
 // ---- the table of powers
 
