@@ -14,15 +14,15 @@ module _ (seed : Bytes) (k : ℕ) (out : Bytes) where
   abbrev pub drawn : ℕ → Bytes
   drawn i = def.drawn_challenges seed k i ++ drop i out
 
-  pub drawn-first : out ≡ drawn 0
+  pub drawn_first : out ≡ drawn 0
   unfolding def.drawn_challenges
-  drawn-first = refl
+  drawn_first = refl
 
-  pub drawn-more : (i x : ℕ) → i < length out → x ≡ def.stream seed k (i + 1) % 3 + 1 → set (drawn i) i x ≡ drawn (i + 1)
+  pub drawn_more : (i x : ℕ) → i < length out → x ≡ def.stream seed k (i + 1) % 3 + 1 → set (drawn i) i x ≡ drawn (i + 1)
   unfolding def.drawn_challenges
-  drawn-more i x h e =
+  drawn_more i x h e =
       let s = def.drawn_challenges seed k i in
       rw (add-one i, drop-cons out i 0 h) (set_at s _ (drop (suc i) out) x i (length_challenges seed k i) ∙ rw (e, add-one i) (sym (append_assoc s _ (drop (suc i) out))))
 
-  pub drawn-all : drawn (length out) ≡ def.drawn_challenges seed k (length out)
-  drawn-all = rw (drop-length out) (append-nil (def.drawn_challenges seed k (length out)))
+  pub drawn_all : drawn (length out) ≡ def.drawn_challenges seed k (length out)
+  drawn_all = rw (drop-length out) (append-nil (def.drawn_challenges seed k (length out)))

@@ -17,7 +17,8 @@ pub fn closing_of_register(sheet: &[u8; 32], reg: &[u8], n: usize) -> [u8; 32]
     let mut h = Hasher::new().absorbed(sheet);
     let mut i = 0;
     while i < n {
-        if register::is_standing(reg, i) {
+        let stands = register::is_standing(reg, i);
+        if stands {
             h = h.absorbed(&reg[40 * i + 8..40 * i + 40]);
         }
         i += 1;

@@ -49,6 +49,7 @@ pub fn hash(m: &[u8]) -> [u8; 32]
 }
 
 // SHA3-256 of a message into a lent slice, which is left as it is where it has not 32 bytes.
+#[tactic(auto, unfolding(crate::specs::Digest::digest_reply, crate::specs::Digest::digest_out, codec::specs::Reply::first, codec::specs::Reply::leaves))]
 pub fn digest(m: &[u8], out: &mut [u8]) -> codec::Reply
     ensures { (result ≡ digest_reply out.old) × (out.new ≡ digest_out m.now out.old) }
 {

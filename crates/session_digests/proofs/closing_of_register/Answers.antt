@@ -9,7 +9,7 @@ use Rattle.hasher.specs.Internal.{updated}
 use Rattle.register.specs.Register.{standing, standing_digests, digest_at}
 use Rattle.session_digests.specs.Digests.{closing_digest}
 use Rattle.session_digests.proofs.Parts.{none, next, closing_done, standing_more}
-use Rattle.session_digests.proofs.closing_of_register.Goals.{then-is_standing, else-is_standing}
+use Rattle.session_digests.proofs.closing_of_register.Goals.{then-stands, else-stands}
 use Rattle.session_digests.proofs.closing_of_register.Goals as goal
 
 pub loop-i-init : goal.loop-i-init
@@ -26,13 +26,13 @@ loop-i-preserved c =
     let ds = standing_digests reg i in
     let p : 40 * i + 40 - (40 * i + 8) ≡ 32 = omega arith in (
       omega arith,
-      elim c.if-is_standing.branch [
-        | then-is_standing w ↦
-            (let e = sym c.is_standing.ensures ∙ w.if-is_standing.true in
-            let f = w.absorbed-h-then-is_standing.ensures ∙ ap (λ (k : ℕ). updated h (part reg (40 * i + 8) k)) p in
+      elim c.if-stands.branch [
+        | then-stands w ↦
+            (let e = sym c.is_standing-stands.ensures ∙ w.if-stands.true in
+            let f = w.absorbed-h-then-stands.ensures ∙ ap (λ (k : ℕ). updated h (part reg (40 * i + 8) k)) p in
             rw (w.h-is, standing_more reg i true e) (next a.sheet.now ds (digest_at reg i) c.loop-i.invariant.1 f))
-        | else-is_standing w ↦
-            (let e = sym c.is_standing.ensures ∙ w.if-is_standing.false in
+        | else-stands w ↦
+            (let e = sym c.is_standing-stands.ensures ∙ w.if-stands.false in
             rw (w.h-is, standing_more reg i false e, append-nil ds) c.loop-i.invariant.1)
       ],
     )

@@ -7,7 +7,7 @@ use lib.ListN.{length, set, length-set}
 use Rattle.codec.specs.Bytes.{Bytes, number, part}
 use Rattle.session_digests.specs.Draw as def
 use Rattle.session_digests.proofs.Range.{length_block}
-use Rattle.session_digests.proofs.Drawn.{drawn, drawn-first, drawn-more, drawn-all}
+use Rattle.session_digests.proofs.Drawn.{drawn, drawn_first, drawn_more, drawn_all}
 use Rattle.session_digests.proofs.drawing.challenges.Goals.{Joined-i-eq0, then-i-eq0, else-i-eq0}
 use Rattle.session_digests.proofs.drawing.challenges.Goals as goal
 
@@ -29,7 +29,7 @@ pub loop-i-init : goal.loop-i-init
 loop-i-init c =
     let a = c.args in
     let e = c.block-digest.ensures in
-    (omega arith, drawn-first a.seed.now a.round a.out.now, refl, e, ap length e ∙ length_block a.seed.now a.round 0)
+    (omega arith, drawn_first a.seed.now a.round a.out.now, refl, e, ap length e ∙ length_block a.seed.now a.round 0)
 
 pub slice_bounds-read64-end : goal.slice_bounds-read64-end
 slice_bounds-read64-end c = sym (renewed-length (goal.at.slice_bounds-read64-end c).Joined-i-eq0)
@@ -46,7 +46,7 @@ loop-i-preserved c =
     let v = c.read64.ensures ∙ ap (λ (s : Bytes). number (part s (8 * ((i + 1) % 4)) 8)) (renewed (goal.at.loop-i-preserved c).Joined-i-eq0) in (
       omega arith,
       ap (λ (s : Bytes). set s i (c.read64.result % 3 + 1)) l.invariant.1
-          ∙ drawn-more a.seed.now a.round a.out.now i (c.read64.result % 3 + 1) (omega arith) (ap (λ (n : ℕ). n % 3 + 1) v),
+          ∙ drawn_more a.seed.now a.round a.out.now i (c.read64.result % 3 + 1) (omega arith) (ap (λ (n : ℕ). n % 3 + 1) v),
       simp length-set (omega arith),
       renewed (goal.at.loop-i-preserved c).Joined-i-eq0,
       renewed-length (goal.at.loop-i-preserved c).Joined-i-eq0,
@@ -56,4 +56,4 @@ pub returns : goal.returns
 returns c =
     let a = c.args in
     let l = c.loop-i in
-    l.invariant.1 ∙ ap (drawn a.seed.now a.round a.out.now) (le_antisymm l.invariant.0 (omega arith)) ∙ drawn-all a.seed.now a.round a.out.now
+    l.invariant.1 ∙ ap (drawn a.seed.now a.round a.out.now) (le_antisymm l.invariant.0 (omega arith)) ∙ drawn_all a.seed.now a.round a.out.now
