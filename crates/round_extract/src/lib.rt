@@ -13,6 +13,9 @@ use codec::{Reply, refused};
 use round_lengths::{count_of, message_sized, openings_sized};
 use sheet_numbers::Numbers;
 
+// The most ballots of a batch.
+const MOST_BALLOTS: usize = 4096;
+
 // What the extractor's call answers: the kind of what it found, or refused with document 01's number and place.
 #[derive(Drop)]
 pub enum Extraction {
@@ -58,7 +61,7 @@ fn openings_tests<'a>(
     let n = k.ring as usize;
     let repeats = k.repeats as usize;
     let count = count_of(ballots, n);
-    if count > 4096 {
+    if count > MOST_BALLOTS {
         return refused(1);
     }
     if !message_sized(head, shares0, shares1, ballots, claims, count, repeats, n) {
