@@ -4,9 +4,8 @@ use native.Mathlib.Omega.{arith}
 use Rattle.codec.specs.Bytes.{Bytes}
 use Rattle.sheet_numbers.specs.Plain.{plain, noise_bound_of, mask_bound_of}
 use Rattle.sheet_numbers.proofs.Ranges.{usable}
-use Rattle.sheet.specs.Sheet.{reading}
+use Rattle.sheet.specs.Sheet.{reading, Taken}
 use Rattle.sheet_numbers.specs.declared.Numbers.{Numbers}
-use Rattle.sheet.specs.declared.Reading.TheVariants.{Taken}
 use Rattle.sheet.proofs.Taken.{taken}
 use Rattle.bgv.specs.Internal.{Sound}
 use Rattle.bgv.proofs.Round.{sound}

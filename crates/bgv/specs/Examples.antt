@@ -2,8 +2,7 @@
 use Rattle.std.specs.Prelude.{◌≡◌, refl, not, List, [], ◌∷◌, map, ℕ, zero, suc, ◌%◌, ◌^◌, ℤ, pos, negsuc, get_or}
 use Rattle.codec.specs.Bytes.{bytes, words, number, signed}
 use Rattle.codec.specs.Lists.{list, all_below}
-use Rattle.codec.specs.Reply.{number_of, place_of, test, first}
-use Rattle.codec.specs.declared.Reply.{Reply}
+use Rattle.codec.specs.Reply.{number_of, place_of, test, first, Reply}
 use Rattle.modular.specs.Modulo.{centre, remainder}
 use Rattle.modular.specs.Division.{multiplier, inverse, divide}
 use Rattle.ring.specs.Poly.{Poly, sum, turn, coefficient, mul, plus, scale}

@@ -43,7 +43,7 @@ pub fn noisy(work: &mut [u8], a: &[u8], x: &[u8], y: &[u8], p: u64, n: usize, q:
     combine(work, a, p, n, q);
 }
 
-// a x + p y, for lent polynomials x and y.
+// a x + p y, for lent polynomials x and y: another way into the slots, so that no more than `combine` is common to both.
 pub fn noisy_lent(work: &mut [u8], a: &[u8], x: &[u8], y: &[u8], p: u64, n: usize, q: u64)
     requires { Polynomial n q a.now × Polynomial n q x.now × Polynomial n q y.now × (length work.old ≡ scratch_length)
         × (p < q) }
@@ -55,25 +55,11 @@ pub fn noisy_lent(work: &mut [u8], a: &[u8], x: &[u8], y: &[u8], p: u64, n: usiz
     combine(work, a, p, n, q);
 }
 
-// A byte as a number of 64 bits.
-fn wide(b: u8) -> u64
-    ensures { result ≡ b }
-{
-    b as u64
-}
-
 // Whether every byte is below p.
 pub fn is_message(m: &[u8], p: u64) -> bool
     ensures { result ≡ all_below p m.now }
 {
-    let mut i = 0;
-    while i < m.len() {
-        if p <= wide(m[i]) {
-            return false;
-        }
-        i += 1;
-    }
-    true
+    m.iter().all(|b| u64::from(*b) < p)
 }
 
 // Loads bytes into a slot, one as one coefficient.
@@ -81,11 +67,8 @@ pub fn load_bytes(work: &mut [u8], at: usize, m: &[u8])
     requires { at + 8 * length m.now ≤ length work.old }
     ensures { work.new ≡ put work.old at (encode (length m.now) (coefficients m.now)) }
 {
-    let mut i = 0;
-    while i < m.len() {
-        let v = wide(m[i]);
-        codec::write64(work, at + 8 * i, v);
-        i += 1;
+    for (i, b) in m.iter().enumerate() {
+        codec::write64(work, at + 8 * i, u64::from(*b));
     }
 }
 
@@ -171,12 +154,10 @@ pub fn plain(work: &[u8], vote: &mut [u8], p: u64, n: usize, q: u64)
         × (q < 2 ^ 56) }
     ensures { vote.new ≡ list n (scheme.plaintext q p (poly work.now)) }
 {
-    let mut i = 0;
-    while i < n {
+    for i in 0..n {
         let x = codec::read64(work, 8 * i);
         let v = modular::residue(x, p, q);
         codec::write8(vote, i, v as u8);
-        i += 1;
     }
 }
 
@@ -185,12 +166,10 @@ pub fn bounded(mask: &[u8], bound: u64, n: usize) -> bool
     requires { 8 * n ≤ length mask.now }
     ensures { result ≡ within bound n (lent_mask mask.now) }
 {
-    let mut i = 0;
-    while i < n {
+    for i in 0..n {
         if bound < modular::magnitude(codec::read_signed(mask, 8 * i)) {
             return false;
         }
-        i += 1;
     }
     true
 }
@@ -221,15 +200,13 @@ fn quotients_within(work: &[u8], bound: u64, p: u64, n: usize, q: u64) -> bool
     ensures { result ≡ within bound n (λ k. centre q (divide q p (poly work.now k))) }
 {
     let m = modular::multiplier(p, q);
-    let mut i = 0;
-    while i < n {
+    for i in 0..n {
         let x = codec::read64(work, 8 * i);
         let quotient = modular::divide(x, p, m, q);
         let size = modular::size(quotient, q);
         if bound < size {
             return false;
         }
-        i += 1;
     }
     true
 }

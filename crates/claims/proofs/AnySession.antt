@@ -10,9 +10,7 @@ use borrow.Author.Tests.{eqb-true}
 use lib.Dec.{eqb}
 use lib.ListN.{length}
 use Rattle.codec.specs.Bytes.{Bytes, Octets}
-use Rattle.codec.specs.Reply.{Test, test, first, None, leaves}
-use Rattle.codec.specs.declared.Reply.{Reply}
-use Rattle.codec.specs.declared.Reply.TheVariants.{Taken, Refused}
+use Rattle.codec.specs.Reply.{Test, test, first, None, leaves, Reply, Taken, Refused}
 use Rattle.codec.proofs.Replies.{taken_exactly, first_append}
 use Rattle.sheet.specs.Sheet.{order}
 use Rattle.round.specs.Layout.{ballot_length}

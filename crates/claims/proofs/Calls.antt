@@ -10,8 +10,7 @@ use native.Mathlib.Omega.{arith}
 use lib.Dec.{eqb, ltb}
 use lib.ListN.{length}
 use Rattle.codec.specs.Bytes.{Bytes}
-use Rattle.codec.specs.Reply.{Test, test, first}
-use Rattle.codec.specs.declared.Reply.TheVariants.{Taken, Refused}
+use Rattle.codec.specs.Reply.{Test, test, first, Taken, Refused}
 use Rattle.codec.proofs.Replies.{taken_exactly, refused_exactly}
 use Rattle.sha3.specs.Digest.{digest_reply}
 use Rattle.sheet.specs.Sheet.{order}

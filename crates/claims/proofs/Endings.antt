@@ -9,7 +9,7 @@ use lib.Dec.{eqb}
 use lib.ListN.{length}
 use borrow.Author.Tests.{eq-eqb, eqb-true}
 use Rattle.codec.specs.Bytes.{Bytes, Octets, zeros}
-use Rattle.codec.specs.declared.Reply.TheVariants.{Taken, Refused}
+use Rattle.codec.specs.Reply.{Taken, Refused}
 use Rattle.codec.proofs.Replies.{not_taken}
 use Rattle.scratch.specs.Call.{zeroized}
 use Rattle.scratch.proofs.Zeroizing.{zeroized_taken, zeroized_refused, kept_length, kept_state}

@@ -5,8 +5,7 @@ use mathlib.Core.Bool.{true, ◌&&◌}
 use Prim.Native.Nat.{ℕ, ◌*◌, ◌≤◌}
 use lib.ListN.{length}
 use Rattle.codec.specs.Bytes.{Bytes, Octets}
-use Rattle.codec.specs.Reply.{None}
-use Rattle.codec.specs.declared.Reply.TheVariants.{Taken}
+use Rattle.codec.specs.Reply.{None, Taken}
 use Rattle.codec.proofs.Replies.{taken_exactly}
 use Rattle.scratch.specs.Call.{scratch_length}
 use Rattle.commitment.specs.Parameters.{Parameters, parameters_of}

@@ -6,9 +6,7 @@ use native.Mathlib.Nat.{div-eq_of_eq-mul_right}
 use native.Mathlib.Omega.{arith}
 use lib.ListN.{length, get_or, drop}
 use Rattle.codec.specs.Bytes.{Bytes}
-use Rattle.codec.specs.Reply.{leaves}
-use Rattle.codec.specs.declared.Reply.{Reply}
-use Rattle.codec.specs.declared.Reply.TheVariants.{Taken}
+use Rattle.codec.specs.Reply.{leaves, Reply, Taken}
 use Rattle.scratch.specs.Call.{scratch_length}
 use Rattle.sheet_numbers.specs.declared.Numbers.{Numbers}
 use Rattle.commitment.specs.Parameters.{Parameters, parameters_of}

@@ -5,8 +5,7 @@ use mathlib.Core.List.{List, [], ◌∷◌}
 use lib.ListN.{length}
 use borrow.Author.Tests.{eq-eqb}
 use Rattle.codec.specs.Bytes.{Bytes, Octets}
-use Rattle.codec.specs.Reply.{leaves}
-use Rattle.codec.specs.declared.Reply.{Reply}
+use Rattle.codec.specs.Reply.{leaves, Reply}
 use Rattle.session.specs.declared.Session.{Session}
 use Rattle.session.specs.Machine.{Step, State, state, reply, after}
 use Rattle.session_image.specs.Image.{image_length, image_of, decode}

@@ -6,8 +6,7 @@ use lib.Dec.{eqb}
 use lib.ListN.{length}
 use borrow.Author.Tests.{eqb-true, eqb-false, eq-eqb, ne_eqb}
 use Rattle.codec.specs.Bytes.{Bytes}
-use Rattle.codec.specs.declared.Reply.{Reply}
-use Rattle.codec.specs.declared.Reply.TheVariants.{Taken, Refused}
+use Rattle.codec.specs.Reply.{Reply, Taken, Refused}
 use Rattle.codec.proofs.Replies.{not_taken}
 use Rattle.session.specs.declared.Session.{Session}
 use Rattle.session_image.specs.Image.{image_length, decode}

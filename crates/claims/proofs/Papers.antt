@@ -2,10 +2,10 @@
 use mathlib.Core.Path.{◌≡◌, ap}
 use Rattle.codec.specs.Bytes.{Bytes}
 use Rattle.codec.proofs.Replies.{taken_exactly}
-use Rattle.codec.specs.declared.Reply.{Reply}
+use Rattle.codec.specs.Reply.{Reply}
 use Rattle.sheet.specs.Reader.{sheet_of}
 use Rattle.sheet.specs.Sheet.{order, reading_by, reading}
-use Rattle.sheet.specs.declared.Reading.TheVariants as reading
+use Rattle.sheet.specs.Sheet as reading
 use Rattle.keccak_bits.proofs.Sponge.{sha3_bits}
 use Rattle.bgv.specs.Internal.{Sound}
 use Rattle.bgv.proofs.Form.{halves, split_key}

@@ -8,8 +8,7 @@ use native.Mathlib.Omega.{arith}
 use lib.Dec.{leb}
 use borrow.Author.Tests.{leb-true, le-leb, not-false}
 use Rattle.codec.specs.Bytes.{Bytes}
-use Rattle.codec.specs.Reply.{Test, None}
-use Rattle.codec.specs.declared.Reply.TheVariants.{Taken}
+use Rattle.codec.specs.Reply.{Test, None, Taken}
 use Rattle.codec.proofs.Laws.{both}
 use Rattle.codec.proofs.Replies.{taken_exactly}
 use Rattle.sheet.specs.Sheet.{order}

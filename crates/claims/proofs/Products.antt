@@ -10,9 +10,7 @@ use borrow.Author.Tests.{not-true, not-false}
 use lib.ListN.{length, length-replicate}
 use Rattle.codec.specs.Bytes.{Bytes, bytes, number, words, zeros}
 use Rattle.codec.specs.Lists.{all, all_below, list}
-use Rattle.codec.specs.Reply.{Test, test, first, None, leaves}
-use Rattle.codec.specs.declared.Reply.{Reply}
-use Rattle.codec.specs.declared.Reply.TheVariants.{Taken, Refused}
+use Rattle.codec.specs.Reply.{Test, test, first, None, leaves, Reply, Taken, Refused}
 use Rattle.codec.proofs.Lists.{all_sound}
 use Rattle.codec.proofs.Replies.{taken_exactly, first_append}
 use Rattle.modular.specs.Roots.{Root, is_root}

@@ -9,10 +9,8 @@ use borrow.Author.Tests.{ltb-true, eqb-false, not-true}
 use lib.Dec.{eqb, ltb}
 use lib.ListN.{length}
 use Rattle.codec.specs.Bytes.{Bytes}
-use Rattle.codec.specs.Reply.{Test, first, packed}
+use Rattle.codec.specs.Reply.{Test, first, packed, Reply, Taken, Refused}
 use Rattle.codec.proofs.Laws.{both}
-use Rattle.codec.specs.declared.Reply.{Reply}
-use Rattle.codec.specs.declared.Reply.TheVariants.{Taken, Refused}
 use Rattle.codec.proofs.Replies.{not_taken}
 use Rattle.sheet.specs.Sheet.{order}
 use Rattle.register.specs.Register as entries

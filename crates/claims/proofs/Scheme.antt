@@ -9,8 +9,7 @@ use native.Mathlib.Omega.{arith}
 use lib.ListN.{length}
 use borrow.Author.Tests.{not-false}
 use Rattle.codec.specs.Bytes.{Bytes, same}
-use Rattle.codec.specs.Reply.{Test, test, first, None}
-use Rattle.codec.specs.declared.Reply.TheVariants.{Taken}
+use Rattle.codec.specs.Reply.{Test, test, first, None, Taken}
 use Rattle.codec.proofs.Laws.{both, same_equal}
 use Rattle.codec.proofs.Replies.{taken_exactly}
 use Rattle.modular.specs.Roots.{is_root, Root}

@@ -4,8 +4,7 @@ use mathlib.Core.Logic.{◌↔◌, ◌≢◌, ⊎_elim, inr}
 use mathlib.Core.List.{List, [], ◌∷◌, ◌++◌, Memᴰ}
 use Prim.Native.Nat.{ℕ}
 use Rattle.codec.specs.Bytes.{Bytes}
-use Rattle.codec.specs.Reply.{leaves}
-use Rattle.codec.specs.declared.Reply.TheVariants.{Taken, Refused}
+use Rattle.codec.specs.Reply.{leaves, Taken, Refused}
 use Rattle.register.specs.Register.{standing, mark_of, appended, withdrawn, withdrawn_early}
 use Rattle.session.specs.declared.Session.{Session}
 use Rattle.session.specs.Steps.{entered_by}

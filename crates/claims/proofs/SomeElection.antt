@@ -8,8 +8,7 @@ use native.Mathlib.Omega.{arith}
 use lib.ListN.{length, drop, length-replicate}
 use Rattle.codec.specs.Bytes.{Bytes, bytes, words, number, same, zeros, signed}
 use Rattle.codec.specs.Lists.{list, all_below, all}
-use Rattle.codec.specs.Reply.{first}
-use Rattle.codec.specs.declared.Reply.TheVariants.{Taken}
+use Rattle.codec.specs.Reply.{first, Taken}
 use Rattle.codec.proofs.Laws.{octets_zeros}
 use Rattle.codec.proofs.Replies.{taken_exactly}
 use Rattle.modular.specs.Modulo.{centre, remainder}

@@ -7,7 +7,7 @@ use native.Mathlib.Omega.{arith}
 use lib.Dec.{eqb}
 use lib.ListN.{length, length-map, length-replicate}
 use Rattle.codec.specs.Bytes.{Bytes, Octets, number, part}
-use Rattle.codec.specs.declared.Reply.TheVariants.{Taken}
+use Rattle.codec.specs.Reply.{Taken}
 use Rattle.codec.proofs.Numbers.{number_lt}
 use Rattle.codec.proofs.Laws.{length_part, octets_part, length_put}
 use Rattle.sha3.proofs.Squeezing.{length_sha3}

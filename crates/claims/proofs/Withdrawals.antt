@@ -8,9 +8,7 @@ use native.Mathlib.Omega.{arith}
 use lib.Dec.{eqb}
 use lib.ListN.{length}
 use Rattle.codec.specs.Bytes.{Bytes, Octets}
-use Rattle.codec.specs.Reply.{packed}
-use Rattle.codec.specs.declared.Reply.{Reply}
-use Rattle.codec.specs.declared.Reply.TheVariants.{Taken, Refused}
+use Rattle.codec.specs.Reply.{packed, Reply, Taken, Refused}
 use Rattle.register.specs.Register.{mark_of}
 use Rattle.session.specs.declared.Session.{Session}
 use Rattle.session.specs.Machine.{Step, clear, admit, withdraw, close, State, state, reply, after}

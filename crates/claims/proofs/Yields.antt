@@ -9,8 +9,7 @@ use native.Mathlib.Omega.{arith}
 use lib.Dec.{eqb}
 use lib.ListN.{length, take, get_or, get_or-eq_default}
 use Rattle.codec.specs.Bytes.{Bytes, Octets}
-use Rattle.codec.specs.Reply.{first, None}
-use Rattle.codec.specs.declared.Reply.TheVariants.{Taken}
+use Rattle.codec.specs.Reply.{first, None, Taken}
 use Rattle.codec.proofs.Laws.{length_part}
 use Rattle.codec.proofs.Replies.{taken_exactly}
 use Rattle.sheet.specs.Sheet.{order}

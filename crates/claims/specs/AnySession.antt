@@ -2,9 +2,7 @@
 -- the exported check of whatever bytes. Assumes nothing.
 use Rattle.std.specs.Prelude.{◌≡◌, ◌≢◌, ℕ}
 use Rattle.codec.specs.Bytes.{Bytes, Octets}
-use Rattle.codec.specs.Reply.{first}
-use Rattle.codec.specs.declared.Reply.{Reply}
-use Rattle.codec.specs.declared.Reply.TheVariants.{Taken, Refused}
+use Rattle.codec.specs.Reply.{first, Reply, Taken, Refused}
 use Rattle.sheet.specs.Sheet.{order}
 use Rattle.round.specs.Producer.{Material}
 use Rattle.round_lengths.specs.Sheets.{ballots_in}

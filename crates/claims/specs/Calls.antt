@@ -2,9 +2,7 @@
 -- its own below, and of the three that give a length the contracts say all. Assumes nothing.
 use Rattle.std.specs.Prelude.{◌≡◌, ◌↔◌, not, List, [], ◌∷◌, ◌++◌, ℕ, ◌+◌, ◌*◌, ◌/◌, ◌%◌, ◌^◌, ◌≤◌, ◌<◌, eqb, length}
 use Rattle.codec.specs.Bytes.{Bytes, Octets}
-use Rattle.codec.specs.Reply.{Test, test, first, packed, None, Decides}
-use Rattle.codec.specs.declared.Reply.{Reply}
-use Rattle.codec.specs.declared.Reply.TheVariants.{Taken, Refused}
+use Rattle.codec.specs.Reply.{Test, test, first, packed, None, Decides, Reply, Taken, Refused}
 use Rattle.sheet.specs.Sheet.{order}
 use Rattle.sha3.specs.Digest.{digest_reply}
 use Rattle.sheet.specs.Calls.{describe_reply}

@@ -4,7 +4,7 @@
 --    that every contract is proved is this demand.
 use Rattle.std.specs.Prelude.{◌≡◌, map, ℕ, ◌*◌, ◌≤◌, ◌<◌, length, get_or}
 use Rattle.codec.specs.Bytes.{Bytes, Octets}
-use Rattle.codec.specs.declared.Reply.TheVariants.{Taken}
+use Rattle.codec.specs.Reply.{Taken}
 use Rattle.ring.specs.Poly.{Poly, Alike}
 use Rattle.scratch.specs.Call.{scratch_length}
 use Rattle.bgv.specs.Scheme.{Small, key, cipher_u, cipher_v, noise_in, decrypted}

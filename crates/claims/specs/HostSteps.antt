@@ -2,9 +2,7 @@
 -- session_image, specs/Images.antt. What was lodged and the roll are read off the calls that were taken. Assumes nothing.
 use Rattle.std.specs.Prelude.{◌≡◌, false, List, [], ◌∷◌, length}
 use Rattle.codec.specs.Bytes.{Bytes, Octets}
-use Rattle.codec.specs.Reply.{leaves}
-use Rattle.codec.specs.declared.Reply.{Reply}
-use Rattle.codec.specs.declared.Reply.TheVariants.{Taken}
+use Rattle.codec.specs.Reply.{leaves, Reply, Taken}
 use Rattle.session.specs.declared.Session.{Session}
 use Rattle.session.specs.Steps.{Beginning}
 use Rattle.session.specs.Machine.{Step, clear, State, state, reply, after}

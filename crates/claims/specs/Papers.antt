@@ -2,8 +2,7 @@
 -- FIPS 202. Over the definitions that the contracts of the exported calls cite. Assumes nothing.
 use Rattle.std.specs.Prelude.{◌≡◌, ℕ, ◌*◌, ◌<◌}
 use Rattle.codec.specs.Bytes.{Bytes, Octets, part}
-use Rattle.codec.specs.Reply.{first}
-use Rattle.codec.specs.declared.Reply.TheVariants.{Taken}
+use Rattle.codec.specs.Reply.{first, Taken}
 use Rattle.codec.specs.Lists.{list}
 use Rattle.keccak.specs.Steps.{lanes, offsets}
 use Rattle.keccak.specs.Table.{walk}

@@ -2,9 +2,7 @@
 -- product, as their contracts say it, and what is claimed of them. Assumes nothing.
 use Rattle.std.specs.Prelude.{◌≡◌, ◌↔◌, true, List, [], ◌∷◌, ◌++◌, ℕ, ◌*◌, ◌≤◌, ◌<◌, length}
 use Rattle.codec.specs.Bytes.{Bytes, zeros}
-use Rattle.codec.specs.Reply.{first, leaves}
-use Rattle.codec.specs.declared.Reply.{Reply}
-use Rattle.codec.specs.declared.Reply.TheVariants.{Taken, Refused}
+use Rattle.codec.specs.Reply.{first, leaves, Reply, Taken, Refused}
 use Rattle.modular.specs.Roots.{Root, is_root}
 use Rattle.ring.specs.Poly.{mul, Below}
 use Rattle.ring.specs.Slots.{coefficient_bytes, poly}

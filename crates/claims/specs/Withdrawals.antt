@@ -2,7 +2,7 @@
 use Rattle.std.specs.Prelude.{◌≡◌, ◌↔◌, ◌≢◌, ◌⊎◌, ℕ, ◌+◌, ◌*◌, ◌^◌, ◌<◌, length}
 use mathlib.Core.List.{List, [], ◌∷◌, ◌++◌, Memᴰ}
 use Rattle.codec.specs.Bytes.{Bytes, bytes, put, zeros}
-use Rattle.codec.specs.declared.Reply.TheVariants.{Taken, Refused}
+use Rattle.codec.specs.Reply.{Taken, Refused}
 use Rattle.register.specs.Register.{state_at, standing, mark_of}
 use Rattle.session_progress.specs.Progress.{gathering}
 use Rattle.session.specs.declared.Session.{Session}

@@ -10,6 +10,7 @@ use native.Mathlib.Numerals.{add-one}
 use native.Mathlib.Omega.{arith}
 use borrow.Author.Tests.{eqb-true, eq-eqb}
 use lib.Dec.{eqb}
+use lib.Pointwise.{pointwise}
 use lib.ListN.{length, take, drop, set, length-append, length-take, length-drop, take-append-drop, drop_of_length-le, length-replicate, get_or-replicate}
 use lib.Seq.{paste, length-take-le, take-length, drop-length, drop-drop, take-take, take-add, take-nil, take_at, drop_at, set_split, get_or-take, get_or-drop}
 use Rattle.codec.specs.Bytes.{Bytes, Octets, part, put, zeros, same}
@@ -189,6 +190,14 @@ unfolding put
 put_between d t a e h k = rw (← k, drop-drop (length t) a d)
 
 -- ---- equality as a test
+
+-- the library's test of two slices
+pub pointwise_same : (s t : Bytes) → pointwise eqb s t ≡ same s t
+unfolding same
+pointwise_same [] [] = refl
+pointwise_same [] (b ∷ t) = refl
+pointwise_same (a ∷ s) [] = refl
+pointwise_same (a ∷ s) (b ∷ t) = ap (λ (x : Bool). eqb a b && x) (pointwise_same s t)
 
 pub same_refl : (s : Bytes) → same s s ≡ true
 unfolding same

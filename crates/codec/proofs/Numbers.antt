@@ -2,12 +2,12 @@
 use mathlib.Core.Path.{◌≡◌, refl, sym, ap, ap₂, ◌∙◌}
 use mathlib.Core.List.{List, [], ◌∷◌, ◌++◌, append-nil, append_assoc}
 use Prim.Native.Nat.{ℕ, zero, suc, ◌+◌, ◌*◌, ◌/◌, ◌%◌, ◌^◌, ◌≤◌, ◌<◌}
-use native.Mathlib.Nat.{add_comm, mul_comm, pow-suc, pow-succ', one-le-pow, zero-add, suc-add, div-one, div-div-eq-div-mul}
+use native.Mathlib.Nat.{mul_comm, pow-suc, pow-succ', one-le-pow, zero-add, suc-add, div-one, div-div-eq-div-mul}
+use native.Mathlib.Numerals.{add-one}
 use native.Mathlib.Omega.{arith}
 use lib.Arith.{mod-mul}
-use lib.Bits.{bit_or, or_shifted_r}
-use lib.ListN.{length, get_or, length-append}
-use lib.Seq.{drop-cons}
+use lib.ListN.{length, get_or, take, length-append}
+use lib.Seq.{take_all, drop-cons}
 use Rattle.codec.specs.Bytes.{Bytes, Octets, bytes, words, number, part, put}
 use Rattle.codec.proofs.Laws.{length_part, part_append, put_append}
 
@@ -75,41 +75,23 @@ number_append (b ∷ s) t = rw (number_append s t, pow-suc) (omega arith)
 pub number_join : (s : Bytes) (at k m : ℕ) → at + k ≤ length s → number (part s at (k + m)) ≡ number (part s at k) + 256 ^ k * number (part s (at + k) m)
 number_join s at k m h = rw (part_append s at k m, number_append (part s at k) (part s (at + k) m), length_part s at k h)
 
--- a number below 2^k with another above its bits
-or_above : (k a b : ℕ) → a < 2 ^ k → bit_or a (b * 2 ^ k) ≡ a + 2 ^ k * b
-or_above k a b h = or_shifted_r b k a h ∙ add_comm (b * 2 ^ k) a ∙ ap (λ (n : ℕ). a + n) (mul_comm b (2 ^ k))
+-- bytes 0 to k of s as the library's `from_le_bytes` adds them
+abbrev summed : Bytes → ℕ → ℕ
+summed s zero = get_or s 0 0
+summed s (suc k) = summed s k + get_or s (suc k) 0 * 256 ^ suc k
 
--- eight bytes joined by their bits are the number that they hold
-pub number_eight : (s : Bytes) (at : ℕ) → at + 8 ≤ length s → {a b c d e f g h : ℕ}
-    → (a ≡ get_or s at 0) × (a < 256) → (b ≡ get_or s (at + 1) 0) × (b < 256) → (c ≡ get_or s (at + 2) 0) × (c < 256) → (d ≡ get_or s (at + 3) 0) × (d < 256)
-    → (e ≡ get_or s (at + 4) 0) × (e < 256) → (f ≡ get_or s (at + 5) 0) × (f < 256) → (g ≡ get_or s (at + 6) 0) × (g < 256) → (h ≡ get_or s (at + 7) 0) × (h < 256)
-    → bit_or (bit_or (bit_or (bit_or (bit_or (bit_or (bit_or a (b * 256)) (c * 65536)) (d * 16777216)) (e * 4294967296)) (f * 1099511627776)) (g * 281474976710656)) (h * 72057594037927936) ≡ number (part s at 8)
-number_eight s at l {a} {b} {c} {d} {e} {f} {g} {h} ka kb kc kd ke kf kg kh =
-    let v1 : ℕ = a + 256 * b in
-    let v2 : ℕ = v1 + 65536 * c in
-    let v3 : ℕ = v2 + 16777216 * d in
-    let v4 : ℕ = v3 + 4294967296 * e in
-    let v5 : ℕ = v4 + 1099511627776 * f in
-    let v6 : ℕ = v5 + 281474976710656 * g in
-    rw (or_above 8 a b ka.1, or_above 16 v1 c (omega arith), or_above 24 v2 d (omega arith), or_above 32 v3 e (omega arith), or_above 40 v4 f (omega arith), or_above 48 v5 g (omega arith), or_above 56 v6 h (omega arith))
-    (omega (
-      arith,
-      number_join s at 1 1 (omega arith),
-      number_join s at 2 1 (omega arith),
-      number_join s at 3 1 (omega arith),
-      number_join s at 4 1 (omega arith),
-      number_join s at 5 1 (omega arith),
-      number_join s at 6 1 (omega arith),
-      number_join s at 7 1 (omega arith),
-      number_one s at (omega arith),
-      number_one s (at + 1) (omega arith),
-      number_one s (at + 2) (omega arith),
-      number_one s (at + 3) (omega arith),
-      number_one s (at + 4) (omega arith),
-      number_one s (at + 5) (omega arith),
-      number_one s (at + 6) (omega arith),
-      number_one s (at + 7) (omega arith),
-    ))
+pub from_bytes : (s : Bytes) (k : ℕ) → k < length s → summed s k ≡ number (take (suc k) s)
+from_bytes s zero h = sym (number_one s 0 h)
+from_bytes s (suc k) h =
+    let j = number_join s 0 (suc k) 1 (omega arith) in
+    rw (from_bytes s k (omega arith), rw (add-one (suc k), zero-add, number_one s (suc k) h) at j)
+    (omega (arith, mul_comm (256 ^ suc k) (get_or s (suc k) 0)))
+
+-- read from the k + 1 bytes at a place
+pub from_part : (s : Bytes) (at k : ℕ) → at + suc k ≤ length s → {t : Bytes} → t ≡ part s at (suc k) → summed t k ≡ number (part s at (suc k))
+from_part s at k h e =
+    let l = length_part s at (suc k) h in
+    rw e (from_bytes (part s at (suc k)) k (omega (arith, l)) ∙ ap number (take_all (suc k) (part s at (suc k)) (omega (arith, l))))
 
 pub bytes_append : (j k v : ℕ) → bytes j (v % 256 ^ j) ++ bytes k (v / 256 ^ j) ≡ bytes (j + k) v
 unfolding bytes
@@ -121,6 +103,27 @@ bytes_append (suc j) k v =
     let high : v % 256 ^ suc j / 256 ≡ v / 256 % 256 ^ j = omega arith in
     let rest : v / 256 ^ suc j ≡ v / 256 / 256 ^ j = rw pow-succ' (sym (div-div-eq-div-mul v 256 (256 ^ j))) in
     rw (suc-add, low, high, rest) (ap (λ (t : Bytes). v % 256 ∷ t) (bytes_append j k (v / 256)))
+
+-- byte i of v, and k bytes of it from that on, as the library's `to_le_bytes` has them
+abbrev byte_at : ℕ → ℕ → ℕ
+byte_at zero v = v % 256
+byte_at (suc i) v = v / 256 ^ suc i % 256
+
+abbrev bytes_at : ℕ → ℕ → ℕ → Bytes
+bytes_at i zero v = []
+bytes_at i (suc k) v = byte_at i v ∷ bytes_at (suc i) k v
+
+pub to_bytes : (i k v : ℕ) → bytes_at i k v ≡ bytes k (v / 256 ^ i)
+unfolding bytes
+to_bytes i zero v = refl
+to_bytes i (suc k) v = ap₂ (λ (b : ℕ) (t : Bytes). b ∷ t) (low i) (to_bytes (suc i) k v ∙ ap (bytes k) high)
+  where
+    low : (i : ℕ) → byte_at i v ≡ v / 256 ^ i % 256
+    low zero = rw div-one refl
+    low (suc i) = refl
+
+    high : v / 256 ^ suc i ≡ v / 256 ^ i / 256
+    high = rw pow-suc (sym (div-div-eq-div-mul v (256 ^ i) 256))
 
 -- a number written as its low j bytes, and then its k bytes above them
 pub put_join : (d : Bytes) (at j k v : ℕ) → at + (j + k) ≤ length d

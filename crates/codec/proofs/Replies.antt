@@ -7,8 +7,7 @@ use Prim.Native.Nat.{ℕ}
 use native.Mathlib.Omega.{arith}
 use borrow.Author.Rules.{rules}
 use borrow.Author.Tests.{le-ltb, lt-ltb, le-leb, lt-leb, eq-eqb, ne_eqb}
-use Rattle.codec.specs.declared.Reply.TheVariants.{Taken, Refused}
-use Rattle.codec.specs.Reply.{Test, first, None, Decides}
+use Rattle.codec.specs.Reply.{Taken, Refused, Test, first, None, Decides}
 
 -- what `search` closes a refusal by: the tests before it were passed, and its own was not
 pub ruleset order = (rules, le-ltb, lt-ltb, le-leb, lt-leb, eq-eqb, ne_eqb)

@@ -1,4 +1,5 @@
 pub mod Bytes
 pub mod Lists
+pub mod Refusal
 pub mod Reply
 pub mod Slices

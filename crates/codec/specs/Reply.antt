@@ -1,7 +1,10 @@
 -- What a call answers, and the order of its refusals (document 01, "Refused because of the input" and after). Assumes nothing.
 use Rattle.std.specs.Prelude.{◌≡◌, Bool, true, false, cond, List, [], ◌∷◌, ◌++◌, ℕ, ◌+◌, ◌*◌}
-use Rattle.codec.specs.declared.Reply.{Reply}
-use Rattle.codec.specs.declared.Reply.TheVariants.{Taken, Refused}
+
+-- what a call answers: taken; or refused, with document 01's number, and the repetition or ballot that the refusal names, else 0
+pub data Reply : Type 0 where
+  Taken : Reply
+  Refused : ℕ → ℕ → Reply
 
 -- document 01's number of a reply, 0 for a call that is taken
 abbrev pub number_of : Reply → ℕ

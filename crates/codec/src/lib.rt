@@ -4,44 +4,122 @@
 ghost use Rattle.std.specs.Prelude.{◌≡◌, ◌+◌, ◌≤◌, ◌<◌, [], ◌∷◌, length};
 ghost use Rattle.codec.specs.Bytes.{bytes, number, signed, part, put, zeros, same};
 ghost use Rattle.codec.specs.Reply.{packed};
-ghost use Rattle.codec.specs.declared.Reply.TheVariants as replies;
+ghost use Rattle.codec.specs.Refusal.{number_of_refusal, place_of_refusal, as_reply, packed_value};
 
-// What a call answers: taken, or refused with document 01's number and place.
-#[derive(Clone, Copy)]
-pub enum Reply {
-    Taken,
-    Refused { number: u8, place: u32 },
+// Why a call is refused (document 01, "Refused because of the input" and "Refused because of the state"). What is found at a repetition or
+// a ballot names the lowest one; where a call is lent one mask alone, that is 0.
+#[derive(Clone, Copy, PartialEq, Eq)]
+pub enum Refusal {
+    WrongLength,
+    SheetForm,
+    NumberOutOfRange,
+    SheetUnsound,
+    ValueOutOfRange,
+    HalvesNotAdding,
+    OpenedKeyWrong,
+    OpenedCommitmentWrong,
+    NoPermutation(u32),
+    NotBalanced(u32),
+    DigestDiffers(u32),
+    MaskTooLarge(u32),
+    ClaimDiffers(u32),
+    SecretNotMatching,
+    NoiseTooLarge(u32),
+    StoredDiffers,
+    NotDue,
+    MarkStanding,
+    MarkWithdrawn,
+    RegisterFull,
+    NoneStanding,
+    NoRoot,
 }
 
-// A refusal that names no place.
-pub fn refused(number: u8) -> Reply
-    ensures { result ≡ replies.Refused number 0 }
-{
-    Reply::Refused { number, place: 0 }
-}
+// What a call answers that gives nothing else.
+pub type Reply = Result<(), Refusal>;
 
-// The reply as the one number that the C host is answered.
-pub fn pack(reply: Reply) -> u64
-    ensures { result ≡ packed reply }
-{
-    match reply {
-        Reply::Taken => 0,
-        Reply::Refused { number, place } => (number as u64) + 256 * (place as u64),
+impl Refusal {
+    // Document 01's number.
+    pub fn number(self) -> u8
+        ensures { result ≡ number_of_refusal self }
+    {
+        match self {
+            Refusal::WrongLength => 1,
+            Refusal::SheetForm => 2,
+            Refusal::NumberOutOfRange => 3,
+            Refusal::SheetUnsound => 4,
+            Refusal::ValueOutOfRange => 5,
+            Refusal::HalvesNotAdding => 6,
+            Refusal::OpenedKeyWrong => 7,
+            Refusal::OpenedCommitmentWrong => 8,
+            Refusal::NoPermutation(_) => 9,
+            Refusal::NotBalanced(_) => 10,
+            Refusal::DigestDiffers(_) => 11,
+            Refusal::MaskTooLarge(_) => 12,
+            Refusal::ClaimDiffers(_) => 13,
+            Refusal::SecretNotMatching => 14,
+            Refusal::NoiseTooLarge(_) => 15,
+            Refusal::StoredDiffers => 16,
+            Refusal::NotDue => 31,
+            Refusal::MarkStanding => 32,
+            Refusal::MarkWithdrawn => 33,
+            Refusal::RegisterFull => 35,
+            Refusal::NoneStanding => 36,
+            Refusal::NoRoot => 37,
+        }
+    }
+
+    // The repetition or ballot that it names; 0 where it names none.
+    pub fn place(self) -> u32
+        ensures { result ≡ place_of_refusal self }
+    {
+        match self {
+            Refusal::NoPermutation(place) => place,
+            Refusal::NotBalanced(place) => place,
+            Refusal::DigestDiffers(place) => place,
+            Refusal::MaskTooLarge(place) => place,
+            Refusal::ClaimDiffers(place) => place,
+            Refusal::NoiseTooLarge(place) => place,
+            _ => 0,
+        }
     }
 }
 
-fn wide(b: u8) -> u16
-    ensures { (result ≡ b) × (result < 256) }
+// A reply as the one number that the C host is answered.
+pub fn pack(reply: Reply) -> u64
+    ensures { result ≡ packed (as_reply reply) }
 {
-    b as u16
+    pack_value(reply.map(|_| 0))
 }
+
+// A value, or a refusal, as the one number that the C host is answered: the value stands where a refusal has its place.
+pub fn pack_value(answer: Result<u32, Refusal>) -> u64
+    ensures { result ≡ packed_value answer }
+{
+    match answer {
+        Ok(value) => 256 * u64::from(value),
+        Err(why) => u64::from(why.number()) + 256 * u64::from(why.place()),
+    }
+}
+
+// The N bytes at a place.
+pub fn array<const N: usize>(s: &[u8], at: usize) -> [u8; N]
+    requires { at + N ≤ length s.now }
+    ensures { result ≡ part s.now at N }
+{
+    let mut bytes = [0u8; N];
+    bytes.copy_from_slice(&s[at..at + N]);
+    bytes
+}
+
+// ---- numbers of 2, 4 and 8 bytes: a name for each width, as the library has with `from_le_bytes`; a generic one would have to name the
+// width at each call instead
 
 // The 2-byte number at a place.
 pub fn read16(s: &[u8], at: usize) -> u16
     requires { at + 2 ≤ length s.now }
     ensures { result ≡ number (part s.now at 2) }
 {
-    wide(s[at]) + 256 * wide(s[at + 1])
+    u16::from_le_bytes(array(s, at))
 }
 
 // The 4-byte number at a place.
@@ -49,29 +127,15 @@ pub fn read32(s: &[u8], at: usize) -> u32
     requires { at + 4 ≤ length s.now }
     ensures { result ≡ number (part s.now at 4) }
 {
-    (read16(s, at) as u32) + 65536 * (read16(s, at + 2) as u32)
+    u32::from_le_bytes(array(s, at))
 }
 
-fn octet(b: u8) -> u64
-    ensures { (result ≡ b) × (result < 256) }
-{
-    b as u64
-}
-
-// The 8-byte number at a place. Its bytes are joined by `|` in one expression of this function, as the compiler then makes one read of
-// all eight.
+// The 8-byte number at a place.
 pub fn read64(s: &[u8], at: usize) -> u64
     requires { at + 8 ≤ length s.now }
     ensures { result ≡ number (part s.now at 8) }
 {
-    octet(s[at])
-        | octet(s[at + 1]) * 256
-        | octet(s[at + 2]) * 65536
-        | octet(s[at + 3]) * 16777216
-        | octet(s[at + 4]) * 4294967296
-        | octet(s[at + 5]) * 1099511627776
-        | octet(s[at + 6]) * 281474976710656
-        | octet(s[at + 7]) * 72057594037927936
+    u64::from_le_bytes(array(s, at))
 }
 
 // The signed 8-byte number at a place, in two's complement.
@@ -79,12 +143,7 @@ pub fn read_signed(s: &[u8], at: usize) -> i64
     requires { at + 8 ≤ length s.now }
     ensures { result ≡ signed (number (part s.now at 8)) }
 {
-    let v = read64(s, at);
-    if v < 9223372036854775808 {
-        v as i64
-    } else {
-        -1 - ((18446744073709551615 - v) as i64)
-    }
+    read64(s, at).cast_signed()
 }
 
 // Writes one byte at a place.
@@ -100,8 +159,7 @@ pub fn write16(d: &mut [u8], at: usize, v: u16)
     requires { at + 2 ≤ length d.old }
     ensures { d.new ≡ put d.old at (bytes 2 v) }
 {
-    write8(d, at, (v % 256) as u8);
-    write8(d, at + 1, (v / 256) as u8);
+    copy(d, at, &u16::to_le_bytes(v));
 }
 
 // Writes a number as 4 bytes at a place.
@@ -109,8 +167,7 @@ pub fn write32(d: &mut [u8], at: usize, v: u32)
     requires { at + 4 ≤ length d.old }
     ensures { d.new ≡ put d.old at (bytes 4 v) }
 {
-    write16(d, at, (v % 65536) as u16);
-    write16(d, at + 2, (v / 65536) as u16);
+    copy(d, at, &u32::to_le_bytes(v));
 }
 
 // Writes a number as 8 bytes at a place.
@@ -118,46 +175,29 @@ pub fn write64(d: &mut [u8], at: usize, v: u64)
     requires { at + 8 ≤ length d.old }
     ensures { d.new ≡ put d.old at (bytes 8 v) }
 {
-    write32(d, at, (v % 4294967296) as u32);
-    write32(d, at + 4, (v / 4294967296) as u32);
+    copy(d, at, &u64::to_le_bytes(v));
 }
 
 // Copies all of s into d from a place on.
+#[tactic(auto, using(crate::proofs::Laws::put_between))]
 pub fn copy(d: &mut [u8], at: usize, s: &[u8])
     requires { at + length s.now ≤ length d.old }
     ensures { d.new ≡ put d.old at s.now }
 {
-    let mut i = 0;
-    while i < s.len() {
-        d[at + i] = s[i];
-        i += 1;
-    }
+    d[at..at + s.len()].copy_from_slice(s);
 }
 
 // Writes zero over every byte.
 pub fn wipe(d: &mut [u8])
     ensures { d.new ≡ zeros (length d.old) }
 {
-    let mut i = 0;
-    while i < d.len() {
-        d[i] = 0;
-        i += 1;
-    }
+    d.fill(0);
 }
 
 // Whether two slices hold the same bytes.
+#[tactic(auto, using(crate::proofs::Laws::pointwise_same))]
 pub fn equal(a: &[u8], b: &[u8]) -> bool
     ensures { result ≡ same a.now b.now }
 {
-    if a.len() != b.len() {
-        return false;
-    }
-    let mut i = 0;
-    while i < a.len() {
-        if a[i] != b[i] {
-            return false;
-        }
-        i += 1;
-    }
-    true
+    a == b
 }

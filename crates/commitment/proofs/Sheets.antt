@@ -6,10 +6,8 @@ use native.Mathlib.Omega.{arith}
 use lib.ListN.{length, take, drop, replicate, length-replicate}
 use Rattle.codec.specs.Bytes.{Bytes, part, put}
 use Rattle.codec.proofs.Laws.{length_part, part_part, part_put}
-use Rattle.sheet.specs.Sheet.{reading, polynomials}
+use Rattle.sheet.specs.Sheet.{reading, polynomials, Reading, Taken}
 use Rattle.sheet.specs.Internal.{loaded, buffer_after}
-use Rattle.sheet.specs.declared.Reading.{Reading}
-use Rattle.sheet.specs.declared.Reading.TheVariants.{Taken}
 use Rattle.sheet.proofs.Taken.{taken, length_polynomials}
 use Rattle.sheet_numbers.specs.declared.Numbers.{Numbers}
 use Rattle.scratch.specs.Internal.{Polynomial}

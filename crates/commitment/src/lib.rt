@@ -73,8 +73,6 @@ pub fn opens(work: &mut [u8], k: &[u8], halves: &[u8], m: &[u8], r: &[u8], n: us
         × Free work.old work.new }
 {
     pair(work, k, m, r, n, q);
-    if !codec::equal(&halves[0..8 * n], &work[0..8 * n]) {
-        return false;
-    }
-    codec::equal(&halves[8 * n..16 * n], &work[MESSAGE..MESSAGE + 8 * n])
+    codec::equal(&halves[0..8 * n], &work[0..8 * n])
+        && codec::equal(&halves[8 * n..16 * n], &work[MESSAGE..MESSAGE + 8 * n])
 }

@@ -1,18 +1,18 @@
 -- The promises of an exported call that is lent a sheet: refused with the sheet, or answered by its part after the sheet. Assumes nothing.
-use mathlib.Core.Path.{◌≡◌, sym, ap, subst, ◌∙◌}
+use mathlib.Core.Path.{◌≡◌, refl, sym, ap, subst, ◌∙◌}
 use mathlib.Core.List.{List, ◌++◌}
 use Prim.Native.Nat.{ℕ}
 use lib.ListN.{replicate}
+use Rattle.std.proofs.Common.{Result, Err}
 use Rattle.codec.specs.Bytes.{Bytes}
-use Rattle.codec.specs.Reply.{Test, first, leaves, packed}
-use Rattle.codec.specs.declared.Reply.{Reply}
-use Rattle.codec.specs.declared.Reply.TheVariants as reply
+use Rattle.codec.specs.Reply.{Test, first, leaves, packed, Reply}
+use Rattle.codec.specs.Reply as reply
+use Rattle.codec.specs.Refusal.{number_of_refusal, as_reply}
+use Rattle.codec.specs.declared.Refusal.{Refusal}
 use Rattle.sheet.specs.Reader.{sheet_of}
-use Rattle.sheet.specs.Sheet.{order, reading}
+use Rattle.sheet.specs.Sheet.{order, reading, Reading, Taken, Refused, ReadAs}
 use Rattle.sheet.specs.Internal.{loaded}
-use Rattle.sheet.specs.declared.Reading.{Reading}
-use Rattle.sheet.specs.declared.Reading.TheVariants.{Taken, Refused}
-use Rattle.sheet.proofs.Taken.{taken}
+use Rattle.sheet.proofs.Taken.{taken, no_place}
 use Rattle.sheet_numbers.specs.declared.Numbers.{Numbers}
 use Rattle.sheet_numbers.specs.Internal.{Usable}
 use Rattle.sheet_numbers.proofs.Ranges.{usable}
@@ -33,12 +33,23 @@ answered {writes = writes} {out = out} {w = w} packs replied written cleared = r
   cleared = cleared ∙ ap (λ (x : Reply). zeroized x w) replied;
 }
 
+-- a call that ends with the refusal of its sheet
+pub unread : (text : Bytes) (why : Refusal) (w : Bytes) {w' : Bytes} {r : Result Unit Refusal} → ReadAs (reading text) (Err why) → (r ≡ Err why) × (w' ≡ zeroized (as_reply {A = Unit} (Err why)) w)
+    → (as_reply r ≡ refusal (Refused (number_of_refusal why))) × (w' ≡ zeroized (refusal (Refused (number_of_refusal why))) w)
+unread text why w read ended =
+    let p = no_place why read in
+    (ap as_reply ended.0 ∙ p, ended.1 ∙ ap (λ (z : Reply). zeroized z w) p)
+
 -- the sheet is refused, and the call with it
 pub call_refused : (text : Bytes) {ts : List Test} {x w out w' : Bytes} {s : Reading} {n answer : ℕ} {r : Reply} → s ≡ reading text → s ≡ Refused n → (r ≡ refusal s) × (w' ≡ zeroized (refusal s) w)
     → answer ≡ packed r → CallReplied (order text ++ ts) x answer out out w w'
 call_refused text {ts} {x} {w} {n = n} {r = r} f e ended packs =
     let is : r ≡ reply.Refused n 0 = ended.0 ∙ ap refusal e in
     answered packs (is ∙ order_refused text ts f e) (leaves_refused r n 0 x is) (ended.1 ∙ ap (λ (a : Reply). zeroized a w) (sym ended.0))
+
+pub call_unread : (text : Bytes) (why : Refusal) {ts : List Test} {x w out w' : Bytes} {r : Result Unit Refusal} {answer : ℕ} → ReadAs (reading text) (Err why)
+    → (r ≡ Err why) × (w' ≡ zeroized (as_reply {A = Unit} (Err why)) w) → answer ≡ packed (as_reply r) → CallReplied (order text ++ ts) x answer out out w w'
+call_unread text why read ended = call_refused text read.0 refl (unread text why _ read ended)
 
 -- it is taken: the rest of the order decides, and scratch is zeroized
 module _ (text : Bytes) {k : Numbers} (said : reading text ≡ Taken k) where

@@ -40,12 +40,13 @@ pub extern "C" fn jdn_keygen(
         (key_of sheet.now s.now e.now) result b.old b.new scratch.old scratch.new }
 {
     let mut public = [0u8; 81920];
-    let reading = sheet::load(sheet, &mut public);
-    let sheet::Reading::Taken(k) = reading else {
-        return codec::pack(scratch::refuse(reading, scratch));
-    };
-    let reply = scheme_keys::keygen(k, &public, s, e, b, scratch);
-    codec::pack(scratch::finish(reply, scratch))
+    match sheet::load(sheet, &mut public) {
+        Ok(k) => {
+            let reply = scheme_keys::keygen(k, &public, s, e, b, scratch);
+            codec::pack(scratch::finish(reply, scratch))
+        }
+        Err(why) => codec::pack(scratch::finish(Err(why), scratch)),
+    }
 }
 
 // Writes the ciphertext: u = a r + p e', then v = b r + p e'' + m.
@@ -65,12 +66,13 @@ pub extern "C" fn jdn_encrypt(
         scratch.new }
 {
     let mut public = [0u8; 81920];
-    let reading = sheet::load(sheet, &mut public);
-    let sheet::Reading::Taken(k) = reading else {
-        return codec::pack(scratch::refuse(reading, scratch));
-    };
-    let reply = scheme_encryption::encrypt(k, &public, r, e1, e2, m, ciphertext, scratch);
-    codec::pack(scratch::finish(reply, scratch))
+    match sheet::load(sheet, &mut public) {
+        Ok(k) => {
+            let reply = scheme_encryption::encrypt(k, &public, r, e1, e2, m, ciphertext, scratch);
+            codec::pack(scratch::finish(reply, scratch))
+        }
+        Err(why) => codec::pack(scratch::finish(Err(why), scratch)),
+    }
 }
 
 // Writes the vote of a ciphertext: v - s u centred, by p.
@@ -86,12 +88,13 @@ pub extern "C" fn jdn_decrypt(
         (vote_of sheet.now s.now ciphertext.now) result vote.old vote.new scratch.old scratch.new }
 {
     let mut public = [0u8; 81920];
-    let reading = sheet::load(sheet, &mut public);
-    let sheet::Reading::Taken(k) = reading else {
-        return codec::pack(scratch::refuse(reading, scratch));
-    };
-    let reply = scheme_encryption::decrypt(k, s, ciphertext, vote, scratch);
-    codec::pack(scratch::finish(reply, scratch))
+    match sheet::load(sheet, &mut public) {
+        Ok(k) => {
+            let reply = scheme_encryption::decrypt(k, s, ciphertext, vote, scratch);
+            codec::pack(scratch::finish(reply, scratch))
+        }
+        Err(why) => codec::pack(scratch::finish(Err(why), scratch)),
+    }
 }
 
 // Writes the other half of a key split and the keys of both: s1, e1, b0, b1.
@@ -109,12 +112,13 @@ pub extern "C" fn jdn_split(
         (split_of sheet.now s.now e.now s0.now e0.now) result out.old out.new scratch.old scratch.new }
 {
     let mut public = [0u8; 81920];
-    let reading = sheet::load(sheet, &mut public);
-    let sheet::Reading::Taken(k) = reading else {
-        return codec::pack(scratch::refuse(reading, scratch));
-    };
-    let reply = scheme_keys::split(k, &public, s, e, s0, e0, out, scratch);
-    codec::pack(scratch::finish(reply, scratch))
+    match sheet::load(sheet, &mut public) {
+        Ok(k) => {
+            let reply = scheme_keys::split(k, &public, s, e, s0, e0, out, scratch);
+            codec::pack(scratch::finish(reply, scratch))
+        }
+        Err(why) => codec::pack(scratch::finish(Err(why), scratch)),
+    }
 }
 
 // Writes the decryption share t = s_i u + p E.
@@ -131,12 +135,13 @@ pub extern "C" fn jdn_share(
         (share_of sheet.now key_share.now u.now mask.now) result t.old t.new scratch.old scratch.new }
 {
     let mut public = [0u8; 81920];
-    let reading = sheet::load(sheet, &mut public);
-    let sheet::Reading::Taken(k) = reading else {
-        return codec::pack(scratch::refuse(reading, scratch));
-    };
-    let reply = scheme::share(k, key_share, u, mask, t, scratch);
-    codec::pack(scratch::finish(reply, scratch))
+    match sheet::load(sheet, &mut public) {
+        Ok(k) => {
+            let reply = scheme::share(k, key_share, u, mask, t, scratch);
+            codec::pack(scratch::finish(reply, scratch))
+        }
+        Err(why) => codec::pack(scratch::finish(Err(why), scratch)),
+    }
 }
 
 // Writes the vote of two decryption shares: v - t0 - t1 centred, by p.
@@ -153,12 +158,13 @@ pub extern "C" fn jdn_reconstruct(
         (vote_of_shares sheet.now v.now t0.now t1.now) result vote.old vote.new scratch.old scratch.new }
 {
     let mut public = [0u8; 81920];
-    let reading = sheet::load(sheet, &mut public);
-    let sheet::Reading::Taken(k) = reading else {
-        return codec::pack(scratch::refuse(reading, scratch));
-    };
-    let reply = scheme::reconstruct(k, v, t0, t1, vote, scratch);
-    codec::pack(scratch::finish(reply, scratch))
+    match sheet::load(sheet, &mut public) {
+        Ok(k) => {
+            let reply = scheme::reconstruct(k, v, t0, t1, vote, scratch);
+            codec::pack(scratch::finish(reply, scratch))
+        }
+        Err(why) => codec::pack(scratch::finish(Err(why), scratch)),
+    }
 }
 
 // Writes the pair that commits to a polynomial m: r1 + k1 r2 + k2 r3, then r2 + k3 r3 + m.
@@ -174,10 +180,11 @@ pub extern "C" fn jdn_commitment(
         (commitment_of sheet.now m.now r.now) result pair.old pair.new scratch.old scratch.new }
 {
     let mut public = [0u8; 81920];
-    let reading = sheet::load(sheet, &mut public);
-    let sheet::Reading::Taken(k) = reading else {
-        return codec::pack(scratch::refuse(reading, scratch));
-    };
-    let reply = scheme::commitment(k, &public, m, r, pair, scratch);
-    codec::pack(scratch::finish(reply, scratch))
+    match sheet::load(sheet, &mut public) {
+        Ok(k) => {
+            let reply = scheme::commitment(k, &public, m, r, pair, scratch);
+            codec::pack(scratch::finish(reply, scratch))
+        }
+        Err(why) => codec::pack(scratch::finish(Err(why), scratch)),
+    }
 }

@@ -15,12 +15,13 @@ pub extern "C" fn jdn_multiply(
     ensures { CallReplied (multiply_order sheet.now x.now y.now root product.old scratch.old)
         (product_of sheet.now x.now y.now) result product.old product.new scratch.old scratch.new }
 {
-    let reading = sheet::read(sheet);
-    let sheet::Reading::Taken(k) = reading else {
-        return codec::pack(scratch::refuse(reading, scratch));
-    };
-    let reply = scheme_products::multiply(k, x, y, root, product, scratch);
-    codec::pack(scratch::finish(reply, scratch))
+    match sheet::read(sheet) {
+        Ok(k) => {
+            let reply = scheme_products::multiply(k, x, y, root, product, scratch);
+            codec::pack(scratch::finish(reply, scratch))
+        }
+        Err(why) => codec::pack(scratch::finish(Err(why), scratch)),
+    }
 }
 
 // Writes x y modulo X^N + 1 and q, by the plain method, for callers without a root.
@@ -35,10 +36,11 @@ pub extern "C" fn jdn_product(
     ensures { CallReplied (product_order sheet.now x.now y.now product.old scratch.old)
         (product_of sheet.now x.now y.now) result product.old product.new scratch.old scratch.new }
 {
-    let reading = sheet::read(sheet);
-    let sheet::Reading::Taken(k) = reading else {
-        return codec::pack(scratch::refuse(reading, scratch));
-    };
-    let reply = scheme_products::product(k, x, y, product, scratch);
-    codec::pack(scratch::finish(reply, scratch))
+    match sheet::read(sheet) {
+        Ok(k) => {
+            let reply = scheme_products::product(k, x, y, product, scratch);
+            codec::pack(scratch::finish(reply, scratch))
+        }
+        Err(why) => codec::pack(scratch::finish(Err(why), scratch)),
+    }
 }

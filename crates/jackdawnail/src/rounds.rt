@@ -32,28 +32,27 @@ pub extern "C" fn jdn_produce_first(
         let reply = first_reply sheet.now x before in (result ≡ packed reply) × FirstCalled sheet.now x before reply after }
 {
     let mut public = [0u8; 81920];
-    let reading = sheet::load(sheet, &mut public);
-    let sheet::Reading::Taken(k) = reading else {
-        return codec::pack(scratch::refuse(reading, scratch));
-    };
-    codec::pack(round_produce::produce_first(
-        k,
-        &public,
-        secrets,
-        s0,
-        e0,
-        masks0,
-        masks1,
-        vectors,
-        permutations,
-        salts,
-        ballots,
-        head,
-        shares0,
-        shares1,
-        claims,
-        scratch,
-    ))
+    match sheet::load(sheet, &mut public) {
+        Ok(k) => codec::pack(round_produce::produce_first(
+            k,
+            &public,
+            secrets,
+            s0,
+            e0,
+            masks0,
+            masks1,
+            vectors,
+            permutations,
+            salts,
+            ballots,
+            head,
+            shares0,
+            shares1,
+            claims,
+            scratch,
+        )),
+        Err(why) => codec::pack(scratch::finish(Err(why), scratch)),
+    }
 }
 
 // Its second call: the opening of a side, and the answers to challenges.
@@ -81,28 +80,27 @@ pub extern "C" fn jdn_produce_second(
         (result ≡ packed reply) × SecondCalled sheet.now x side challenges.now before reply after }
 {
     let mut public = [0u8; 81920];
-    let reading = sheet::load(sheet, &mut public);
-    let sheet::Reading::Taken(k) = reading else {
-        return codec::pack(scratch::refuse(reading, scratch));
-    };
-    codec::pack(round_produce::produce_second(
-        k,
-        &public,
-        secrets,
-        s0,
-        e0,
-        masks0,
-        masks1,
-        vectors,
-        permutations,
-        salts,
-        ballots,
-        side,
-        challenges,
-        opening,
-        answers,
-        scratch,
-    ))
+    match sheet::load(sheet, &mut public) {
+        Ok(k) => codec::pack(round_produce::produce_second(
+            k,
+            &public,
+            secrets,
+            s0,
+            e0,
+            masks0,
+            masks1,
+            vectors,
+            permutations,
+            salts,
+            ballots,
+            side,
+            challenges,
+            opening,
+            answers,
+            scratch,
+        )),
+        Err(why) => codec::pack(scratch::finish(Err(why), scratch)),
+    }
 }
 
 // The extractor: what two openings and three answers yield.
@@ -128,14 +126,13 @@ pub extern "C" fn jdn_extract<'a>(
         (result ≡ answered found) × ExtractCalled sheet.now x before found (extract_out out scratch) }
 {
     let mut public = [0u8; 81920];
-    let reading = sheet::load(sheet, &mut public);
-    let sheet::Reading::Taken(k) = reading else {
-        return codec::pack(scratch::refuse(reading, scratch));
-    };
-    round_extract::pack_extraction(round_extract::extract(
-        k, &public, head, shares0, shares1, ballots, claims, opening0, opening1, repetition,
-        answer1, answer2, answer3, out, scratch,
-    ))
+    match sheet::load(sheet, &mut public) {
+        Ok(k) => round_extract::pack_extraction(round_extract::extract(
+            k, &public, head, shares0, shares1, ballots, claims, opening0, opening1, repetition,
+            answer1, answer2, answer3, out, scratch,
+        )),
+        Err(why) => codec::pack(scratch::finish(Err(why), scratch)),
+    }
 }
 
 // Where ballot j's opened share stands in the slice of the opened side, plus one, as the reply's value; 0 where the stretch is empty.

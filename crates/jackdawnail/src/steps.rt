@@ -1,14 +1,18 @@
 // The calls of a session: its eight steps over a lent image, challenges and turnout, and the fixed lengths. A step loads the session from
 // its image, and stores the one that it leaves.
-ghost use Rattle.std.specs.Prelude.{◌≡◌};
+ghost use Rattle.std.specs.Prelude.{◌≡◌, ◌≢◌, length};
 ghost use Rattle.scratch.specs.Call.{scratch_length};
 ghost use Rattle.register.specs.Register.{register_length};
 ghost use Rattle.session_check.specs.Check.{inputs_in};
 ghost use Rattle.session.specs.Steps.{on};
 ghost use Rattle.session.specs.Machine.{clear, admit, withdraw, close, claim, commit, draw};
 ghost use Rattle.session_image.specs.Image.{image_length};
+ghost use Rattle.jackdawnail.specs.OverImage.{StepTaken};
 ghost use Rattle.session_image.specs.Images.{host, StepCalled, StepCalledAlone, CheckCalled, ChallengesCalled, turnout_answer};
 
+use codec::Refusal;
+use session::{Session, Stepped};
+use session_check::Lent;
 use session_image::{IMAGE, keep, load};
 
 // The length of the image of a session.
@@ -35,17 +39,30 @@ pub extern "C" fn jdn_register_length() -> u64
     163840
 }
 
+// Takes a step over the session that an image holds, with bytes that are lent to it, and stores the session that it leaves. An image of
+// another length is refused, and nothing is touched.
+fn over_image<F: FnOnce(Session, &mut [u8]) -> Stepped>(
+    image: &mut [u8],
+    lent: &mut [u8],
+    step: F,
+) -> u64
+    requires { F.IsAlwaysCallable step }
+    ensures wrong { length image.old ≢ image_length → (result ≡ 1) × (image.new ≡ image.old) × (lent.new ≡ lent.old) }
+    ensures stepped { length image.old ≡ image_length → StepTaken F.FnOnce step image.old lent.old result image.new lent.new }
+{
+    if image.len() != IMAGE {
+        return codec::pack(Err(Refusal::WrongLength));
+    }
+    let stepped = step(load(image), lent);
+    keep(stepped, image)
+}
+
 // Starts anew, on a sheet and with an empty register, whatever the image holds.
 #[unsafe(no_mangle)]
 pub extern "C" fn jdn_clear(image: &mut [u8], reg: &mut [u8], sheet: &[u8]) -> u64
     ensures { StepCalled (clear (on sheet.now)) (host image.old reg.old) result (host image.new reg.new) }
 {
-    if image.len() != IMAGE {
-        return 1;
-    }
-    let session = load(image);
-    let stepped = session.clear(reg, sheet);
-    keep(stepped, image)
+    over_image(image, reg, |session, reg| session.clear(reg, sheet))
 }
 
 // Admits a ballot: mark, u, v.
@@ -53,12 +70,7 @@ pub extern "C" fn jdn_clear(image: &mut [u8], reg: &mut [u8], sheet: &[u8]) -> u
 pub extern "C" fn jdn_admit(image: &mut [u8], reg: &mut [u8], ballot: &[u8]) -> u64
     ensures { StepCalled (admit ballot.now) (host image.old reg.old) result (host image.new reg.new) }
 {
-    if image.len() != IMAGE {
-        return 1;
-    }
-    let session = load(image);
-    let stepped = session.admit(reg, ballot);
-    keep(stepped, image)
+    over_image(image, reg, |session, reg| session.admit(reg, ballot))
 }
 
 // Withdraws a mark, whether its ballot has come or not.
@@ -66,12 +78,7 @@ pub extern "C" fn jdn_admit(image: &mut [u8], reg: &mut [u8], ballot: &[u8]) -> 
 pub extern "C" fn jdn_withdraw(image: &mut [u8], reg: &mut [u8], mark: u32) -> u64
     ensures { StepCalled (withdraw mark) (host image.old reg.old) result (host image.new reg.new) }
 {
-    if image.len() != IMAGE {
-        return 1;
-    }
-    let session = load(image);
-    let stepped = session.withdraw(reg, mark);
-    keep(stepped, image)
+    over_image(image, reg, |session, reg| session.withdraw(reg, mark))
 }
 
 // Closes the batch of the standing entries.
@@ -79,12 +86,7 @@ pub extern "C" fn jdn_withdraw(image: &mut [u8], reg: &mut [u8], mark: u32) -> u
 pub extern "C" fn jdn_close(image: &mut [u8], reg: &[u8]) -> u64
     ensures { StepCalled close (host image.old reg.now) result (host image.new reg.now) }
 {
-    if image.len() != IMAGE {
-        return 1;
-    }
-    let session = load(image);
-    let stepped = session.close(reg);
-    keep(stepped, image)
+    over_image(image, &mut [], |session, _| session.close(reg))
 }
 
 // Takes the claims.
@@ -92,12 +94,7 @@ pub extern "C" fn jdn_close(image: &mut [u8], reg: &[u8]) -> u64
 pub extern "C" fn jdn_claim(image: &mut [u8], claims: &[u8]) -> u64
     ensures { StepCalledAlone (claim claims.now) image.old result image.new }
 {
-    if image.len() != IMAGE {
-        return 1;
-    }
-    let session = load(image);
-    let stepped = session.claim(claims);
-    keep(stepped, image)
+    over_image(image, &mut [], |session, _| session.claim(claims))
 }
 
 // Commits the first message of a round.
@@ -111,12 +108,11 @@ pub extern "C" fn jdn_commit(
 ) -> u64
     ensures { StepCalledAlone (commit round head.now shares0.now shares1.now) image.old result image.new }
 {
-    if image.len() != IMAGE {
-        return 1;
-    }
-    let session = load(image);
-    let stepped = session.commit(round, head, shares0, shares1);
-    keep(stepped, image)
+    over_image(
+        image,
+        &mut [],
+        |session, _| session.commit(round, head, shares0, shares1),
+    )
 }
 
 // Takes the seed of 32 bytes.
@@ -124,12 +120,7 @@ pub extern "C" fn jdn_commit(
 pub extern "C" fn jdn_draw(image: &mut [u8], seed: &[u8]) -> u64
     ensures { StepCalledAlone (draw seed.now) image.old result image.new }
 {
-    if image.len() != IMAGE {
-        return 1;
-    }
-    let session = load(image);
-    let stepped = session.draw(seed);
-    keep(stepped, image)
+    over_image(image, &mut [], |session, _| session.draw(seed))
 }
 
 // Checks a round.
@@ -150,14 +141,24 @@ pub extern "C" fn jdn_check<'a>(
     ensures { let x = inputs_in sheet ballots claims head shares0 shares1 opening answers scratch in
         CheckCalled round x image.old result image.new scratch.new }
 {
-    if image.len() != IMAGE {
-        return 1;
-    }
-    let session = load(image);
-    let stepped = session.check(
-        sheet, ballots, claims, round, head, shares0, shares1, opening, answers, scratch,
-    );
-    keep(stepped, image)
+    over_image(
+        image,
+        scratch,
+        |session, scratch| session.check(
+            round,
+            Lent {
+                sheet,
+                ballots,
+                claims,
+                head,
+                shares0,
+                shares1,
+                opening,
+                answers,
+            },
+            scratch,
+        ),
+    )
 }
 
 // Writes the side and the challenges that were drawn for a round.
@@ -166,10 +167,9 @@ pub extern "C" fn jdn_challenges(image: &[u8], round: u64, out: &mut [u8]) -> u6
     ensures { ChallengesCalled image.now round result out.old out.new }
 {
     if image.len() != IMAGE {
-        return 1;
+        return codec::pack(Err(Refusal::WrongLength));
     }
-    let session = load(image);
-    codec::pack(session.challenges(round, out))
+    codec::pack(load(image).challenges(round, out))
 }
 
 // The standing entries in thousandths of the enrolled, as the reply's value.
@@ -178,8 +178,7 @@ pub extern "C" fn jdn_turnout(image: &[u8], reg: &[u8], enrolled: u64) -> u64
     ensures { result ≡ turnout_answer image.now reg.now enrolled }
 {
     if image.len() != IMAGE {
-        return 1;
+        return codec::pack(Err(Refusal::WrongLength));
     }
-    let session = load(image);
-    session_image::pack_turnout(session.turnout(reg, enrolled))
+    codec::pack_value(load(image).turnout(reg, enrolled))
 }

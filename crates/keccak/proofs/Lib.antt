@@ -5,4 +5,3 @@ pub mod Complement
 pub mod Flips
 pub mod Lanes
 pub mod Shape
-pub mod ByRows

@@ -2,7 +2,9 @@
 ghost use Rattle.std.specs.Prelude.{◌≡◌};
 ghost use Rattle.keccak.specs.Internal.{chi_row0, chi_row1, chi_row2, chi_row3, chi_row4};
 
-// Chi on the five rows of a state whose lanes stand complemented as theta, rho and pi leave them.
+// Chi on the five rows of a state whose lanes stand complemented as theta, rho and pi leave them: a function a row, since which
+// lanes stand complemented before and after differs from row to row, and with it where a complement, `|` or `&` stands.
+#[tactic(auto, unfolding(crate::specs::Internal::chi_row0, crate::specs::Steps::complement))]
 pub fn chi_row0(r: [u64; 5]) -> [u64; 5]
     ensures { result ≡ chi_row0 r }
 {
@@ -15,6 +17,7 @@ pub fn chi_row0(r: [u64; 5]) -> [u64; 5]
     ]
 }
 
+#[tactic(auto, unfolding(crate::specs::Internal::chi_row1, crate::specs::Steps::complement))]
 pub fn chi_row1(r: [u64; 5]) -> [u64; 5]
     ensures { result ≡ chi_row1 r }
 {
@@ -27,6 +30,7 @@ pub fn chi_row1(r: [u64; 5]) -> [u64; 5]
     ]
 }
 
+#[tactic(auto, unfolding(crate::specs::Internal::chi_row2, crate::specs::Steps::complement))]
 pub fn chi_row2(r: [u64; 5]) -> [u64; 5]
     ensures { result ≡ chi_row2 r }
 {
@@ -39,6 +43,7 @@ pub fn chi_row2(r: [u64; 5]) -> [u64; 5]
     ]
 }
 
+#[tactic(auto, unfolding(crate::specs::Internal::chi_row3, crate::specs::Steps::complement))]
 pub fn chi_row3(r: [u64; 5]) -> [u64; 5]
     ensures { result ≡ chi_row3 r }
 {
@@ -51,6 +56,7 @@ pub fn chi_row3(r: [u64; 5]) -> [u64; 5]
     ]
 }
 
+#[tactic(auto, unfolding(crate::specs::Internal::chi_row4, crate::specs::Steps::complement))]
 pub fn chi_row4(r: [u64; 5]) -> [u64; 5]
     ensures { result ≡ chi_row4 r }
 {

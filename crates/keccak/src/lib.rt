@@ -38,6 +38,7 @@ const CONSTANTS: [u64; 24] = [
 ];
 
 // The six lanes complemented: chi then takes 8 complements in a round and not 25.
+#[tactic(auto, unfolding(crate::specs::Internal::flipped, crate::specs::Steps::complement))]
 fn complemented(s: [[u64; 5]; 5]) -> [[u64; 5]; 5]
     ensures { result ≡ flipped six s }
 {
@@ -50,17 +51,17 @@ fn complemented(s: [[u64; 5]; 5]) -> [[u64; 5]; 5]
     ]
 }
 
-// The permutation Keccak-f[1600].
+// The permutation Keccak-f[1600], four rounds at a time: with one, the state is put back in its place in memory after each, a sixth slower.
 pub fn permute(s: [[u64; 5]; 5]) -> [[u64; 5]; 5]
     ensures { result ≡ keccak s }
 {
+    // a local: with the constant itself in the loop, the whole of SHA3-256 came out a twentieth slower
     let table = CONSTANTS;
     let mut t = complemented(s);
-    let mut k = 0;
-    while k < 24 {
-        let u = crate::rounds::four_rounds(t, table[k], table[k + 1], table[k + 2], table[k + 3]);
+    for k in 0..6 {
+        let n = 4 * k;
+        let u = crate::rounds::four_rounds(t, table[n], table[n + 1], table[n + 2], table[n + 3]);
         t = u;
-        k += 4;
     }
     complemented(t)
 }

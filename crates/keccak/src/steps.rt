@@ -12,7 +12,8 @@ pub const OFFSETS: [[u32; 5]; 5] = [
     [62, 55, 39, 41, 2],
 ];
 
-// A lane rotated left by n places.
+// A lane rotated left by n places, from shifts and not by `u64::rotate_left`: the form that is asked for here (docs/ASSURANCE.md).
+#[tactic(auto, using(crate::proofs::Rotation::rotated))]
 fn rotate_left(x: u64, n: u32) -> u64
     requires { n < 64 }
     ensures { result ≡ rotate x n }
@@ -21,6 +22,7 @@ fn rotate_left(x: u64, n: u32) -> u64
 }
 
 // The exclusive or of two rows, lane by lane.
+#[tactic(auto, unfolding(crate::specs::Steps::xor_row))]
 fn xor_row(r: [u64; 5], d: [u64; 5]) -> [u64; 5]
     ensures { result ≡ xor_row r d }
 {
@@ -34,6 +36,7 @@ fn xor_row(r: [u64; 5], d: [u64; 5]) -> [u64; 5]
 }
 
 // C of theta: the exclusive or of each column.
+#[tactic(auto, unfolding(crate::specs::Steps::parity))]
 fn column_parities(s: [[u64; 5]; 5]) -> [u64; 5]
     ensures { result ≡ parity s }
 {
@@ -69,10 +72,11 @@ pub fn rho_row(r: [u64; 5], n: [u32; 5]) -> [u64; 5]
 }
 
 // Iota (3.2.5): the round constant goes into the first lane.
+#[tactic(auto, unfolding(crate::specs::Steps::iota))]
 pub fn iota_step(s: [[u64; 5]; 5], c: u64) -> [[u64; 5]; 5]
     ensures { result ≡ iota s c }
 {
     let mut t = s;
-    t[0][0] = t[0][0] ^ c;
+    t[0][0] ^= c;
     t
 }

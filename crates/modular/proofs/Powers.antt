@@ -1,8 +1,9 @@
 -- Powers modulo q, by squaring. Assumes nothing.
-use Rattle.std.proofs.Common.{◌≡◌, ℕ, zero, suc, ◌+◌, ◌*◌, ◌/◌, ◌%◌, ◌^◌, ◌<◌, sym, ap, ◌∙◌, ap₂, mod-eq_of_lt, mul_assoc, one-mul, mul-one, mul_left_comm, arith, pow-add}
+use Rattle.std.proofs.Common.{◌≡◌, ℕ, zero, suc, ◌+◌, ◌*◌, ◌/◌, ◌%◌, ◌^◌, ◌<◌, sym, ap, ◌∙◌, ap₂, mod-lt, mod-eq_of_lt, mul_assoc, one-mul, mul-one, mul_left_comm, arith, pow-add}
 use native.Mathlib.Nat.{pow-zero, pow-succ'}
 use Rattle.modular.specs.Modulo.{Same}
-use Rattle.modular.proofs.Congruence.{same_eq, same_mod, same_mul, ◌then◌}
+use Rattle.modular.specs.Internal.{ScaledProducts}
+use Rattle.modular.proofs.Congruence.{same_refl, same_eq, same_mod, same_mul, ◌then◌}
 
 pub same_pow : {q a b : ℕ} (k : ℕ) → Same q a b → Same q (a ^ k) (b ^ k)
 same_pow {a} {b} zero e = same_eq (pow-zero a ∙ sym (pow-zero b))
@@ -21,22 +22,34 @@ by_bit b e =
     let h : e ≡ e % 2 + (e / 2 + e / 2) = omega arith in
     ap (λ (n : ℕ). b ^ n) h ∙ pow-add b (e % 2) (e / 2 + e / 2) ∙ ap (λ (n : ℕ). b ^ (e % 2) * n) (pow-add b (e / 2) (e / 2) ∙ sym (square_power b (e / 2)))
 
--- a turn of the loop
-pub power_next : {q x y p : ℕ} (r b e : ℕ) → x ≡ r * b ^ (e % 2) % q → y ≡ b * b % q → Same q (r * b ^ e) p → Same q (x * y ^ (e / 2)) p
-power_next r b e ex ey h =
-    same_mul (same_eq ex then same_mod) (same_pow (e / 2) (same_eq ey then same_mod))
-    then same_eq (mul_assoc r (b ^ (e % 2)) ((b * b) ^ (e / 2)) ∙ ap (λ (n : ℕ). r * n) (sym (by_bit b e))) then h
+-- a turn of the loop, where products come out times c
+pub power_next : {q x y p : ℕ} (r b c e : ℕ) → Same q x (r * (b * c) ^ (e % 2)) → Same q y (b * b * c) → Same q (r * (b * c) ^ e) p → Same q (x * (y * c) ^ (e / 2)) p
+power_next r b c e ex ey h =
+    same_mul ex (same_pow (e / 2) (same_mul ey (same_refl {x = c}) then same_eq regroup))
+    then same_eq (mul_assoc r ((b * c) ^ (e % 2)) ((b * c * (b * c)) ^ (e / 2)) ∙ ap (λ (n : ℕ). r * n) (sym (by_bit (b * c) e))) then h
+  where
+    regroup : b * b * c * c ≡ b * c * (b * c)
+    regroup = simp (mul_assoc, mul_left_comm)
 
-pub no_bit : (r b e : ℕ) {q : ℕ} → r < q → (e % 2 ≡ 1 → ⊥) → r ≡ r * b ^ (e % 2) % q
-no_bit r b e {q} l h =
+pub no_bit : {q : ℕ} (r b e : ℕ) → (e % 2 ≡ 1 → ⊥) → Same q r (r * b ^ (e % 2))
+no_bit r b e h =
     let z : e % 2 ≡ 0 = omega arith in
-    sym (ap (λ (n : ℕ). r * b ^ n % q) z ∙ ap (λ (n : ℕ). r * n % q) (pow-zero b) ∙ ap (λ (n : ℕ). n % q) (mul-one r) ∙ mod-eq_of_lt l)
+    same_eq (sym (ap (λ (n : ℕ). r * b ^ n) z ∙ ap (λ (n : ℕ). r * n) (pow-zero b) ∙ mul-one r))
 
-pub one_bit : (r b e q : ℕ) → e % 2 ≡ 1 → r * b % q ≡ r * b ^ (e % 2) % q
-one_bit r b e q h = sym (ap (λ (n : ℕ). r * b ^ n % q) h ∙ ap (λ (n : ℕ). r * n % q) (pow-succ' b 0 ∙ ap (λ (n : ℕ). b * n) (pow-zero b) ∙ mul-one b))
+pub one_bit : {q x : ℕ} (r b c e : ℕ) → e % 2 ≡ 1 → Same q x (r * b * c) → Same q x (r * (b * c) ^ (e % 2))
+one_bit r b c e h k = k then same_eq (mul_assoc r b c ∙ sym (ap (λ (n : ℕ). r * (b * c) ^ n) h ∙ ap (λ (n : ℕ). r * n) (pow-succ' (b * c) 0 ∙ ap (λ (n : ℕ). b * c * n) (pow-zero (b * c)) ∙ mul-one (b * c))))
 
-pub power_first : (w e : ℕ) {q : ℕ} → Same q (1 * w ^ e) (w ^ e)
-power_first w e = same_eq (one-mul (w ^ e))
+pub power_last : {q p : ℕ} (r b left : ℕ) → left ≡ 0 → Same q (r * b ^ left) p → Same q r p
+power_last r b left z h = same_eq (sym (ap (λ (n : ℕ). r * b ^ n) z ∙ ap (λ (n : ℕ). r * n) (pow-zero b) ∙ mul-one r)) then h
 
-pub power_last : {p q r : ℕ} (b left : ℕ) → left ≡ 0 → r < q → Same q (r * b ^ left) p → r ≡ p % q
-power_last {q} {r} b left z l h = sym (mod-eq_of_lt l) ∙ ap (λ (n : ℕ). n % q) (sym (mul-one r) ∙ ap (λ (n : ℕ). r * n) (sym (ap (λ (n : ℕ). b ^ n) z ∙ pow-zero b))) ∙ h.is
+-- calls that multiply modulo q
+pub multiplies : {may : ℕ → ℕ → Type 0} {gives : ℕ → ℕ → ℕ → Type 0} (q : ℕ) → 0 < q → ((x y : ℕ) → x < q → y < q → may x y) → ((x y z : ℕ) → x < q → y < q → gives x y z → z ≡ x * y % q)
+    → ScaledProducts may gives q 1
+multiplies q p h f = record {
+  takes = h;
+  below = λ x y z a b g. rw (f x y z a b g) (mod-lt (x * y) p);
+  is = λ x y z a b g. same_eq (f x y z a b g) then same_mod then same_eq (sym (mul-one (x * y)));
+}
+
+pub power_is : {q r : ℕ} (w e : ℕ) → r < q → Same q r (1 * (w * 1) ^ e) → r ≡ w ^ e % q
+power_is {q} w e l h = sym (mod-eq_of_lt l) ∙ h.is ∙ ap (λ (n : ℕ). n % q) (one-mul ((w * 1) ^ e) ∙ ap (λ (n : ℕ). n ^ e) (mul-one w))

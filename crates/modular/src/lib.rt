@@ -1,11 +1,11 @@
 // Numbers modulo q, for q below 2^56 (document 01, "Ring and scheme"). -x modulo q is (q - 1) * x in contracts.
 #![tactic(auto)]
 
-ghost use Rattle.std.specs.Prelude.{◌≡◌, ◌+◌, ◌-◌, ◌*◌, ◌%◌, ◌^◌, ◌<◌, ◌≤◌, unsigned_abs};
-ghost use Rattle.modular.specs.Modulo.{centre, remainder};
+ghost use Rattle.std.specs.Prelude.{◌≡◌, ℕ, ◌+◌, ◌-◌, ◌*◌, ◌%◌, ◌^◌, ◌<◌, ◌≤◌, unsigned_abs};
+ghost use Rattle.modular.specs.Modulo.{Same, centre, remainder};
 ghost use Rattle.modular.specs.Roots.{is_root};
 ghost use Rattle.modular.specs.Division.{multiplier, divide};
-ghost use Rattle.modular.specs.Internal.{Coprime};
+ghost use Rattle.modular.specs.Internal.{Coprime, ScaledProducts};
 
 // x modulo q, of an x below 2q. Whether q is subtracted is computed, as a branch on it is mispredicted half the time: x + 2^62 - q is at
 // least 2^62 where x is at least q, and only there, so that `over` is 1 there and else 0, and the mask has all bits or none. The division
@@ -15,7 +15,7 @@ pub fn corrected(x: u64, q: u64) -> u64
     ensures { (result ≡ x % q) × (result < q) }
 {
     let over = (x + 4611686018427387904 - q) / 4611686018427387904;
-    let mask = std::num::wrapping_sub_u64(0, over);
+    let mask = over.wrapping_neg();
     x - (mask & q)
 }
 
@@ -76,28 +76,32 @@ pub fn multiply(a: u64, b: u64, q: u64) -> u64
     from_digits(a0 * b0, a0 * b1 + a1 * b0, a1 * b1, 0, q)
 }
 
-// r, or r * b where the lowest bit of e is set.
-fn with_bit(r: u64, b: u64, e: u64, q: u64) -> u64
-    requires { (r < q) × (b < q) × (q < 2 ^ 56) }
-    ensures { (result ≡ r * b ^ (e % 2) % q) × (result < q) }
+// one * w^e by squaring, where `times` multiplies numbers below some q, and every product comes out times some c: r * (b * c)^left is
+// one * (w * c)^e modulo q all the time.
+pub fn power_by<F: Fn(u64, u64) -> u64>(times: F, one: u64, w: u64, e: u64) -> u64
+    requires { (q : ℕ) × (c : ℕ) × (one < q) × (w < q) × ScaledProducts (F.pre times) (F.post times) q c }
+    ensures { (q c : ℕ) → one < q → w < q → ScaledProducts (F.pre times) (F.post times) q c
+        → (result < q) × Same q result (one * (w * c) ^ e) }
 {
-    if e % 2 == 1 { multiply(r, b, q) } else { r }
+    let mut r = one;
+    let mut b = w;
+    let mut left = e;
+    while 0 < left {
+        if left % 2 == 1 {
+            r = times(r, b);
+        }
+        b = times(b, b);
+        left /= 2;
+    }
+    r
 }
 
-// w^e, by squaring: r * b^left is w^e modulo q all the time.
+// w^e.
 pub fn power(w: u64, e: u64, q: u64) -> u64
     requires { (1 < q) × (w < q) × (q < 2 ^ 56) }
     ensures { (result ≡ w ^ e % q) × (result < q) }
 {
-    let mut r: u64 = 1;
-    let mut b = w;
-    let mut left = e;
-    while 0 < left {
-        r = with_bit(r, b, left, q);
-        b = multiply(b, b, q);
-        left = left / 2;
-    }
-    r
+    power_by(|x, y| multiply(x, y, q), 1, w, e)
 }
 
 // Whether w is below q and w^n is -1 modulo q.
@@ -128,9 +132,7 @@ pub fn multiplier(p: u64, q: u64) -> u64
     requires { (0 < p) × (p ≤ 251) × (q < 2 ^ 56) }
     ensures { (result ≡ multiplier q p p) × (result < p) }
 {
-    let mut k = p;
-    while 0 < k {
-        k -= 1;
+    for k in (0..p).rev() {
         if (1 + q * k) % p == 0 {
             return k;
         }
@@ -151,11 +153,7 @@ pub fn divide(x: u64, p: u64, m: u64, q: u64) -> u64
 pub fn magnitude(e: i64) -> u64
     ensures { result ≡ unsigned_abs e }
 {
-    if e >= 0 {
-        e as u64
-    } else {
-        ((-1 - e) as u64) + 1
-    }
+    e.unsigned_abs()
 }
 
 // The number below q that stands for a signed number.

@@ -7,9 +7,6 @@ use Rattle.modular.specs.Modulo.{Same}
 use Rattle.modular.proofs.Congruence.{same_refl, same_eq, same_sym, same_mod, same_add, same_mul, same_more, ◌then◌}
 use Rattle.montgomery.specs.Internal.{half, radix_inverse, Modulus}
 
-pub small : (x y : ℕ) → x < 268435456 → y < 268435456 → x * y ≤ 72057593501057025
-small x y hx hy = mul-le-mul {n₂ = 268435455} {m₂ = 268435455} (omega arith) (omega arith)
-
 -- ---- Montgomery
 
 cleared : (t q i : ℕ) → (q * i + 1) % 268435456 ≡ 0 → (t + t % 268435456 * i % 268435456 * (q % 268435456)) % 268435456 ≡ 0

@@ -53,12 +53,8 @@ pub fn opposite(q: u64) -> u64
 {
     let q0 = q % 268435456;
     let mut x: u64 = 0;
-    let mut p: u64 = 1;
-    let mut bits: usize = 0;
-    while bits < 28 {
-        x = lifted(q0, x, p);
-        p = p * 2;
-        bits += 1;
+    for bit in 0..28u32 {
+        x = lifted(q0, x, 1 << bit);
     }
     x
 }
@@ -69,10 +65,8 @@ pub fn power_of_two(k: usize, q: u64) -> u64
     ensures { (result ≡ 2 ^ k % q) × (result < q) }
 {
     let mut r: u64 = 1;
-    let mut i = 0;
-    while i < k {
+    for _ in 0..k {
         r = modular::corrected(r + r, q);
-        i += 1;
     }
     r
 }

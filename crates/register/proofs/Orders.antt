@@ -7,8 +7,7 @@ use Prim.Native.Nat.{ℕ, ◌≤◌, ◌<◌}
 use lib.Dec.{eqb}
 use borrow.Author.Tests.{eq-eqb, ne_eqb, lt-ltb, le-ltb}
 use Rattle.codec.specs.Bytes.{Bytes}
-use Rattle.codec.specs.Reply.{Test, first, leaves}
-use Rattle.codec.specs.declared.Reply.TheVariants.{Taken, Refused}
+use Rattle.codec.specs.Reply.{Test, first, leaves, Taken, Refused}
 use Rattle.register.specs.Register.{capacity, state_at, find}
 use Rattle.register.specs.Orders.{admission_tests, withdrawal_tests}
 use Rattle.register.specs.Internal.{Wrote}

@@ -2,26 +2,25 @@
 #![tactic(auto)]
 
 ghost use Rattle.std.specs.Prelude.{◌≡◌, ◌+◌, ◌*◌, ◌≤◌, eqb, length};
+ghost use Rattle.codec.specs.Refusal.{as_reply};
 ghost use Rattle.register.specs.Orders.{admission_tests};
-ghost use Rattle.register.specs.Internal.{Wrote, Withdrew};
+ghost use Rattle.register.specs.Internal.{Wrote, Withdrew, as_withdrawal};
 ghost use Rattle.register.specs.Register as def;
 
-use codec::Reply;
+use codec::{Refusal, Reply};
 
 // The length of a register.
 pub const REGISTER: usize = 163840;
 
-// The first of the n entries that has the mark; n where none has.
+// The first of the n entries that has the mark; n where none has, which is no failure but the place where a new entry goes.
 pub fn find(reg: &[u8], mark: u32, n: usize) -> usize
     requires { 40 * n ≤ length reg.now }
     ensures { (result ≡ def.find reg.now mark n) × (result ≤ n) }
 {
-    let mut i = 0;
-    while i < n {
+    for i in 0..n {
         if codec::read32(reg, 40 * i) == mark {
             return i;
         }
-        i += 1;
     }
     n
 }
@@ -57,30 +56,21 @@ fn write_admitted(reg: &mut [u8], n: usize, ballot: &[u8])
 // Admits a ballot after the used entries: 32, 33, 35.
 pub fn admit(reg: &mut [u8], used: usize, ballot: &[u8]) -> Reply
     requires { (length reg.old ≡ def.register_length) × (used ≤ def.capacity) × (4 ≤ length ballot.now) }
-    ensures { Wrote (admission_tests reg.old used (def.mark_of ballot.now)) (def.admitted reg.old used ballot.now) result
-        reg.old reg.new }
+    ensures { Wrote (admission_tests reg.old used (def.mark_of ballot.now)) (def.admitted reg.old used ballot.now)
+        (as_reply result) reg.old reg.new }
 {
     let i = find(reg, codec::read32(ballot, 0), used);
     if i < used {
         if is_standing(reg, i) {
-            return Reply::Refused {
-                number: 32,
-                place: 0,
-            };
+            return Err(Refusal::MarkStanding);
         }
-        return Reply::Refused {
-            number: 33,
-            place: 0,
-        };
+        return Err(Refusal::MarkWithdrawn);
     }
     if used == 4096 {
-        return Reply::Refused {
-            number: 35,
-            place: 0,
-        };
+        return Err(Refusal::RegisterFull);
     }
     write_admitted(reg, used, ballot);
-    Reply::Taken
+    Ok(())
 }
 
 // Writes that entry i is withdrawn.
@@ -102,44 +92,32 @@ fn write_early(reg: &mut [u8], n: usize, mark: u32)
     write_entry(reg, n, &bytes, 2, &digest);
 }
 
-// What a withdrawal answers, and whether the mark got an entry.
-#[derive(Drop)]
-pub struct Withdrawal {
-    pub reply: Reply,
-    pub entered: bool,
+// What a withdrawal that is taken came to: the mark got an entry, or the one that it had was struck.
+#[derive(Clone, Copy, PartialEq, Eq)]
+pub enum Withdrawn {
+    Entered,
+    Struck,
 }
 
 // Withdraws a mark, which gets an entry after the used ones if it has none: 33, 35. 35 is asked first, which changes no answer: it needs a
 // mark with no entry, and 33 one with an entry. The search gives 4,096 only where all entries are used and none has the mark.
-pub fn withdraw(reg: &mut [u8], used: usize, mark: u32) -> Withdrawal
+pub fn withdraw(reg: &mut [u8], used: usize, mark: u32) -> Result<Withdrawn, Refusal>
     requires { (length reg.old ≡ def.register_length) × (used ≤ def.capacity) }
-    ensures { Withdrew reg.old used mark result reg.new }
+    ensures { Withdrew reg.old used mark (as_withdrawal result) reg.new }
 {
     let at = find(reg, mark, used);
     if at == 4096 {
-        return Withdrawal {
-            reply: codec::refused(35),
-            entered: false,
-        };
+        return Err(Refusal::RegisterFull);
     }
     if at == used {
         write_early(reg, used, mark);
-        return Withdrawal {
-            reply: Reply::Taken,
-            entered: true,
-        };
+        return Ok(Withdrawn::Entered);
     }
     if !is_standing(reg, at) {
-        return Withdrawal {
-            reply: codec::refused(33),
-            entered: false,
-        };
+        return Err(Refusal::MarkWithdrawn);
     }
     write_withdrawn(reg, at);
-    Withdrawal {
-        reply: Reply::Taken,
-        entered: false,
-    }
+    Ok(Withdrawn::Struck)
 }
 
 // How many of the first n entries stand.
@@ -147,13 +125,11 @@ pub fn count_standing(reg: &[u8], n: usize) -> usize
     requires { 40 * n ≤ length reg.now }
     ensures { (result ≡ length (def.standing reg.now n)) × (result ≤ n) }
 {
-    let mut i = 0;
     let mut count = 0;
-    while i < n {
+    for i in 0..n {
         if is_standing(reg, i) {
             count += 1;
         }
-        i += 1;
     }
     count
 }

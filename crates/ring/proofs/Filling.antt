@@ -25,6 +25,10 @@ module _ (w : Bytes) (at : ℕ) (f : Poly) where
   unfolding filled
   filled_all n = refl
 
+  -- the end of a loop that fills a slot
+  pub filled_whole : {d : Bytes} {i n : ℕ} → d ≡ filled w at f i → i ≡ n → d ≡ put w at (encode n f)
+  filled_whole {n = n} k e = k ∙ ap (filled w at f) e ∙ filled_all n
+
   module _ (i : ℕ) where
     fits : at + 8 * i ≤ length w → at + length (encode i f) ≤ length w
     fits h = omega (arith, length_encode i f)
@@ -60,6 +64,10 @@ module _ (w : Bytes) (at : ℕ) (f : Poly) where
           go : (from + 8 * n ≤ at) ⊎ (at + 8 * n ≤ from) → part d (from + 8 * i) 8 ≡ part w (from + 8 * i) 8
           go (inl e) = filled_behind d (from + 8 * i) k h (omega arith)
           go (inr e) = filled_ahead d (from + 8 * i) k h (omega arith)
+
+pub filled_stored : (q : ℕ) (w : Bytes) (at : ℕ) (a : Poly) {d : Bytes} {i n : ℕ} → d ≡ filled w at (modulo q a) i → i ≡ n → d ≡ store q n w at a
+unfolding store
+filled_stored q w at a k e = filled_whole w at (modulo q a) k e
 
 -- what a loop over a slot holds: the first i of n coefficients stand there, and scratch is as long as it was
 pub record Filling (w : Bytes) (at : ℕ) (f : Poly) (n : ℕ) (d : Bytes) (i : ℕ) : Type 0 where

@@ -5,3 +5,4 @@ pub mod Sizes
 pub mod Bridge
 pub mod Ranges
 pub mod Filling
+pub mod Parts

@@ -1,5 +1,5 @@
 -- Range tests and counts: what their answers mean, and one number more. Assumes nothing.
-use mathlib.Core.Path.{◌≡◌, ap, ◌∙◌}
+use mathlib.Core.Path.{◌≡◌, refl, ap, ◌∙◌}
 use mathlib.Core.Bool.{Bool, true, false, cond}
 use mathlib.Core.List.{List, [], ◌∷◌, ◌++◌}
 use Prim.Native.Nat.{ℕ, suc, ◌+◌, ◌≤◌, ◌<◌}
@@ -9,6 +9,8 @@ use native.Mathlib.Omega.{arith}
 use lib.Dec.{eqb}
 use lib.ListN.{length, take, get_or}
 use lib.Seq.{take-suc}
+use Rattle.std.specs.List.{count_by}
+use Rattle.std.proofs.lemmas.List.Recursion.{is_sum_by}
 use Rattle.codec.specs.Bytes.{Bytes}
 use Rattle.modular.proofs.Centring.{remainder_lt}
 use Rattle.ring.specs.Poly.{Poly, Below}
@@ -35,6 +37,11 @@ unfolding ternary
 below_ternary q n t h = record { at = λ k l. remainder_lt q (meaning (get_or t k 0)) h }
 
 -- ---- counts
+
+-- the library's count
+pub count_is : (v : ℕ) (xs : List ℕ) → count v xs ≡ count_by (λ (x : ℕ). eqb x v) xs
+unfolding count
+count_is v xs = is_sum_by (count v) (λ (x : ℕ). cond (eqb x v) 1 0) refl (λ _ _. refl) xs
 
 pub count_append : (v : ℕ) (xs ys : List ℕ) → count v (xs ++ ys) ≡ count v xs + count v ys
 unfolding count

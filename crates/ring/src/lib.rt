@@ -18,13 +18,10 @@ ghost use Rattle.ring.specs.Ternary.{meaning, ternary, count};
 pub fn in_range(s: &[u8], q: u64) -> bool
     ensures { result ≡ all_below q (list (length s.now / 8) (poly s.now)) }
 {
-    let n = s.len() / 8;
-    let mut i = 0;
-    while i < n {
+    for i in 0..s.len() / 8 {
         if q <= codec::read64(s, 8 * i) {
             return false;
         }
-        i += 1;
     }
     true
 }
@@ -33,27 +30,18 @@ pub fn in_range(s: &[u8], q: u64) -> bool
 pub fn is_ternary(t: &[u8]) -> bool
     ensures { result ≡ all_below 3 t.now }
 {
-    let mut i = 0;
-    while i < t.len() {
-        if 3 <= t[i] {
-            return false;
-        }
-        i += 1;
-    }
-    true
+    t.iter().all(|&b| b < 3)
 }
 
-// How often a byte stands in t.
+// How often a byte stands in t. `filter(..).count()` takes twice as long: the compiler does not take several bytes of it at a time.
 pub fn count_of(t: &[u8], v: u8) -> usize
     ensures { result ≡ count v t.now }
 {
-    let mut n: usize = 0;
-    let mut i = 0;
-    while i < t.len() {
-        if t[i] == v {
+    let mut n = 0;
+    for b in t {
+        if *b == v {
             n += 1;
         }
-        i += 1;
     }
     n
 }
@@ -67,7 +55,7 @@ pub fn from_ternary(b: u8, q: u64) -> u64
     requires { 1 < q }
     ensures { result ≡ remainder q (meaning b) }
 {
-    let t = b as u64;
+    let t = u64::from(b);
     let above0 = (t + 4611686018427387903) / 4611686018427387904;
     let above1 = (t + 4611686018427387902) / 4611686018427387904;
     let above2 = (t + 4611686018427387901) / 4611686018427387904;
@@ -79,11 +67,8 @@ pub fn load_ternary(work: &mut [u8], at: usize, t: &[u8], q: u64)
     requires { (1 < q) × (at + 8 * length t.now ≤ length work.old) }
     ensures { work.new ≡ put work.old at (encode (length t.now) (ternary q t.now)) }
 {
-    let mut i = 0;
-    while i < t.len() {
-        let v = from_ternary(t[i], q);
-        codec::write64(work, at + 8 * i, v);
-        i += 1;
+    for (i, b) in t.iter().enumerate() {
+        codec::write64(work, at + 8 * i, from_ternary(*b, q));
     }
 }
 
@@ -92,12 +77,9 @@ pub fn load_signed(work: &mut [u8], at: usize, e: &[u8], n: usize, q: u64)
     requires { (0 < q) × (at + 8 * n ≤ length work.old) × (8 * n ≤ length e.now) }
     ensures { work.new ≡ put work.old at (encode n (from_signed q e.now)) }
 {
-    let mut i = 0;
-    while i < n {
+    for i in 0..n {
         let x = codec::read_signed(e, 8 * i);
-        let v = modular::reduce(x, q);
-        codec::write64(work, at + 8 * i, v);
-        i += 1;
+        codec::write64(work, at + 8 * i, modular::reduce(x, q));
     }
 }
 
@@ -106,12 +88,7 @@ pub fn copy_slot(work: &mut [u8], to: usize, from: usize, n: usize)
     requires { Slots n to from work.old }
     ensures { work.new ≡ put work.old to (encode n (slot work.old from)) }
 {
-    let mut i = 0;
-    while i < n {
-        let v = codec::read64(work, from + 8 * i);
-        codec::write64(work, to + 8 * i, v);
-        i += 1;
-    }
+    work.copy_within(from..from + 8 * n, to);
 }
 
 // x + y or x - y.
@@ -133,29 +110,25 @@ fn combine_lent(work: &mut [u8], at: usize, a: &[u8], minus: bool, n: usize, q: 
     ensures { work.new ≡ store q n work.old at (plus (slot work.old at) (scale (sign q minus)
         (poly a.now))) }
 {
-    let mut i = 0;
-    while i < n {
+    for i in 0..n {
         let x = codec::read64(work, at + 8 * i);
         let y = codec::read64(a, 8 * i);
-        let v = combine(x, y, minus, q);
-        codec::write64(work, at + 8 * i, v);
-        i += 1;
+        codec::write64(work, at + 8 * i, combine(x, y, minus, q));
     }
 }
 
-// Adds another slot to a slot, or subtracts it.
+// Adds another slot to a slot, or subtracts it: scratch is split between the two.
 fn combine_slot(work: &mut [u8], at: usize, from: usize, minus: bool, n: usize, q: u64)
     requires { (q < 2 ^ 56) × Slots n at from work.old × Below q n (slot work.old at) × Below q n (slot work.old from) }
     ensures { work.new ≡ store q n work.old at (plus (slot work.old at) (scale (sign q minus)
         (slot work.old from))) }
 {
-    let mut i = 0;
-    while i < n {
-        let x = codec::read64(work, at + 8 * i);
-        let y = codec::read64(work, from + 8 * i);
-        let v = combine(x, y, minus, q);
-        codec::write64(work, at + 8 * i, v);
-        i += 1;
+    if from < at {
+        let (low, high) = work.split_at_mut(at);
+        combine_lent(high, 0, &low[from..], minus, n, q);
+    } else {
+        let (low, high) = work.split_at_mut(from);
+        combine_lent(low, at, high, minus, n, q);
     }
 }
 
@@ -214,11 +187,8 @@ pub fn scale_slot(work: &mut [u8], at: usize, p: u64, n: usize, q: u64)
     requires { (p < q) × (q < 2 ^ 56) × (at + 8 * n ≤ length work.old) × Below q n (slot work.old at) }
     ensures { work.new ≡ store q n work.old at (scale p (slot work.old at)) }
 {
-    let mut i = 0;
-    while i < n {
+    for i in 0..n {
         let x = codec::read64(work, at + 8 * i);
-        let v = scaled(p, x, q);
-        codec::write64(work, at + 8 * i, v);
-        i += 1;
+        codec::write64(work, at + 8 * i, scaled(p, x, q));
     }
 }

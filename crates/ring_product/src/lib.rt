@@ -31,15 +31,16 @@ fn mirror(work: &mut [u8], room: usize, a: &[u8], n: usize, q: u64)
     requires { (room + 16 * n ≤ length work.old) × (8 * n ≤ length a.now) × (q < 2 ^ 56) × Below q n (poly a.now) }
     ensures { work.new ≡ store q (2 * n) work.old room (turn q n (poly a.now) (n - 1)) }
 {
-    let mut j = 0;
-    while j < 2 * n {
+    for j in 0..2 * n {
         let v = mirrored(a, j, n, q);
         codec::write64(work, room + 8 * j, v);
-        j += 1;
     }
 }
 
-// Sums of products by the digits of the factors to the base 2^28: low by low, low by high, high by high.
+// What the digits of long sums are counted by, 2^28.
+const BASE: u64 = 268435456;
+
+// Sums of products by the digits of the factors to that base: low by low, low by high, high by high.
 #[derive(Drop)]
 struct Partial {
     lo: u64,
@@ -56,28 +57,18 @@ fn block(w: &[u8], x: usize, y: usize, n: usize) -> Partial
     let mut lo: u64 = 0;
     let mut mid: u64 = 0;
     let mut hi: u64 = 0;
-    let mut j = 0;
-    while j < n {
+    for j in 0..n {
         let u = codec::read64(w, x + 8 * j);
         let v = codec::read64(w, y + 8 * j);
-        let u0 = u % 268435456;
-        let u1 = u / 268435456 % 268435456;
-        let v0 = v % 268435456;
-        let v1 = v / 268435456 % 268435456;
+        let u0 = u % BASE;
+        let u1 = u / BASE % BASE;
+        let v0 = v % BASE;
+        let v1 = v / BASE % BASE;
         lo += u0 * v0;
         mid += u0 * v1 + u1 * v0;
         hi += u1 * v1;
-        j += 1;
     }
     Partial { lo, mid, hi }
-}
-
-// How many of the products that are left the next block has.
-fn piece(left: usize) -> usize
-    requires { 0 < left }
-    ensures { (0 < result) × (result ≤ left) × (result ≤ 128) }
-{
-    if left < 128 { left } else { 128 }
 }
 
 // The sum of n products modulo q: block by block, with the carries taken and one reduction at the end.
@@ -86,24 +77,16 @@ fn dot(w: &[u8], x: usize, y: usize, n: usize, q: u64) -> u64
     requires below { Below (2 ^ 56) n (slot w.now x) × Below (2 ^ 56) n (slot w.now y) }
     ensures { result ≡ sum n (λ i. slot w.now x i * slot w.now y i) % q }
 {
-    let mut d0: u64 = 0;
-    let mut d1: u64 = 0;
-    let mut d2: u64 = 0;
-    let mut d3: u64 = 0;
-    let mut done = 0;
-    while done < n {
-        let m = piece(n - done);
+    let mut d = [0u64; 4];
+    for done in (0..n).step_by(128) {
+        let m = (n - done).min(128);
         let b = block(w, x + 8 * done, y + 8 * done, m);
-        let lo = d0 + b.lo;
-        let mid = d1 + b.mid + lo / 268435456;
-        let hi = d2 + b.hi + mid / 268435456;
-        d0 = lo % 268435456;
-        d1 = mid % 268435456;
-        d2 = hi % 268435456;
-        d3 = d3 + hi / 268435456;
-        done += m;
+        let lo = d[0] + b.lo;
+        let mid = d[1] + b.mid + lo / BASE;
+        let hi = d[2] + b.hi + mid / BASE;
+        d = [lo % BASE, mid % BASE, hi % BASE, d[3] + hi / BASE];
     }
-    modular::from_digits(d0, d1, d2, d3, q)
+    modular::from_digits(d[0], d[1], d[2], d[3], q)
 }
 
 // Fills the slot at `at` with the n coefficients of a product, from the row and the factor that stand in the room.
@@ -113,11 +96,9 @@ fn products(work: &mut [u8], at: usize, room: usize, n: usize, q: u64)
     ensures { work.new ≡ store q n work.old at (λ k. sum n (λ i. slot work.old room (2 * n + i) * slot
         work.old room (n - 1 - k + i))) }
 {
-    let mut k = 0;
-    while k < n {
+    for k in 0..n {
         let v = dot(work, room + 8 * (2 * n), room + 8 * (n - 1 - k), n, q);
         codec::write64(work, at + 8 * k, v);
-        k += 1;
     }
 }
 
@@ -145,11 +126,11 @@ pub fn multiply(work: &mut [u8], at: usize, room: usize, a: &[u8], n: usize, q: 
     ensures { work.new ≡ put (store q n work.old at (mul q n (slot work.old at)
         (poly a.now))) room (zeros (24 * n)) }
 {
-    let w = root(n, q);
-    if w == 0 {
-        plain(work, at, room, a, n, q);
-        return;
+    match root(n, q) {
+        Some(w) => {
+            ring_transform::multiply(work, at, room, a, n, w, q);
+            codec::wipe(&mut work[room + 8 * n..room + 24 * n]);
+        }
+        None => plain(work, at, room, a, n, q),
     }
-    ring_transform::multiply(work, at, room, a, n, w, q);
-    codec::wipe(&mut work[room + 8 * n..room + 24 * n]);
 }

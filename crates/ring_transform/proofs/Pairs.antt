@@ -1,5 +1,5 @@
 -- A loop over the two halves of a row: what scratch holds after j minus-one, each of which writes one number of either half. Assumes nothing.
-use mathlib.Core.Path.{◌≡◌, refl, sym, ap, ap₂, ◌∙◌}
+use mathlib.Core.Path.{◌≡◌, sym, ap, ap₂, ◌∙◌}
 use mathlib.Core.List.{◌++◌}
 use Prim.Native.Nat.{ℕ, ◌+◌, ◌*◌, ◌≤◌, ◌<◌}
 use native.Mathlib.Omega.{arith}
@@ -26,15 +26,11 @@ next w at f j v e h =
     ∙ put_append w at (encode j f) (bytes 8 (f j)) (omega (arith, length_encode j f, length_bytes 8 (f j))) ∙ ap (put w at) (sym (encode_more j f))
 
 pub record Halves (w : Bytes) (at m : ℕ) (f g : Poly) (d : Bytes) (j : ℕ) : Type 0 where
-  pub within : j ≤ m
-  pub sized : length d ≡ length w
   pub is : d ≡ halved w at m f g j
 
 pub halves_none : {w : Bytes} {at m : ℕ} {f g : Poly} → Halves w at m f g w 0
 unfolding halved
 halves_none {w} {at} {m} {f} {g} = record {
-  within = omega arith;
-  sized = refl;
   is = sym (ap₂ (λ (s t : Bytes). put (put w at s) (at + 8 * m) t) (encode_none f) (encode_none g) ∙ put_none (put w at _) (at + 8 * m) ∙ put_none w at);
 }
 
@@ -57,28 +53,25 @@ module _ {w : Bytes} {at m : ℕ} {f g : Poly} {d : Bytes} {j : ℕ} (s : Halves
       ∙ ap number (part_put_after (put w at (encode j f)) (at + 8 * m) (encode j g) (at + 8 * (m + j)) 8 (omega (arith, low_length, length_encode j g)) (omega (arith, length_encode j g)))
       ∙ ap number (part_put_after w at (encode j f) (at + 8 * (m + j)) 8 (omega (arith, length_encode j f)) (omega (arith, length_encode j f)))
 
-  pub halves_more : {d' d'' : Bytes} {u v : ℕ} → u ≡ f j → v ≡ g j → length d'' ≡ length d → d' ≡ put d (at + 8 * j) (bytes 8 u) → d'' ≡ put d' (at + 8 * (m + j)) (bytes 8 v)
+  pub halves_more : {d' d'' : Bytes} {u v : ℕ} → u ≡ f j → v ≡ g j → d' ≡ put d (at + 8 * j) (bytes 8 u) → d'' ≡ put d' (at + 8 * (m + j)) (bytes 8 v)
       → Halves w at m f g d'' (j + 1)
   unfolding halved
-  halves_more {d'} {d''} {u} {v} eu ev z e' e'' =
+  halves_more {d'} {d''} {u} {v} eu ev e' e'' =
       let lower : d' ≡ put (put w at (encode (j + 1) f)) (at + 8 * m) (encode j g) =
       e' ∙ ap (λ (t : Bytes). put t (at + 8 * j) (bytes 8 u)) s.is
       ∙ put_comm (put w at (encode j f)) (at + 8 * m) (encode j g) (at + 8 * j) (bytes 8 u) (omega (arith, length_bytes 8 u)) (omega (arith, low_length, length_encode j g))
       ∙ ap (λ (t : Bytes). put t (at + 8 * m) (encode j g)) (next w at f j u eu (omega arith)) in
       let place : at + 8 * (m + j) ≡ at + 8 * m + 8 * j = omega arith in
       record {
-        within = omega arith;
-        sized = z ∙ s.sized;
         is =
             e'' ∙ ap₂ (λ (t : Bytes) (k : ℕ). put t k (bytes 8 v)) lower place
             ∙ next (put w at (encode (j + 1) f)) (at + 8 * m) g j v ev (omega (arith, length_put w at (encode (j + 1) f) (omega (arith, length_encode (j + 1) f))));
       }
 
 -- all of them
-pub halves_all : {w : Bytes} {at m : ℕ} {f g : Poly} {d : Bytes} {j : ℕ} → Halves w at m f g d j → at + 8 * (m + m) ≤ length w → m ≤ j → d ≡ put w at (words (list m f ++ list m g))
+pub halves_all : {w : Bytes} {at m : ℕ} {f g : Poly} {d : Bytes} {j : ℕ} → Halves w at m f g d j → at + 8 * (m + m) ≤ length w → j ≡ m → d ≡ put w at (words (list m f ++ list m g))
 unfolding halved encode
-halves_all {w} {at} {m} {f} {g} {d} {j} s fits h =
-    let e : j ≡ m = omega (arith, s.within) in
+halves_all {w} {at} {m} {f} {g} {d} {j} s fits e =
     s.is ∙ ap (λ (k : ℕ). put (put w at (encode k f)) (at + 8 * m) (encode k g)) e
     ∙ ap (λ (k : ℕ). put (put w at (encode m f)) (at + k) (encode m g)) (sym (length_encode m f))
     ∙ put_append w at (encode m f) (encode m g) (omega (arith, length_encode m f, length_encode m g)) ∙ ap (put w at) (sym (words_append (list m f) (list m g)))

@@ -2,9 +2,11 @@
 use mathlib.Core.Path.{◌≡◌, refl, sym, ap, ◌∙◌}
 use mathlib.Core.List.{List}
 use Prim.Native.Nat.{ℕ, zero, suc, ◌+◌, ◌*◌, ◌%◌, ◌^◌, ◌≤◌, ◌<◌}
-use native.Mathlib.Decide.{dec_lt}
-use native.Mathlib.Nat.{mul_assoc, mul_comm, mul_left_comm, one-mul, pow-zero, pow-succ', pow-le-pow_right}
-use native.Mathlib.Numerals.{add-one}
+use native.Mathlib.Decide.{dec_lt, ℕ_discrete}
+use borrow.Author.Count.{below_more}
+use Rattle.std.specs.Int.{w64, bit_at, trailing_zeros}
+use Rattle.std.proofs.lemmas.Nat.Bits.{bit_at-trailing_zeros, bit_at-pow_other}
+use native.Mathlib.Nat.{mul_assoc, mul_comm, mul_left_comm, one-mul, pow-zero, pow-succ', pow-le-pow_right, one-le-pow}
 use native.Mathlib.Omega.{arith}
 use lib.ListN.{length, set, length-set}
 use lib.Pow.{pow-add}
@@ -16,19 +18,11 @@ use Rattle.ring_transform.specs.Internal.{two_to, Powers}
 
 -- ---- the table
 
--- what holds of each index below j, and of j
-upto : {P : ℕ → Type 0} (j : ℕ) → ((i : ℕ) → i < j → P i) → P j → (i : ℕ) → i < j + 1 → P i
-upto {P} j h p i l = go (dec_lt i j)
-  where
-    go : Dec (i < j) → P i
-    go (yes k) = h i k
-    go (no n) = let e : j ≡ i = omega arith in rw e at p
-
 -- one power more
 pub powers_next : {q w n x : ℕ} {p : List ℕ} → Powers q w n p → n < length p → x ≡ w ^ n * 72057594037927936 % q → Powers q w (n + 1) (set p n x)
 powers_next {q} {w} {n} {x} {p} s h e = record {
   long = simp length-set (omega arith);
-  each = upto n (λ k l. get_or-set_other p n k x 0 (omega arith) ∙ s.each k l) (get_or-set_same p n x 0 h ∙ e);
+  each = below_more _ n (λ k l. get_or-set_other p n k x 0 (omega arith) ∙ s.each k l) (get_or-set_same p n x 0 h ∙ e);
 }
 
 -- two powers multiplied by Montgomery's product
@@ -68,16 +62,16 @@ unfolding two_to
 two_power zero = sym (pow-zero 2)
 two_power (suc l) = omega (arith, two_power l, pow-succ' 2 l)
 
--- a power of two that is less than another is at most its half
-pub power_next : (l n : ℕ) → ((j : ℕ) × (n ≡ 2 ^ j)) → {m : ℕ} → m ≡ 2 ^ l → m < n → (m * 2 ≡ 2 ^ (l + 1)) × (m * 2 ≤ n)
-power_next l n (j, en) {m} em h = go (dec_lt l j)
+-- the lowest bit of a power of two is its only one
+pub lowest_of_power : (j : ℕ) {n : ℕ} → n ≡ 2 ^ j → n < 2 ^ 64 → trailing_zeros w64 n ≡ j
+lowest_of_power j {n} e h = go (ℕ_discrete (trailing_zeros w64 n) j)
   where
-    twice : m * 2 ≡ 2 ^ (l + 1)
-    twice = omega (arith, em, pow-succ' 2 l, ap (λ (k : ℕ). 2 ^ k) (add-one l))
+    lowest : bit_at n (trailing_zeros w64 n) ≡ 1
+    lowest = (bit_at-trailing_zeros w64 n (omega (arith, e, one-le-pow j 2 (omega arith))) h).1
 
-    go : Dec (l < j) → (m * 2 ≡ 2 ^ (l + 1)) × (m * 2 ≤ n)
-    go (yes k) = (twice, omega (arith, twice, en, pow-le-pow_right {n = 2} (omega arith) {i = l + 1} {j = j} (omega arith)))
-    go (no k) = absurd (omega (arith, em, en, pow-le-pow_right {n = 2} (omega arith) {i = j} {j = l} (omega arith)))
+    go : Dec (trailing_zeros w64 n ≡ j) → trailing_zeros w64 n ≡ j
+    go (yes k) = k
+    go (no k) = absurd (omega (arith, lowest, ap (λ (m : ℕ). bit_at m (trailing_zeros w64 n)) e, bit_at-pow_other j (trailing_zeros w64 n) k))
 
 pub power_bound : (l : ℕ) {m : ℕ} → m ≡ 2 ^ l → m ≤ 2048 → l ≤ 11
 power_bound l {m} e h = go (dec_lt 11 l)

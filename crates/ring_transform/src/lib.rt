@@ -23,11 +23,8 @@ fn extend(p: &mut [u64], from: usize, to: usize, step: usize, z: u64, w: u64, i:
         × (to ≤ length p.old) × (to < 4294967296) }
     ensures { Powers q w to p.new }
 {
-    let mut k = from;
-    while k < to {
-        let x = p[k - step];
-        p[k] = montgomery::product(x, z, i, q);
-        k += 1;
+    for k in from..to {
+        p[k] = montgomery::product(p[k - step], z, i, q);
     }
 }
 
@@ -44,7 +41,7 @@ fn powers(p: &mut [u64], n: usize, w: u64, i: u64, q: u64)
     extend(p, 9, n + 9, 8, z8, w, i, q);
 }
 
-// ---- the transform
+// ---- a level of the transform
 
 // One level: a + z b and a - z b of the halves a and b of the 2m numbers at a place, where z is held times 2^56.
 fn butterflies(work: &mut [u8], at: usize, m: usize, z: u64, i: u64, q: u64)
@@ -52,8 +49,7 @@ fn butterflies(work: &mut [u8], at: usize, m: usize, z: u64, i: u64, q: u64)
     ensures { work.new ≡ put work.old at (words (level q (z * radix_inverse q) m
         (numbers (m + m) work.old at))) }
 {
-    let mut j = 0;
-    while j < m {
+    for j in 0..m {
         let a = codec::read64(work, at + 8 * j);
         let b = codec::read64(work, at + 8 * (m + j));
         let y = montgomery::product(b, z, i, q);
@@ -61,34 +57,7 @@ fn butterflies(work: &mut [u8], at: usize, m: usize, z: u64, i: u64, q: u64)
         let v = modular::corrected(a + (q - y), q);
         codec::write64(work, at + 8 * j, u);
         codec::write64(work, at + 8 * (m + j), v);
-        j += 1;
     }
-}
-
-// The transform modulo X^m - w^e of the m numbers at a place, in place, where m is 2^l.
-fn transform(
-    work: &mut [u8],
-    at: usize,
-    m: usize,
-    l: usize,
-    e: usize,
-    p: &[u64],
-    n: usize,
-    w: u64,
-    i: u64,
-    q: u64,
-)
-    requires { Node q i w n m l e p.now work.old at }
-    ensures { work.new ≡ put work.old at (words (transformed q w n l e (numbers m work.old at))) }
-{
-    let h = m / 2;
-    let k = e / 2;
-    butterflies(work, at, h, p[k], i, q);
-    if l == 1 {
-        return;
-    }
-    transform(work, at, h, l - 1, k, p, n, w, i, q);
-    transform(work, at + 8 * h, h, l - 1, k + n, p, n, w, i, q);
 }
 
 // ---- and back
@@ -99,8 +68,7 @@ fn butterflies_back(work: &mut [u8], at: usize, m: usize, y: u64, i: u64, q: u64
     ensures { work.new ≡ put work.old at (words (united q (y * radix_inverse q) (numbers m work.old at)
         (numbers m work.old (at + 8 * m)))) }
 {
-    let mut j = 0;
-    while j < m {
+    for j in 0..m {
         let u = codec::read64(work, at + 8 * j);
         let v = codec::read64(work, at + 8 * (m + j));
         let a = modular::corrected(u + v, q);
@@ -108,38 +76,10 @@ fn butterflies_back(work: &mut [u8], at: usize, m: usize, y: u64, i: u64, q: u64
         let b = montgomery::product(d, y, i, q);
         codec::write64(work, at + 8 * j, a);
         codec::write64(work, at + 8 * (m + j), b);
-        j += 1;
     }
 }
 
-// m times the inverse of the transform modulo X^m - w^e of the m numbers at a place, in place, where m is 2^l.
-fn untransform(
-    work: &mut [u8],
-    at: usize,
-    m: usize,
-    l: usize,
-    e: usize,
-    p: &[u64],
-    n: usize,
-    w: u64,
-    i: u64,
-    q: u64,
-)
-    requires { Node q i w n m l e p.now work.old at }
-    ensures { work.new ≡ put work.old at (words (untransformed q w n l e (numbers m work.old at))) }
-{
-    let h = m / 2;
-    let k = e / 2;
-    if l == 1 {
-        butterflies_back(work, at, h, p[n - k], i, q);
-        return;
-    }
-    untransform(work, at, h, l - 1, k, p, n, w, i, q);
-    untransform(work, at + 8 * h, h, l - 1, k + n, p, n, w, i, q);
-    butterflies_back(work, at, h, p[n - k], i, q);
-}
-
-// ---- the product
+// ---- products of numbers
 
 // The products of the numbers of two slots, each divided by 2^56, into the first.
 fn pointwise(work: &mut [u8], at: usize, from: usize, n: usize, i: u64, q: u64)
@@ -147,13 +87,11 @@ fn pointwise(work: &mut [u8], at: usize, from: usize, n: usize, i: u64, q: u64)
     ensures { work.new ≡ put work.old at (encode n (λ k. slot work.old from k * radix_inverse q
         * slot work.old at k % q)) }
 {
-    let mut k = 0;
-    while k < n {
+    for k in 0..n {
         let x = codec::read64(work, at + 8 * k);
         let y = codec::read64(work, from + 8 * k);
         let v = montgomery::product(x, y, i, q);
         codec::write64(work, at + 8 * k, v);
-        k += 1;
     }
 }
 
@@ -163,12 +101,10 @@ fn scaled(work: &mut [u8], at: usize, h: u64, n: usize, i: u64, q: u64)
     ensures { work.new ≡ put work.old at (encode n (λ k. h * radix_inverse q
         * slot work.old at k % q)) }
 {
-    let mut k = 0;
-    while k < n {
+    for k in 0..n {
         let x = codec::read64(work, at + 8 * k);
         let v = montgomery::product(x, h, i, q);
         codec::write64(work, at + 8 * k, v);
-        k += 1;
     }
 }
 
@@ -177,39 +113,69 @@ fn exponent(n: usize) -> usize
     requires { (2 ≤ n) × (n ≤ 2048) × ((j : Prim.Native.Nat.ℕ) × (n ≡ 2 ^ j)) }
     ensures { (n ≡ two_to result) × (1 ≤ result) × (result ≤ 11) }
 {
-    let mut m: usize = 1;
-    let mut l: usize = 0;
-    while m < n {
-        m = m * 2;
-        l += 1;
-    }
-    l
+    n.trailing_zeros() as usize
 }
 
-// The product of two slots into the first, by the table p; the transform of the second is left in it. The products of the values come
-// divided by 2^56 and the inverse times n, for which h makes up.
-fn multiply_slots(
-    work: &mut [u8],
-    at: usize,
-    room: usize,
-    h: u64,
-    p: &[u64],
+// ---- the transform of a slot and back, and the product
+
+// What a product modulo X^n + 1 and q goes by: a root w, the table of its powers, each times 2^56, and -1 / q modulo 2^56.
+#[derive(Drop)]
+struct Table<'a> {
+    powers: &'a [u64],
     n: usize,
-    l: usize,
     w: u64,
     i: u64,
     q: u64,
-)
-    requires { Node q i w n n l n p.now work.old at × Node q i w n n l n p.now work.old room × (at + 8 * n ≤ room)
-        × Root q n w × (h ≡ 2 ^ (112 - l) % q) × (l ≤ 11) }
-    ensures { work.new ≡ put (store q n work.old at (mul q n (slot work.old at)
-        (slot work.old room))) room (words (transformed q w n l n (numbers n work.old room))) }
-{
-    transform(work, at, n, l, n, p, n, w, i, q);
-    transform(work, room, n, l, n, p, n, w, i, q);
-    pointwise(work, at, room, n, i, q);
-    untransform(work, at, n, l, n, p, n, w, i, q);
-    scaled(work, at, h, n, i, q);
+}
+
+impl Table<'_> {
+    // The transform modulo X^m - w^e of the m numbers at a place, in place, where m is 2^l.
+    fn transform(&self, work: &mut [u8], at: usize, m: usize, l: usize, e: usize)
+        requires { let t = self.now in Node t.q t.i t.w t.n m l e t.powers.now work.old at }
+        ensures { let t = self.now in work.new ≡ put work.old at (words (transformed t.q t.w t.n l e (numbers m work.old at))) }
+    {
+        let h = m / 2;
+        let k = e / 2;
+        butterflies(work, at, h, self.powers[k], self.i, self.q);
+        if l == 1 {
+            return;
+        }
+        self.transform(work, at, h, l - 1, k);
+        self.transform(work, at + 8 * h, h, l - 1, k + self.n);
+    }
+
+    // m times the inverse of the transform modulo X^m - w^e of the m numbers at a place, in place, where m is 2^l.
+    fn untransform(&self, work: &mut [u8], at: usize, m: usize, l: usize, e: usize)
+        requires { let t = self.now in Node t.q t.i t.w t.n m l e t.powers.now work.old at }
+        ensures { let t = self.now in work.new ≡ put work.old at (words (untransformed t.q t.w t.n l e (numbers m work.old at))) }
+    {
+        let h = m / 2;
+        let k = e / 2;
+        if l == 1 {
+            butterflies_back(work, at, h, self.powers[self.n - k], self.i, self.q);
+            return;
+        }
+        self.untransform(work, at, h, l - 1, k);
+        self.untransform(work, at + 8 * h, h, l - 1, k + self.n);
+        butterflies_back(work, at, h, self.powers[self.n - k], self.i, self.q);
+    }
+
+    // The product of two slots into the first; the transform of the second is left in it. The products of the values come divided by 2^56
+    // and the inverse times n, for which h makes up.
+    fn multiply_slots(&self, work: &mut [u8], at: usize, room: usize, h: u64, l: usize)
+        requires { let t = self.now in Node t.q t.i t.w t.n t.n l t.n t.powers.now work.old at
+            × Node t.q t.i t.w t.n t.n l t.n t.powers.now work.old room × (at + 8 * t.n ≤ room)
+            × Root t.q t.n t.w × (h ≡ 2 ^ (112 - l) % t.q) × (l ≤ 11) }
+        ensures { let t = self.now in work.new ≡ put (store t.q t.n work.old at (mul t.q t.n (slot work.old at)
+            (slot work.old room))) room (words (transformed t.q t.w t.n l t.n (numbers t.n work.old room))) }
+    {
+        let n = self.n;
+        self.transform(work, at, n, l, n);
+        self.transform(work, room, n, l, n);
+        pointwise(work, at, room, n, self.i, self.q);
+        self.untransform(work, at, n, l, n);
+        scaled(work, at, h, n, self.i, self.q);
+    }
 }
 
 // Multiplies a slot by a lent polynomial modulo X^n + 1, by a root w. The room has the length of a slot and lies behind the slot; it is
@@ -226,6 +192,13 @@ pub fn multiply(work: &mut [u8], at: usize, room: usize, a: &[u8], n: usize, w: 
     let h = montgomery::power_of_two(112 - l, q);
     powers(&mut p, n, w, i, q);
     codec::copy(work, room, &a[..8 * n]);
-    multiply_slots(work, at, room, h, &p, n, l, w, i, q);
+    let table = Table {
+        powers: &p,
+        n,
+        w,
+        i,
+        q,
+    };
+    table.multiply_slots(work, at, room, h, l);
     codec::wipe(&mut work[room..room + 8 * n]);
 }

@@ -8,8 +8,7 @@ use native.Mathlib.Omega.{arith}
 use borrow.Author.Tests.{not-false}
 use lib.ListN.{length, get_or}
 use Rattle.codec.specs.Bytes.{Bytes, Octets}
-use Rattle.codec.specs.Reply.{None, first}
-use Rattle.codec.specs.declared.Reply.TheVariants.{Taken}
+use Rattle.codec.specs.Reply.{None, first, Taken}
 use Rattle.codec.proofs.Replies.{taken_exactly}
 use Rattle.bgv.specs.Internal.{Sound}
 use Rattle.round.specs.Layout.{Opening, joined, head_length, pairs_of, digests_at, opening_of, answer_at}

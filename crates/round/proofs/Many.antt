@@ -11,9 +11,7 @@ use native.Mathlib.Omega.{arith}
 use lib.ListN.{length, take, drop, length-append, length-drop}
 use lib.Seq.{take_all, drop_at, take-append-le, drop-append-le}
 use Rattle.codec.specs.Bytes.{Bytes, part}
-use Rattle.codec.specs.Reply.{Test, first, None}
-use Rattle.codec.specs.declared.Reply.{Reply}
-use Rattle.codec.specs.declared.Reply.TheVariants.{Taken, Refused}
+use Rattle.codec.specs.Reply.{Test, first, None, Reply, Taken, Refused}
 use Rattle.codec.proofs.Replies.{not_taken, taken_exactly, first_append}
 use Rattle.round.specs.Layout.{joined}
 

@@ -6,9 +6,7 @@ use mathlib.Core.List.{List, [], ◌∷◌, ◌++◌}
 use Prim.Native.Nat.{ℕ, ◌≤◌, ◌<◌}
 use native.Mathlib.Omega.{arith}
 use borrow.Author.Tests.{not-false}
-use Rattle.codec.specs.Reply.{Test, test, first, None}
-use Rattle.codec.specs.declared.Reply.{Reply}
-use Rattle.codec.specs.declared.Reply.TheVariants.{Refused}
+use Rattle.codec.specs.Reply.{Test, test, first, None, Reply, Refused}
 use Rattle.codec.proofs.Laws.{both}
 use Rattle.round.proofs.Many.{for_sides, for_challenges, none_append, append_none}
 

@@ -9,8 +9,7 @@ use native.Mathlib.Omega.{arith}
 use borrow.Author.Tests.{ltb-true, ltb-false, lt-ltb, le-leb, not-false}
 use lib.Dec.{ltb}
 use lib.ListN.{length, get_or, replicate, length-replicate, get_or-replicate}
-use Rattle.codec.specs.Reply.{Test, test, first, None}
-use Rattle.codec.specs.declared.Reply.TheVariants.{Refused}
+use Rattle.codec.specs.Reply.{Test, test, first, None, Refused}
 use Rattle.codec.proofs.Laws.{both}
 use Rattle.codec.proofs.Lists.{all_sound, all_complete}
 use Rattle.stern.specs.Shortness.{answer_length, in_range, answer_tests}

@@ -6,8 +6,7 @@ use Prim.Native.Nat.{ℕ, ◌+◌, ◌*◌, ◌≤◌, ◌<◌}
 use native.Mathlib.Nat.{mul-zero, mul-add, mul-one}
 use native.Mathlib.Omega.{arith}
 use borrow.Author.Count.{below_none, below_more}
-use Rattle.codec.specs.Reply.{Test, test, first}
-use Rattle.codec.specs.declared.Reply.TheVariants.{Taken, Refused}
+use Rattle.codec.specs.Reply.{Test, test, first, Taken, Refused}
 use Rattle.codec.specs.Lists.{all}
 use Rattle.codec.proofs.Lists.{all_sound, all_complete}
 use Rattle.scratch.proofs.Order.{refuses}

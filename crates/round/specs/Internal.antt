@@ -1,8 +1,7 @@
 -- What the contracts of inner functions and the proofs go by: no exported contract and no claim cites this file. Assumes nothing.
 use Rattle.std.specs.Prelude.{◌≡◌, ℕ, ◌*◌, ◌≤◌, ◌<◌, ltb, Bool, true, not, ◌&&◌, List, ◌∷◌, length, get_or}
 use Rattle.codec.specs.Bytes.{Bytes, zeros}
-use Rattle.codec.specs.Reply.{Test, test, first, None}
-use Rattle.codec.specs.declared.Reply.TheVariants.{Refused}
+use Rattle.codec.specs.Reply.{Test, test, first, None, Refused}
 use Rattle.codec.specs.Lists.{all_below}
 use Rattle.vector.specs.Vector.{vector}
 use Rattle.ring.specs.Poly.{Poly, Below}

@@ -4,8 +4,7 @@ use mathlib.Core.Bool.{Bool, false, not}
 use Prim.Native.Nat.{ℕ}
 use lib.ListN.{length}
 use Rattle.codec.specs.Bytes.{Bytes, zeros}
-use Rattle.codec.specs.declared.Reply.{Reply}
-use Rattle.codec.specs.declared.Reply.TheVariants.{Refused}
+use Rattle.codec.specs.Reply.{Reply, Refused}
 use Rattle.commitment.specs.Parameters.{Parameters}
 use Rattle.scratch.specs.Internal.{Judged}
 use Rattle.scratch.proofs.Order.{refuses}

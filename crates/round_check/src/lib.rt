@@ -6,9 +6,10 @@ ghost use Rattle.round.specs.Vocabulary.{Bytes, slot, plain, mask_bound_of, scra
 ghost use Rattle.round.specs.Vocabulary.{answers_length, of_side, answers_tests, votes_tests, round_in, parameters};
 ghost use Rattle.round.specs.Round.{ranged, round_later, round_tests};
 ghost use Rattle.round.specs.Internal.{round_of, Lengths};
+ghost use Rattle.codec.specs.Refusal.{as_reply};
 ghost use Rattle.round_side.specs.Internal.{RoundInRange};
 
-use codec::{Reply, refused};
+use codec::{Refusal, Reply};
 use round_side::{
     answers_ranged, message_ranged, opening_ranged, splits, test_opening, test_votes,
 };
@@ -68,12 +69,9 @@ fn check_answers<'a>(
         (round_of side challenges.now ballots.now claims.now head.now shares0.now shares1.now opening.now answers.now) }
     ensures { Judged (answers_tests (parameters k public.now) head.now challenges.now answers.now
         ++ votes_tests k.modulus k.ring (plain k) (mask_bound_of k) count (slot opening.now 0) ballots.now claims.now
-        shares0.now shares1.now (of_side side shares0.now shares1.now)) result work.old work.new }
+        shares0.now shares1.now (of_side side shares0.now shares1.now)) (as_reply result) work.old work.new }
 {
-    let answered = test_repetitions(work, k, public, head, challenges, answers);
-    let Reply::Taken = answered else {
-        return answered;
-    };
+    test_repetitions(work, k, public, head, challenges, answers)?;
     test_votes(
         work, k, opening, ballots, claims, side, shares0, shares1, count,
     )
@@ -99,15 +97,12 @@ fn check_ranged<'a>(
         × RoundInRange k.modulus k.ring count k.repeats
         (round_of side challenges.now ballots.now claims.now head.now shares0.now shares1.now opening.now answers.now) }
     ensures { let x = round_in side challenges ballots claims head shares0 shares1 opening answers in
-        Judged (round_later (parameters k public.now) count x) result work.old work.new }
+        Judged (round_later (parameters k public.now) count x) (as_reply result) work.old work.new }
 {
     if !splits(work, k, public, head) {
-        return refused(6);
+        return Err(Refusal::HalvesNotAdding);
     }
-    let opened = test_opening(work, k, public, head, side as usize, opening);
-    let Reply::Taken = opened else {
-        return opened;
-    };
+    test_opening(work, k, public, head, side as usize, opening)?;
     check_answers(
         work, k, public, side, challenges, ballots, claims, head, shares0, shares1, opening,
         answers, count,
@@ -135,13 +130,13 @@ pub fn check_round<'a>(
         × Lengths (parameters k public.now) count
         (round_of side challenges.now ballots.now claims.now head.now shares0.now shares1.now opening.now answers.now) }
     ensures { let x = round_in side challenges ballots claims head shares0 shares1 opening answers in
-        Judged (round_tests (parameters k public.now) count x) result work.old work.new }
+        Judged (round_tests (parameters k public.now) count x) (as_reply result) work.old work.new }
 {
     if !round_ranged(
         k, side, challenges, ballots, claims, head, shares0, shares1, opening, answers, count,
     ) {
         codec::wipe(work);
-        return refused(5);
+        return Err(Refusal::ValueOutOfRange);
     }
     check_ranged(
         work, k, public, side, challenges, ballots, claims, head, shares0, shares1, opening,

@@ -1,5 +1,6 @@
 // The lowest digest for which answers open two different strings (document 01, the extractor's paragraph). The strings are compared
-// part by part: salts, permutations, equations and vectors. Nothing is hashed.
+// part by part: salts, permutations, equations and vectors. Nothing is hashed. Both of two comparisons are made whatever the first says,
+// so `&` joins them.
 #![tactic(auto)]
 
 ghost use Rattle.std.specs.Prelude.{◌≡◌, true, false, ◌&&◌, ◌++◌, ◌+◌, ◌*◌, ◌≤◌, ◌<◌, ◌^◌, length, take};
@@ -10,15 +11,30 @@ ghost use Rattle.vector.specs.Permutation.{entries, apply};
 ghost use Rattle.stern.specs.Argument.{string2, string3, one_by2, one_by3};
 ghost use Rattle.stern.specs.Shortness.{equations, right_hand_sides, setting, answer1_of, answer2_of, answer3_of};
 ghost use Rattle.stern.specs.Internal.{equation_pair};
+ghost use Rattle.round_collision.specs.Digests.{number_of_digest, digest_or_none};
 ghost use Rattle.round_collision.specs.Internal.{ThreeAnswers, Ground, MaskedVectors, Compared, ComparedBy, lowest_of, Searched};
 
 use stern::equations::equation_pair;
 
-// Whether both hold.
-fn both(a: bool, b: bool) -> bool
-    ensures { result ≡ (a && b) }
-{
-    if a { b } else { false }
+// The three digests of a repetition.
+#[derive(Clone, Copy, PartialEq, Eq)]
+pub enum Digest {
+    First,
+    Second,
+    Third,
+}
+
+impl Digest {
+    // Its number in what the extractor answers.
+    pub fn number(self) -> u8
+        ensures { result ≡ number_of_digest self }
+    {
+        match self {
+            Digest::First => 1,
+            Digest::Second => 2,
+            Digest::Third => 3,
+        }
+    }
 }
 
 // ---- string 1: P and the equations
@@ -46,7 +62,7 @@ fn is_kept(room: &[u8], work: &[u8], n: usize) -> bool
         &room[8 * n..16 * n],
         &work[commitment::MESSAGE..commitment::MESSAGE + 8 * n],
     );
-    both(one, two)
+    one & two
 }
 
 // Whether two equations of the vector u, less their right-hand sides, are those of the vector r.
@@ -93,7 +109,7 @@ fn equations_agree(
 {
     let of_s = pairs_agree(work, room, k, c, u, r, 2 * n, 0, 0, n, q);
     let of_e = pairs_agree(work, room, k, c, u, r, 8 * n, n, 4 * n, n, q);
-    both(of_s, of_e)
+    of_s & of_e
 }
 
 // Whether answers 2 and 3 have one salt 1 and one P.
@@ -105,7 +121,7 @@ fn starts_agree(answer2: &[u8], answer3: &[u8], n: usize) -> bool
     let salt = 504 * n;
     let salts = codec::equal(&answer2[salt..salt + 32], &answer3[salt..salt + 32]);
     let permutations = codec::equal(&answer2[0..168 * n], &answer3[0..168 * n]);
-    both(salts, permutations)
+    salts & permutations
 }
 
 // String 1 of answers 2 and 3.
@@ -137,7 +153,7 @@ fn first_agrees(
         n,
         q,
     );
-    both(starts, rest)
+    starts & rest
 }
 
 // ---- string 2: P(R)
@@ -170,7 +186,7 @@ fn second_agrees(work: &mut [u8], answer1: &[u8], answer3: &[u8], n: usize) -> b
         &answer1[42 * n..378 * n],
         n,
     );
-    both(salts, vectors)
+    salts & vectors
 }
 
 // ---- string 3: P(extended + R)
@@ -183,14 +199,12 @@ fn sums_agree(w: &[u8], t: &[u8], p: &[u8], u: &[u8], n: usize, q: u64) -> bool
     ensures { result ≡ same (words (add q (ternaries q w.now) (vector t.now)))
         (words (apply (entries p.now) (vector u.now))) }
 {
-    let mut i = 0;
-    while i < n {
+    for i in 0..n {
         let x = ring::from_ternary(w[i], q);
         let sum = modular::add(x, vector::component(t, i), q);
         if sum != vector::component(u, vector::entry(p, i)) {
             return false;
         }
-        i += 1;
     }
     true
 }
@@ -215,29 +229,28 @@ fn third_agrees(answer1: &[u8], answer2: &[u8], n: usize, q: u64) -> bool
         42 * n,
         q,
     );
-    both(salts, sums)
+    salts & sums
 }
 
 // ---- all three
 
-// The lowest of three comparisons that failed, 0 if none did.
-fn lowest(one: bool, two: bool, three: bool) -> u8
-    ensures { result ≡ lowest_of one two three }
+// The lowest of three comparisons that failed.
+fn lowest(one: bool, two: bool, three: bool) -> Option<Digest>
+    ensures { digest_or_none result ≡ lowest_of one two three }
 {
     if !one {
-        return 1;
+        Some(Digest::First)
+    } else if !two {
+        Some(Digest::Second)
+    } else if !three {
+        Some(Digest::Third)
+    } else {
+        None
     }
-    if !two {
-        return 2;
-    }
-    if !three {
-        return 3;
-    }
-    0
 }
 
-// The lowest digest whose two strings differ, 0 if there is none; with scratch and the room zeroed. The first pair of equations is kept
-// in the room for the second to be compared with.
+// The lowest digest whose two strings differ; with scratch and the room zeroed. The first pair of equations is kept in the room for the
+// second to be compared with.
 pub fn collision(
     work: &mut [u8],
     room: &mut [u8],
@@ -248,10 +261,10 @@ pub fn collision(
     answer3: &[u8],
     n: usize,
     q: u64,
-) -> u8
+) -> Option<Digest>
     requires { Ground q n k.now c.now work.old room.old × ThreeAnswers q n answer1.now answer2.now answer3.now }
     ensures { let s = setting q n (keys_of n k.now) c.now in
-        Searched s (answer1_of n answer1.now) (answer2_of n answer2.now) (answer3_of n answer3.now) result work.old
+        Searched s (answer1_of n answer1.now) (answer2_of n answer2.now) (answer3_of n answer3.now) (digest_or_none result) work.old
         work.new room.old room.new }
 {
     let one = first_agrees(work, room, k, c, answer2, answer3, n, q);

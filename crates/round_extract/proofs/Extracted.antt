@@ -3,18 +3,16 @@ use mathlib.Core.Path.{◌≡◌, sym, ap, ◌∙◌}
 use Prim.Native.Nat.{ℕ}
 use lib.ListN.{length}
 use Rattle.codec.specs.Bytes.{Bytes, zeros}
-use Rattle.codec.specs.Reply.{first}
-use Rattle.codec.specs.declared.Reply.{Reply}
-use Rattle.codec.specs.declared.Reply.TheVariants as reply
+use Rattle.codec.specs.Reply.{first, Reply}
+use Rattle.codec.specs.Reply as reply
 use Rattle.scratch.specs.Call.{zeroized}
 use Rattle.scratch.proofs.Zeroizing.{zeroized_taken, leaves_taken, leaves_refused}
 use Rattle.commitment.specs.Parameters.{Parameters}
 use Rattle.round.specs.Extractor.{Openings, ExtractRoom, extract_room, kind, extracted}
 use Rattle.round.proofs.Wiped.{again}
 use Rattle.round_lengths.specs.Calls.{count_of, openings_tests}
-use Rattle.round_extract.specs.Extraction.{extraction}
+use Rattle.round_extract.specs.Extraction.{Found, Refused, extraction}
 use Rattle.round_extract.specs.Internal.{ExtractWritten}
-use Rattle.round_extract.specs.declared.Extraction.TheVariants.{Found, Refused}
 
 extraction_found : (r : Reply) {k k' : ℕ} → r ≡ reply.Taken → k ≡ k' → Found k ≡ extraction r k'
 unfolding extraction

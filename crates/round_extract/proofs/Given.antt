@@ -3,13 +3,10 @@ use mathlib.Core.Path.{◌≡◌, refl, ap, subst, ◌∙◌}
 use Prim.Native.Nat.{ℕ}
 use lib.ListN.{replicate}
 use Rattle.codec.specs.Bytes.{Bytes}
-use Rattle.codec.specs.Reply.{leaves, packed}
-use Rattle.codec.specs.declared.Reply.{Reply}
-use Rattle.sheet.specs.Sheet.{reading}
+use Rattle.codec.specs.Reply.{leaves, packed, Reply}
+use Rattle.sheet.specs.Sheet.{reading, Reading, Taken, Refused}
 use Rattle.sheet.specs.Internal.{loaded}
 use Rattle.sheet_numbers.specs.declared.Numbers.{Numbers}
-use Rattle.sheet.specs.declared.Reading.{Reading}
-use Rattle.sheet.specs.declared.Reading.TheVariants.{Taken, Refused}
 use Rattle.scratch.specs.Call.{zeroized}
 use Rattle.scratch.specs.Internal.{refusal}
 use Rattle.scratch.proofs.Lent.{lent, order_taken, order_refused}
@@ -17,10 +14,9 @@ use Rattle.commitment.specs.Parameters.{Parameters, parameters, parameters_of}
 use Rattle.commitment.proofs.Sheets.{parameters_are}
 use Rattle.round.specs.Extractor.{Openings, ExtractRoom, extract_room}
 use Rattle.round_lengths.specs.Calls.{openings_tests}
-use Rattle.round_extract.specs.Extraction.{extraction, answered, ExtractLeft}
+use Rattle.round_extract.specs.Extraction.{Extraction, extraction, answered, ExtractLeft}
+use Rattle.round_extract.specs.Extraction as found
 use Rattle.round_extract.specs.Internal.{ExtractWritten}
-use Rattle.round_extract.specs.declared.Extraction.{Extraction}
-use Rattle.round_extract.specs.declared.Extraction.TheVariants as found
 use Rattle.round_extract.specs.Replies.{extract_reply, extract_found, ExtractCalled}
 
 -- the sheet is taken

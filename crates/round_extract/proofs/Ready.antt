@@ -6,8 +6,7 @@ use native.Mathlib.Omega.{arith}
 use borrow.Author.Tests.{not-false}
 use lib.ListN.{length}
 use Rattle.codec.specs.Bytes.{Bytes, Octets}
-use Rattle.codec.specs.Reply.{first, None}
-use Rattle.codec.specs.declared.Reply.TheVariants.{Taken}
+use Rattle.codec.specs.Reply.{first, None, Taken}
 use Rattle.codec.proofs.Replies.{taken_exactly}
 use Rattle.codec.specs.Lists.{all_below}
 use Rattle.scratch.specs.Call.{scratch_length}

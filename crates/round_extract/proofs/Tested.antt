@@ -4,9 +4,7 @@ use mathlib.Core.Bool.{Bool, true, false}
 use Prim.Native.Nat.{ℕ, ◌*◌, ◌≤◌, ◌<◌}
 use lib.ListN.{length}
 use Rattle.codec.specs.Bytes.{Octets}
-use Rattle.codec.specs.Reply.{first}
-use Rattle.codec.specs.declared.Reply.{Reply}
-use Rattle.codec.specs.declared.Reply.TheVariants.{Refused}
+use Rattle.codec.specs.Reply.{first, Reply, Refused}
 use Rattle.scratch.specs.Call.{scratch_length}
 use Rattle.commitment.specs.Parameters.{Parameters}
 use Rattle.round.specs.Extractor.{Openings, ExtractRoom, Lent, extract_tests}

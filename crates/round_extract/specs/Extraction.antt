@@ -1,15 +1,26 @@
 -- What the extractor's call answers (document 01, the extractor's paragraph and "Refused because of the state"): what it found, or its refusal; and what it comes to
 -- once the sheet is taken: its answer, its output and scratch. Assumes nothing.
-use Rattle.std.specs.Prelude.{◌≡◌, ℕ, ◌+◌, ◌*◌}
-use Rattle.codec.specs.Reply.{leaves}
-use Rattle.codec.specs.declared.Reply.{Reply}
-use Rattle.codec.specs.declared.Reply.TheVariants as reply
+use Rattle.std.specs.Prelude.{◌≡◌, ℕ, ◌+◌, ◌*◌, Result, Ok, Err}
+use Rattle.codec.specs.Reply.{leaves, Reply}
+use Rattle.codec.specs.Reply as reply
+use Rattle.codec.specs.Refusal.{number_of_refusal, place_of_refusal}
+use Rattle.codec.specs.declared.Refusal.{Refusal}
 use Rattle.scratch.specs.Call.{zeroized}
 use Rattle.commitment.specs.Parameters.{Parameters}
 use Rattle.round.specs.Extractor.{Openings, ExtractRoom, kind, extracted}
 use Rattle.round_lengths.specs.Calls.{count_of}
-use Rattle.round_extract.specs.declared.Extraction.{Extraction}
-use Rattle.round_extract.specs.declared.Extraction.TheVariants.{Found, Refused}
+use Rattle.round_search.specs.declared.Finding.{Finding}
+use Rattle.round_search.specs.Finding.{number_of_finding}
+
+-- what the call answers: the kind of what it found; or refused, with document 01's number and place
+pub data Extraction : Type 0 where
+  Found : ℕ → Extraction
+  Refused : ℕ → ℕ → Extraction
+
+-- the one that a result of the code is
+abbrev pub as_extraction : Result Finding Refusal → Extraction
+as_extraction (Ok found) = Found (number_of_finding found)
+as_extraction (Err why) = Refused (number_of_refusal why) (place_of_refusal why)
 
 -- by the reply of its tests, and the kind of what openings and answers give where they are taken
 unfoldable pub extraction : Reply → (kind : ℕ) → Extraction

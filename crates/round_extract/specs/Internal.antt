@@ -3,8 +3,7 @@ use Rattle.codec.specs.Reply.{first}
 use Rattle.commitment.specs.Parameters.{Parameters}
 use Rattle.round.specs.Extractor.{Openings, ExtractRoom}
 use Rattle.round_lengths.specs.Calls.{openings_tests}
-use Rattle.round_extract.specs.declared.Extraction.{Extraction}
-use Rattle.round_extract.specs.Extraction.{ExtractLeft}
+use Rattle.round_extract.specs.Extraction.{Extraction, ExtractLeft}
 
 abbrev pub ExtractWritten : Parameters → Openings → (before : ExtractRoom) → Extraction → (after : ExtractRoom) → Type 0
 ExtractWritten P x before answer after = ExtractLeft P x before (first (openings_tests P x before)) answer after

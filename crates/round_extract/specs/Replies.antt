@@ -2,14 +2,12 @@
 -- what it answers and leaves. Assumes nothing.
 use Rattle.std.specs.Prelude.{◌++◌}
 use Rattle.codec.specs.Bytes.{Bytes}
-use Rattle.codec.specs.Reply.{first}
-use Rattle.codec.specs.declared.Reply.{Reply}
+use Rattle.codec.specs.Reply.{first, Reply}
 use Rattle.sheet.specs.Sheet.{order}
 use Rattle.round.specs.Extractor.{Openings, ExtractRoom, kind}
 use Rattle.round_lengths.specs.Calls.{openings_tests}
 use Rattle.round_lengths.specs.Sheets.{ballots_in}
-use Rattle.round_extract.specs.Extraction.{extraction, ExtractLeft}
-use Rattle.round_extract.specs.declared.Extraction.{Extraction}
+use Rattle.round_extract.specs.Extraction.{Extraction, extraction, ExtractLeft}
 use Rattle.commitment.specs.Parameters.{parameters_of}
 
 unfoldable pub extract_reply : (text : Bytes) → Openings → ExtractRoom → Reply

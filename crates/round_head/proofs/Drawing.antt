@@ -1,9 +1,9 @@
 -- What is drawn for the repetitions: where it stands for repetition i, and that it is what the shortness argument asks for. Assumes nothing.
-use mathlib.Core.Path.{◌≡◌, sym, ap, ap₂, ◌∙◌}
+use mathlib.Core.Path.{◌≡◌, ap₂, subst, ◌∙◌}
 use mathlib.Core.Bool.{true}
 use mathlib.Core.List.{[]}
 use Prim.Native.Nat.{ℕ, ◌+◌, ◌*◌, ◌≤◌, ◌<◌}
-use native.Mathlib.Nat.{mul-zero, mul-add, mul-one, mul_assoc, mul-le-mul}
+use native.Mathlib.Nat.{mul_assoc}
 use native.Mathlib.Omega.{arith}
 use lib.ListN.{length, take, drop}
 use Rattle.codec.specs.Bytes.{Bytes, part, put}
@@ -12,7 +12,7 @@ use Rattle.codec.specs.Lists.{all_below}
 use Rattle.sha3.proofs.Squeezing.{length_sha3}
 use Rattle.commitment.specs.Commitment.{Keys}
 use Rattle.vector.specs.Vector.{vector}
-use Rattle.stern.specs.Argument.{Drawn, first_message}
+use Rattle.stern.specs.Argument.{first_message}
 use Rattle.stern.specs.Shortness.{setting, drawn_of, honest_digests}
 use Rattle.stern.specs.Internal.{RepetitionMaterial}
 use Rattle.round.specs.Layout.{joined, head_length}
@@ -35,61 +35,31 @@ module _ (q n : ℕ) (x r p s : Bytes) (r_at p_at s_at r_long p_long s_long : �
 
 -- ---- by repetition
 
-module _ (n repeats : ℕ) where
-  -- where what is drawn for repetition i stands
-  pub record Placed (i r_at p_at s_at : ℕ) : Type 0 where
-    pub within : i ≤ repeats
-    pub r : r_at ≡ 336 * n * i
-    pub p : p_at ≡ 168 * n * i
-    pub s : s_at ≡ 96 * i
-
-  pub placed_first : Placed 0 0 0 0
-  placed_first = record { within = omega arith; r = sym (mul-zero (336 * n)); p = sym (mul-zero (168 * n)); s = sym (mul-zero 96) }
-
-  module _ (i r_at p_at s_at : ℕ) (at : Placed i r_at p_at s_at) (h : i < repeats) where
-    pub placed_more : Placed (i + 1) (r_at + 336 * n) (p_at + 168 * n) (s_at + 96)
-    placed_more = record {
-      within = omega arith;
-      r = omega (arith, at.r, mul-add (336 * n) i 1, mul-one (336 * n));
-      p = omega (arith, at.p, mul-add (168 * n) i 1, mul-one (168 * n));
-      s = omega (arith, at.s);
-    }
-
-    -- the places are far below 2^64
-    pub placed_fit : n ≤ 2048 → repeats ≤ 256 → (r_at + 336 * n ≤ 176160768) × (p_at + 168 * n ≤ 88080384) × (s_at + 96 ≤ 24576)
-    placed_fit high few = (
-      omega (arith, at.r, stretch (336 * n) i repeats h, mul-le-mul {n₁ = 336 * n} {m₁ = repeats} {n₂ = 688128} {m₂ = 256} (omega arith) few),
-      omega (arith, at.p, stretch (168 * n) i repeats h, mul-le-mul {n₁ = 168 * n} {m₁ = repeats} {n₂ = 344064} {m₂ = 256} (omega arith) few),
-      omega (arith, at.s),
+module _ (n repeats i : ℕ) (h : i < repeats) where
+  module _ (q : ℕ) (secrets vectors permutations salts : Bytes) (d : Drawings q n repeats secrets vectors permutations salts) where
+    pub drawn_ends : (336 * n * i + 336 * n ≤ length vectors) × (168 * n * i + 168 * n ≤ length permutations) × (96 * i + 96 ≤ length salts)
+    drawn_ends = (
+      omega (arith, d.vectors_sized, stretch (336 * n) i repeats h),
+      omega (arith, d.permutations_sized, stretch (168 * n) i repeats h),
+      omega (arith, d.salts_sized),
     )
 
-    module _ (q : ℕ) (secrets vectors permutations salts : Bytes) (d : Drawings q n repeats secrets vectors permutations salts) where
-      pub drawn_ends : (r_at + 336 * n ≤ length vectors) × (p_at + 168 * n ≤ length permutations) × (s_at + 96 ≤ length salts)
-      drawn_ends = (
-        omega (arith, at.r, d.vectors_sized, stretch (336 * n) i repeats h),
-        omega (arith, at.p, d.permutations_sized, stretch (168 * n) i repeats h),
-        omega (arith, at.s, d.salts_sized),
-      )
+    vector_below : all_below q (vector (part vectors (336 * n * i) (336 * n))) ≡ true
+    vector_below =
+        let from : 336 * n * i ≡ 8 * (42 * n * i) = omega (arith, mul_assoc 336 n i, mul_assoc 42 n i) in
+        let long : 336 * n ≡ 8 * (42 * n) = omega arith in
+        ap₂ (λ (j l : ℕ). all_below q (vector (part vectors j l))) from long
+        ∙ coefficients_vector (coefficients_part vectors (42 * n * i) (42 * n) d.below (omega (arith, d.vectors_sized, stretch (336 * n) i repeats h)))
 
-      vector_below : all_below q (vector (part vectors (336 * n * i) (336 * n))) ≡ true
-      vector_below =
-          let from : 336 * n * i ≡ 8 * (42 * n * i) = omega (arith, mul_assoc 336 n i, mul_assoc 42 n i) in
-          let long : 336 * n ≡ 8 * (42 * n) = omega arith in
-          ap₂ (λ (j l : ℕ). all_below q (vector (part vectors j l))) from long
-          ∙ coefficients_vector (coefficients_part vectors (42 * n * i) (42 * n) d.below (omega (arith, d.vectors_sized, stretch (336 * n) i repeats h)))
-
-      pub material : RepetitionMaterial q n secrets (part vectors r_at (336 * n)) (part permutations p_at (168 * n)) (part salts s_at 96)
-      material = record {
-        size_x = d.secrets_sized;
-        size_r = length_part vectors r_at (336 * n) drawn_ends.0;
-        size_p = length_part permutations p_at (168 * n) drawn_ends.1;
-        size_salts = length_part salts s_at 96 drawn_ends.2;
-        below = rw at.r vector_below;
-        permutes = rw at.p (d.permuting i h);
-      }
-
-      pub drawn_is : drawn_of (part permutations p_at (168 * n)) (part vectors r_at (336 * n)) (part salts s_at 96) ≡ drawn_in n vectors permutations salts i
-      drawn_is = rw (at.r, at.p, at.s)
+    pub material : RepetitionMaterial q n secrets (part vectors (336 * n * i) (336 * n)) (part permutations (168 * n * i) (168 * n)) (part salts (96 * i) 96)
+    material = record {
+      size_x = d.secrets_sized;
+      size_r = length_part vectors (336 * n * i) (336 * n) drawn_ends.0;
+      size_p = length_part permutations (168 * n * i) (168 * n) drawn_ends.1;
+      size_salts = length_part salts (96 * i) 96 drawn_ends.2;
+      below = vector_below;
+      permutes = d.permuting i h;
+    }
 
 -- ---- the digests, end to end
 
@@ -104,26 +74,25 @@ module _ (q n repeats : ℕ) (k : Keys) (secrets vectors permutations salts : By
   length_digests_of i = length_joined 96 digests_of i (λ j l. digests_sized j)
 
   -- what is written before repetition i
-  pub record Digested (head₀ : Bytes) (i at r_at p_at s_at : ℕ) (head w : Bytes) : Type 0 where
-    pub placed : Placed n repeats i r_at p_at s_at
+  pub record Digested (head₀ : Bytes) (i : ℕ) (head w : Bytes) : Type 0 where
     pub long : length w ≡ 1048576
-    pub written : Filled digests_of head₀ (80 * n) i at head
+    pub written : Filled digests_of head₀ (80 * n) i (80 * n + 96 * i) head
 
   module _ (head₀ : Bytes) where
-    pub digested_first : (w : Bytes) → length w ≡ 1048576 → Digested head₀ 0 (80 * n) 0 0 0 head₀ w
-    digested_first w l = record { placed = placed_first n repeats; long = l; written = filled_first digests_of head₀ (80 * n) }
+    pub digested_first : (w : Bytes) → length w ≡ 1048576 → Digested head₀ 0 head₀ w
+    digested_first w l = record {
+      long = l;
+      written = let none : 80 * n ≡ 80 * n + 96 * 0 = omega arith in subst (λ (k : ℕ). Filled digests_of head₀ (80 * n) 0 k head₀) none (filled_first digests_of head₀ (80 * n));
+    }
 
-    module _ (fits : length head₀ ≡ head_length n repeats) (i at r_at p_at s_at : ℕ) (head w : Bytes) (d : Digested head₀ i at r_at p_at s_at head w) (h : i < repeats) where
-      pub digests_end : (at + 96 ≤ length head) × (at + 96 ≤ 80 * n + 96 * repeats)
-      digests_end = let p = d.written.place in let l = length_digests_of i in (omega (arith, d.written.long), omega arith)
+    module _ (fits : length head₀ ≡ head_length n repeats) (i : ℕ) (head w : Bytes) (d : Digested head₀ i head w) (h : i < repeats) where
+      pub digests_end : 80 * n + 96 * i + 96 ≤ length head
+      digests_end = omega (arith, d.written.long)
 
-      pub digested_more : Drawings q n repeats secrets vectors permutations salts → (head' w' : Bytes) → length head' ≡ length head → length w' ≡ length w
-          → head' ≡ put head at (honest_digests q n k secrets (drawn_of (part permutations p_at (168 * n)) (part vectors r_at (336 * n)) (part salts s_at 96)))
-          → Digested head₀ (i + 1) (at + 96) (r_at + 336 * n) (p_at + 168 * n) (s_at + 96) head' w'
-      digested_more drawings head' w' lh lw e = record {
-        placed = placed_more n repeats i r_at p_at s_at d.placed h;
+      pub digested_more : (head' w' : Bytes) → length head' ≡ length head → length w' ≡ length w → head' ≡ put head (80 * n + 96 * i) (digests_of i) → Digested head₀ (i + 1) head' w'
+      digested_more head' w' lh lw e = record {
         long = lw ∙ d.long;
         written =
-            filled_more digests_of head₀ (80 * n) i at 96 head head' d.written (digests_sized i) (omega (arith, digests_end.1)) lh
-            (e ∙ ap (λ (x : Drawn). put head at (honest_digests q n k secrets x)) (drawn_is n repeats i r_at p_at s_at d.placed h q secrets vectors permutations salts drawings));
+            let to : 80 * n + 96 * i + 96 ≡ 80 * n + 96 * (i + 1) = omega arith in
+            rw to at (filled_more digests_of head₀ (80 * n) i (80 * n + 96 * i) 96 head head' d.written (digests_sized i) (omega (arith, digests_end, d.written.long)) lh e);
       }

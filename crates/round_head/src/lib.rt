@@ -79,32 +79,22 @@ fn write_digests(
     let q = k.modulus;
     let repeats = k.repeats as usize;
     let keys = &public[16 * n..40 * n];
-    let mut i = 0;
-    let mut at = 80 * n;
-    let mut vector = 0;
-    let mut permutation = 0;
-    let mut salt = 0;
-    while i < repeats {
+    for i in 0..repeats {
         digests_at(
             head,
-            at,
+            80 * n + 96 * i,
             work,
             keys,
             secrets,
             vectors,
-            vector,
+            336 * n * i,
             permutations,
-            permutation,
+            168 * n * i,
             salts,
-            salt,
+            96 * i,
             n,
             q,
         );
-        i += 1;
-        at += 96;
-        vector += 336 * n;
-        permutation += 168 * n;
-        salt += 96;
     }
 }
 

@@ -8,9 +8,7 @@ use native.Mathlib.Omega.{arith}
 use lib.Dec.{eqb}
 use lib.ListN.{length}
 use Rattle.codec.specs.Bytes.{Bytes, zeros}
-use Rattle.codec.specs.Reply.{Test, test, first}
-use Rattle.codec.specs.declared.Reply.{Reply}
-use Rattle.codec.specs.declared.Reply.TheVariants.{Refused}
+use Rattle.codec.specs.Reply.{Test, test, first, Reply, Refused}
 use Rattle.scratch.specs.Call.{zeroized}
 use Rattle.scratch.proofs.Zeroizing.{zeroized_taken, zeroized_refused, kept_length}
 use Rattle.commitment.specs.Commitment.{Keys}

@@ -7,16 +7,7 @@ ghost use Rattle.round.specs.Vocabulary.{answers_length, material_in, Usable};
 ghost use Rattle.round.specs.Writes.{first_room};
 ghost use Rattle.round_lengths.specs.Calls.{count_of, material_sized, first_sized, second_sized, message_sized, openings_sized};
 
-use codec::Reply;
 use sheet_numbers::Numbers;
-
-// The product of two small numbers.
-fn times(a: usize, b: usize) -> usize
-    requires { (a ≤ 1048576) × (b ≤ 4096) }
-    ensures { result ≡ a * b }
-{
-    a * b
-}
 
 // How many ballots stand in a slice.
 pub fn count_of(ballots: &[u8], n: usize) -> usize
@@ -27,6 +18,7 @@ pub fn count_of(ballots: &[u8], n: usize) -> usize
 }
 
 // The material of the producer.
+#[tactic(auto, unfolding(codec::specs::Bytes::same, crate::specs::Calls::material_sized))]
 pub fn material_sized(
     k: Numbers,
     secrets: &[u8],
@@ -46,8 +38,9 @@ pub fn material_sized(
 {
     let n = k.ring as usize;
     let repeats = k.repeats as usize;
-    let share = times(8 * n, count);
-    if !scratch::sized(
+    let share = 8 * n * count;
+    let sent = (4 + 16 * n) * count;
+    scratch::sized(
         [
             secrets.len(),
             s0.len(),
@@ -56,24 +49,15 @@ pub fn material_sized(
             masks1.len(),
             ballots.len(),
         ],
-        [14 * n, 8 * n, 8 * n, share, share, times(4 + 16 * n, count)],
-    ) {
-        return false;
-    }
-    scratch::sized(
+        [14 * n, 8 * n, 8 * n, share, share, sent],
+    ) && scratch::sized(
         [vectors.len(), permutations.len(), salts.len(), 0, 0, 0],
-        [
-            times(336 * n, repeats),
-            times(168 * n, repeats),
-            96 * repeats,
-            0,
-            0,
-            0,
-        ],
+        [336 * n * repeats, 168 * n * repeats, 96 * repeats, 0, 0, 0],
     )
 }
 
 // What the producer's first call writes, and scratch.
+#[tactic(auto, unfolding(codec::specs::Bytes::same, crate::specs::Calls::first_sized))]
 pub fn first_sized(
     k: Numbers,
     head: &[u8],
@@ -88,7 +72,7 @@ pub fn first_sized(
 {
     let n = k.ring as usize;
     let repeats = k.repeats as usize;
-    let share = times(8 * n, count);
+    let share = 8 * n * count;
     scratch::sized(
         [
             head.len(),
@@ -102,7 +86,7 @@ pub fn first_sized(
             80 * n + 96 * repeats,
             share,
             share,
-            times(n, count),
+            n * count,
             scratch::SCRATCH,
             0,
         ],
@@ -114,16 +98,15 @@ fn answers_length(challenges: &[u8], n: usize) -> usize
     requires { (n ≤ 2048) × (length challenges.now ≤ 256) }
     ensures { result ≡ answers_length n challenges.now }
 {
-    let mut i = 0;
     let mut sum = 0;
-    while i < challenges.len() {
-        sum += stern_answers::layout::answer_length(n, challenges[i]);
-        i += 1;
+    for challenge in challenges {
+        sum += stern_answers::layout::answer_length(n, *challenge);
     }
     sum
 }
 
 // Challenges, an opening, the answers, and scratch.
+#[tactic(auto, unfolding(codec::specs::Bytes::same, crate::specs::Calls::second_sized))]
 pub fn second_sized(
     challenges: &[u8],
     opening: &[u8],
@@ -135,17 +118,22 @@ pub fn second_sized(
     requires { (n ≤ 2048) × (repeats ≤ 256) }
     ensures { result ≡ second_sized n repeats challenges.now opening.now answers.now scratch.now }
 {
-    if challenges.len() != repeats {
-        return false;
-    }
-    let room = answers_length(challenges, n);
-    scratch::sized(
-        [opening.len(), answers.len(), scratch.len(), 0, 0, 0],
-        [22 * n, room, scratch::SCRATCH, 0, 0, 0],
-    )
+    challenges.len() == repeats
+        && scratch::sized(
+            [opening.len(), answers.len(), scratch.len(), 0, 0, 0],
+            [
+                22 * n,
+                answers_length(challenges, n),
+                scratch::SCRATCH,
+                0,
+                0,
+                0,
+            ],
+        )
 }
 
 // The first message, the ballots and the claims.
+#[tactic(auto, unfolding(codec::specs::Bytes::same, crate::specs::Calls::message_sized))]
 pub fn message_sized(
     head: &[u8],
     shares0: &[u8],
@@ -159,7 +147,7 @@ pub fn message_sized(
     requires { (n ≤ 2048) × (count ≤ 4096) × (repeats ≤ 256) }
     ensures { result ≡ message_sized n repeats count head.now shares0.now shares1.now ballots.now claims.now }
 {
-    let share = times(8 * n, count);
+    let share = 8 * n * count;
     scratch::sized(
         [
             head.len(),
@@ -173,14 +161,15 @@ pub fn message_sized(
             80 * n + 96 * repeats,
             share,
             share,
-            times(4 + 16 * n, count),
-            times(n, count),
+            (4 + 16 * n) * count,
+            n * count,
             0,
         ],
     )
 }
 
 // Both openings, the three answers, the extractor's output, and scratch.
+#[tactic(auto, unfolding(codec::specs::Bytes::same, crate::specs::Calls::openings_sized))]
 pub fn openings_sized(
     opening0: &[u8],
     opening1: &[u8],
@@ -195,7 +184,7 @@ pub fn openings_sized(
     ensures { result ≡ openings_sized n opening0.now opening1.now answer1.now answer2.now answer3.now
         out.now scratch.now }
 {
-    if !scratch::sized(
+    scratch::sized(
         [
             opening0.len(),
             opening1.len(),
@@ -205,10 +194,7 @@ pub fn openings_sized(
             0,
         ],
         [22 * n, 22 * n, 24 * n, scratch::SCRATCH, 0, 0],
-    ) {
-        return false;
-    }
-    scratch::sized(
+    ) && scratch::sized(
         [answer1.len(), answer2.len(), answer3.len(), 0, 0, 0],
         [378 * n + 64, 504 * n + 64, 504 * n + 64, 0, 0, 0],
     )

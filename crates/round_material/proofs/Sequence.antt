@@ -6,9 +6,11 @@ use Prim.Native.Nat.{ℕ}
 use lib.ListN.{length, length-replicate}
 use borrow.Author.Tests.{not-false}
 use Rattle.codec.specs.Bytes.{Bytes, zeros}
-use Rattle.codec.specs.Reply.{Test, first, leaves}
-use Rattle.codec.specs.declared.Reply.{Reply}
-use Rattle.codec.specs.declared.Reply.TheVariants.{Taken, Refused}
+use Rattle.std.proofs.Common.{Result, Ok, Err}
+use Rattle.std.specs.Result.{result_and}
+use Rattle.codec.specs.Reply.{Test, first, Reply, Taken, Refused}
+use Rattle.codec.specs.Refusal.{as_reply}
+use Rattle.codec.specs.declared.Refusal.{Refusal}
 use Rattle.codec.proofs.Laws.{both}
 use Rattle.codec.proofs.Replies.{taken_exactly}
 use Rattle.codec.specs.Lists.{list, all_below}
@@ -21,10 +23,9 @@ use Rattle.round.proofs.Many.{refused_there, continued}
 use Rattle.round_material.specs.Internal.{MaterialTested}
 
 -- the reply of both, where both are worked out
-pub both_decided : (rs ts : List Test) (r t : Reply) → r ≡ first rs → t ≡ first ts → leaves r t r ≡ first (rs ++ ts)
-unfolding leaves
-both_decided rs ts Taken t e f = continued rs ts e refl f
-both_decided rs ts (Refused number place) t e f = refused_there rs ts e number place refl
+pub both_decided : {A : Type 0} (rs ts : List Test) (r t : Result A Refusal) → as_reply r ≡ first rs → as_reply t ≡ first ts → as_reply (result_and r t) ≡ first (rs ++ ts)
+both_decided rs ts (Ok u) t e f = continued rs ts e refl f
+both_decided rs ts (Err why) t e f = refused_there rs ts e _ _ refl
 
 -- ---- what the range test says of each slice
 

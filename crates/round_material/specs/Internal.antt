@@ -1,8 +1,7 @@
 -- What the contracts of inner functions and the proofs go by: no exported contract and no claim cites this file. Assumes nothing.
 use Rattle.std.specs.Prelude.{◌≡◌, Bool, true, ℕ, ◌*◌, length}
 use Rattle.codec.specs.Bytes.{Bytes, zeros}
-use Rattle.codec.specs.Reply.{first}
-use Rattle.codec.specs.declared.Reply.{Reply}
+use Rattle.codec.specs.Reply.{first, Reply}
 use Rattle.sheet_numbers.specs.declared.Numbers.{Numbers}
 use Rattle.round.specs.Layout.{ballot_length, ballots_below}
 use Rattle.commitment.specs.Parameters.{Parameters}

@@ -11,11 +11,11 @@ mod ranges;
 ghost use Rattle.std.specs.Prelude.{◌≡◌, ◌++◌, ◌*◌, ◌≤◌, length};
 ghost use Rattle.round.specs.Vocabulary.{zeros, first, noise_bound_of, mask_bound_of, scratch_length, Free, Loaded, ballot_length};
 ghost use Rattle.round.specs.Vocabulary.{material_in, material_now, mask_tests, permutation_tests, noise_tests, parameters, Usable};
-ghost use Rattle.codec.specs.Reply.{leaves};
+ghost use Rattle.codec.specs.Refusal.{as_reply};
 ghost use Rattle.round.specs.Producer.{MaterialSized, secret_tests};
 ghost use Rattle.round_material.specs.Internal.{EachReady, MaterialTested};
 
-use codec::Reply;
+use codec::{Refusal, Reply};
 use sheet_numbers::Numbers;
 
 // 5, then 14.
@@ -35,38 +35,19 @@ fn test_secret(
         × (length s0.now ≡ 8 * k.ring) × (length e0.now ≡ 8 * k.ring)
         × (length ballots.now ≡ ballot_length k.ring * count) }
     ensures { let P = parameters k public.now in
-        (result ≡ first (secret_tests P count asked secrets.now s0.now e0.now vectors.now ballots.now))
+        (as_reply result ≡ first (secret_tests P count asked secrets.now s0.now e0.now vectors.now ballots.now))
         × Free work.old work.new }
 {
     if !asked {
-        return Reply::Refused {
-            number: 5,
-            place: 0,
-        };
+        return Err(Refusal::ValueOutOfRange);
     }
     if !ranges::in_range(k, secrets, s0, e0, vectors, ballots, count) {
-        return Reply::Refused {
-            number: 5,
-            place: 0,
-        };
+        return Err(Refusal::ValueOutOfRange);
     }
     if !keys::matches(work, k, public, secrets) {
-        return Reply::Refused {
-            number: 14,
-            place: 0,
-        };
+        return Err(Refusal::SecretNotMatching);
     }
-    Reply::Taken
-}
-
-// The reply of two tests in order: that of the first, unless it takes.
-fn decided(one: Reply, other: Reply) -> Reply
-    ensures { result ≡ leaves one other one }
-{
-    match one {
-        Reply::Taken => other,
-        Reply::Refused { number, place } => Reply::Refused { number, place },
-    }
+    Ok(())
 }
 
 // 12 by ballot, then 9 by repetition, then 15 by ballot. All three are worked out, and the first that refuses decides.
@@ -84,14 +65,14 @@ fn test_each(
         × EachReady k count secrets.now masks0.now masks1.now permutations.now ballots.now }
     ensures { let masks = mask_tests k.ring (mask_bound_of k) count masks0.now masks1.now in
         let noise = noise_tests k.modulus k.ring (noise_bound_of k) count secrets.now ballots.now in
-        (result ≡ first (masks ++ (permutation_tests k.ring k.repeats permutations.now ++ noise)))
+        (as_reply result ≡ first (masks ++ (permutation_tests k.ring k.repeats permutations.now ++ noise)))
         × (work.new ≡ zeros (length work.old)) }
 {
     let masked = masks::test_masks(k, masks0, masks1, count);
     let permuting = permutations::test_permutations(work, k, permutations);
     let quiet = noise::test_noise(work, k, secrets, ballots, count);
     codec::wipe(work);
-    decided(masked, decided(permuting, quiet))
+    masked.and(permuting.and(quiet))
 }
 
 // The whole order. `asked` says whether what a call is given beside the material is in range. The salts are not read.
@@ -115,18 +96,13 @@ pub fn test_material(
         Loaded k public.now × (length scratch.old ≡ scratch_length) × (count ≤ 4096)
         × MaterialSized (parameters k public.now) count x }
     ensures { let x = material_in secrets s0 e0 masks0 masks1 vectors permutations salts ballots in
-        MaterialTested (parameters k public.now) count x asked result scratch.old scratch.new }
+        MaterialTested (parameters k public.now) count x asked (as_reply result) scratch.old scratch.new }
 {
     let secret = test_secret(
         scratch, k, public, secrets, s0, e0, vectors, ballots, count, asked,
     );
     codec::wipe(scratch);
-    match secret {
-        Reply::Taken => {}
-        Reply::Refused { number, place } => {
-            return Reply::Refused { number, place };
-        }
-    }
+    secret?;
     test_each(
         scratch,
         k,

@@ -2,10 +2,11 @@
 ghost use Rattle.std.specs.Prelude.{◌≡◌, true, ◌+◌, ◌*◌, ◌≤◌, ◌<◌, ◌^◌, length};
 ghost use Rattle.round.specs.Vocabulary.{first, Below, poly, slot, ternary, noise_bound_of, scratch_length, Polynomial, Free, within};
 ghost use Rattle.round.specs.Vocabulary.{ballot_length, s_in, noise_tests, Usable};
+ghost use Rattle.codec.specs.Refusal.{as_reply};
 ghost use Rattle.bgv.specs.Scheme.{centred, noise_in};
 ghost use Rattle.round.specs.Layout.{ballots_below};
 
-use codec::Reply;
+use codec::{Refusal, Reply};
 use sheet_numbers::Numbers;
 
 // Whether the centred coefficients at the head of scratch are at most a bound in size.
@@ -13,13 +14,11 @@ fn head_within(work: &[u8], bound: u64, n: usize, q: u64) -> bool
     requires { (8 * n ≤ length work.now) × Below q n (poly work.now) × (q < 2 ^ 56) }
     ensures { result ≡ within bound n (centred q (poly work.now)) }
 {
-    let mut i = 0;
-    while i < n {
+    for i in 0..n {
         let x = codec::read64(work, 8 * i);
         if bound < modular::size(x, q) {
             return false;
         }
-        i += 1;
     }
     true
 }
@@ -75,23 +74,17 @@ pub fn test_noise(
     requires { Usable k × (count ≤ 4096) × (length work.old ≡ scratch_length) × (length secrets.now ≡ 14 * k.ring)
         × (length ballots.now ≡ ballot_length k.ring * count)
         × (ballots_below k.modulus k.ring count ballots.now ≡ true) }
-    ensures { (result ≡ first (noise_tests k.modulus k.ring (noise_bound_of k) count secrets.now ballots.now))
+    ensures { (as_reply result ≡ first (noise_tests k.modulus k.ring (noise_bound_of k) count secrets.now ballots.now))
         × Free work.old work.new }
 {
     let n = k.ring as usize;
     let q = k.modulus;
     let bound = sheet_numbers::noise_bound(k);
-    let mut j = 0;
-    let mut at = 0;
-    while j < count {
+    for j in 0..count {
+        let at = (4 + 16 * n) * j;
         if !is_quiet_at(work, secrets, ballots, at, bound, n, q) {
-            return Reply::Refused {
-                number: 15,
-                place: j as u32,
-            };
+            return Err(Refusal::NoiseTooLarge(j as u32));
         }
-        j += 1;
-        at += 4 + 16 * n;
     }
-    Reply::Taken
+    Ok(())
 }

@@ -1,30 +1,24 @@
 // 9: each P is a permutation, the lowest repetition first.
 ghost use Rattle.std.specs.Prelude.{◌≡◌, ◌*◌, length};
 ghost use Rattle.round.specs.Vocabulary.{first, scratch_length, Free, permutation_tests, Usable};
+ghost use Rattle.codec.specs.Refusal.{as_reply};
 
-use codec::Reply;
+use codec::{Refusal, Reply};
 use sheet_numbers::Numbers;
 
 // The permutation of every repetition, in order.
 pub fn test_permutations(work: &mut [u8], k: Numbers, permutations: &[u8]) -> Reply
     requires { Usable k × (length work.old ≡ scratch_length) × (length permutations.now ≡ 168 * k.ring * k.repeats) }
-    ensures { (result ≡ first (permutation_tests k.ring k.repeats permutations.now))
+    ensures { (as_reply result ≡ first (permutation_tests k.ring k.repeats permutations.now))
         × Free work.old work.new }
 {
     let n = k.ring as usize;
-    let repeats = k.repeats as usize;
-    let mut i = 0;
-    let mut at = 0;
-    while i < repeats {
+    for i in 0..k.repeats as usize {
+        let at = 168 * n * i;
         let end = at + 168 * n;
         if !vector::tests::is_permutation(&permutations[at..end], work, 0, 42 * n) {
-            return Reply::Refused {
-                number: 9,
-                place: i as u32,
-            };
+            return Err(Refusal::NoPermutation(i as u32));
         }
-        i += 1;
-        at = end;
     }
-    Reply::Taken
+    Ok(())
 }

@@ -3,13 +3,10 @@ use mathlib.Core.Path.{◌≡◌, refl, sym, ap, subst, ◌∙◌}
 use Prim.Native.Nat.{ℕ}
 use lib.ListN.{replicate}
 use Rattle.codec.specs.Bytes.{Bytes}
-use Rattle.codec.specs.Reply.{packed, leaves}
-use Rattle.codec.specs.declared.Reply.{Reply}
-use Rattle.sheet.specs.Sheet.{reading}
+use Rattle.codec.specs.Reply.{packed, leaves, Reply}
+use Rattle.sheet.specs.Sheet.{reading, Reading, Taken, Refused}
 use Rattle.sheet.specs.Internal.{loaded}
 use Rattle.sheet_numbers.specs.declared.Numbers.{Numbers}
-use Rattle.sheet.specs.declared.Reading.{Reading}
-use Rattle.sheet.specs.declared.Reading.TheVariants.{Taken, Refused}
 use Rattle.scratch.specs.Call.{zeroized}
 use Rattle.scratch.specs.Internal.{refusal}
 use Rattle.scratch.proofs.Lent.{lent, order_taken, order_refused}

@@ -5,9 +5,7 @@ use mathlib.Core.List.{List, ◌∷◌}
 use Prim.Native.Nat.{ℕ, ◌≤◌, ◌<◌}
 use Rattle.codec.specs.Bytes.{Bytes}
 use lib.Dec.{leb}
-use Rattle.codec.specs.Reply.{Test, test, first}
-use Rattle.codec.specs.declared.Reply.{Reply}
-use Rattle.codec.specs.declared.Reply.TheVariants.{Refused}
+use Rattle.codec.specs.Reply.{Test, test, first, Reply, Refused}
 use Rattle.scratch.specs.Call.{zeroized}
 use Rattle.scratch.proofs.Zeroizing.{kept_length}
 use Rattle.commitment.specs.Parameters.{Parameters}

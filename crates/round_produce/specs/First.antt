@@ -1,7 +1,6 @@
 -- What the producer's first call leaves in the room that it is lent. Assumes nothing.
 use Rattle.std.specs.Prelude.{◌≡◌, ℕ}
-use Rattle.codec.specs.Reply.{leaves}
-use Rattle.codec.specs.declared.Reply.{Reply}
+use Rattle.codec.specs.Reply.{leaves, Reply}
 use Rattle.commitment.specs.Parameters.{Parameters}
 use Rattle.round.specs.Producer.{Material, produced_head, produced_shares, produced_claims}
 use Rattle.round.specs.Writes.{FirstRoom}

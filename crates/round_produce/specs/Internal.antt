@@ -1,8 +1,7 @@
 -- What the contracts of inner functions and the proofs go by: no exported contract and no claim cites this file. Assumes nothing.
 use Rattle.std.specs.Prelude.{◌≡◌, Bool, true, ◌&&◌, List, ◌∷◌, ℕ, length}
 use Rattle.codec.specs.Bytes.{Bytes}
-use Rattle.codec.specs.Reply.{Test, first}
-use Rattle.codec.specs.declared.Reply.{Reply}
+use Rattle.codec.specs.Reply.{Test, first, Reply}
 use Rattle.scratch.specs.Call.{zeroized, scratch_length}
 use Rattle.commitment.specs.Parameters.{Parameters}
 use Rattle.round.specs.Producer.{Material, producer_tests}

@@ -2,8 +2,7 @@
 -- state"), and what they leave in the room that they are lent. Assumes nothing.
 use Rattle.std.specs.Prelude.{◌≡◌, ◌++◌, ℕ}
 use Rattle.codec.specs.Bytes.{Bytes}
-use Rattle.codec.specs.Reply.{first}
-use Rattle.codec.specs.declared.Reply.{Reply}
+use Rattle.codec.specs.Reply.{first, Reply}
 use Rattle.sheet.specs.Sheet.{order}
 use Rattle.scratch.specs.Call.{zeroized}
 use Rattle.round.specs.Producer.{Material}

@@ -1,8 +1,7 @@
 -- What the producer's second call leaves in the room that it is lent. Assumes nothing.
 use Rattle.std.specs.Prelude.{◌≡◌, ℕ}
 use Rattle.codec.specs.Bytes.{Bytes}
-use Rattle.codec.specs.Reply.{leaves}
-use Rattle.codec.specs.declared.Reply.{Reply}
+use Rattle.codec.specs.Reply.{leaves, Reply}
 use Rattle.commitment.specs.Parameters.{Parameters}
 use Rattle.round.specs.Producer.{Material, produced_opening, produced_answers}
 use Rattle.round.specs.Writes.{SecondRoom}

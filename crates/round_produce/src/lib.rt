@@ -4,47 +4,28 @@
 ghost use Rattle.std.specs.Prelude.{◌≡◌, ◌&&◌, ltb, length, get_or, ◌≤◌};
 ghost use Rattle.round.specs.Vocabulary.{all, is_challenge, Loaded, parameters, material_in, first_in, first_out, second_in};
 ghost use Rattle.round.specs.Vocabulary.{second_out};
+ghost use Rattle.codec.specs.Refusal.{as_reply};
 ghost use Rattle.round_lengths.specs.Calls.{count_of};
 ghost use Rattle.round_produce.specs.Internal.{call_tests, ScratchFits, Tested, FirstWritten, SecondWritten};
 
-use codec::{Reply, refused};
+use codec::{Refusal, Reply};
 use round_lengths::{count_of, first_sized, material_sized, second_sized};
 use sheet_numbers::Numbers;
 
 // ---- What the producer's second call is given beside the material: a side and the challenges.
 
-// A challenge is 1, 2 or 3.
-fn is_challenge(c: u8) -> bool
-    ensures { result ≡ is_challenge c }
-{
-    if c < 1 {
-        return false;
-    }
-    c <= 3
-}
-
-// Whether every challenge is.
+// Whether every challenge is 1, 2 or 3.
 fn challenges_ranged(challenges: &[u8]) -> bool
     ensures { result ≡ all (length challenges.now) (λ i. is_challenge (get_or challenges.now i 0)) }
 {
-    let mut i = 0;
-    while i < challenges.len() {
-        if !is_challenge(challenges[i]) {
-            return false;
-        }
-        i += 1;
-    }
-    true
+    challenges.iter().all(|c| matches!(c, 1..=3))
 }
 
 // Whether the side and the challenges are in range.
 fn asked_ranged(side: u64, challenges: &[u8]) -> bool
     ensures { result ≡ (ltb side 2 && all (length challenges.now) (λ i. is_challenge (get_or challenges.now i 0))) }
 {
-    if 2 <= side {
-        return false;
-    }
-    challenges_ranged(challenges)
+    side < 2 && challenges_ranged(challenges)
 }
 
 // ---- What the producer's two calls refuse, in their order, once the sheet is taken.
@@ -70,7 +51,7 @@ fn test_call(
 ) -> Reply
     requires { Loaded k public.now × (count ≡ count_of k.ring ballots.now) × (count ≤ 4096) × ScratchFits fits scratch.old }
     ensures { let x = material_in secrets s0 e0 masks0 masks1 vectors permutations salts ballots in
-        Tested (call_tests (parameters k public.now) x fits asked) result scratch.old scratch.new }
+        Tested (call_tests (parameters k public.now) x fits asked) (as_reply result) scratch.old scratch.new }
 {
     if !material_sized(
         k,
@@ -85,10 +66,10 @@ fn test_call(
         ballots,
         count,
     ) {
-        return refused(1);
+        return Err(Refusal::WrongLength);
     }
     if !fits {
-        return refused(1);
+        return Err(Refusal::WrongLength);
     }
     round_material::test_material(
         k,
@@ -132,14 +113,14 @@ pub fn produce_first(
     requires { Loaded k public.now }
     ensures { let x = material_in secrets s0 e0 masks0 masks1 vectors permutations salts ballots in
         let before = first_in head shares0 shares1 claims scratch in let after = first_out head shares0 shares1 claims scratch in
-        FirstWritten (parameters k public.now) x before result after }
+        FirstWritten (parameters k public.now) x before (as_reply result) after }
 {
     let count = count_of(ballots, k.ring as usize);
     if count > 4096 {
-        return refused(1);
+        return Err(Refusal::WrongLength);
     }
     let fits = first_sized(k, head, shares0, shares1, claims, scratch, count);
-    let reply = test_call(
+    test_call(
         k,
         public,
         secrets,
@@ -155,34 +136,26 @@ pub fn produce_first(
         fits,
         true,
         scratch,
+    )?;
+    round_write::write_first(
+        k,
+        public,
+        secrets,
+        s0,
+        e0,
+        masks0,
+        masks1,
+        vectors,
+        permutations,
+        salts,
+        ballots,
+        head,
+        shares0,
+        shares1,
+        claims,
+        scratch,
     );
-    match reply {
-        Reply::Taken => {
-            round_write::write_first(
-                k,
-                public,
-                secrets,
-                s0,
-                e0,
-                masks0,
-                masks1,
-                vectors,
-                permutations,
-                salts,
-                ballots,
-                head,
-                shares0,
-                shares1,
-                claims,
-                scratch,
-            );
-        }
-        Reply::Refused {
-            number: _,
-            place: _,
-        } => {}
-    }
-    reply
+    Ok(())
 }
 
 // The second call: the opening of a side, and the answers to challenges.
@@ -207,17 +180,17 @@ pub fn produce_second(
     requires { Loaded k public.now }
     ensures { let x = material_in secrets s0 e0 masks0 masks1 vectors permutations salts ballots in
         let before = second_in opening answers scratch in let after = second_out opening answers scratch in
-        SecondWritten (parameters k public.now) x side challenges.now before result after }
+        SecondWritten (parameters k public.now) x side challenges.now before (as_reply result) after }
 {
     let n = k.ring as usize;
     let repeats = k.repeats as usize;
     let count = count_of(ballots, n);
     if count > 4096 {
-        return refused(1);
+        return Err(Refusal::WrongLength);
     }
     let fits = second_sized(challenges, opening, answers, scratch, repeats, n);
     let asked = asked_ranged(side, challenges);
-    let reply = test_call(
+    test_call(
         k,
         public,
         secrets,
@@ -233,28 +206,20 @@ pub fn produce_second(
         fits,
         asked,
         scratch,
+    )?;
+    round_write::write_second(
+        k,
+        secrets,
+        s0,
+        e0,
+        vectors,
+        permutations,
+        salts,
+        side,
+        challenges,
+        opening,
+        answers,
+        scratch,
     );
-    match reply {
-        Reply::Taken => {
-            round_write::write_second(
-                k,
-                secrets,
-                s0,
-                e0,
-                vectors,
-                permutations,
-                salts,
-                side,
-                challenges,
-                opening,
-                answers,
-                scratch,
-            );
-        }
-        Reply::Refused {
-            number: _,
-            place: _,
-        } => {}
-    }
-    reply
+    Ok(())
 }

@@ -7,11 +7,36 @@ ghost use Rattle.round.specs.Vocabulary.{zeros, all_below, scratch_length, Loade
 ghost use Rattle.round.specs.Vocabulary.{same, modulo, encode, Free};
 ghost use Rattle.round_collision.specs.Internal.{ThreeAnswers, MaskedVectors};
 ghost use Rattle.round_search.specs.Internal.{Finds, unknowns_of, from, excess, solved_by, written_by};
+ghost use Rattle.round_search.specs.Finding.{number_of_finding};
 ghost use Rattle.stern.specs.Shortness.{polynomial};
 ghost use Rattle.round.specs.Extractor.{ternary_bytes};
 
-use round_collision::collision;
+use round_collision::{Digest, collision};
 use sheet_numbers::Numbers;
+
+// What two openings and three answers give away: two strings with one digest of the answers; a short vector on which the commitment row
+// is zero, from the pairs of s or of e; or the key.
+#[derive(Clone, Copy, PartialEq, Eq)]
+pub enum Finding {
+    Collision(Digest),
+    VectorForS,
+    VectorForE,
+    Key,
+}
+
+impl Finding {
+    // Document 01's number of its kind.
+    pub fn number(self) -> u8
+        ensures { result ≡ number_of_finding self }
+    {
+        match self {
+            Finding::Collision(digest) => digest.number(),
+            Finding::VectorForS => 4,
+            Finding::VectorForE => 5,
+            Finding::Key => 6,
+        }
+    }
+}
 
 // ---- The unknowns that answers 2 and 3 give, and what they say of two openings: the vector for s, else the vector for e, else the key.
 
@@ -55,11 +80,9 @@ fn write_excess(
         × MaskedVectors q n u.now r.now × (first + 6 * n ≤ 14 * n) × (length out.old ≡ 24 * n) }
     ensures { out.new ≡ encode (3 * n) (modulo q (excess q n r0.now r1.now (unknowns_of q n u.now r.now) first)) }
 {
-    let mut i = 0;
-    while i < 3 * n {
+    for i in 0..3 * n {
         let v = excess(r0, r1, u, r, first, i, n, q);
         codec::write64(out, 8 * i, v);
-        i += 1;
     }
 }
 
@@ -104,12 +127,10 @@ fn vanishes(
 fn to_ternary(v: u64) -> u8
     ensures { result ≡ cond (eqb v 1) 1 (cond (eqb v 0) 0 2) }
 {
-    if v == 1 {
-        1
-    } else if v == 0 {
-        0
-    } else {
-        2
+    match v {
+        1 => 1,
+        0 => 0,
+        _ => 2,
     }
 }
 
@@ -118,11 +139,8 @@ fn write_secrets(out: &mut [u8], u: &[u8], r: &[u8], n: usize, q: u64)
     requires { (n ≤ 2048) × (q < 2 ^ 56) × MaskedVectors q n u.now r.now × (length out.old ≡ 24 * n) }
     ensures { out.new ≡ put out.old 0 (ternary_bytes q (2 * n) (from (unknowns_of q n u.now r.now) 0)) }
 {
-    let mut i = 0;
-    while i < 2 * n {
-        let b = to_ternary(unknown(u, r, i, n, q));
-        out[i] = b;
-        i += 1;
+    for i in 0..2 * n {
+        out[i] = to_ternary(unknown(u, r, i, n, q));
     }
 }
 
@@ -146,24 +164,24 @@ fn solve(
     r: &[u8],
     n: usize,
     q: u64,
-) -> u8
+) -> Finding
     requires { (n ≤ 2048) × (3 ≤ q) × (q < 2 ^ 56) × (length work.old ≡ scratch_length) × (length out.old ≡ 24 * n)
         × (length opening0.now ≡ 22 * n) × (length opening1.now ≡ 22 * n) × MaskedVectors q n u.now r.now }
-    ensures { let z = unknowns_of q n u.now r.now in (result ≡ solved_by q n opening0.now opening1.now z)
+    ensures { let z = unknowns_of q n u.now r.now in (number_of_finding result ≡ solved_by q n opening0.now opening1.now z)
         × ((out.new ≡ written_by q n opening0.now opening1.now z) × Free work.old work.new) }
 {
     if !vanishes(work, out, opening0, opening1, u, r, 16 * n, 2 * n, n, q) {
-        return 4;
+        return Finding::VectorForS;
     }
     if !vanishes(work, out, opening0, opening1, u, r, 19 * n, 8 * n, n, q) {
-        return 5;
+        return Finding::VectorForE;
     }
     write_key(out, u, r, n, q);
-    6
+    Finding::Key
 }
 
-// 1, 2, 3: the lowest digest whose two strings differ, with zeros in the output; else 4, 5: the nonzero vector for s, for e; else 6: the
-// key. It is called once every test is passed, so nothing is refused any more and the output is used on the way. Scratch is zeroed.
+// The lowest digest whose two strings differ, with zeros in the output; else the nonzero vector for s, for e; else the key. It is called
+// once every test is passed, so nothing is refused any more and the output is used on the way. Scratch is zeroed.
 pub fn find(
     work: &mut [u8],
     k: Numbers,
@@ -175,17 +193,17 @@ pub fn find(
     answer2: &[u8],
     answer3: &[u8],
     out: &mut [u8],
-) -> u8
+) -> Finding
     requires { Loaded k public.now × (length work.old ≡ scratch_length) × (length out.old ≡ 24 * k.ring)
         × (80 * k.ring ≤ length head.now) × (length opening0.now ≡ 22 * k.ring) × (length opening1.now ≡ 22 * k.ring)
         × (all_below k.modulus (vector (pairs_of k.ring head.now)) ≡ true)
         × ThreeAnswers k.modulus k.ring answer1.now answer2.now answer3.now }
     ensures { Finds (parameters k public.now) head.now opening0.now opening1.now answer1.now answer2.now
-        answer3.now result out.new × (work.new ≡ zeros (length work.old)) }
+        answer3.now (number_of_finding result) out.new × (work.new ≡ zeros (length work.old)) }
 {
     let n = k.ring as usize;
     let q = k.modulus;
-    let digest = collision(
+    let found = collision(
         work,
         out,
         &public[16 * n..40 * n],
@@ -196,10 +214,10 @@ pub fn find(
         n,
         q,
     );
-    if digest != 0 {
-        return digest;
+    if let Some(digest) = found {
+        return Finding::Collision(digest);
     }
-    let kind = solve(
+    let found = solve(
         work,
         out,
         opening0,
@@ -210,5 +228,5 @@ pub fn find(
         q,
     );
     codec::wipe(work);
-    kind
+    found
 }

@@ -198,19 +198,14 @@ pub fn write_ballots(
         BallotsWritten k count secrets.now s0.now masks0.now masks1.now ballots.now before after }
 {
     let n = k.ring as usize;
-    let mut j = 0;
-    let mut at = 0;
-    let mut claim = 0;
-    let mut sent = 0;
-    while j < count {
+    for j in 0..count {
+        let sent = 8 * n * j;
+        let claim = n * j;
+        let at = (4 + 16 * n) * j;
         ballot_at(
             shares0, shares1, sent, claims, claim, work, k, secrets, s0, masks0, masks1, ballots,
             at,
         );
-        j += 1;
-        at += 4 + 16 * n;
-        claim += n;
-        sent += 8 * n;
     }
     codec::wipe(work);
 }

@@ -8,9 +8,10 @@ ghost use Rattle.round.specs.Vocabulary.{opening_of, of_side, votes_tests, param
 ghost use Rattle.round.specs.Vocabulary.{Batch, SharesLent};
 ghost use Rattle.round.specs.Round.{opening_ranged, head_ranged, answers_ranged, opens_key, opens_pairs, half_tests};
 ghost use Rattle.round_side.specs.Internal.{message_ranged, Opened, Head};
+ghost use Rattle.codec.specs.Refusal.{as_reply};
 ghost use Rattle.round.specs.Round as round;
 
-use codec::Reply;
+use codec::{Refusal, Reply};
 use sheet_numbers::Numbers;
 
 // ---- Refusal 5: whether coefficients, claims, ternary bytes and challenges are in range.
@@ -30,10 +31,7 @@ pub fn opening_ranged(k: Numbers, opening: &[u8]) -> bool
     ensures { result ≡ opening_ranged k.modulus k.ring opening.now }
 {
     let n = k.ring as usize;
-    if !ring::in_range(&opening[0..16 * n], k.modulus) {
-        return false;
-    }
-    ring::is_ternary(&opening[16 * n..22 * n])
+    ring::in_range(&opening[0..16 * n], k.modulus) && ring::is_ternary(&opening[16 * n..22 * n])
 }
 
 // Whether a challenge is 1, 2 or 3, and the numbers of its answer are in range.
@@ -41,13 +39,8 @@ fn challenge_ranged(k: Numbers, challenge: u8, answer: &[u8]) -> bool
     requires { (k.ring ≤ 2048) × (length answer.now ≡ answer_length k.ring challenge) }
     ensures { result ≡ (is_challenge challenge && in_range k.modulus k.ring challenge answer.now) }
 {
-    if challenge < 1 {
-        return false;
-    }
-    if 3 < challenge {
-        return false;
-    }
-    stern_answers::layout::answer_ranged(challenge, answer, k.ring as usize, k.modulus)
+    matches!(challenge, 1..=3)
+        && stern_answers::layout::answer_ranged(challenge, answer, k.ring as usize, k.modulus)
 }
 
 // Whether every challenge and every answer, end to end, is in range.
@@ -57,22 +50,19 @@ pub fn answers_ranged(k: Numbers, challenges: &[u8], answers: &[u8]) -> bool
     ensures { result ≡ answers_ranged k.modulus k.ring k.repeats challenges.now answers.now }
 {
     let n = k.ring as usize;
-    let repeats = k.repeats as usize;
-    let mut i = 0;
     let mut at = 0;
-    while i < repeats {
-        let challenge = challenges[i];
-        let end = at + stern_answers::layout::answer_length(n, challenge);
-        if !challenge_ranged(k, challenge, &answers[at..end]) {
+    for challenge in challenges {
+        let end = at + stern_answers::layout::answer_length(n, *challenge);
+        if !challenge_ranged(k, *challenge, &answers[at..end]) {
             return false;
         }
-        i += 1;
         at = end;
     }
     true
 }
 
 // Whether ballots, claims and a first message are in range.
+#[tactic(auto, unfolding(vector::specs::Vector::vector))]
 pub fn message_ranged(
     k: Numbers,
     ballots: &[u8],
@@ -88,19 +78,11 @@ pub fn message_ranged(
         shares1.now }
 {
     let q = k.modulus;
-    if !round_tests::ranges::ballots_in_range(ballots, count, k.ring as usize, q) {
-        return false;
-    }
-    if !bgv::is_message(claims, sheet_numbers::plain(k)) {
-        return false;
-    }
-    if !head_ranged(k, head) {
-        return false;
-    }
-    if !ring::in_range(shares0, q) {
-        return false;
-    }
-    ring::in_range(shares1, q)
+    round_tests::ranges::ballots_in_range(ballots, count, k.ring as usize, q)
+        && bgv::is_message(claims, sheet_numbers::plain(k))
+        && head_ranged(k, head)
+        && ring::in_range(shares0, q)
+        && ring::in_range(shares1, q)
 }
 
 // ---- The tests of an opening: 6, 7 and 8, and by ballot 12 and 13.
@@ -189,17 +171,17 @@ pub fn test_opening(
 ) -> Reply
     requires { Loaded k public.now × Opened k.modulus k.ring opening.now × (length work.old ≡ scratch_length)
         × (80 * k.ring ≤ length head.now) × (side < 2) }
-    ensures { Judged (half_tests (parameters k public.now) head.now side (opening_of k.ring opening.now)) result
-        work.old work.new }
+    ensures { Judged (half_tests (parameters k public.now) head.now side (opening_of k.ring opening.now))
+        (as_reply result) work.old work.new }
 {
     let n = k.ring as usize;
     if !opens_key(work, k, public, head, 8 * n * side, opening) {
-        return codec::refused(7);
+        return Err(Refusal::OpenedKeyWrong);
     }
     if !opens_pairs(work, k, public, head, 16 * n + 16 * n * side, opening) {
-        return codec::refused(8);
+        return Err(Refusal::OpenedCommitmentWrong);
     }
-    Reply::Taken
+    Ok(())
 }
 
 // Every ballot by the opened half of the secret and the shares of its side: 12, then 13; and scratch zeroed.
@@ -218,8 +200,8 @@ pub fn test_votes<'a>(
         × (side < 2) × Batch k.modulus k.ring count ballots.now claims.now × SharesLent k.modulus k.ring count shares0.now
         × SharesLent k.modulus k.ring count shares1.now }
     ensures { Judged (votes_tests k.modulus k.ring (plain k) (mask_bound_of k) count (slot opening.now 0)
-        ballots.now claims.now shares0.now shares1.now (of_side side shares0.now shares1.now)) result work.old
-        work.new }
+        ballots.now claims.now shares0.now shares1.now (of_side side shares0.now shares1.now))
+        (as_reply result) work.old work.new }
 {
     let n = k.ring as usize;
     round_tests::ballots::test_ballots(

@@ -8,9 +8,10 @@ ghost use Rattle.round.specs.Vocabulary.{parameters, Batch, SharesLent, part};
 ghost use Rattle.round.specs.Vocabulary.{keys_of, key_bytes, answer_length, in_range, answer_tests, pairs_of, Bytes, openings_in};
 ghost use Rattle.round.specs.Extractor.{side_tests, three_tests, Lent, openings_of, lent_ranged, extract_later, extract_tests};
 ghost use Rattle.round_side.specs.Internal.{Opened, Head};
+ghost use Rattle.codec.specs.Refusal.{as_reply};
 ghost use Rattle.round_sides.specs.Internal.{AnswerLent, OpeningsInRange, OpeningsSized};
 
-use codec::{Reply, refused};
+use codec::{Refusal, Reply};
 use round_side::{message_ranged, opening_ranged, splits, test_opening, test_votes};
 use sheet_numbers::Numbers;
 use stern_answers::layout::answer_ranged;
@@ -35,13 +36,10 @@ fn test_side<'a>(
         × (80 * k.ring ≤ length head.now) × (side < 2) × (count ≤ 4096) × Batch k.modulus k.ring count ballots.now claims.now
         × SharesLent k.modulus k.ring count shares0.now × SharesLent k.modulus k.ring count shares1.now }
     ensures { Judged (side_tests (parameters k public.now) count head.now ballots.now claims.now
-        shares0.now shares1.now side (of_side side shares0.now shares1.now) (opening_of k.ring opening.now)) result
-        work.old work.new }
+        shares0.now shares1.now side (of_side side shares0.now shares1.now) (opening_of k.ring opening.now))
+        (as_reply result) work.old work.new }
 {
-    let reply = test_opening(work, k, public, head, side as usize, opening);
-    let Reply::Taken = reply else {
-        return reply;
-    };
+    test_opening(work, k, public, head, side as usize, opening)?;
     test_votes(
         work, k, opening, ballots, claims, side, shares0, shares1, count,
     )
@@ -58,13 +56,9 @@ fn answers_ranged(k: Numbers, answer1: &[u8], answer2: &[u8], answer3: &[u8]) ->
 {
     let n = k.ring as usize;
     let q = k.modulus;
-    if !answer_ranged(1, answer1, n, q) {
-        return false;
-    }
-    if !answer_ranged(2, answer2, n, q) {
-        return false;
-    }
-    answer_ranged(3, answer3, n, q)
+    answer_ranged(1, answer1, n, q)
+        && answer_ranged(2, answer2, n, q)
+        && answer_ranged(3, answer3, n, q)
 }
 
 // One answer, against digests where they stand.
@@ -81,7 +75,8 @@ fn test_answer(
     requires { Loaded k public.now × (length work.old ≡ scratch_length) × Head k.modulus k.ring k.repeats head.now
         × (digests + 96 ≤ length head.now) × AnswerLent k.modulus k.ring challenge answer.now }
     ensures { Judged (answer_tests k.modulus k.ring (keys_of k.ring (key_bytes k public.now))
-        (pairs_of k.ring head.now) (part head.now digests 96) place challenge answer.now) result work.old work.new }
+        (pairs_of k.ring head.now) (part head.now digests 96) place challenge answer.now)
+        (as_reply result) work.old work.new }
 {
     round_tests::repetitions::test_at(
         work,
@@ -112,18 +107,12 @@ fn test_answers(
         × Head k.modulus k.ring k.repeats head.now × AnswerLent k.modulus k.ring 1 answer1.now
         × AnswerLent k.modulus k.ring 2 answer2.now × AnswerLent k.modulus k.ring 3 answer3.now }
     ensures { Judged (three_tests (parameters k public.now) head.now repetition answer1.now answer2.now
-        answer3.now) result work.old work.new }
+        answer3.now) (as_reply result) work.old work.new }
 {
     let digests = 80 * (k.ring as usize) + 96 * (repetition as usize);
     let place = repetition as u32;
-    let one = test_answer(work, k, public, head, digests, 1, answer1, place);
-    let Reply::Taken = one else {
-        return one;
-    };
-    let two = test_answer(work, k, public, head, digests, 2, answer2, place);
-    let Reply::Taken = two else {
-        return two;
-    };
+    test_answer(work, k, public, head, digests, 1, answer1, place)?;
+    test_answer(work, k, public, head, digests, 2, answer2, place)?;
     test_answer(work, k, public, head, digests, 3, answer3, place)
 }
 
@@ -131,7 +120,7 @@ fn test_answers(
 // 9, 10, 11.
 
 // 5: whether all that is lent is in range. The polynomials of the sheet, whatever they are, do not enter.
-#[tactic(auto, using(crate::proofs::Beyond::none_such))]
+#[tactic(auto, unfolding(round::specs::Extractor::lent_ranged, round::specs::Round::ballots_ranged))]
 fn openings_ranged(
     k: Numbers,
     head: &[u8],
@@ -153,19 +142,11 @@ fn openings_ranged(
     ensures { let x = openings_in head shares0 shares1 ballots claims opening0 opening1 repetition answer1 answer2 answer3 in
         ((s : Bytes) → result ≡ lent_ranged (parameters k s) count x) }
 {
-    if k.repeats as u64 <= repetition {
-        return false;
-    }
-    if !message_ranged(k, ballots, claims, head, shares0, shares1, count) {
-        return false;
-    }
-    if !opening_ranged(k, opening0) {
-        return false;
-    }
-    if !opening_ranged(k, opening1) {
-        return false;
-    }
-    answers_ranged(k, answer1, answer2, answer3)
+    repetition < k.repeats as u64
+        && message_ranged(k, ballots, claims, head, shares0, shares1, count)
+        && opening_ranged(k, opening0)
+        && opening_ranged(k, opening1)
+        && answers_ranged(k, answer1, answer2, answer3)
 }
 
 // 6, both sides, then the answers, of what is in range; and scratch zeroed.
@@ -191,23 +172,17 @@ fn test_ranged<'a>(
         (openings_of head.now shares0.now shares1.now ballots.now claims.now opening0.now opening1.now repetition
         answer1.now answer2.now answer3.now) }
     ensures { let x = openings_in head shares0 shares1 ballots claims opening0 opening1 repetition answer1 answer2 answer3 in
-        Judged (extract_later (parameters k public.now) count x) result work.old work.new }
+        Judged (extract_later (parameters k public.now) count x) (as_reply result) work.old work.new }
 {
     if !splits(work, k, public, head) {
-        return refused(6);
+        return Err(Refusal::HalvesNotAdding);
     }
-    let zero = test_side(
+    test_side(
         work, k, public, head, ballots, claims, 0, shares0, shares1, opening0, count,
-    );
-    let Reply::Taken = zero else {
-        return zero;
-    };
-    let one = test_side(
+    )?;
+    test_side(
         work, k, public, head, ballots, claims, 1, shares0, shares1, opening1, count,
-    );
-    let Reply::Taken = one else {
-        return one;
-    };
+    )?;
     test_answers(work, k, public, head, repetition, answer1, answer2, answer3)
 }
 
@@ -233,14 +208,14 @@ pub fn check_openings<'a>(
         × Lent (parameters k public.now) count (openings_of head.now shares0.now shares1.now ballots.now claims.now
         opening0.now opening1.now repetition answer1.now answer2.now answer3.now) }
     ensures { let x = openings_in head shares0 shares1 ballots claims opening0 opening1 repetition answer1 answer2 answer3 in
-        Judged (extract_tests (parameters k public.now) count x) result work.old work.new }
+        Judged (extract_tests (parameters k public.now) count x) (as_reply result) work.old work.new }
 {
     if !openings_ranged(
         k, head, shares0, shares1, ballots, claims, opening0, opening1, repetition, answer1,
         answer2, answer3, count,
     ) {
         codec::wipe(work);
-        return refused(5);
+        return Err(Refusal::ValueOutOfRange);
     }
     test_ranged(
         work, k, public, head, shares0, shares1, ballots, claims, opening0, opening1, repetition,

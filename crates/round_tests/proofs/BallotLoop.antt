@@ -3,13 +3,11 @@ use mathlib.Core.Path.{◌≡◌, refl, sym, ap, ap₂, ◌∙◌}
 use mathlib.Core.Bool.{Bool, true, not}
 use mathlib.Core.List.{List, [], ◌∷◌}
 use Prim.Native.Nat.{ℕ, zero, suc, ◌+◌, ◌-◌, ◌*◌, ◌≤◌, ◌<◌}
-use native.Mathlib.Nat.{mul-zero, mul-add, mul-one, mul-le-mul}
+use native.Mathlib.Nat.{mul-le-mul}
 use native.Mathlib.Omega.{arith}
 use lib.ListN.{length, take, drop}
 use Rattle.codec.specs.Bytes.{Bytes, part, same}
-use Rattle.codec.specs.Reply.{Test, test, first, None}
-use Rattle.codec.specs.declared.Reply.{Reply}
-use Rattle.codec.specs.declared.Reply.TheVariants.{Taken, Refused}
+use Rattle.codec.specs.Reply.{Test, test, first, None, Reply, Taken, Refused}
 use Rattle.ring.specs.Poly.{Poly, Alike}
 use Rattle.ring.specs.Slots.{poly, slot}
 use Rattle.sheet_numbers.specs.Bounds.{power}
@@ -73,60 +71,43 @@ module _ (q n p bound : ℕ) (s ballots claims : Bytes) (side : ℕ) (shares0 sh
   ballot_tests j = at_places (ballot_length n * j) (n * j) (8 * n * j) j
 
   -- where the loop stands before ballot j, with nothing refused so far
-  pub record Reached (count j at claim share : ℕ) (w : Bytes) : Type 0 where
+  pub record Reached (j : ℕ) (w : Bytes) : Type 0 where
     pub long : length w ≡ 1048576
-    pub within : j ≤ count
-    pub ballot : at ≡ ballot_length n * j
-    pub vote : claim ≡ n * j
-    pub sent : share ≡ 8 * n * j
     pub none : None (joined j ballot_tests)
 
-  pub reached_first : (count : ℕ) (w : Bytes) → length w ≡ 1048576 → Reached count 0 0 0 0 w
+  pub reached_first : (w : Bytes) → length w ≡ 1048576 → Reached 0 w
   unfolding joined
-  reached_first count w l = record { long = l; within = omega arith; ballot = sym (mul-zero (ballot_length n)); vote = sym (mul-zero n); sent = sym (mul-zero (8 * n)); none = tt }
+  reached_first w l = record { long = l; none = tt }
 
-  module _ (count j at claim share : ℕ) (w : Bytes) (r : Reached count j at claim share w) (h : j < count) where
-    -- the tests at these places are those of ballot j
-    reply_is : (z : Reply) → z ≡ first (at_places at claim share j) → z ≡ first (ballot_tests j)
-    reply_is z e = e ∙ ap (λ (x : ℕ). first (at_places x claim share j)) r.ballot ∙ ap (λ (x : ℕ). first (at_places (ballot_length n * j) x share j)) r.vote ∙ ap (λ (x : ℕ). first (at_places (ballot_length n * j) (n * j) x j)) r.sent
+  module _ (count j : ℕ) (h : j < count) where
+    pub reached_more : {w w' : Bytes} → Reached j w → length w' ≡ length w → Taken ≡ first (ballot_tests j) → Reached (j + 1) w'
+    reached_more r l e = record { long = l ∙ r.long; none = each_more ballot_tests j r.none (sym e) }
 
-    pub reached_more : (w' : Bytes) (z : Reply) → length w' ≡ length w → z ≡ first (at_places at claim share j) → z ≡ Taken → Reached count (j + 1) (at + (4 + 16 * n)) (claim + n) (share + 8 * n) w'
-    reached_more w' z l e t = record {
-      long = l ∙ r.long;
-      within = omega arith;
-      ballot = omega (arith, r.ballot, mul-add (ballot_length n) j 1, mul-one (ballot_length n));
-      vote = omega (arith, r.vote, mul-add n j 1, mul-one n);
-      sent = omega (arith, r.sent, mul-add (8 * n) j 1, mul-one (8 * n));
-      none = each_more ballot_tests j r.none (sym (reply_is z e) ∙ t);
-    }
-
-    pub reached_refused : (z : Reply) (number place : ℕ) → z ≡ first (at_places at claim share j) → z ≡ Refused number place → Refused number place ≡ first (joined count ballot_tests)
-    reached_refused z number place e t = sym (each_refused count ballot_tests j number place h r.none (sym (reply_is z e) ∙ t))
+    pub reached_refused : {w : Bytes} → Reached j w → (number place : ℕ) → Refused number place ≡ first (ballot_tests j) → Refused number place ≡ first (joined count ballot_tests)
+    reached_refused r number place e = sym (each_refused count ballot_tests j number place h r.none (sym e))
 
     -- the places are far below 2^64
-    pub places_fit : n ≤ 2048 → count ≤ 4096 → (at + (4 + 16 * n) ≤ 134234112) × (claim + n ≤ 8388608) × (share + 8 * n ≤ 67108864)
+    pub places_fit : n ≤ 2048 → count ≤ 4096 → (ballot_length n * j ≤ 134234112) × (n * j ≤ 8388608) × (8 * n * j ≤ 67108864)
     places_fit high few = (
-      omega (arith, r.ballot, stretch (ballot_length n) j count h, mul-le-mul {n₁ = ballot_length n} {m₁ = count} {n₂ = 32772} {m₂ = 4096} (omega arith) few),
-      omega (arith, r.vote, stretch n j count h, mul-le-mul {n₁ = n} {m₁ = count} {n₂ = 2048} {m₂ = 4096} high few),
-      omega (arith, r.sent, stretch (8 * n) j count h, mul-le-mul {n₁ = 8 * n} {m₁ = count} {n₂ = 16384} {m₂ = 4096} (omega arith) few),
+      omega (arith, stretch (ballot_length n) j count h, mul-le-mul {n₁ = ballot_length n} {m₁ = count} {n₂ = 32772} {m₂ = 4096} (omega arith) few),
+      omega (arith, stretch n j count h, mul-le-mul {n₁ = n} {m₁ = count} {n₂ = 2048} {m₂ = 4096} high few),
+      omega (arith, stretch (8 * n) j count h, mul-le-mul {n₁ = 8 * n} {m₁ = count} {n₂ = 16384} {m₂ = 4096} (omega arith) few),
     )
 
-    module _ (one : side < 2) (low : 4 ≤ n) (high : n ≤ 2048) (size : power 12 n ≡ true) (b : Batch q n count ballots claims) (s0 : SharesLent q n count shares0) (s1 : SharesLent q n count shares1) where
-      pub ballot_stands : BallotAt q n ballots at claims claim side shares0 shares1 share j
-      ballot_stands = let so = of_side_lem q n count side s0 s1 in record {
-        ballot_ends = omega (arith, r.ballot, b.ballots_sized, stretch (ballot_length n) j count h);
-        claim_ends = omega (arith, r.vote, b.claims_sized, stretch n j count h);
-        ends0 = omega (arith, r.sent, s0.sized, stretch (8 * n) j count h);
-        ends1 = omega (arith, r.sent, s1.sized, stretch (8 * n) j count h);
-        ends = omega (arith, r.sent, so.sized, stretch (8 * n) j count h);
-        below = rw r.ballot (b.below j h);
-        below0 = rw r.sent (s0.below j h);
-        below1 = rw r.sent (s1.below j h);
-        below_opened = rw r.sent (so.below j h);
-        opened = rw r.sent (share_of_lem side n shares0 shares1 j count one low high size s0.sized s1.sized h);
-      }
+    pub ballot_stands : side < 2 → 4 ≤ n → n ≤ 2048 → power 12 n ≡ true → Batch q n count ballots claims → SharesLent q n count shares0 → SharesLent q n count shares1
+        → BallotAt q n ballots (ballot_length n * j) claims (n * j) side shares0 shares1 (8 * n * j) j
+    ballot_stands one low high size b s0 s1 = let so = of_side_lem q n count side s0 s1 in record {
+      ballot_ends = omega (arith, b.ballots_sized, stretch (ballot_length n) j count h);
+      claim_ends = omega (arith, b.claims_sized, stretch n j count h);
+      ends0 = omega (arith, s0.sized, stretch (8 * n) j count h);
+      ends1 = omega (arith, s1.sized, stretch (8 * n) j count h);
+      ends = omega (arith, so.sized, stretch (8 * n) j count h);
+      below = b.below j h;
+      below0 = s0.below j h;
+      below1 = s1.below j h;
+      below_opened = so.below j h;
+      opened = share_of_lem side n shares0 shares1 j count one low high size s0.sized s1.sized h;
+    }
 
-  pub reached_all : (count j at claim share : ℕ) (w : Bytes) → Reached count j at claim share w → count ≤ j → Taken ≡ first (joined count ballot_tests)
-  reached_all count j at claim share w r h =
-      let i : j ≡ count = omega (arith, r.within) in
-      sym (ap (λ (k : ℕ). first (joined k ballot_tests)) (sym i) ∙ each_taken j ballot_tests r.none)
+  pub reached_all : {count j : ℕ} {w : Bytes} → Reached j w → j ≡ count → Taken ≡ first (joined count ballot_tests)
+  reached_all {count} {j} r e = sym (ap (λ (k : ℕ). first (joined k ballot_tests)) (sym e) ∙ each_taken j ballot_tests r.none)

@@ -8,9 +8,7 @@ use native.Mathlib.Numerals.{add-one}
 use native.Mathlib.Omega.{arith}
 use lib.ListN.{length, take, drop, get_or}
 use Rattle.codec.specs.Bytes.{Bytes, part}
-use Rattle.codec.specs.Reply.{Test, first, None}
-use Rattle.codec.specs.declared.Reply.{Reply}
-use Rattle.codec.specs.declared.Reply.TheVariants.{Taken, Refused}
+use Rattle.codec.specs.Reply.{Test, first, None, Reply, Taken, Refused}
 use Rattle.sheet_numbers.specs.declared.Numbers.{Numbers}
 use Rattle.commitment.specs.Commitment.{Keys, keys_of}
 use Rattle.commitment.specs.Loaded.{key_bytes}
@@ -42,17 +40,16 @@ module _ (q n : ℕ) (k : Keys) (head challenges answers : Bytes) where
   repetition_tests i = answer_tests q n k (pairs_of n head) (digests_at n head i) i (get_or challenges i 0) (answer_at n challenges answers i)
 
   -- where the loop stands before repetition i, with nothing refused so far
-  pub record Came (repeats i at : ℕ) (w : Bytes) : Type 0 where
+  pub record Came (i at : ℕ) (w : Bytes) : Type 0 where
     pub long : length w ≡ 1048576
-    pub within : i ≤ repeats
     pub place : at ≡ answers_length n (take i challenges)
     pub none : None (joined i repetition_tests)
 
-  pub came_first : (repeats : ℕ) (w : Bytes) → length w ≡ 1048576 → Came repeats 0 0 w
+  pub came_first : (w : Bytes) → length w ≡ 1048576 → Came 0 0 w
   unfolding joined answers_length
-  came_first repeats w l = record { long = l; within = omega arith; place = refl; none = tt }
+  came_first w l = record { long = l; place = refl; none = tt }
 
-  module _ (repeats i at : ℕ) (w : Bytes) (r : Came repeats i at w) (h : i < repeats) (a : Answers q n repeats challenges answers) where
+  module _ (repeats i at : ℕ) (w : Bytes) (r : Came i at w) (h : i < repeats) (a : Answers q n repeats challenges answers) where
     next : answers_length n (take (suc i) challenges) ≡ at + answer_length n (get_or challenges i 0)
     next = answers_length_more n challenges i (omega (arith, a.challenges_sized)) ∙ ap (λ (x : ℕ). x + answer_length n (get_or challenges i 0)) (sym r.place)
 
@@ -72,10 +69,9 @@ module _ (q n : ℕ) (k : Keys) (head challenges answers : Bytes) where
           e ∙ ap (λ (x : ℕ). first (answer_tests q n k (pairs_of n head) (part head (80 * n + 96 * i) 96) i (get_or challenges i 0) (part answers at x))) es
           ∙ ap (λ (x : ℕ). first (answer_tests q n k (pairs_of n head) (part head (80 * n + 96 * i) 96) i (get_or challenges i 0) (part answers x (answer_length n (get_or challenges i 0))))) r.place
 
-      pub came_more : (w' : Bytes) → length w' ≡ length w → z ≡ Taken → Came repeats (i + 1) (at + size) w'
+      pub came_more : (w' : Bytes) → length w' ≡ length w → z ≡ Taken → Came (i + 1) (at + size) w'
       came_more w' l t = record {
         long = l ∙ r.long;
-        within = omega arith;
         place = rw (add-one i) (omega (arith, next, es));
         none = each_more repetition_tests i r.none (sym reply_is ∙ t);
       }
@@ -83,7 +79,5 @@ module _ (q n : ℕ) (k : Keys) (head challenges answers : Bytes) where
       pub came_refused : (number place : ℕ) → z ≡ Refused number place → Refused number place ≡ first (joined repeats repetition_tests)
       came_refused number place t = sym (each_refused repeats repetition_tests i number place h r.none (sym reply_is ∙ t))
 
-  pub came_all : (repeats i at : ℕ) (w : Bytes) → Came repeats i at w → repeats ≤ i → Taken ≡ first (joined repeats repetition_tests)
-  came_all repeats i at w r h =
-      let e : i ≡ repeats = omega (arith, r.within) in
-      sym (ap (λ (m : ℕ). first (joined m repetition_tests)) (sym e) ∙ each_taken i repetition_tests r.none)
+  pub came_all : {repeats i at : ℕ} {w : Bytes} → Came i at w → i ≡ repeats → Taken ≡ first (joined repeats repetition_tests)
+  came_all {i = i} r e = sym (ap (λ (m : ℕ). first (joined m repetition_tests)) (sym e) ∙ each_taken i repetition_tests r.none)

@@ -3,6 +3,7 @@ ghost use Rattle.std.specs.Prelude.{◌≡◌, ◌+◌, ◌*◌, ◌≤◌, ◌<
 ghost use Rattle.round.specs.Vocabulary.{part, poly, slot, plain, mask_bound_of, Usable};
 ghost use Rattle.round.specs.Vocabulary.{scratch_length, Polynomial, Judged, Tried};
 ghost use Rattle.round.specs.Vocabulary.{of_side, votes_tests, Batch, SharesLent};
+ghost use Rattle.codec.specs.Refusal.{as_reply};
 ghost use Rattle.round_tests.specs.Internal.{vote_tests, BallotAt};
 
 use crate::opened::opened_share;
@@ -29,8 +30,8 @@ fn test_at<'a>(
         × BallotAt k.modulus k.ring ballots.now at claims.now claim side shares0.now shares1.now share place }
     ensures { Tried (vote_tests k.modulus k.ring (plain k) (mask_bound_of k) place (poly s.now)
         (slot ballots.now (at + 4)) (slot (of_side side shares0.now shares1.now) share) (part claims.now claim k.ring)
-        (slot ballots.now (at + 4 + 8 * k.ring)) (slot shares0.now share) (slot shares1.now share)) result work.old
-        work.new }
+        (slot ballots.now (at + 4 + 8 * k.ring)) (slot shares0.now share) (slot shares1.now share))
+        (as_reply result) work.old work.new }
 {
     let n = k.ring as usize;
     let end = share + 8 * n;
@@ -49,7 +50,45 @@ fn test_at<'a>(
     )
 }
 
-// Every ballot, in order, with the shares of the opened side; and scratch zeroed.
+// Every ballot, in order, with the shares of the opened side, up to the first that is refused.
+fn try_ballots<'a>(
+    work: &mut [u8],
+    k: Numbers,
+    s: &[u8],
+    ballots: &[u8],
+    claims: &[u8],
+    side: u64,
+    shares0: &'a [u8],
+    shares1: &'a [u8],
+    count: usize,
+) -> Reply
+    requires { Polynomial k.ring k.modulus s.now × Usable k × (length work.old ≡ scratch_length) × (count ≤ 4096)
+        × (side < 2) × Batch k.modulus k.ring count ballots.now claims.now × SharesLent k.modulus k.ring count shares0.now
+        × SharesLent k.modulus k.ring count shares1.now }
+    ensures { Tried (votes_tests k.modulus k.ring (plain k) (mask_bound_of k) count (poly s.now) ballots.now
+        claims.now shares0.now shares1.now (of_side side shares0.now shares1.now)) (as_reply result) work.old work.new }
+{
+    let n = k.ring as usize;
+    for j in 0..count {
+        test_at(
+            work,
+            k,
+            s,
+            ballots,
+            (4 + 16 * n) * j,
+            claims,
+            n * j,
+            side,
+            shares0,
+            shares1,
+            8 * n * j,
+            j as u32,
+        )?;
+    }
+    Ok(())
+}
+
+// The same, and scratch zeroed.
 pub fn test_ballots<'a>(
     work: &mut [u8],
     k: Numbers,
@@ -65,29 +104,9 @@ pub fn test_ballots<'a>(
         × (side < 2) × Batch k.modulus k.ring count ballots.now claims.now × SharesLent k.modulus k.ring count shares0.now
         × SharesLent k.modulus k.ring count shares1.now }
     ensures { Judged (votes_tests k.modulus k.ring (plain k) (mask_bound_of k) count (poly s.now) ballots.now
-        claims.now shares0.now shares1.now (of_side side shares0.now shares1.now)) result work.old work.new }
+        claims.now shares0.now shares1.now (of_side side shares0.now shares1.now)) (as_reply result) work.old work.new }
 {
-    let n = k.ring as usize;
-    let mut j = 0;
-    let mut at = 0;
-    let mut claim = 0;
-    let mut share = 0;
-    while j < count {
-        let reply = test_at(
-            work, k, s, ballots, at, claims, claim, side, shares0, shares1, share, j as u32,
-        );
-        match reply {
-            Reply::Taken => {}
-            Reply::Refused { number, place } => {
-                codec::wipe(work);
-                return Reply::Refused { number, place };
-            }
-        }
-        j += 1;
-        at += 4 + 16 * n;
-        claim += n;
-        share += 8 * n;
-    }
+    let reply = try_ballots(work, k, s, ballots, claims, side, shares0, shares1, count);
     codec::wipe(work);
-    Reply::Taken
+    reply
 }

@@ -3,7 +3,7 @@ ghost use Rattle.std.specs.Prelude.{◌≡◌};
 ghost use Rattle.round_tests.specs.Opened.{opened_place, opened_reply};
 ghost use Rattle.round_tests.specs.Internal.{opened_share};
 
-// The place of its first byte in that slice plus one; 0 where the stretch is empty.
+// The place of its first byte in that slice plus one; 0 where the stretch is empty: a number, as the definition has it and C is answered.
 pub fn opened_place(side: u64, n: usize, length0: usize, length1: usize, j: usize) -> usize
     ensures { result ≡ opened_place side n length0 length1 j }
 {

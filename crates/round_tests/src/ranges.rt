@@ -8,15 +8,12 @@ pub fn ballots_in_range(ballots: &[u8], count: usize, n: usize, q: u64) -> bool
     requires { (n ≤ 2048) × (count ≤ 4096) × (length ballots.now ≡ ballot_length n * count) }
     ensures { result ≡ all count (λ j. all_below q (list (2 * n) (u_at n ballots.now j))) }
 {
-    let mut j = 0;
-    let mut at = 0;
-    while j < count {
-        let end = at + 4 + 16 * n;
-        if !ring::in_range(&ballots[at + 4..end], q) {
+    let size = 4 + 16 * n;
+    for j in 0..count {
+        let at = size * j;
+        if !ring::in_range(&ballots[at + 4..at + size], q) {
             return false;
         }
-        j += 1;
-        at = end;
     }
     true
 }

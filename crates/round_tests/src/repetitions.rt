@@ -2,6 +2,7 @@
 ghost use Rattle.std.specs.Prelude.{◌≡◌, true, ◌+◌, ◌*◌, ◌≤◌, length};
 ghost use Rattle.round.specs.Vocabulary.{part, all_below, scratch_length, Judged, keys_of, key_bytes, Loaded, vector, answer_length, in_range};
 ghost use Rattle.round.specs.Vocabulary.{answer_tests, head_length, pairs_of, answers_tests, parameters};
+ghost use Rattle.codec.specs.Refusal.{as_reply};
 ghost use Rattle.round.specs.Internal.{Answers};
 
 use codec::Reply;
@@ -26,7 +27,7 @@ pub fn test_at(
         × (in_range k.modulus k.ring challenge (part answers.now at size) ≡ true) }
     ensures { let keys = keys_of k.ring (key_bytes k public.now) in
         Judged (answer_tests k.modulus k.ring keys (pairs_of k.ring head.now) (part head.now digests 96) place challenge
-        (part answers.now at size)) result work.old work.new }
+        (part answers.now at size)) (as_reply result) work.old work.new }
 {
     let n = k.ring as usize;
     stern_answers::testing::test_answer(
@@ -54,17 +55,16 @@ pub fn test_repetitions(
     requires { Loaded k public.now × (length work.old ≡ scratch_length) × (length head.now ≡ head_length k.ring k.repeats)
         × (all_below k.modulus (vector (pairs_of k.ring head.now)) ≡ true)
         × Answers k.modulus k.ring k.repeats challenges.now answers.now }
-    ensures { Judged (answers_tests (parameters k public.now) head.now challenges.now answers.now) result
-        work.old work.new }
+    ensures { Judged (answers_tests (parameters k public.now) head.now challenges.now answers.now)
+        (as_reply result) work.old work.new }
 {
     let n = k.ring as usize;
     let repeats = k.repeats as usize;
-    let mut i = 0;
     let mut at = 0;
-    while i < repeats {
+    for i in 0..repeats {
         let challenge = challenges[i];
         let size = stern_answers::layout::answer_length(n, challenge);
-        let reply = test_at(
+        test_at(
             work,
             k,
             public,
@@ -75,16 +75,9 @@ pub fn test_repetitions(
             at,
             size,
             i as u32,
-        );
-        match reply {
-            Reply::Taken => {}
-            Reply::Refused { number, place } => {
-                return Reply::Refused { number, place };
-            }
-        }
-        i += 1;
+        )?;
         at += size;
     }
     codec::wipe(work);
-    Reply::Taken
+    Ok(())
 }

@@ -3,11 +3,12 @@ ghost use Rattle.std.specs.Prelude.{◌≡◌, ◌*◌, ◌≤◌, length};
 ghost use Rattle.round.specs.Vocabulary.{same, list, Below, poly, plain, mask_bound_of};
 ghost use Rattle.round.specs.Vocabulary.{Usable, scratch_length, Polynomial, Tried};
 ghost use Rattle.round.specs.Vocabulary.{Free};
+ghost use Rattle.codec.specs.Refusal.{as_reply};
 ghost use Rattle.bgv.specs.Scheme as scheme;
 ghost use Rattle.bgv.specs.Scheme.{rebuilt};
 ghost use Rattle.round_tests.specs.Internal.{vote_tests};
 
-use codec::Reply;
+use codec::{Refusal, Reply};
 use sheet_numbers::Numbers;
 
 // Whether each byte of a claim is the vote that a polynomial in scratch stands for.
@@ -18,13 +19,11 @@ fn is_vote(work: &[u8], k: Numbers, claim: &[u8]) -> bool
 {
     let n = k.ring as usize;
     let p = sheet_numbers::plain(k);
-    let mut i = 0;
-    while i < n {
+    for i in 0..n {
         let x = codec::read64(work, 8 * i);
-        if claim[i] as u64 != modular::residue(x, p, k.modulus) {
+        if u64::from(claim[i]) != modular::residue(x, p, k.modulus) {
             return false;
         }
-        i += 1;
     }
     true
 }
@@ -58,15 +57,16 @@ pub fn test_ballot(
         × Polynomial k.ring k.modulus t1.now × Polynomial k.ring k.modulus t.now × (length work.old ≡ scratch_length)
         × (length claim.now ≡ k.ring) }
     ensures { Tried (vote_tests k.modulus k.ring (plain k) (mask_bound_of k) place (poly s.now) (poly u.now)
-        (poly t.now) claim.now (poly v.now) (poly t0.now) (poly t1.now)) result work.old work.new }
+        (poly t.now) claim.now (poly v.now) (poly t0.now) (poly t1.now)) (as_reply result)
+        work.old work.new }
 {
     let p = sheet_numbers::plain(k);
     let bound = sheet_numbers::mask_bound(k);
     if !bgv::mask_within(work, s, u, t, bound, p, k.ring as usize, k.modulus) {
-        return Reply::Refused { number: 12, place };
+        return Err(Refusal::MaskTooLarge(place));
     }
     if !is_claim(work, k, claim, v, t0, t1) {
-        return Reply::Refused { number: 13, place };
+        return Err(Refusal::ClaimDiffers(place));
     }
-    Reply::Taken
+    Ok(())
 }

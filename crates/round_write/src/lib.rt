@@ -144,35 +144,25 @@ fn write_answers(
 {
     let n = k.ring as usize;
     let q = k.modulus;
-    let repeats = k.repeats as usize;
-    let mut i = 0;
     let mut at = 0;
-    let mut vector = 0;
-    let mut permutation = 0;
-    let mut salt = 0;
-    while i < repeats {
-        let challenge = challenges[i];
-        let size = stern_answers::layout::answer_length(n, challenge);
+    for (i, challenge) in challenges.iter().enumerate() {
+        let size = stern_answers::layout::answer_length(n, *challenge);
         answer_at(
             answers,
             at,
             size,
-            challenge,
+            *challenge,
             secrets,
             vectors,
-            vector,
+            336 * n * i,
             permutations,
-            permutation,
+            168 * n * i,
             salts,
-            salt,
+            96 * i,
             n,
             q,
         );
-        i += 1;
         at += size;
-        vector += 336 * n;
-        permutation += 168 * n;
-        salt += 96;
     }
 }
 

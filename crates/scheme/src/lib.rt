@@ -4,6 +4,7 @@
 #![tactic(auto)]
 
 ghost use Rattle.std.specs.Prelude.{◌+◌, ◌*◌, ◌≤◌, length, ◌≡◌, [], ◌∷◌};
+ghost use Rattle.codec.specs.Refusal.{as_reply};
 ghost use Rattle.scratch.specs.Vocabulary.{part, Usable, coefficients_below, Computed};
 ghost use Rattle.scheme.specs.Internal.{WrittenAt};
 ghost use Rattle.scheme.specs.Calls.{share_tests, share_writes, reconstruct_tests, reconstruct_writes, commitment_tests};
@@ -11,7 +12,7 @@ ghost use Rattle.scheme.specs.Calls.{commitment_writes};
 ghost use Rattle.commitment.specs.Internal.{Loaded};
 ghost use Rattle.commitment.specs.Parameters.{parameters};
 
-use codec::Reply;
+use codec::{Refusal, Reply};
 use sheet_numbers::Numbers;
 
 // What stands at the head of scratch is written out at a place, and scratch zeroed.
@@ -37,26 +38,26 @@ pub fn share(
 ) -> Reply
     requires { Usable k }
     ensures { Computed (share_tests k half.now u.now mask.now t.old scratch.old)
-        (share_writes k half.now u.now mask.now) result t.old t.new scratch.old scratch.new }
+        (share_writes k half.now u.now mask.now) (as_reply result) t.old t.new scratch.old scratch.new }
 {
     let n = k.ring as usize;
     if !scratch::sized(
         [half.len(), u.len(), mask.len(), t.len(), scratch.len(), 0],
         [8 * n, 8 * n, 8 * n, 8 * n, scratch::SCRATCH, 0],
     ) {
-        return codec::refused(1);
+        return Err(Refusal::WrongLength);
     }
     if !scratch::both_in_range(half, u, n, k.modulus) {
-        return codec::refused(5);
+        return Err(Refusal::ValueOutOfRange);
     }
     let bound = sheet_numbers::mask_bound(k);
     if !bgv::bounded(mask, bound, n) {
-        return codec::refused(12);
+        return Err(Refusal::MaskTooLarge(0));
     }
     let p = sheet_numbers::plain(k);
     bgv::share(scratch, half, u, mask, p, n, k.modulus);
     hand_out(t, 0, scratch, n);
-    Reply::Taken
+    Ok(())
 }
 
 // v, t0 and t1 are in range.
@@ -82,23 +83,23 @@ pub fn reconstruct(
 ) -> Reply
     requires { Usable k }
     ensures { Computed (reconstruct_tests k v.now t0.now t1.now vote.old scratch.old)
-        (reconstruct_writes k v.now t0.now t1.now) result vote.old vote.new scratch.old scratch.new }
+        (reconstruct_writes k v.now t0.now t1.now) (as_reply result) vote.old vote.new scratch.old scratch.new }
 {
     let n = k.ring as usize;
     if !scratch::sized(
         [v.len(), t0.len(), t1.len(), vote.len(), scratch.len(), 0],
         [8 * n, 8 * n, 8 * n, n, scratch::SCRATCH, 0],
     ) {
-        return codec::refused(1);
+        return Err(Refusal::WrongLength);
     }
     if !reconstruct_ranged(v, t0, t1, n, k.modulus) {
-        return codec::refused(5);
+        return Err(Refusal::ValueOutOfRange);
     }
     let p = sheet_numbers::plain(k);
     bgv::rebuilt(scratch, v, t0, t1, n, k.modulus);
     bgv::plain(scratch, vote, p, n, k.modulus);
     codec::wipe(scratch);
-    Reply::Taken
+    Ok(())
 }
 
 // ---- The commitment (document 01, "Ring and scheme") once the sheet is taken: the tests of the lent slices, and then the work. Scratch is
@@ -115,7 +116,7 @@ pub fn commitment(
 ) -> Reply
     requires { Loaded k public.now }
     ensures { Computed (commitment_tests k m.now r.now pair.old scratch.old)
-        (commitment_writes (parameters k public.now) m.now r.now) result
+        (commitment_writes (parameters k public.now) m.now r.now) (as_reply result)
         pair.old pair.new scratch.old scratch.new }
 {
     let n = k.ring as usize;
@@ -123,14 +124,14 @@ pub fn commitment(
         [m.len(), r.len(), pair.len(), scratch.len(), 0, 0],
         [8 * n, 3 * n, 16 * n, scratch::SCRATCH, 0, 0],
     ) {
-        return codec::refused(1);
+        return Err(Refusal::WrongLength);
     }
     if !scratch::ternary_and_in_range(r, m, n, k.modulus) {
-        return codec::refused(5);
+        return Err(Refusal::ValueOutOfRange);
     }
     commitment::pair(scratch, &public[16 * n..40 * n], m, r, n, k.modulus);
     scratch::write_out(pair, 0, scratch, 0, n);
     scratch::write_out(pair, 8 * n, scratch, commitment::MESSAGE, n);
     codec::wipe(scratch);
-    Reply::Taken
+    Ok(())
 }

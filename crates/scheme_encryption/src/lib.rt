@@ -3,12 +3,13 @@
 #![tactic(auto)]
 
 ghost use Rattle.std.specs.Prelude.{◌≡◌, ◌&&◌, [], ◌∷◌};
+ghost use Rattle.codec.specs.Refusal.{as_reply};
 ghost use Rattle.scratch.specs.Vocabulary.{Usable, bytes_below, Computed};
 ghost use Rattle.commitment.specs.Internal.{Loaded};
 ghost use Rattle.commitment.specs.Parameters.{parameters};
 ghost use Rattle.scheme.specs.Calls.{encrypt_tests, encrypt_writes, decrypt_tests, decrypt_writes};
 
-use codec::Reply;
+use codec::{Refusal, Reply};
 use scheme::hand_out;
 use sheet_numbers::Numbers;
 
@@ -38,7 +39,7 @@ pub fn encrypt(
 ) -> Reply
     requires { Loaded k public.now }
     ensures { Computed (encrypt_tests k r.now e1.now e2.now m.now ciphertext.old scratch.old)
-        (encrypt_writes (parameters k public.now) r.now e1.now e2.now m.now) result
+        (encrypt_writes (parameters k public.now) r.now e1.now e2.now m.now) (as_reply result)
         ciphertext.old ciphertext.new scratch.old scratch.new }
 {
     let n = k.ring as usize;
@@ -54,18 +55,18 @@ pub fn encrypt(
         ],
         [n, n, n, n, 16 * n, scratch::SCRATCH],
     ) {
-        return codec::refused(1);
+        return Err(Refusal::WrongLength);
     }
     let p = sheet_numbers::plain(k);
     if !encrypt_ranged(r, e1, e2, m, p) {
-        return codec::refused(5);
+        return Err(Refusal::ValueOutOfRange);
     }
     bgv::noisy(scratch, &public[0..8 * n], r, e1, p, n, q);
     hand_out(ciphertext, 0, scratch, n);
     bgv::noisy(scratch, &public[8 * n..16 * n], r, e2, p, n, q);
     bgv::add_message(scratch, m, n, q);
     hand_out(ciphertext, 8 * n, scratch, n);
-    Reply::Taken
+    Ok(())
 }
 
 // The vote, from the secret key.
@@ -78,7 +79,7 @@ pub fn decrypt(
 ) -> Reply
     requires { Usable k }
     ensures { Computed (decrypt_tests k s.now ciphertext.now vote.old scratch.old)
-        (decrypt_writes k s.now ciphertext.now) result vote.old vote.new scratch.old scratch.new }
+        (decrypt_writes k s.now ciphertext.now) (as_reply result) vote.old vote.new scratch.old scratch.new }
 {
     let n = k.ring as usize;
     let q = k.modulus;
@@ -86,10 +87,10 @@ pub fn decrypt(
         [s.len(), ciphertext.len(), vote.len(), scratch.len(), 0, 0],
         [n, 16 * n, n, scratch::SCRATCH, 0, 0],
     ) {
-        return codec::refused(1);
+        return Err(Refusal::WrongLength);
     }
     if !scratch::ternary_and_in_range(s, ciphertext, 2 * n, q) {
-        return codec::refused(5);
+        return Err(Refusal::ValueOutOfRange);
     }
     let p = sheet_numbers::plain(k);
     bgv::noise(
@@ -102,5 +103,5 @@ pub fn decrypt(
     );
     bgv::plain(scratch, vote, p, n, q);
     codec::wipe(scratch);
-    Reply::Taken
+    Ok(())
 }

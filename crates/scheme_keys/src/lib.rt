@@ -4,12 +4,13 @@
 #![tactic(auto)]
 
 ghost use Rattle.std.specs.Prelude.{◌≡◌, ◌&&◌, [], ◌∷◌, ◌*◌, length};
+ghost use Rattle.codec.specs.Refusal.{as_reply};
 ghost use Rattle.scratch.specs.Vocabulary.{bytes_below, coefficients_below, Computed};
 ghost use Rattle.commitment.specs.Internal.{Loaded};
 ghost use Rattle.commitment.specs.Parameters.{parameters};
 ghost use Rattle.scheme.specs.Calls.{keygen_tests, keygen_writes, split_tests, split_writes};
 
-use codec::Reply;
+use codec::{Refusal, Reply};
 use scheme::hand_out;
 use sheet_numbers::Numbers;
 
@@ -24,22 +25,22 @@ pub fn keygen(
 ) -> Reply
     requires { Loaded k public.now }
     ensures { Computed (keygen_tests k s.now e.now b.old scratch.old)
-        (keygen_writes (parameters k public.now) s.now e.now) result b.old b.new scratch.old scratch.new }
+        (keygen_writes (parameters k public.now) s.now e.now) (as_reply result) b.old b.new scratch.old scratch.new }
 {
     let n = k.ring as usize;
     if !scratch::sized(
         [s.len(), e.len(), b.len(), scratch.len(), 0, 0],
         [n, n, 8 * n, scratch::SCRATCH, 0, 0],
     ) {
-        return codec::refused(1);
+        return Err(Refusal::WrongLength);
     }
     if !scratch::both_ternary(s, e) {
-        return codec::refused(5);
+        return Err(Refusal::ValueOutOfRange);
     }
     let p = sheet_numbers::plain(k);
     bgv::noisy(scratch, &public[0..8 * n], s, e, p, n, k.modulus);
     hand_out(b, 0, scratch, n);
-    Reply::Taken
+    Ok(())
 }
 
 // s and e are ternary, and s0 and e0 in range.
@@ -67,7 +68,7 @@ pub fn split(
 ) -> Reply
     requires { Loaded k public.now }
     ensures { Computed (split_tests k s.now e.now s0.now e0.now out.old scratch.old)
-        (split_writes (parameters k public.now) s.now e.now s0.now e0.now) result
+        (split_writes (parameters k public.now) s.now e.now s0.now e0.now) (as_reply result)
         out.old out.new scratch.old scratch.new }
 {
     let n = k.ring as usize;
@@ -83,10 +84,10 @@ pub fn split(
         ],
         [n, n, 8 * n, 8 * n, 32 * n, scratch::SCRATCH],
     ) {
-        return codec::refused(1);
+        return Err(Refusal::WrongLength);
     }
     if !split_ranged(s, e, s0, e0, n, q) {
-        return codec::refused(5);
+        return Err(Refusal::ValueOutOfRange);
     }
     let p = sheet_numbers::plain(k);
     bgv::difference(scratch, 0, s, s0, n, q);
@@ -97,5 +98,5 @@ pub fn split(
     hand_out(out, 16 * n, scratch, n);
     bgv::noisy_difference(scratch, &public[0..8 * n], s, s0, e, e0, p, n, q);
     hand_out(out, 24 * n, scratch, n);
-    Reply::Taken
+    Ok(())
 }

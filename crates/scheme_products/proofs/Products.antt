@@ -6,8 +6,7 @@ use Prim.Native.Nat.{ℕ, ◌+◌, ◌*◌, ◌≤◌}
 use native.Mathlib.Omega.{arith}
 use lib.ListN.{length, length-replicate}
 use Rattle.codec.specs.Bytes.{Bytes, part, put, same, zeros}
-use Rattle.codec.specs.Reply.{Test, first}
-use Rattle.codec.specs.declared.Reply.TheVariants.{Taken}
+use Rattle.codec.specs.Reply.{Test, first, Taken}
 use Rattle.codec.proofs.Laws.{part_put_before}
 use Rattle.modular.specs.Roots.{is_root}
 use Rattle.ring.specs.Poly.{Poly, mul, Below}

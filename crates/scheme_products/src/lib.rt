@@ -4,10 +4,11 @@
 #![tactic(auto)]
 
 ghost use Rattle.std.specs.Prelude.{◌≡◌, [], ◌∷◌, ◌*◌, ◌≤◌};
+ghost use Rattle.codec.specs.Refusal.{as_reply};
 ghost use Rattle.scratch.specs.Vocabulary.{same, scratch_length, Usable, Computed};
 ghost use Rattle.scheme.specs.Calls.{product_tests, multiply_tests, product_writes};
 
-use codec::Reply;
+use codec::{Refusal, Reply};
 use scheme::hand_out;
 use sheet_numbers::Numbers;
 
@@ -26,19 +27,19 @@ fn sized(x: usize, y: usize, product: usize, scratch: usize, n: usize) -> bool
 pub fn product(k: Numbers, x: &[u8], y: &[u8], product: &mut [u8], scratch: &mut [u8]) -> Reply
     requires { Usable k }
     ensures { Computed (product_tests k x.now y.now product.old scratch.old)
-        (product_writes k x.now y.now) result product.old product.new scratch.old scratch.new }
+        (product_writes k x.now y.now) (as_reply result) product.old product.new scratch.old scratch.new }
 {
     let n = k.ring as usize;
     if !sized(x.len(), y.len(), product.len(), scratch.len(), n) {
-        return codec::refused(1);
+        return Err(Refusal::WrongLength);
     }
     if !scratch::both_in_range(x, y, n, k.modulus) {
-        return codec::refused(5);
+        return Err(Refusal::ValueOutOfRange);
     }
     codec::copy(scratch, 0, x);
     ring_product::plain(scratch, 0, 8 * n, y, n, k.modulus);
     hand_out(product, 0, scratch, n);
-    Reply::Taken
+    Ok(())
 }
 
 // x y by transforms, with a root of X^N + 1.
@@ -52,20 +53,20 @@ pub fn multiply(
 ) -> Reply
     requires { Usable k }
     ensures { Computed (multiply_tests k x.now y.now root product.old scratch.old)
-        (product_writes k x.now y.now) result product.old product.new scratch.old scratch.new }
+        (product_writes k x.now y.now) (as_reply result) product.old product.new scratch.old scratch.new }
 {
     let n = k.ring as usize;
     if !sized(x.len(), y.len(), product.len(), scratch.len(), n) {
-        return codec::refused(1);
+        return Err(Refusal::WrongLength);
     }
     if !modular::is_root(root, k.ring, k.modulus) {
-        return codec::refused(37);
+        return Err(Refusal::NoRoot);
     }
     if !scratch::both_in_range(x, y, n, k.modulus) {
-        return codec::refused(5);
+        return Err(Refusal::ValueOutOfRange);
     }
     codec::copy(scratch, 0, x);
     ring_transform::multiply(scratch, 0, 8 * n, y, n, root, k.modulus);
     hand_out(product, 0, scratch, n);
-    Reply::Taken
+    Ok(())
 }

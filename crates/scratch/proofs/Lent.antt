@@ -5,17 +5,14 @@ use Prim.Native.Nat.{ℕ, ◌*◌, ◌<◌}
 use native.Mathlib.Omega.{arith}
 use lib.ListN.{length, take, drop, replicate, get_or, length-replicate}
 use Rattle.codec.specs.Bytes.{Bytes, part, put}
-use Rattle.codec.specs.Reply.{Test, first}
-use Rattle.codec.specs.declared.Reply.{Reply}
-use Rattle.codec.specs.declared.Reply.TheVariants as reply
+use Rattle.codec.specs.Reply.{Test, first, Reply}
+use Rattle.codec.specs.Reply as reply
 use Rattle.ring.specs.Poly.{Alike}
 use Rattle.ring.specs.Slots.{poly}
 use Rattle.sheet.specs.Reader.{sheet_of}
-use Rattle.sheet.specs.Sheet.{order, reading, lists, polynomials}
+use Rattle.sheet.specs.Sheet.{order, reading, lists, polynomials, Reading, Taken, Refused}
 use Rattle.sheet.specs.Internal.{buffer_after, loaded}
 use Rattle.sheet_numbers.specs.declared.Numbers.{Numbers}
-use Rattle.sheet.specs.declared.Reading.{Reading}
-use Rattle.sheet.specs.declared.Reading.TheVariants.{Taken, Refused}
 use Rattle.sheet_numbers.specs.Internal.{Usable}
 use Rattle.sheet_numbers.proofs.Ranges.{usable}
 use Rattle.sheet.proofs.Taken.{onwards, order_first, taken}

@@ -6,9 +6,7 @@ use Prim.Native.Nat.{ℕ}
 use borrow.Author.Tests.{not-false}
 use lib.ListN.{get_or}
 use Rattle.codec.specs.Bytes.{same}
-use Rattle.codec.specs.Reply.{Test, test, first}
-use Rattle.codec.specs.declared.Reply.{Reply}
-use Rattle.codec.specs.declared.Reply.TheVariants.{Taken, Refused}
+use Rattle.codec.specs.Reply.{Test, test, first, Reply, Taken, Refused}
 use Rattle.codec.proofs.Laws.{same_equal}
 use Rattle.codec.proofs.Replies.{taken_exactly}
 use Rattle.scratch.specs.Call.{length_test}

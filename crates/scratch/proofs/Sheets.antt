@@ -15,9 +15,8 @@ use Rattle.ring.specs.Poly.{Alike}
 use Rattle.ring.specs.Slots.{poly, encode}
 use Rattle.ring.proofs.Bridge.{length_encode, poly_encode}
 use Rattle.sheet.specs.Reader.{sheet_of}
-use Rattle.sheet.specs.Sheet.{reading, lists, polynomials}
+use Rattle.sheet.specs.Sheet.{reading, lists, polynomials, Taken}
 use Rattle.sheet_numbers.specs.declared.Numbers.{Numbers}
-use Rattle.sheet.specs.declared.Reading.TheVariants.{Taken}
 use Rattle.sheet.proofs.Taken.{Coefficients, AllCoefficients, taken, lists_taken}
 use Rattle.scratch.specs.Call.{coefficients}
 use Rattle.scratch.specs.Internal.{Polynomial}

@@ -1,14 +1,14 @@
 -- What a call leaves in scratch, by its reply. Assumes nothing.
 use mathlib.Core.Path.{◌≡◌, refl, ap, ◌∙◌}
+use mathlib.Core.Bool.{Bool, cond, ◌||◌}
 use mathlib.Core.List.{List}
 use mathlib.Core.Logic.{◌≢◌}
 use Prim.Native.Nat.{ℕ}
 use borrow.Author.Tests.{eq-eqb, ne_eqb}
+use lib.Dec.{eqb}
 use lib.ListN.{length, length-replicate}
 use Rattle.codec.specs.Bytes.{Bytes, zeros}
-use Rattle.codec.specs.Reply.{Test, first, leaves}
-use Rattle.codec.specs.declared.Reply.{Reply}
-use Rattle.codec.specs.declared.Reply.TheVariants.{Taken, Refused}
+use Rattle.codec.specs.Reply.{Test, first, leaves, Reply, Taken, Refused}
 use Rattle.scratch.specs.Call.{zeroized}
 use Rattle.scratch.specs.Internal.{Computed}
 
@@ -27,6 +27,11 @@ kept_length r n p w e f = rw (e, eq-eqb n 1 f)
 pub kept_state : (r : Reply) (n p : ℕ) (w : Bytes) → r ≡ Refused n p → n ≢ 1 → n ≡ 31 → zeroized r w ≡ w
 unfolding zeroized
 kept_state r n p w e f g = rw (e, ne_eqb n 1 f, eq-eqb n 31 g)
+
+pub zeroized_by : (r : Reply) {n p : ℕ} (w : Bytes) → r ≡ Refused n p → {kept : Bool} → kept ≡ (eqb n 1 || eqb n 31)
+    → zeroized r w ≡ cond kept w (zeros (length w))
+unfolding zeroized
+zeroized_by r w e k = rw (e, k)
 
 -- ---- what a call leaves, taken and refused
 

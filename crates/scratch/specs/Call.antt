@@ -2,8 +2,7 @@
 -- neither 31 nor 1 refuses; and the sheet's polynomials. Assumes nothing.
 use Rattle.std.specs.Prelude.{Bool, true, cond, not, ◌&&◌, ◌||◌, List, [], ◌∷◌, ℕ, eqb, length, get_or}
 use Rattle.codec.specs.Bytes.{Bytes, zeros, same}
-use Rattle.codec.specs.Reply.{Test, test, number_of}
-use Rattle.codec.specs.declared.Reply.{Reply}
+use Rattle.codec.specs.Reply.{Test, test, number_of, Reply}
 use Rattle.codec.specs.Lists.{list, all_below}
 use Rattle.ring.specs.Poly.{Poly}
 use Rattle.ring.specs.Slots.{poly}

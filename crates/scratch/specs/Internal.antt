@@ -1,13 +1,11 @@
 -- What the contracts of inner functions and the proofs go by: no exported contract and no claim cites this file. Assumes nothing.
 use Rattle.std.specs.Prelude.{◌≡◌, List, ℕ, ◌*◌, ◌≤◌, ◌<◌, ◌^◌, length}
 use Rattle.codec.specs.Bytes.{Bytes, part, zeros}
-use Rattle.codec.specs.Reply.{Test, first, leaves}
-use Rattle.codec.specs.declared.Reply.{Reply}
-use Rattle.codec.specs.declared.Reply.TheVariants.{Taken, Refused}
+use Rattle.codec.specs.Reply.{Test, first, leaves, Reply, Taken, Refused}
 use Rattle.ring.specs.Poly.{Poly, Below}
 use Rattle.ring.specs.Slots.{coefficient_bytes, poly}
-use Rattle.sheet.specs.declared.Reading.{Reading}
-use Rattle.sheet.specs.declared.Reading.TheVariants as sheets
+use Rattle.sheet.specs.Sheet.{Reading}
+use Rattle.sheet.specs.Sheet as sheets
 
 -- scratch that a function leaves free, for its caller to zero or to use on: it is as long as before
 abbrev pub Free : (scratch scratch' : Bytes) → Type 0

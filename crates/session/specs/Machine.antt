@@ -2,8 +2,7 @@
 -- lists of steps all cite these. Assumes nothing.
 use Rattle.std.specs.Prelude.{List, ℕ}
 use Rattle.codec.specs.Bytes.{Bytes, zeros}
-use Rattle.codec.specs.Reply.{Test, first, leaves}
-use Rattle.codec.specs.declared.Reply.{Reply}
+use Rattle.codec.specs.Reply.{Test, first, leaves, Reply}
 use Rattle.register.specs.Register.{register_length, admitted, after_withdrawal}
 use Rattle.session_check.specs.Stored.{Inputs}
 use Rattle.session.specs.declared.Session.{Session}

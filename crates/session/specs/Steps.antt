@@ -1,10 +1,9 @@
 -- The steps of a session (document 01, "Register and session", and the orders under "Refused because of the state"): what each refuses, in its
 -- order, and what a step that is taken leaves. A step that is refused leaves everything, but for a check whose round is refused. Assumes nothing.
-use Rattle.std.specs.Prelude.{Bool, cond, not, ◌&&◌, ◌||◌, List, [], ◌∷◌, ◌++◌, ℕ, ◌+◌, ◌*◌, eqb, ltb, length, drop}
+use Rattle.std.specs.Prelude.{◌≡◌, Result, Ok, Err, Bool, cond, not, ◌&&◌, ◌||◌, List, [], ◌∷◌, ◌++◌, ℕ, ◌+◌, ◌*◌, eqb, ltb, length, drop}
 use Rattle.codec.specs.Bytes.{Bytes, put, zeros, same}
-use Rattle.codec.specs.Reply.{Test, test}
-use Rattle.codec.specs.declared.Reply.{Reply}
-use Rattle.codec.specs.declared.Reply.TheVariants as reply
+use Rattle.codec.specs.Reply.{Test, test, Reply}
+use Rattle.codec.specs.Reply as reply
 use Rattle.codec.specs.Lists.{all_below}
 use Rattle.sha3.specs.Sponge.{sha3}
 use Rattle.sheet.specs.Reader.{sheet_of}
@@ -20,8 +19,8 @@ use Rattle.session_digests.specs.Draw.{drawn_side, drawn_challenges}
 use Rattle.session_check.specs.declared.stored.Stored.{Stored}
 use Rattle.session_check.specs.Check.{early_tests, late_tests}
 use Rattle.session.specs.declared.Session.{Session}
-use Rattle.session.specs.declared.Turnout.{Turnout}
-use Rattle.session.specs.declared.Turnout.TheVariants.{Counted, Refused}
+use Rattle.codec.specs.Refusal.{number_of_refusal, as_reply}
+use Rattle.codec.specs.declared.Refusal.{Refusal}
 use Rattle.session.specs.Session.{valid, trail_at, changed}
 use Rattle.session_check.specs.Stored.{Inputs}
 
@@ -179,7 +178,26 @@ turnout_tests s reg enrolled =
     ∷ test 3 0 (ltb enrolled 1 || ltb 1000000 enrolled)
     ∷ []
 
+-- what turnout answers: thousandths of the enrolled, or refused with document 01's number
+pub data Turnout : Type 0 where
+  Counted : ℕ → Turnout
+  Refused : ℕ → Turnout
+
 -- what turnout answers, by the reply of its tests and the thousandths where they are taken; a refusal of turnout has no place
 abbrev pub turnout_by : Reply → (thousandths : ℕ) → Turnout
 turnout_by reply.Taken thousandths = Counted thousandths
 turnout_by (reply.Refused number place) thousandths = Refused number
+
+-- what a result of the code stands for
+abbrev pub as_turnout : Result ℕ Refusal → Turnout
+as_turnout (Ok thousandths) = Counted thousandths
+as_turnout (Err why) = Refused (number_of_refusal why)
+
+-- the reply of a turnout, which names no place
+abbrev pub turnout_replied : Turnout → Reply
+turnout_replied (Counted thousandths) = reply.Taken
+turnout_replied (Refused number) = reply.Refused number 0
+
+-- a result says it, and names no place
+abbrev pub CountedAs : Turnout → Result ℕ Refusal → Type 0
+CountedAs said result = (as_turnout result ≡ said) × (as_reply result ≡ turnout_replied said)

@@ -3,10 +3,11 @@ ghost use Rattle.std.specs.Prelude.{◌≡◌, true, [], ◌∷◌, ◌*◌, ◌
 ghost use Rattle.round.specs.Vocabulary.{same, head_length};
 ghost use Rattle.session.specs.Session.{valid};
 ghost use Rattle.session.specs.Machine.{claim, commit, draw};
-ghost use Rattle.session.specs.Internal.{DoneAlone};
+ghost use Rattle.session.specs.Internal.{DoneAlone, as_stepped};
 
 use crate::{Session, Stepped, trail};
-use codec::Reply;
+use codec::Refusal;
+use session_progress::CLOSED;
 
 // The bytes of all ballots, from those of one.
 fn times(bytes: u64, ballots: u64) -> usize
@@ -19,28 +20,25 @@ fn times(bytes: u64, ballots: u64) -> usize
 impl Session {
     // Takes the claims.
     pub fn claim(self, claims: &[u8]) -> Stepped
-        ensures { DoneAlone (claim claims.now) self result }
+        ensures { DoneAlone (claim claims.now) self (as_stepped result) }
     {
-        let progress = self.progress;
-        let numbers = self.numbers;
-        if !progress.is_in(numbers, 1) {
-            return self.refused(31);
+        if !self.progress.is_in(self.numbers, CLOSED) {
+            return self.refused(Refusal::NotDue);
         }
-        if claims.len() != times(numbers.ring, progress.closed) {
-            return self.refused(1);
+        if claims.len() != times(self.numbers.ring, self.progress.closed) {
+            return self.refused(Refusal::WrongLength);
         }
-        let p = sheet_numbers::plain(numbers);
+        let p = sheet_numbers::plain(self.numbers);
         if !bgv::is_message(claims, p) {
-            return self.refused(5);
+            return self.refused(Refusal::ValueOutOfRange);
         }
-        let claim = session_digests::claim_digest(&self.closing, claims);
-        let next = progress.with_claims();
-        let mut session = self;
-        session.progress = next;
-        session.claim = claim;
         Stepped {
-            session,
-            reply: Reply::Taken,
+            session: Session {
+                progress: self.progress.with_claims(),
+                claim: session_digests::claim_digest(&self.closing, claims),
+                ..self
+            },
+            reply: Ok(()),
         }
     }
 
@@ -62,14 +60,13 @@ impl Session {
 
     // Takes the first message of the next round.
     pub fn commit(self, round: u64, head: &[u8], shares0: &[u8], shares1: &[u8]) -> Stepped
-        ensures { DoneAlone (commit round head.now shares0.now shares1.now) self result }
+        ensures { DoneAlone (commit round head.now shares0.now shares1.now) self (as_stepped result) }
     {
-        let progress = self.progress;
-        if !progress.may_commit(self.numbers, round) {
-            return self.refused(31);
+        if !self.progress.may_commit(self.numbers, round) {
+            return self.refused(Refusal::NotDue);
         }
         if !self.message_sized(head, shares0, shares1) {
-            return self.refused(1);
+            return self.refused(Refusal::WrongLength);
         }
         let digest = session_digests::round_digest(
             &self.claim,
@@ -80,36 +77,33 @@ impl Session {
         );
         let mut trail = self.trail;
         trail::write(&mut trail, round as usize, &digest);
-        let next = progress.with_message();
-        let mut session = self;
-        session.progress = next;
-        session.trail = trail;
         Stepped {
-            session,
-            reply: Reply::Taken,
+            session: Session {
+                progress: self.progress.with_message(),
+                trail,
+                ..self
+            },
+            reply: Ok(()),
         }
     }
 
     // Takes the seed, once all rounds are committed.
     pub fn draw(self, seed: &[u8]) -> Stepped
-        ensures { DoneAlone (draw seed.now) self result }
+        ensures { DoneAlone (draw seed.now) self (as_stepped result) }
     {
-        let progress = self.progress;
-        if !progress.may_draw(self.numbers) {
-            return self.refused(31);
+        if !self.progress.may_draw(self.numbers) {
+            return self.refused(Refusal::NotDue);
         }
         if seed.len() != 32 {
-            return self.refused(1);
+            return self.refused(Refusal::WrongLength);
         }
-        let mut bytes = [0u8; 32];
-        codec::copy(&mut bytes, 0, seed);
-        let next = progress.with_seed();
-        let mut session = self;
-        session.progress = next;
-        session.seed = bytes;
         Stepped {
-            session,
-            reply: Reply::Taken,
+            session: Session {
+                progress: self.progress.with_seed(),
+                seed: codec::array(seed, 0),
+                ..self
+            },
+            reply: Ok(()),
         }
     }
 }

@@ -7,9 +7,10 @@ mod gathering;
 mod trail;
 
 ghost use Rattle.std.specs.Prelude.{◌≡◌};
-ghost use Rattle.codec.specs.declared.Reply.TheVariants.{Refused};
+ghost use Rattle.codec.specs.Reply.{Refused};
+ghost use Rattle.codec.specs.Refusal.{as_reply, number_of_refusal, place_of_refusal};
 
-use codec::Reply;
+use codec::{Refusal, Reply};
 use session_progress::Progress;
 use sheet_numbers::Numbers;
 
@@ -27,27 +28,21 @@ pub struct Session {
 }
 
 // What a step answers, and the session that it leaves.
-#[derive(Drop)]
+// By value, and not `&mut self`: document 01 asks for it ("A caller passes a session in by value and each step returns it").
+#[derive(Clone, Copy)]
 pub struct Stepped {
     pub session: Session,
     pub reply: Reply,
 }
 
-// What turnout answers: thousandths of the enrolled, or refused with document 01's number.
-#[derive(Drop)]
-pub enum Turnout {
-    Counted(u32),
-    Refused { number: u8 },
-}
-
 impl Session {
     // The session as it is, and a refusal.
-    fn refused(self, number: u8) -> Stepped
-        ensures { (result.session ≡ self) × (result.reply ≡ Refused number 0) }
+    fn refused(self, why: Refusal) -> Stepped
+        ensures { (result.session ≡ self) × (as_reply result.reply ≡ Refused (number_of_refusal why) (place_of_refusal why)) }
     {
         Stepped {
             session: self,
-            reply: Reply::Refused { number, place: 0 },
+            reply: Err(why),
         }
     }
 }

@@ -15,9 +15,5 @@ pub fn read(trail: &[u8; 4096], round: usize) -> [u8; 32]
     requires { round < 128 }
     ensures { result ≡ part trail.now (32 * round) 32 }
 {
-    let whole = &trail[..];
-    let at = 32 * round;
-    let mut digest = [0u8; 32];
-    codec::copy(&mut digest, 0, &whole[at..at + 32]);
-    digest
+    codec::array(trail, 32 * round)
 }

@@ -8,9 +8,8 @@ use native.Mathlib.Omega.{arith}
 use borrow.Author.Tests.{not-false}
 use lib.ListN.{length}
 use Rattle.codec.specs.Bytes.{Bytes, same}
-use Rattle.codec.specs.Reply.{test, None}
-use Rattle.codec.specs.declared.Reply.{Reply}
-use Rattle.codec.specs.declared.Reply.TheVariants as reply
+use Rattle.codec.specs.Reply.{test, None, Reply}
+use Rattle.codec.specs.Reply as reply
 use Rattle.codec.proofs.Laws.{both, same_refl, same_equal}
 use Rattle.codec.proofs.Replies.{not_taken}
 use Rattle.sheet.specs.Sheet.{order}
@@ -23,9 +22,8 @@ use Rattle.session_digests.proofs.Range.{length_challenges}
 use Rattle.session_check.specs.declared.stored.Stored.{Stored}
 use Rattle.session_check.specs.Stored.{Inputs, challenges_of, drawn_round, inputs_sized, stored_tests}
 use Rattle.session_check.specs.Check.{early_tests}
-use Rattle.session_check.specs.Internal.{verdict}
+use Rattle.session_check.specs.Internal.{Stopped, Failed, Passed, verdict}
 use Rattle.session_check.specs.Equations.{InputsSized, Held}
-use Rattle.session_check.specs.declared.Verdict.TheVariants.{Stopped, Failed, Passed}
 use Rattle.session_check.proofs.Numbers.{same_numbers_lem}
 use Rattle.commitment.specs.Parameters.{Parameters}
 

@@ -3,13 +3,10 @@ use mathlib.Core.Path.{◌≡◌, refl, sym, ap, ap₂, ◌∙◌}
 use Prim.Native.Nat.{ℕ}
 use lib.ListN.{length}
 use Rattle.codec.specs.Bytes.{Bytes, zeros}
-use Rattle.codec.specs.Reply.{first}
-use Rattle.codec.specs.declared.Reply.{Reply}
-use Rattle.codec.specs.declared.Reply.TheVariants as reply
-use Rattle.sheet.specs.Sheet.{reading}
+use Rattle.codec.specs.Reply.{first, Reply}
+use Rattle.codec.specs.Reply as reply
+use Rattle.sheet.specs.Sheet.{reading, reply_of, Taken, Refused}
 use Rattle.sheet_numbers.specs.declared.Numbers.{Numbers}
-use Rattle.sheet.specs.declared.Reading.{Reading}
-use Rattle.sheet.specs.declared.Reading.TheVariants.{Taken, Refused}
 use Rattle.scratch.specs.Call.{zeroized}
 use Rattle.round.specs.Round.{Round, round_tests}
 use Rattle.round.specs.Internal.{round_of}
@@ -19,9 +16,7 @@ use Rattle.scratch.proofs.Lent.{order_taken, order_refused}
 use Rattle.session_check.specs.declared.stored.Stored.{Stored}
 use Rattle.session_check.specs.Stored.{Inputs, side_of, challenges_of, drawn_round, lent_tests}
 use Rattle.session_check.specs.Check.{early_tests, late_tests}
-use Rattle.session_check.specs.Internal.{verdict, reply_of_verdict, CheckMade, TakenChecked}
-use Rattle.session_check.specs.declared.Verdict.{Verdict}
-use Rattle.session_check.specs.declared.Verdict.TheVariants.{Stopped}
+use Rattle.session_check.specs.Internal.{Verdict, Stopped, verdict, reply_of_verdict, CheckMade, TakenChecked}
 
 -- ---- from the two replies
 
@@ -54,6 +49,6 @@ module _ (s : Stored) (x : Inputs) where
   unfolding early_tests late_tests
   checked_over said e f = (f.0 ∙ ap₂ verdict (order_taken x.sheet (lent_tests s x) said refl) (ap (λ (P : Parameters). first (round_tests P s.closed (drawn_round s x))) e), f.1)
 
-  pub checked_refused : {read : Reading} {i : ℕ} {w'' : Bytes} → read ≡ reading x.sheet → read ≡ Refused i → w'' ≡ zeroized (reply.Refused i 0) x.scratch → CheckMade s x (Stopped i 0) w''
+  pub checked_refused : {i p : ℕ} {w'' : Bytes} → Refused i ≡ reading x.sheet → reply.Refused i p ≡ reply_of (reading x.sheet) → w'' ≡ zeroized (reply.Refused i p) x.scratch → CheckMade s x (Stopped i p) w''
   unfolding early_tests late_tests
-  checked_refused f e z = (stopped (first (late_tests s x)) (order_refused x.sheet (lent_tests s x) f e) refl, z)
+  checked_refused f e z = (stopped (first (late_tests s x)) (e ∙ ap reply_of (sym f) ∙ order_refused x.sheet (lent_tests s x) refl (sym f)) refl, z)

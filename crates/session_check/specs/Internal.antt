@@ -1,19 +1,31 @@
 -- What the contracts of inner functions and the proofs go by: no exported contract and no claim cites this file. Assumes nothing.
-use Rattle.std.specs.Prelude.{◌≡◌, ◌≤◌}
+use Rattle.std.specs.Prelude.{◌≡◌, ◌≤◌, ℕ}
 use Rattle.codec.specs.Bytes.{Bytes}
-use Rattle.codec.specs.Reply.{first}
+use Rattle.codec.specs.Reply.{first, Reply}
 use Rattle.sheet_numbers.specs.Ranges.{NumbersInRange}
 use Rattle.scratch.specs.Call.{zeroized}
 use Rattle.round.specs.Round.{round_tests}
 use Rattle.session_check.specs.declared.stored.Stored.{Stored}
 use Rattle.session_check.specs.Stored.{Inputs, drawn_round, lent_tests}
-use Rattle.session_check.specs.declared.Verdict.{Verdict}
+use Rattle.session_check.specs.declared.Verdict as code
 use Rattle.session_check.specs.Check.{early_tests, late_tests}
-use Rattle.codec.specs.declared.Reply.{Reply}
 unfoldable pub use Rattle.session_check.specs.Stored.{inputs_sized, stored_tests}
-use Rattle.session_check.specs.declared.Verdict.TheVariants.{Stopped, Failed, Passed}
-use Rattle.codec.specs.declared.Reply.TheVariants as reply
+use Rattle.session_check.specs.declared.Verdict.TheVariants as verdicts
+use Rattle.codec.specs.Refusal.{number_of_refusal, place_of_refusal}
+use Rattle.codec.specs.Reply as reply
 use Rattle.commitment.specs.Parameters.{Parameters}
+
+-- what a check comes to: stopped before the round was looked at, failed by the round itself, both with a number and a place; or passed
+pub data Verdict : Type 0 where
+  Stopped : ℕ → ℕ → Verdict
+  Failed : ℕ → ℕ → Verdict
+  Passed : Verdict
+
+-- what a verdict of the code stands for
+abbrev pub as_verdict : code.Verdict → Verdict
+as_verdict (verdicts.Stopped why) = Stopped (number_of_refusal why) (place_of_refusal why)
+as_verdict (verdicts.Failed why) = Failed (number_of_refusal why) (place_of_refusal why)
+as_verdict verdicts.Passed = Passed
 
 -- what a check comes to, from the replies of the tests before the round and of those of the round: stopped before the round was looked at, failed by the round itself, or accepted
 abbrev pub verdict : (early late : Reply) → Verdict

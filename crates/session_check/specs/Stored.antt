@@ -11,6 +11,7 @@ use Rattle.round.specs.Round.{Round}
 use Rattle.round_lengths.specs.Calls.{message_sized, second_sized}
 use Rattle.session_digests.specs.Digests.{ballot_digests, closing_digest, claim_digest, round_digest}
 use Rattle.session_digests.specs.Draw.{drawn_side, drawn_challenges}
+use Rattle.session_check.specs.declared.Lent.{Lent}
 use Rattle.session_check.specs.declared.stored.Stored.{Stored}
 
 -- what is lent to the check
@@ -38,6 +39,10 @@ inputs_of sheet ballots claims head shares0 shares1 opening answers scratch = re
   answers = answers;
   scratch = scratch;
 }
+
+-- from the code's own `Lent`, with what scratch holds
+abbrev pub inputs_lent : Lent → (scratch : Bytes) → Inputs
+inputs_lent x scratch = inputs_of x.sheet.now x.ballots.now x.claims.now x.head.now x.shares0.now x.shares1.now x.opening.now x.answers.now scratch
 
 -- equal numbers
 unfoldable pub same_numbers : Numbers → Numbers → Bool

@@ -27,13 +27,11 @@ pub fn challenges(seed: &[u8; 32], round: u16, out: &mut [u8])
     ensures { out.new ≡ def.drawn_challenges seed.now round (length out.old) }
 {
     let mut digest = block(seed, round, 0);
-    let mut i = 0;
-    while i < out.len() {
+    for i in 0..out.len() {
         if (i + 1) % 4 == 0 {
             let next = block(seed, round, ((i + 1) / 4) as u16);
             digest = next;
         }
         out[i] = (codec::read64(&digest, 8 * ((i + 1) % 4)) % 3 + 1) as u8;
-        i += 1;
     }
 }

@@ -15,13 +15,11 @@ pub fn closing_of_register(sheet: &[u8; 32], reg: &[u8], n: usize) -> [u8; 32]
     ensures { result ≡ closing_digest sheet.now (standing_digests reg.now n) }
 {
     let mut h = Hasher::new().absorbed(sheet);
-    let mut i = 0;
-    while i < n {
+    for i in 0..n {
         let stands = register::is_standing(reg, i);
         if stands {
             h = h.absorbed(&reg[40 * i + 8..40 * i + 40]);
         }
-        i += 1;
     }
     h.finish()
 }
@@ -32,11 +30,9 @@ pub fn closing_of_ballots(sheet: &[u8; 32], ballots: &[u8], size: usize, m: usiz
     ensures { result ≡ closing_digest sheet.now (ballot_digests size m ballots.now) }
 {
     let mut h = Hasher::new().absorbed(sheet);
-    let mut j = 0;
-    while j < m {
+    for j in 0..m {
         let digest = sha3::hash(&ballots[size * j..size * j + size]);
         h = h.absorbed(&digest);
-        j += 1;
     }
     h.finish()
 }

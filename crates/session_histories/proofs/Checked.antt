@@ -4,8 +4,7 @@ use mathlib.Core.Logic.{◌↔◌}
 use Prim.Native.Nat.{ℕ}
 use native.Mathlib.Omega.{arith}
 use Rattle.codec.specs.Bytes.{Octets}
-use Rattle.codec.specs.Reply.{None, first}
-use Rattle.codec.specs.declared.Reply.TheVariants.{Taken}
+use Rattle.codec.specs.Reply.{None, first, Taken}
 use Rattle.codec.proofs.Replies.{taken_exactly}
 use Rattle.round.specs.Accepted.{Accepted}
 use Rattle.round.proofs.Many.{none_append, append_none}

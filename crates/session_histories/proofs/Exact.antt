@@ -7,8 +7,7 @@ use Prim.Native.Nat.{ℕ, ◌*◌}
 use lib.ListN.{length}
 use borrow.Author.Tests.{eqb-true, eq-eqb, not-false}
 use Rattle.codec.specs.Bytes.{Bytes, same}
-use Rattle.codec.specs.Reply.{None, first}
-use Rattle.codec.specs.declared.Reply.TheVariants.{Taken}
+use Rattle.codec.specs.Reply.{None, first, Taken}
 use Rattle.codec.proofs.Laws.{both}
 use Rattle.scratch.proofs.Order.{length_at}
 use Rattle.sheet_numbers.specs.Plain.{plain}

@@ -11,8 +11,7 @@ use lib.Dec.{eqb}
 use lib.ListN.{length, drop}
 use borrow.Author.Tests.{ltb-true, ltb-false, lt-ltb, le-ltb, eqb-true, eqb-false, eq-eqb, ne_eqb, not-false}
 use Rattle.codec.specs.Bytes.{Bytes, same}
-use Rattle.codec.specs.Reply.{Test, test, None, first}
-use Rattle.codec.specs.declared.Reply.TheVariants.{Taken}
+use Rattle.codec.specs.Reply.{Test, test, None, first, Taken}
 use Rattle.codec.specs.Lists.{all_below}
 use Rattle.codec.proofs.Replies.{taken_exactly}
 use Rattle.vector.specs.Vector.{vector}

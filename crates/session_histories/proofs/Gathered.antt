@@ -8,7 +8,7 @@ use native.Mathlib.Omega.{arith}
 use lib.ListN.{length, length-map, length-replicate}
 use Rattle.codec.specs.Bytes.{Bytes, bytes, number}
 use Rattle.codec.specs.Lists.{list}
-use Rattle.codec.specs.declared.Reply.TheVariants.{Taken}
+use Rattle.codec.specs.Reply.{Taken}
 use Rattle.codec.proofs.Lists.{length_list}
 use Rattle.codec.proofs.Numbers.{number_bytes}
 use Rattle.sha3.specs.Sponge.{sha3}

@@ -5,15 +5,13 @@ use Prim.Native.Nat.{ℕ}
 use native.Mathlib.Omega.{arith}
 use lib.ListN.{length}
 use Rattle.codec.specs.Bytes.{Bytes}
-use Rattle.codec.specs.Reply.{None, first}
-use Rattle.codec.specs.declared.Reply.{Reply}
-use Rattle.codec.specs.declared.Reply.TheVariants.{Taken}
+use Rattle.codec.specs.Reply.{None, first, Reply, Taken}
 use Rattle.codec.proofs.Replies.{taken_exactly}
 use Rattle.sha3.specs.Sponge.{sha3}
 use Rattle.sheet.specs.Reader.{sheet_of}
 use Rattle.sheet.specs.Sheet.{order, reading_by, reading}
 use Rattle.sheet_numbers.specs.declared.Numbers.{Numbers}
-use Rattle.sheet.specs.declared.Reading.TheVariants as reading
+use Rattle.sheet.specs.Sheet as reading
 use Rattle.bgv.proofs.Sheets.{sheet_sound}
 use Rattle.round.specs.Layout.{ballot_length}
 use Rattle.commitment.specs.Parameters.{Parameters, parameters_of}

@@ -9,8 +9,7 @@ use lib.Dec.{eqb}
 use lib.ListN.{length, length-map, length-replicate}
 use borrow.Author.Tests.{eqb-false, eq-eqb, ne_eqb}
 use Rattle.codec.specs.Bytes.{Bytes, part, put}
-use Rattle.codec.specs.Reply.{leaves}
-use Rattle.codec.specs.declared.Reply.TheVariants.{Taken}
+use Rattle.codec.specs.Reply.{leaves, Taken}
 use Rattle.codec.proofs.Laws.{length_put, part_put, part_put_before}
 use Rattle.codec.proofs.Replies.{taken_exactly}
 use Rattle.sha3.specs.Sponge.{sha3}

@@ -9,8 +9,7 @@ use lib.Dec.{eqb}
 use lib.ListN.{length}
 use borrow.Author.Tests.{eq-eqb, ne_eqb}
 use Rattle.codec.specs.Bytes.{Bytes}
-use Rattle.codec.specs.Reply.{leaves}
-use Rattle.codec.specs.declared.Reply.TheVariants.{Taken}
+use Rattle.codec.specs.Reply.{leaves, Taken}
 use Rattle.codec.proofs.Laws.{length_part}
 use Rattle.round.specs.Layout.{head_length}
 use Rattle.register.specs.Register.{digest_at, standing, standing_digests}

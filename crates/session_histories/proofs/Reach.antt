@@ -6,8 +6,7 @@ use Prim.Native.Nat.{ℕ}
 use native.Mathlib.Omega.{arith}
 use borrow.Author.Tests.{eqb-false, not-true}
 use Rattle.codec.specs.Bytes.{Bytes}
-use Rattle.codec.specs.Reply.{Test, test, first}
-use Rattle.codec.specs.declared.Reply.TheVariants.{Taken, Refused}
+use Rattle.codec.specs.Reply.{Test, test, first, Taken, Refused}
 use Rattle.codec.proofs.Replies.{taken_exactly}
 use Rattle.sheet.specs.Reader.{sheet_of}
 use Rattle.sheet.specs.Sheet.{order}

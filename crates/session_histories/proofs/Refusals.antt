@@ -10,8 +10,7 @@ use lib.Dec.{eqb}
 use lib.ListN.{length}
 use borrow.Author.Tests.{ltb-true, eqb-true, eqb-false, eq-eqb, ne_eqb, not-true}
 use Rattle.codec.specs.Bytes.{Bytes}
-use Rattle.codec.specs.Reply.{test, first}
-use Rattle.codec.specs.declared.Reply.TheVariants.{Refused}
+use Rattle.codec.specs.Reply.{test, first, Refused}
 use Rattle.codec.proofs.Laws.{both}
 use Rattle.register.specs.Register.{capacity, register_length, state_at, find, known, standing, mark_of}
 use Rattle.register.specs.Orders.{withdrawal_tests}

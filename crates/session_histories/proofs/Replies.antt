@@ -4,9 +4,7 @@ use mathlib.Core.Logic.{◌↔◌, ◌≢◌}
 use mathlib.Core.Bool.{Bool, true, false, cond}
 use mathlib.Core.List.{List, [], ◌∷◌, ◌++◌}
 use Prim.Native.Nat.{ℕ}
-use Rattle.codec.specs.Reply.{Test, test, first, None, leaves}
-use Rattle.codec.specs.declared.Reply.{Reply}
-use Rattle.codec.specs.declared.Reply.TheVariants.{Taken, Refused}
+use Rattle.codec.specs.Reply.{Test, test, first, None, leaves, Reply, Taken, Refused}
 use Rattle.codec.proofs.Replies.{not_taken, first_append}
 use Rattle.round_lengths.proofs.Zeroized.{Later}
 

@@ -12,8 +12,7 @@ use lib.Dec.{eqb}
 use lib.ListN.{length, length-map}
 use borrow.Author.Tests.{eq-eqb, ne_eqb}
 use Rattle.codec.specs.Bytes.{Bytes}
-use Rattle.codec.specs.Reply.{leaves}
-use Rattle.codec.specs.declared.Reply.TheVariants.{Taken}
+use Rattle.codec.specs.Reply.{leaves, Taken}
 use Rattle.sha3.specs.Sponge.{sha3}
 use Rattle.round.specs.Layout.{ballot_length}
 use Rattle.register.specs.Register.{mark_at, state_at, digest_at, standing, standing_digests, mark_of, admitted, withdrawn, withdrawn_early}

@@ -7,7 +7,7 @@ use native.Mathlib.Omega.{arith}
 use lib.ListN.{length}
 use Rattle.codec.specs.Bytes.{Bytes}
 use Rattle.codec.specs.Lists.{list}
-use Rattle.codec.specs.declared.Reply.TheVariants.{Taken}
+use Rattle.codec.specs.Reply.{Taken}
 use Rattle.sheet.specs.Reader.{sheet_of}
 use Rattle.sheet_numbers.specs.declared.Numbers.{Numbers}
 use Rattle.round.proofs.Many.{last}

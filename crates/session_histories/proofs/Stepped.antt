@@ -4,9 +4,7 @@ use mathlib.Core.Bool.{false}
 use mathlib.Core.List.{List, [], ◌∷◌}
 use Prim.Native.Nat.{ℕ, ◌<◌}
 use native.Mathlib.Omega.{arith}
-use Rattle.codec.specs.Reply.{first, leaves}
-use Rattle.codec.specs.declared.Reply.{Reply}
-use Rattle.codec.specs.declared.Reply.TheVariants.{Taken, Refused}
+use Rattle.codec.specs.Reply.{first, leaves, Reply, Taken, Refused}
 use Rattle.codec.proofs.Replies.{taken_exactly}
 use Rattle.round.proofs.Many.{append_none}
 use Rattle.session_check.specs.Stored.{Inputs}

@@ -9,8 +9,7 @@ use native.Mathlib.Omega.{arith}
 use native.Mathlib.Decide.{ℕ_discrete, dec_lt}
 use lib.ListN.{length, length-map}
 use Rattle.codec.specs.Bytes.{Bytes, bytes, number, zeros}
-use Rattle.codec.specs.declared.Reply.{Reply}
-use Rattle.codec.specs.declared.Reply.TheVariants.{Taken, Refused}
+use Rattle.codec.specs.Reply.{Reply, Taken, Refused}
 use Rattle.codec.proofs.Numbers.{number_bytes}
 use Rattle.sha3.specs.Sponge.{sha3}
 use Rattle.register.specs.Register.{register_length, mark_at, state_at, digest_at, find, standing, standing_digests, mark_of, admitted, withdrawn, withdrawn_early}

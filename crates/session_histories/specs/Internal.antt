@@ -2,8 +2,7 @@
 use Rattle.std.specs.Prelude.{◌≡◌, false, ℕ, ◌<◌, length}
 use mathlib.Core.List.{List, [], ◌∷◌, ◌++◌, Memᴰ, map, flatten}
 use Rattle.codec.specs.Bytes.{Bytes, Octets, zeros}
-use Rattle.codec.specs.Reply.{first, leaves}
-use Rattle.codec.specs.declared.Reply.TheVariants.{Taken}
+use Rattle.codec.specs.Reply.{first, leaves, Taken}
 use Rattle.sha3.specs.Sponge.{sha3}
 use Rattle.sheet.specs.Sheet.{order}
 use Rattle.round.specs.Layout.{ballot_length}

@@ -1,8 +1,7 @@
 -- What a step that is taken adds to what was lodged and to the roll (document 01, "Register and session", and the paragraph on demand 3's last sentence). Assumes nothing.
 use Rattle.std.specs.Prelude.{Bool, true, false, cond, List, [], ◌∷◌, ◌++◌, ℕ, eqb}
 use Rattle.codec.specs.Bytes.{Bytes}
-use Rattle.codec.specs.declared.Reply.{Reply}
-use Rattle.codec.specs.declared.Reply.TheVariants.{Taken, Refused}
+use Rattle.codec.specs.Reply.{Reply, Taken, Refused}
 use Rattle.register.specs.Register.{standing_digests, mark_of}
 use Rattle.session.specs.Steps.{Beginning}
 use Rattle.session.specs.Machine.{Step, clear, admit, withdraw, close, claim, commit, draw, check, State}

@@ -2,20 +2,22 @@
 use mathlib.Core.Path.{◌≡◌, sym, ap, ◌∙◌}
 use mathlib.Core.Logic.{◌≢◌}
 use Prim.Native.Nat.{ℕ}
+use native.Mathlib.Omega.{arith}
 use lib.ListN.{length}
 use borrow.Author.Tests.{eq-eqb, ne_eqb}
 use Rattle.codec.specs.Bytes.{Bytes}
-use Rattle.codec.specs.Reply.{packed}
-use Rattle.codec.specs.declared.Reply.{Reply}
-use Rattle.codec.specs.declared.Reply.TheVariants.{Refused}
+use Rattle.std.proofs.Common.{Result, Ok, Err}
+use Rattle.codec.specs.Reply.{packed, place_of, Reply, Refused}
+use Rattle.codec.specs.Refusal.{place_of_refusal, packed_value}
+use Rattle.codec.specs.declared.Refusal.{Refusal}
+use Rattle.session.specs.Steps.{Turnout, turnout_replied, CountedAs}
 use Rattle.session.specs.declared.Session.{Session}
-use Rattle.session.specs.declared.Stepped.{Stepped}
 use Rattle.scratch.specs.Call.{zeroized}
 use Rattle.session_check.specs.Stored.{Inputs}
 use Rattle.session.specs.Machine.{Step, check, State, state, reply, after}
-use Rattle.session.specs.Internal.{Done, CheckDone}
+use Rattle.session.specs.Internal.{Stepped, Done, CheckDone}
 use Rattle.session_image.specs.Image.{image_length, image_of, decode}
-use Rattle.session_image.specs.Images.{Host, host, lent_reply, host_reply, host_after, StepCalled, CheckCalled}
+use Rattle.session_image.specs.Images.{Host, host, lent_reply, host_reply, host_after, StepCalled, CheckCalled, counted_answer}
 
 module _ (image : Bytes) (asked : Session → Reply) where
   -- an image of another length is refused 1
@@ -64,3 +66,11 @@ module _ (round : ℕ) (x : Inputs) (image : Bytes) where
         ∙ ap (λ (q : Reply). zeroized q x.scratch)
         ((d.done register).replied ∙ ap (λ (z : Session). reply (check round x) (state z register)) held ∙ sym (held_reply image (λ (z : Session). reply (check round x) (state z register)) long));
   }
+
+-- ---- a turnout, as the one number that the host is answered: a refusal of it has no place
+
+pub counted : (r : Result ℕ Refusal) {t : Turnout} → CountedAs t r → packed_value r ≡ counted_answer t
+counted (Ok thousandths) h = ap counted_answer h.0
+counted (Err why) h =
+    let none : place_of_refusal why ≡ 0 = ap place_of (h.1 ∙ ap turnout_replied (sym h.0)) in
+    rw (none, ← h.0) (omega arith)

@@ -2,17 +2,13 @@
 -- image holds afterwards. Assumes nothing.
 use Rattle.std.specs.Prelude.{◌≡◌, cond, ℕ, ◌*◌, eqb, length}
 use Rattle.codec.specs.Bytes.{Bytes}
-use Rattle.codec.specs.Reply.{first, leaves, packed}
-use Rattle.codec.specs.declared.Reply.{Reply}
-use Rattle.codec.specs.declared.Reply.TheVariants.{Refused}
+use Rattle.codec.specs.Reply.{first, leaves, packed, Reply, Refused}
 use Rattle.scratch.specs.Call.{zeroized}
 use Rattle.register.specs.Register as entries
 use Rattle.session_check.specs.Stored.{Inputs}
 use Rattle.session.specs.declared.Session.{Session}
-use Rattle.session.specs.declared.Turnout.{Turnout}
-use Rattle.session.specs.declared.Turnout.TheVariants as turnout
-use Rattle.session.specs.declared.Turnout.TheVariants.{Counted}
-use Rattle.session.specs.Steps.{challenges_tests, challenges_out, turnout_tests, turnout_by}
+use Rattle.session.specs.Steps as turnout
+use Rattle.session.specs.Steps.{Turnout, Counted, challenges_tests, challenges_out, turnout_tests, turnout_by}
 use Rattle.session.specs.Machine.{Step, check, state, reply, after}
 use Rattle.session_image.specs.Image.{image_length, image_of, decode}
 

@@ -4,11 +4,11 @@
 ghost use mathlib.Core.List.{flatten};
 ghost use Rattle.std.specs.Prelude.{◌≡◌, ◌+◌, ◌≤◌, length};
 ghost use Rattle.codec.specs.Reply.{packed};
-ghost use Rattle.scratch.specs.Vocabulary.{part, put};
+ghost use Rattle.codec.specs.Refusal.{as_reply};
+ghost use Rattle.scratch.specs.Vocabulary.{put};
 ghost use Rattle.session_image.specs.Image.{image_length, size, contents_of, image_of, decode, head_fields, batch_fields, round_fields};
-ghost use Rattle.session_image.specs.Images.{counted_answer};
 
-use session::{Session, Stepped, Turnout};
+use session::{Session, Stepped};
 use session_progress::Progress;
 use sheet_numbers::Numbers;
 
@@ -45,26 +45,6 @@ const TRAIL: usize = CHECKED + 8;
 
 pub const IMAGE: usize = TRAIL + 4096;
 
-// The 32 bytes at a place.
-fn read_digest(image: &[u8], at: usize) -> [u8; 32]
-    requires { at + 32 ≤ length image.now }
-    ensures { result ≡ part image.now at 32 }
-{
-    let mut digest = [0u8; 32];
-    codec::copy(&mut digest, 0, &image[at..at + 32]);
-    digest
-}
-
-// The digests of the first messages.
-fn read_trail(image: &[u8]) -> [u8; 4096]
-    requires { length image.now ≡ image_length }
-    ensures { result ≡ (decode image.now).trail }
-{
-    let mut trail = [0u8; 4096];
-    codec::copy(&mut trail, 0, &image[TRAIL..IMAGE]);
-    trail
-}
-
 // The sheet's numbers.
 fn read_numbers(image: &[u8]) -> Numbers
     requires { length image.now ≡ image_length }
@@ -84,32 +64,21 @@ pub fn load(image: &[u8]) -> Session
     requires { length image.now ≡ image_length }
     ensures { result ≡ decode image.now }
 {
-    let phase = image[PHASE];
-    let numbers = read_numbers(image);
-    let sheet = read_digest(image, SHEET);
-    let used = codec::read64(image, USED);
-    let closed = codec::read64(image, CLOSED);
-    let closing = read_digest(image, CLOSING);
-    let claim = read_digest(image, CLAIM);
-    let committed = codec::read64(image, COMMITTED);
-    let seed = read_digest(image, SEED);
-    let checked = codec::read64(image, CHECKED);
-    let trail = read_trail(image);
     let progress = Progress {
-        phase,
-        used,
-        closed,
-        committed,
-        checked,
+        phase: image[PHASE],
+        used: codec::read64(image, USED),
+        closed: codec::read64(image, CLOSED),
+        committed: codec::read64(image, COMMITTED),
+        checked: codec::read64(image, CHECKED),
     };
     Session {
         progress,
-        numbers,
-        sheet,
-        closing,
-        claim,
-        seed,
-        trail,
+        numbers: read_numbers(image),
+        sheet: codec::array(image, SHEET),
+        closing: codec::array(image, CLOSING),
+        claim: codec::array(image, CLAIM),
+        seed: codec::array(image, SEED),
+        trail: codec::array(image, TRAIL),
     }
 }
 
@@ -163,20 +132,8 @@ pub fn store(session: Session, image: &mut [u8])
 // Stores the session that a step leaves, and answers for the step.
 pub fn keep(stepped: Stepped, image: &mut [u8]) -> u64
     requires { length image.old ≡ image_length }
-    ensures { (result ≡ packed stepped.reply) × (image.new ≡ image_of stepped.session) }
+    ensures { (result ≡ packed (as_reply stepped.reply)) × (image.new ≡ image_of stepped.session) }
 {
-    let reply = stepped.reply;
-    let session = stepped.session;
-    store(session, image);
-    codec::pack(reply)
-}
-
-// The answer of a turnout as the one number that the C host is given.
-pub fn pack_turnout(answer: Turnout) -> u64
-    ensures { result ≡ counted_answer answer }
-{
-    match answer {
-        Turnout::Counted(thousandths) => 256 * (thousandths as u64),
-        Turnout::Refused { number } => number as u64,
-    }
+    store(stepped.session, image);
+    codec::pack(stepped.reply)
 }

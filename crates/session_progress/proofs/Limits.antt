@@ -1,5 +1,5 @@
 -- What a phase and counts within their limits keep to, that the test of it says so, and what is due. Assumes nothing.
-use mathlib.Core.Path.{◌≡◌, refl, sym, ◌∙◌}
+use mathlib.Core.Path.{◌≡◌, sym, ◌∙◌}
 use mathlib.Core.Logic.{◌≢◌}
 use mathlib.Core.Bool.{Bool, true, false, not, ◌&&◌, and_assoc, and-false}
 use Prim.Native.Nat.{ℕ, ◌<◌}
@@ -33,13 +33,6 @@ module _ (k : Numbers) (g : Progress) where
         committed = leb-true _ _ h.0;
         checked = leb-true _ _ h.1;
       }
-
-  pub beyond : (WithinLimits k g → ⊥) → in_limits k g ≡ false
-  beyond h = go (in_limits k g) refl
-    where
-      go : (b : Bool) → in_limits k g ≡ b → b ≡ false
-      go true e = absurd (h (within e))
-      go false e = refl
 
   -- within the limits, and one thing more
   pub within_due : (more : Bool) → (in_limits k g && more) ≡ true → WithinLimits k g
@@ -75,9 +68,10 @@ module _ (k : Numbers) (g : Progress) (phase count round : ℕ) where
   pub round_due : (in_limits k g && eqb g.phase phase) ≡ true → round ≡ count → ltb round k.rounds ≡ (in_limits k g && (eqb g.phase phase && next))
   round_due e h = sym (due k g phase next e ∙ rw (eq-eqb round count h))
 
-  -- what is then known
-  pub round_known : (in_limits k g && (eqb g.phase phase && next)) ≡ true → (g.phase ≡ phase) × ((round ≡ count) × (round < k.rounds))
-  round_known e =
-      let a = both (eqb g.phase phase) next (both (in_limits k g) (eqb g.phase phase && next) e).1 in
-      let b = both (eqb round count) (ltb round k.rounds) a.1 in
-      (eqb-true g.phase phase a.0, (eqb-true round count b.0, ltb-true round k.rounds b.1))
+-- what is known where a round is due
+pub round_known : (k : Numbers) (g : Progress) (phase count round : ℕ) → (in_limits k g && (eqb g.phase phase && (eqb round count && ltb round k.rounds))) ≡ true
+    → (g.phase ≡ phase) × ((round ≡ count) × (round < k.rounds))
+round_known k g phase count round e =
+    let a = both (eqb g.phase phase) _ (both (in_limits k g) _ e).1 in
+    let b = both (eqb round count) (ltb round k.rounds) a.1 in
+    (eqb-true g.phase phase a.0, (eqb-true round count b.0, ltb-true round k.rounds b.1))

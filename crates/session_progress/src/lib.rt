@@ -8,8 +8,23 @@ ghost use Rattle.session_progress.specs.Progress.{with_batch, with_claims, with_
 
 use sheet_numbers::Numbers;
 
-// The phase is 0 gathering, 1 closed, 2 claimed, 3 drawn, 4 ended refused, 5 ended accepted; then how many entries of the register are
-// used, how many ballots were closed, and how many rounds are committed and checked.
+pub const GATHERING: u8 = 0;
+
+pub const CLOSED: u8 = 1;
+
+pub const CLAIMED: u8 = 2;
+
+pub const DRAWN: u8 = 3;
+
+pub const ENDED_REFUSED: u8 = 4;
+
+pub const ENDED_ACCEPTED: u8 = 5;
+
+// How many entries a register has.
+const CAPACITY: u64 = 4096;
+
+// The phase; then how many entries of the register are used, how many ballots were closed, and how many rounds are committed and checked.
+// The phase is a number and no enum: it may be unknown, and `in_limits` (specs/Progress.antt) and 31 speak of such sessions.
 #[derive(Clone, Copy)]
 pub struct Progress {
     pub phase: u8,
@@ -21,88 +36,59 @@ pub struct Progress {
 
 impl Progress {
     // Whether the phase is known, the counts are within their limits, and 3 and 4 take the numbers.
+    #[tactic(auto, unfolding(crate::specs::Progress::in_limits))]
     pub fn is_valid(self, numbers: Numbers) -> bool
         ensures { result ≡ in_limits numbers self }
     {
-        if self.phase > 5 {
-            return false;
-        }
-        if sheet_numbers::outside(numbers) {
-            return false;
-        }
-        if sheet_numbers::unsound(numbers) {
-            return false;
-        }
-        if self.used > 4096 {
-            return false;
-        }
-        if self.closed > 4096 {
-            return false;
-        }
-        if self.committed > numbers.rounds {
-            return false;
-        }
-        self.checked <= numbers.rounds
+        self.phase <= ENDED_ACCEPTED
+            && !sheet_numbers::outside(numbers)
+            && !sheet_numbers::unsound(numbers)
+            && self.used <= CAPACITY
+            && self.closed <= CAPACITY
+            && self.committed <= numbers.rounds
+            && self.checked <= numbers.rounds
     }
 
     // Whether all that is valid, in a phase.
     pub fn is_in(self, numbers: Numbers, phase: u8) -> bool
         ensures { result ≡ (in_limits numbers self && eqb self.phase phase) }
     {
-        if !self.is_valid(numbers) {
-            return false;
-        }
-        self.phase == phase
+        self.is_valid(numbers) && self.phase == phase
     }
 
     // Whether all that is valid, in a phase, and the round is the one after those that were counted.
     fn is_next(self, numbers: Numbers, phase: u8, counted: u64, round: u64) -> bool
         ensures { result ≡ (in_limits numbers self && (eqb self.phase phase && (eqb round counted && ltb round numbers.rounds))) }
     {
-        if !self.is_in(numbers, phase) {
-            return false;
-        }
-        if round != counted {
-            return false;
-        }
-        round < numbers.rounds
+        self.is_in(numbers, phase) && round == counted && round < numbers.rounds
     }
 
     // Whether the first message of a round is due.
     pub fn may_commit(self, numbers: Numbers, round: u64) -> bool
         ensures { result ≡ (in_limits numbers self && commit_due numbers self round) }
     {
-        self.is_next(numbers, 2, self.committed, round)
+        self.is_next(numbers, CLAIMED, self.committed, round)
     }
 
     // Whether the seed is due: all rounds are committed.
     pub fn may_draw(self, numbers: Numbers) -> bool
         ensures { result ≡ (in_limits numbers self && draw_due numbers self) }
     {
-        if !self.is_in(numbers, 2) {
-            return false;
-        }
-        self.committed == numbers.rounds
+        self.is_in(numbers, CLAIMED) && self.committed == numbers.rounds
     }
 
     // Whether the check of a round is due.
     pub fn may_check(self, numbers: Numbers, round: u64) -> bool
         ensures { result ≡ (in_limits numbers self && check_due numbers self round) }
     {
-        self.is_next(numbers, 3, self.checked, round)
+        self.is_next(numbers, DRAWN, self.checked, round)
     }
 
     // Whether challenges are drawn, and the session has the round.
     pub fn has_challenges(self, numbers: Numbers, round: u64) -> bool
         ensures { result ≡ (in_limits numbers self && challenges_due numbers self round) }
     {
-        if !self.is_valid(numbers) {
-            return false;
-        }
-        if self.phase < 3 {
-            return false;
-        }
-        round < numbers.rounds
+        self.is_valid(numbers) && DRAWN <= self.phase && round < numbers.rounds
     }
 
     // What a clear starts with.
@@ -110,7 +96,7 @@ impl Progress {
         ensures { result ≡ initial }
     {
         Progress {
-            phase: 0,
+            phase: GATHERING,
             used: 0,
             closed: 0,
             committed: 0,
@@ -123,28 +109,31 @@ impl Progress {
         requires { self.used ≤ 4096 }
         ensures { result ≡ with_entry self }
     {
-        let mut next = self;
-        next.used = self.used + 1;
-        next
+        Progress {
+            used: self.used + 1,
+            ..self
+        }
     }
 
     // A batch of ballots is closed.
     pub fn with_batch(self, ballots: u64) -> Progress
         ensures { result ≡ with_batch ballots self }
     {
-        let mut next = self;
-        next.phase = 1;
-        next.closed = ballots;
-        next
+        Progress {
+            phase: CLOSED,
+            closed: ballots,
+            ..self
+        }
     }
 
     // The claims are taken.
     pub fn with_claims(self) -> Progress
         ensures { result ≡ with_claims self }
     {
-        let mut next = self;
-        next.phase = 2;
-        next
+        Progress {
+            phase: CLAIMED,
+            ..self
+        }
     }
 
     // The first message of one round more is taken.
@@ -152,27 +141,30 @@ impl Progress {
         requires { self.committed ≤ 128 }
         ensures { result ≡ with_message self }
     {
-        let mut next = self;
-        next.committed = self.committed + 1;
-        next
+        Progress {
+            committed: self.committed + 1,
+            ..self
+        }
     }
 
     // The seed is taken.
     pub fn with_seed(self) -> Progress
         ensures { result ≡ with_seed self }
     {
-        let mut next = self;
-        next.phase = 3;
-        next
+        Progress {
+            phase: DRAWN,
+            ..self
+        }
     }
 
     // A round was refused: the session is ended.
     pub fn with_refusal(self) -> Progress
         ensures { result ≡ with_refusal self }
     {
-        let mut next = self;
-        next.phase = 4;
-        next
+        Progress {
+            phase: ENDED_REFUSED,
+            ..self
+        }
     }
 
     // A round was accepted: the last one ends the session.
@@ -180,11 +172,16 @@ impl Progress {
         requires { (self.phase ≡ drawn) × (self.checked < rounds) }
         ensures { result ≡ with_acceptance rounds self }
     {
-        let mut next = self;
-        next.checked = self.checked + 1;
-        if next.checked == rounds {
-            next.phase = 5;
+        let checked = self.checked + 1;
+        let phase = if checked == rounds {
+            ENDED_ACCEPTED
+        } else {
+            DRAWN
+        };
+        Progress {
+            phase,
+            checked,
+            ..self
         }
-        next
     }
 }

@@ -1,22 +1,21 @@
 -- A whole block is the block byte by byte, and so are the blocks of FIPS 202, section 4, one after another. Assumes nothing.
-use mathlib.Core.Path.{◌≡◌, refl, sym, ap, ap₂, ◌∙◌}
+use mathlib.Core.Path.{◌≡◌, refl, sym, ap, ap₂, subst, ◌∙◌}
 use mathlib.Core.List.{[], ◌∷◌, ◌++◌}
 use Prim.Native.Nat.{ℕ, zero, suc, ◌+◌, ◌*◌, ◌/◌, ◌%◌, ◌≤◌, ◌<◌}
-use native.Mathlib.Nat.{add_assoc}
 use native.Mathlib.Decide.{ℕ_discrete}
 use native.Mathlib.Omega.{arith}
 use borrow.Author.Tests.{le-ltb}
 use lib.Bits.{bit_xor, xor_zero_r}
-use lib.ListN.{length, get_or, set, take, drop, length-drop, length-set, take-append-drop, drop_of_length-le}
-use lib.Seq.{take-add, drop-drop, length-take-le, get_or-set_same, get_or-set_other}
+use lib.ListN.{length, get_or, set, take, drop, length-append, length-drop, length-set, take-append-drop, drop_of_length-le}
+use lib.Seq.{take_at, drop_at, drop-drop, length-take-le, get_or-set_same, get_or-set_other}
 use Rattle.codec.specs.Bytes.{Bytes, Octets, number, part}
-use Rattle.codec.proofs.Laws.{length_part, part_part, part_none, octets_drop, octets_part}
-use Rattle.keccak.specs.Keccak.{Row, StateArray, lane, five, lanes, keccak}
+use Rattle.codec.proofs.Laws.{length_part, part_none, octets_drop, octets_part}
+use Rattle.keccak.specs.Keccak.{StateArray, lane, lanes, keccak}
 use Rattle.keccak.proofs.Rows.{row5}
 use Rattle.keccak.proofs.Shape.{Shape, shaped, keccak_shape}
-use Rattle.sha3.specs.Internal.{xor_block, absorb_row, absorb_blocks}
+use Rattle.sha3.specs.Internal.{xor_block, absorb_blocks}
 use Rattle.sha3.specs.Absorb.{xor_byte, feed, absorb}
-use Rattle.sha3.proofs.Absorbing.{feed_early, absorb_append, split_at}
+use Rattle.sha3.proofs.Absorbing.{feed_early, split_at}
 use Rattle.sha3.proofs.Lanes.{lane_at, set_lane, xors, Has, eight}
 
 -- the bytes to a block's end
@@ -98,24 +97,32 @@ pub block : (s : StateArray) (p : Bytes) → Shape s → Octets p → length p �
 block s [] h o e = absurd (omega arith)
 block s (b ∷ m) h o e = sym (full m b s 0 (omega arith) ∙ ap keccak (block_bytes s (b ∷ m) h o e))
 
--- a row from the 40 bytes of m from at + b, by the block from at
-pub row_in : (r : Row) (m : Bytes) (at b : ℕ) → b + 40 ≤ 136 → absorb_row r m (at + b) ≡ five (λ x. bit_xor (get_or r x 0) (number (part (part m at 136) (b + 8 * x) 8)))
-unfolding absorb_row
-row_in r m at b h = row5 (lane_in 0 (omega arith)) (lane_in 1 (omega arith)) (lane_in 2 (omega arith)) (lane_in 3 (omega arith)) (lane_in 4 (omega arith))
-  where
-    lane_in : (x : ℕ) → x < 5 → bit_xor (get_or r x 0) (number (part m (at + b + 8 * x) 8)) ≡ bit_xor (get_or r x 0) (number (part (part m at 136) (b + 8 * x) 8))
-    lane_in x l =
-        ap (λ (t : Bytes). bit_xor (get_or r x 0) (number t))
-        (ap (λ (k : ℕ). part m k 8) (add_assoc at b (8 * x)) ∙ sym (part_part m at 136 (b + 8 * x) 8 (omega arith)))
+-- the first block, and then the rest
+pub first_block : (s : StateArray) (p : Bytes) → Shape s → Octets p → 136 ≤ length p → absorb (keccak (xor_block s (take 136 p))) 0 (drop 136 p) ≡ absorb s 0 p
+first_block s p h o l =
+    ap (λ (u : StateArray). absorb u 0 (drop 136 p)) (block s (take 136 p) h (octets_part p 0 136 o) (length-take-le 136 p l))
+    ∙ split_at p 136 s 0 0 (omega arith) l refl
 
--- one block more
-pub next_block : (m : Bytes) (i : ℕ) (s : StateArray) → i + 136 ≤ length m → i % 136 ≡ 0 → absorb (absorb s 0 (take i m)) 0 (part m i 136) ≡ absorb s 0 (take (i + 136) m)
-next_block m i s h z =
-    let n : length (take i m) ≡ i = length-take-le i m (omega arith) in
-    let e : 0 ≡ (0 + length (take i m)) % 136 = omega arith in
-    ap (λ (k : ℕ). absorb (absorb s 0 (take i m)) k (part m i 136)) e
-    ∙ sym (absorb_append (take i m) (part m i 136) s 0 (omega arith))
-    ∙ ap (absorb s 0) (sym (take-add i 136 m))
+-- whole blocks p are left, and with them t comes to what s comes to with the message m
+pub record Left (s : StateArray) (m : Bytes) (t : StateArray) (p : Bytes) : Type 0 where
+  pub whole : length p % 136 ≡ 0
+  pub octets : Octets p
+  pub shape : Shape t
+  pub same : absorb t 0 p ≡ absorb s 0 m
+
+-- the block b less
+pub left_less : {s t : StateArray} {m p : Bytes} (b r : Bytes) → Left s m t p → p ≡ b ++ r → length b ≡ 136 → Left s m (keccak (xor_block t b)) r
+left_less {s} {t} {m} {p} b r h e n =
+    let l : length p ≡ length b + length r = ap length e ∙ length-append b r in
+    let x : take 136 p ≡ b = ap (take 136) e ∙ take_at b r 136 n in
+    let y : drop 136 p ≡ r = ap (drop 136) e ∙ drop_at b r 136 n in
+    let w = h.whole in
+    record {
+      whole = omega arith;
+      octets = subst Octets y (octets_drop p 136 h.octets);
+      shape = keccak_shape (xor_block t b);
+      same = ap₂ (λ (u v : Bytes). absorb (keccak (xor_block t u)) 0 v) (sym x) (sym y) ∙ first_block t p h.shape h.octets (omega arith) ∙ h.same;
+    }
 
 -- ---- the blocks of section 4
 
@@ -125,9 +132,5 @@ blocks zero s [] h o e = refl
 blocks zero s (b ∷ p) h o e = absurd (omega arith)
 blocks (suc n) s p h o e =
     let c = take 136 p in
-    let w : length c ≡ 136 = length-take-le 136 p (omega arith) in
     let r : length (drop 136 p) ≡ 136 * n = rw length-drop (omega arith) in
-    let t = keccak (xor_block s c) in
-    blocks n t (drop 136 p) (keccak_shape (xor_block s c)) (octets_drop p 136 o) r
-    ∙ ap (λ (u : StateArray). absorb u 0 (drop 136 p)) (block s c h (octets_part p 0 136 o) w)
-    ∙ split_at p 136 s 0 0 (omega arith) (omega arith) refl
+    blocks n (keccak (xor_block s c)) (drop 136 p) (keccak_shape (xor_block s c)) (octets_drop p 136 o) r ∙ first_block s p h o (omega arith)

@@ -5,8 +5,8 @@ use Prim.Native.Nat.{ℕ, zero, suc, ◌+◌, ◌-◌, ◌%◌, ◌≤◌, ◌<�
 use native.Mathlib.Nat.{sub-zero}
 use native.Mathlib.Omega.{arith}
 use lib.ListN.{length, take, drop, length-replicate}
-use Rattle.codec.specs.Bytes.{Bytes, Octets, zeros, part, put}
-use Rattle.codec.proofs.Laws.{length_put, part_whole, octets_zeros, octets_append}
+use Rattle.codec.specs.Bytes.{Bytes, Octets, zeros, put}
+use Rattle.codec.proofs.Laws.{length_put, octets_zeros, octets_append}
 use Rattle.keccak.specs.Keccak.{StateArray}
 use Rattle.keccak.proofs.Shape.{Shape}
 use Rattle.sha3.specs.Absorb.{xor_byte, absorb}
@@ -49,16 +49,15 @@ early (b ∷ m) s at h =
 
 -- bytes that end before their block: p is the block
 pub ends_before : (s : StateArray) (at : ℕ) (m p : Bytes) → Shape s → Octets m → at + length m < 136 → p ≡ put (zeros 136) at m
-    → xor_block s (part p 0 136) ≡ absorb s at m
+    → xor_block s p ≡ absorb s at m
 ends_before s at m p h o l e =
     let r = zeros (136 - (at + length m)) in
     let q = zeros at ++ (m ++ r) in
     let f : p ≡ q = e ∙ around m at (omega arith) in
     let n : length p ≡ 136 = ap length e ∙ length_put (zeros 136) at m (omega arith) in
-    let w : part p 0 136 ≡ p = ap (λ (k : ℕ). part p 0 k) (sym n) ∙ part_whole p in
     let y : length (zeros at) ≡ at = length-replicate at 0 in
     let z : 0 + length (zeros at) ≡ at = omega arith in
-    ap (xor_block s) (w ∙ f)
+    ap (xor_block s) f
     ∙ sym (block_bytes s q h (octets_append (zeros at) (m ++ r) (octets_zeros at) (octets_append m r o (octets_zeros (136 - (at + length m))))) (ap length (sym f) ∙ n))
     ∙ xors_append (zeros at) (m ++ r) s 0
     ∙ ap₂ (λ (t : StateArray) (k : ℕ). xors t k (m ++ r)) (xors_zeros at s 0) z

@@ -1,8 +1,7 @@
 -- The plain digest as a call (document 01: refused by 1 only). Assumes nothing.
 use Rattle.std.specs.Prelude.{not, [], ◌∷◌, eqb, length}
 use Rattle.codec.specs.Bytes.{Bytes}
-use Rattle.codec.specs.Reply.{test, first, leaves}
-use Rattle.codec.specs.declared.Reply.{Reply}
+use Rattle.codec.specs.Reply.{test, first, leaves, Reply}
 use Rattle.sha3.specs.Sponge.{sha3}
 
 -- 1: the output is not of 32 bytes

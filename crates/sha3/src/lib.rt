@@ -4,9 +4,12 @@
 pub mod sponge;
 
 ghost use Rattle.std.specs.Prelude.{◌≡◌, ◌<◌};
+ghost use Rattle.codec.specs.Refusal.{as_reply};
 ghost use Rattle.sha3.specs.Absorb.{absorb};
 ghost use Rattle.sha3.specs.Sponge.{padding, squeeze, sha3};
 ghost use Rattle.sha3.specs.Digest.{digest_reply, digest_out};
+
+use codec::{Refusal, Reply};
 
 // The padding of a message that ends before place `at` of its block.
 fn pad(s: [[u64; 5]; 5], at: usize) -> [[u64; 5]; 5]
@@ -50,16 +53,12 @@ pub fn hash(m: &[u8]) -> [u8; 32]
 
 // SHA3-256 of a message into a lent slice, which is left as it is where it has not 32 bytes.
 #[tactic(auto, unfolding(crate::specs::Digest::digest_reply, crate::specs::Digest::digest_out, codec::specs::Reply::first, codec::specs::Reply::leaves))]
-pub fn digest(m: &[u8], out: &mut [u8]) -> codec::Reply
-    ensures { (result ≡ digest_reply out.old) × (out.new ≡ digest_out m.now out.old) }
+pub fn digest(m: &[u8], out: &mut [u8]) -> Reply
+    ensures { (as_reply result ≡ digest_reply out.old) × (out.new ≡ digest_out m.now out.old) }
 {
     if out.len() != 32 {
-        return codec::Reply::Refused {
-            number: 1,
-            place: 0,
-        };
+        return Err(Refusal::WrongLength);
     }
-    let d = hash(m);
-    codec::copy(out, 0, &d);
-    codec::Reply::Taken
+    out.copy_from_slice(&hash(m));
+    Ok(())
 }

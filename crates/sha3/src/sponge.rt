@@ -1,6 +1,6 @@
 // The sponge of FIPS 202 over the proved permutation, with the rate of SHA3-256: it absorbs lent bytes in place, by value.
 ghost use Rattle.std.specs.Prelude.{◌≡◌, ◌+◌, ◌-◌, ◌%◌, ◌≤◌, ◌<◌, length};
-ghost use Rattle.codec.specs.Bytes.{part, put, zeros};
+ghost use Rattle.codec.specs.Bytes.{put, zeros};
 ghost use Rattle.keccak.specs.Keccak.{keccak};
 ghost use Rattle.sha3.specs.Absorb.{xor_lane, xor_byte, absorb, zero_state};
 ghost use Rattle.sha3.specs.Internal.{xor_block, absorb_row};
@@ -33,32 +33,32 @@ pub fn xor_byte(s: [[u64; 5]; 5], at: usize, b: u8) -> [[u64; 5]; 5]
     t
 }
 
-// A row with the 40 bytes of m from `at` xored in.
-fn xor_row(r: [u64; 5], m: &[u8], at: usize) -> [u64; 5]
-    requires { at + 40 ≤ length m.now }
-    ensures { result ≡ absorb_row r m.now at }
+// A row with the 40 bytes of the block p from `at` xored in.
+fn xor_row(r: [u64; 5], p: &[u8], at: usize) -> [u64; 5]
+    requires { at + 40 ≤ length p.now }
+    ensures { result ≡ absorb_row r p.now at }
 {
     [
-        r[0] ^ codec::read64(m, at),
-        r[1] ^ codec::read64(m, at + 8),
-        r[2] ^ codec::read64(m, at + 16),
-        r[3] ^ codec::read64(m, at + 24),
-        r[4] ^ codec::read64(m, at + 32),
+        r[0] ^ codec::read64(p, at),
+        r[1] ^ codec::read64(p, at + 8),
+        r[2] ^ codec::read64(p, at + 16),
+        r[3] ^ codec::read64(p, at + 24),
+        r[4] ^ codec::read64(p, at + 32),
     ]
 }
 
-// A state with the block of m from `at` xored in.
-fn xor_block(s: [[u64; 5]; 5], m: &[u8], at: usize) -> [[u64; 5]; 5]
-    requires { at + 136 ≤ length m.now }
-    ensures { result ≡ xor_block s (part m.now at 136) }
+// A state with the block p xored in.
+fn xor_block(s: [[u64; 5]; 5], p: &[u8]) -> [[u64; 5]; 5]
+    requires { length p.now ≡ 136 }
+    ensures { result ≡ xor_block s p.now }
 {
     [
-        xor_row(s[0], m, at),
-        xor_row(s[1], m, at + 40),
-        xor_row(s[2], m, at + 80),
+        xor_row(s[0], p, 0),
+        xor_row(s[1], p, 40),
+        xor_row(s[2], p, 80),
         [
-            s[3][0] ^ codec::read64(m, at + 120),
-            s[3][1] ^ codec::read64(m, at + 128),
+            s[3][0] ^ codec::read64(p, 120),
+            s[3][1] ^ codec::read64(p, 128),
             s[3][2],
             s[3][3],
             s[3][4],
@@ -73,11 +73,9 @@ fn absorb_blocks(s: [[u64; 5]; 5], m: &[u8]) -> [[u64; 5]; 5]
     ensures { result ≡ absorb s 0 m.now }
 {
     let mut t = s;
-    let mut i = 0;
-    while i < m.len() {
-        let u = keccak::permute(xor_block(t, m, i));
+    for block in m.chunks_exact(136) {
+        let u = keccak::permute(xor_block(t, block));
         t = u;
-        i += 136;
     }
     t
 }
@@ -107,7 +105,7 @@ fn absorb_inside(s: [[u64; 5]; 5], at: usize, m: &[u8]) -> [[u64; 5]; 5]
     ensures { result ≡ absorb s at m.now }
 {
     let block = block_of(at, m);
-    xor_block(s, &block, 0)
+    xor_block(s, &block)
 }
 
 // Bytes of a message to the end of their block, the first at place `at`; none where that is its start.

@@ -7,11 +7,10 @@ use borrow.Author.Tests.{eq-eqb, ne_eqb}
 use lib.ListN.{length, length-append}
 use Rattle.codec.specs.Bytes.{Bytes, put}
 use Rattle.codec.specs.Reply.{first}
-use Rattle.codec.specs.declared.Reply.TheVariants as reply
+use Rattle.codec.specs.Reply as reply
 use Rattle.codec.proofs.Laws.{put_behind, put_whole}
-use Rattle.sheet.specs.Sheet.{reading, reply_of}
+use Rattle.sheet.specs.Sheet.{reading, reply_of, Taken, Refused}
 use Rattle.sheet_numbers.specs.declared.Numbers.{Numbers}
-use Rattle.sheet.specs.declared.Reading.TheVariants.{Taken, Refused}
 use Rattle.sheet.proofs.Taken.{reply_is}
 use Rattle.sheet.specs.Calls.{describe_reply}
 

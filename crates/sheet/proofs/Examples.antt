@@ -10,9 +10,8 @@ use Rattle.sheet_lines.specs.Form.{decimal, listed, lines}
 use Rattle.sheet.specs.Form.{written}
 use Rattle.sheet_lines.specs.Reader.{digit, step, values, line, rows}
 use Rattle.sheet.specs.Reader.{formed, sheet_of}
-use Rattle.sheet.specs.Sheet.{unfit, reading}
+use Rattle.sheet.specs.Sheet.{unfit, reading, Taken}
 use Rattle.sheet.specs.Examples.{small_numbers, small, text}
-use Rattle.sheet.specs.declared.Reading.TheVariants.{Taken}
 
 as_written : written (small 97 (3 ∷ 7 ∷ 94 ∷ 92 ∷ [])) ≡ text
 unfolding written lines listed decimal

@@ -7,7 +7,7 @@ use Prim.Native.Nat.{ℕ, zero, suc, ◌+◌, ◌*◌, ◌≤◌, ◌<◌}
 use native.Mathlib.Numerals.{add-one}
 use native.Mathlib.Omega.{arith}
 use borrow.Author.Tests.{eqb-true, not-false}
-use lib.Dec.{eqb}
+use lib.Dec.{ltb, eqb}
 use lib.ListN.{length, take, drop, get_or, length-append, take-append-drop, drop_of_length-le}
 use lib.Seq.{take-suc, take_all, drop-cons, drop-drop, drop_at}
 use Rattle.codec.specs.Bytes.{Bytes, words, put}
@@ -30,18 +30,13 @@ use Rattle.sheet.proofs.Order.{every_at}
 
 -- ---- keys
 
-pub short_key : (k : ℕ) → k < 2 → length (get_or list_keys k []) ≡ 2
-short_key zero h = refl
-short_key (suc zero) h = refl
-short_key (suc (suc k)) h = absurd (omega arith)
-
-pub long_key : (k : ℕ) → 2 ≤ k → k < 5 → length (get_or list_keys k []) ≡ 3
-long_key (suc (suc zero)) l h = refl
-long_key (suc (suc (suc zero))) l h = refl
-long_key (suc (suc (suc (suc zero)))) l h = refl
-long_key zero l h = absurd (omega arith)
-long_key (suc zero) l h = absurd (omega arith)
-long_key (suc (suc (suc (suc (suc k))))) l h = absurd (omega arith)
+pub key_size : (k : ℕ) → k < 5 → length (get_or list_keys k []) ≡ cond (ltb k 2) 2 3
+key_size zero h = refl
+key_size (suc zero) h = refl
+key_size (suc (suc zero)) h = refl
+key_size (suc (suc (suc zero))) h = refl
+key_size (suc (suc (suc (suc zero)))) h = refl
+key_size (suc (suc (suc (suc (suc k))))) h = absurd (omega arith)
 
 -- past the key of a line that is there
 skip : (key t : Bytes) {xs : List ℕ} {r : Bytes} → line key t ≡ found xs r → values [] fresh (drop (length key) t) ≡ found xs r
@@ -118,7 +113,7 @@ pub record Filling (text d : Bytes) (i at o : ℕ) (out : Bytes) : Type 0 where
   pub place : o ≡ length (flat_map words (take i (lists (sheet_of text))))
   pub wrote : out ≡ put d 0 (flat_map words (take i (lists (sheet_of text))))
 
-module _ (text : Bytes) (n : ℕ) (d : Bytes) (ok : Fitting text n d) where
+module _ {text : Bytes} {n : ℕ} {d : Bytes} (ok : Fitting text n d) where
   abbrev ls : List (List ℕ)
   ls = lists (sheet_of text)
 
@@ -144,7 +139,7 @@ module _ (text : Bytes) (n : ℕ) (d : Bytes) (ok : Fitting text n d) where
   unfolding flat_map
   begins head s = record { ahead = lists_from_rows text (rows number_keys text) refl ok.form head s; place = refl; wrote = sym (put_none d 0) }
 
-  module _ (i at o : ℕ) (out : Bytes) (f : Filling text d i at o out) where
+  module _ {i at o : ℕ} {out : Bytes} (f : Filling text d i at o out) where
     pub ends : 5 ≤ i → out ≡ put d 0 (polynomials text)
     unfolding polynomials
     ends h = f.wrote ∙ ap (λ (l : List (List ℕ)). put d 0 (flat_map words l)) (take_all i ls h)
@@ -174,7 +169,7 @@ module _ (text : Bytes) (n : ℕ) (d : Bytes) (ok : Fitting text n d) where
           (le_or (length text) (at + length key))
 
       -- room for this list, and for those before it
-      room : o + 8 * n ≤ length d
+      pub room : o + 8 * n ≤ length d
       unfolding flat_map
       room =
           let e : length (flat_map words (take i ls)) + length (flat_map words (drop i ls)) ≡ 40 * n =
@@ -187,35 +182,27 @@ module _ (text : Bytes) (n : ℕ) (d : Bytes) (ok : Fitting text n d) where
       same_size : length out ≡ length d
       same_size = ap length f.wrote ∙ length_put d 0 (flat_map words (take i ls)) (omega (arith, f.place, room))
 
-      pub ready : (k : ℕ) → k ≡ length key → Ready (values [] fresh (drop (at + k) text)) o out
-      ready k e = rw (e, found_at)
-          (record { there = λ z. never_found (sym z); room = omega (arith, room, same_size, count i h) })
+      module _ {k : ℕ} (e : k ≡ length key) where
+        pub ready : Ready (values [] fresh (drop (at + k) text)) o out
+        ready = rw (e, found_at) (record { there = λ z. never_found (sym z); room = omega (arith, room, same_size, count i h) })
 
-      pub next_size : o + 8 * n ≤ length d
-      next_size = room
+        pub goes_on : {r : ℕ} {s : Bytes} → Writes (values [] fresh (drop (at + k) text)) o out (drop r text) s → Filling text d (i + 1) r (o + 8 * n) s
+        goes_on {r} {s} w = record { ahead = ahead; place = place; wrote = wrote }
+          where
+            w' : Writes (found l row.next) o out (drop r text) s
+            w' = rw (e, found_at) at w
 
-      pub goes_on : (k r : ℕ) (s : Bytes) → k ≡ length key → Writes (values [] fresh (drop (at + k) text)) o out (drop r text) s
-          → (length s ≡ length d) × Filling text d (i + 1) r (o + 8 * n) s
-      goes_on k r s e w = (size_kept, record { ahead = ahead; place = place; wrote = wrote })
-        where
-          w' : Writes (found l row.next) o out (drop r text) s
-          w' = rw (e, found_at) at w
+            one_more : flat_map words (take (i + 1) ls) ≡ flat_map words (take i ls) ++ words l
+            one_more = rw (add-one, take-suc ls i [] h) (bytes_append (take i ls) (l ∷ []) ∙ rw (bytes_one l))
 
-          one_more : flat_map words (take (i + 1) ls) ≡ flat_map words (take i ls) ++ words l
-          one_more = rw (add-one, take-suc ls i [] h) (bytes_append (take i ls) (l ∷ []) ∙ rw (bytes_one l))
+            wrote : s ≡ put d 0 (flat_map words (take (i + 1) ls))
+            wrote =
+                let z : o ≡ 0 + length (flat_map words (take i ls)) = omega (arith, f.place) in
+                w'.wrote ∙ rw (f.wrote, z, one_more)
+                (put_append d 0 (flat_map words (take i ls)) (words l) (omega (arith, f.place, room, size i h)))
 
-          wrote : s ≡ put d 0 (flat_map words (take (i + 1) ls))
-          wrote =
-              let z : o ≡ 0 + length (flat_map words (take i ls)) = omega (arith, f.place) in
-              w'.wrote ∙ rw (f.wrote, z, one_more)
-              (put_append d 0 (flat_map words (take i ls)) (words l) (omega (arith, f.place, room, size i h)))
+            ahead : rows (drop (i + 1) list_keys) (drop r text) ≡ block (drop (i + 1) ls) []
+            ahead = rw w'.goes_on row.others
 
-          ahead : rows (drop (i + 1) list_keys) (drop r text) ≡ block (drop (i + 1) ls) []
-          ahead = rw w'.goes_on row.others
-
-          place : o + 8 * n ≡ length (flat_map words (take (i + 1) ls))
-          place = rw (one_more, length-append (flat_map words (take i ls)) (words l)) (omega (arith, f.place, size i h))
-
-          size_kept : length s ≡ length d
-          size_kept =
-              ap length w'.wrote ∙ length_put out o (words l) (omega (arith, same_size, room, size i h)) ∙ same_size
+            place : o + 8 * n ≡ length (flat_map words (take (i + 1) ls))
+            place = rw (one_more, length-append (flat_map words (take i ls)) (words l)) (omega (arith, f.place, size i h))

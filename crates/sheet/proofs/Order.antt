@@ -11,7 +11,7 @@ use lib.ListN.{length, drop, get_or, drop_of_length-le, get_or-append, get_or-ma
 use lib.Seq.{take_at, get_or-append-add}
 use Rattle.codec.specs.Bytes.{Bytes}
 use Rattle.codec.specs.Reply.{first}
-use Rattle.codec.specs.declared.Reply.TheVariants as reply
+use Rattle.codec.specs.Reply as reply
 use Rattle.sheet_lines.specs.Form.{number_keys, list_keys}
 use Rattle.sheet.specs.Form.{Sheet}
 use Rattle.sheet_lines.specs.Reader.{block, preceded_by, rows}
@@ -19,11 +19,9 @@ use Rattle.sheet.specs.Reader.{formed, sheet_from, sheet_of}
 use Rattle.sheet_lines.specs.Internal.{largest, outlined, seen}
 use Rattle.sheet.specs.Internal.{judged}
 use Rattle.sheet_numbers.specs.Rules.{outside, unsound}
-use Rattle.sheet.specs.Sheet.{fits, lists, unfit, reading_by, reading}
+use Rattle.sheet.specs.Sheet.{fits, lists, unfit, reading_by, reading, reply_of, Reading, Taken, Refused}
 use Rattle.sheet_lines.specs.declared.Lines.{Lines}
 use Rattle.sheet_numbers.specs.declared.Numbers.{Numbers}
-use Rattle.sheet.specs.declared.Reading.{Reading}
-use Rattle.sheet.specs.declared.Reading.TheVariants.{Taken, Refused}
 use Rattle.sheet_lines.proofs.Steps.{unroll}
 use Rattle.codec.proofs.Laws.{both}
 use Rattle.codec.specs.Lists.{every, all_below}
@@ -32,6 +30,13 @@ use Rattle.sheet.proofs.Form.{single, one}
 use Rattle.sheet_lines.proofs.Blocks.{rows_append, rows_broken, Five, five, not_five}
 use Rattle.sheet_numbers.proofs.Ranges.{in_range}
 use Rattle.sheet.proofs.Fits.{fits_all}
+
+-- a refusal says what it should; it names no place
+pub read_as : {said : Reading} {n : ℕ} → Refused n ≡ said → (Refused n ≡ said) × (reply.Refused n 0 ≡ reply_of said)
+read_as e = (e, ap reply_of e)
+
+pub taken_as : {said : Reading} {k : Numbers} → Taken k ≡ said → (Taken k ≡ said) × (reply.Taken ≡ reply_of said)
+taken_as e = (e, ap reply_of e)
 
 -- ---- lists of five
 

@@ -7,18 +7,18 @@ use native.Mathlib.Omega.{arith}
 use borrow.Author.Tests.{eqb-true, eqb-false, ltb-false, not-false}
 use lib.Dec.{ltb, eqb}
 use lib.ListN.{length, get_or, length-replicate}
+use Rattle.std.proofs.Common.{Err}
 use Rattle.codec.specs.Bytes.{Bytes, zeros}
-use Rattle.codec.specs.Reply.{Test, test, first, None}
-use Rattle.codec.specs.declared.Reply.{Reply}
-use Rattle.codec.specs.declared.Reply.TheVariants as reply
+use Rattle.codec.specs.Reply.{Test, test, first, None, Reply}
+use Rattle.codec.specs.Reply as reply
+use Rattle.codec.specs.Refusal.{number_of_refusal, as_reply}
+use Rattle.codec.specs.declared.Refusal.{Refusal}
 use Rattle.codec.proofs.Replies.{taken_exactly}
 use Rattle.sheet.specs.Form.{Sheet, written}
 use Rattle.sheet.specs.Reader.{formed, sheet_of}
 use Rattle.sheet_numbers.specs.Rules.{outside}
-use Rattle.sheet.specs.Sheet.{fits, lists, unfit, order, reply_of, reading_by, reading, polynomials}
+use Rattle.sheet.specs.Sheet.{fits, lists, unfit, order, reply_of, reading_by, reading, polynomials, Reading, Taken, Refused, ReadAs}
 use Rattle.sheet_numbers.specs.declared.Numbers.{Numbers}
-use Rattle.sheet.specs.declared.Reading.{Reading}
-use Rattle.sheet.specs.declared.Reading.TheVariants.{Taken, Refused}
 use Rattle.codec.proofs.Laws.{both}
 use Rattle.codec.proofs.Lists.{all_below_at}
 use Rattle.codec.specs.Lists.{every, all_below}
@@ -26,6 +26,10 @@ use Rattle.sheet.proofs.Form.{written_is}
 use Rattle.sheet_numbers.specs.Ranges.{NumbersInRange, NumbersSound}
 use Rattle.sheet_numbers.proofs.Ranges.{in_range, sound_exactly}
 use Rattle.sheet.proofs.Filling.{all_size}
+
+-- a refusal of a sheet names no place
+pub no_place : (why : Refusal) {said : Reading} → ReadAs said (Err why) → as_reply {A = Numbers} (Err why) ≡ reply.Refused (number_of_refusal why) 0
+no_place why r = r.1 ∙ ap reply_of (sym r.0)
 
 -- ---- the order of a call that is lent the sheet
 
@@ -133,7 +137,7 @@ pub length_polynomials : (text : Bytes) {k : Numbers} → reading text ≡ Taken
 unfolding polynomials
 length_polynomials text {k} e =
     let t = taken text e in
-    all_size text k.ring (zeros (40 * k.ring))
+    all_size {text = text} {n = k.ring} {d = zeros (40 * k.ring)}
     (record { form = t.form; ring = ap (λ (n : Numbers). n.ring) t.numbers; fit = t.fit; space = omega (arith, length-replicate {A = ℕ} (40 * k.ring) 0) })
 
 -- ---- the form is canonical: two texts that are taken with the same numbers and the same lists are one text

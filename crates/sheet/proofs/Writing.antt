@@ -9,7 +9,7 @@ use native.Mathlib.Omega.{arith}
 use lib.Dec.{ltb, leb, eqb}
 use lib.ListN.{length, drop, get_or, length-append, drop_of_length-le}
 use Rattle.codec.specs.Bytes.{Bytes, bytes, words, put}
-use Rattle.codec.proofs.Laws.{length_put, put_none, put_append, le_or}
+use Rattle.codec.proofs.Laws.{put_none, put_append, le_or}
 use Rattle.codec.proofs.Numbers.{length_bytes, length_words, words_append, words_one}
 use Rattle.sheet_lines.specs.Reader.{digit, Place, fresh, within, LineFound, missing, found, Transition, stop, on, done, step, follow, values}
 use Rattle.sheet.specs.Internal.{numbers_in, Ready, Writes}
@@ -105,37 +105,39 @@ pub record Writing (text : Bytes) (at from : ℕ) (d : Bytes) (i v o : ℕ) (out
   pub wrote : out ≡ put d from (words xs)
   pub place : o ≡ from + 8 * length xs
 
-module _ (text : Bytes) (at from : ℕ) (d : Bytes) where
-  pub starts : Writing text at from d at 0 from d
-  unfolding words
-  starts = record { xs = []; p = fresh; stands = before; same = refl; wrote = sym (put_none d from); place = omega arith }
+pub starts : (text : Bytes) (at from : ℕ) (d : Bytes) → Writing text at from d at 0 from d
+unfolding words
+starts text at from d = record { xs = []; p = fresh; stands = before; same = refl; wrote = sym (put_none d from); place = omega arith }
 
-  module _ (ok : Ready (values [] fresh (drop at text)) from d) (i v o : ℕ) (out : Bytes) (w : Writing text at from d i v o out) where
-    over : (p : Place) → values w.xs p [] ≡ missing
-    unfolding values
-    over p = refl
+module _ {text : Bytes} {at from : ℕ} {d : Bytes} (ok : Ready (values [] fresh (drop at text)) from d) {i v o : ℕ} {out : Bytes} (w : Writing text at from d i v o out) where
+  over : (p : Place) → values w.xs p [] ≡ missing
+  unfolding values
+  over p = refl
 
-    pub never_over : length text ≤ i → ⊥
-    never_over h = ok.there (w.same ∙ rw (drop_of_length-le text h) (over w.p))
+  pub never_over : length text ≤ i → ⊥
+  never_over h = ok.there (w.same ∙ rw (drop_of_length-le text h) (over w.p))
 
-    module _ (h : i < length text) (g : ℕ) (e : g ≡ digit (get_or text i 0)) where
-      abbrev c : ℕ
-      c = get_or text i 0
+  -- at a byte of the text
+  module _ (h : i < length text) where
+    abbrev c : ℕ
+    c = get_or text i 0
 
-      abbrev t : Bytes
-      t = drop (i + 1) text
+    abbrev t : Bytes
+    t = drop (i + 1) text
 
-      met : values [] fresh (drop at text) ≡ values w.xs w.p (c ∷ t)
-      met = w.same ∙ rw (unroll 0 text i h)
+    met : values [] fresh (drop at text) ≡ values w.xs w.p (c ∷ t)
+    met = w.same ∙ rw (unroll 0 text i h)
 
-      there : values w.xs w.p (c ∷ t) ≡ missing → ⊥
-      there m = ok.there (met ∙ m)
+    there : values w.xs w.p (c ∷ t) ≡ missing → ⊥
+    there m = ok.there (met ∙ m)
 
-      pub small : g < 10 → v < 10 ^ 16
-      small l = (digit_step w.xs c t w.stands there (rw e at l)).0
+    -- a digit
+    module _ {g : ℕ} (e : g ≡ digit c) (l : g < 10) where
+      pub small : v < 10 ^ 16
+      small = (digit_step w.xs c t w.stands there (rw e at l)).0
 
-      pub at_digit : g < 10 → Writing text at from d (i + 1) (10 * v + g) o out
-      at_digit l = record {
+      pub at_digit : Writing text at from d (i + 1) (10 * v + g) o out
+      at_digit = record {
         xs = w.xs;
         p = within (10 * v + g);
         stands = inside;
@@ -144,40 +146,32 @@ module _ (text : Bytes) (at from : ℕ) (d : Bytes) where
         place = w.place;
       }
 
-      pub room : 10 ≤ g → (o + 8 ≤ length d) × (length out ≡ length d)
-      room l =
+    -- another byte
+    module _ (l : digit c ≡ 10) where
+      pub room : o + 8 ≤ length d
+      room =
           let k : length (w.xs ++ v ∷ []) ≤ length (numbers_in (values [] fresh (drop at text))) =
-          grown_le (rw met (room_step w.xs c t w.stands there (rw e at l))) ok.there in
-          let n : length w.xs + 1 ≤ length (numbers_in (values [] fresh (drop at text))) = simp length-append at k in (
-            omega (arith, w.place, ok.room),
-            rw w.wrote (length_put d from (words w.xs) (omega (arith, ok.room, length_words w.xs))),
-          )
+          grown_le (rw met (room_step w.xs c t w.stands there (omega arith))) ok.there in
+          let n : length w.xs + 1 ≤ length (numbers_in (values [] fresh (drop at text))) = simp length-append at k in
+          omega (arith, w.place, ok.room)
 
-      put_next : 10 ≤ g → put out o (bytes 8 v) ≡ put d from (words (w.xs ++ v ∷ []))
-      put_next l =
+      put_next : put out o (bytes 8 v) ≡ put d from (words (w.xs ++ v ∷ []))
+      put_next =
           let m : o ≡ from + length (words w.xs) = omega (arith, w.place, length_words w.xs) in
-          rw (
-            w.wrote,
-            m,
-            put_append d from (words w.xs) (bytes 8 v) (omega (arith, (room l).0, length_bytes 8 v)),
-            words_append w.xs (v ∷ []),
-            words_one v,
-          )
+          rw (w.wrote, m, put_append d from (words w.xs) (bytes 8 v) (omega (arith, room, length_bytes 8 v)), words_append w.xs (v ∷ []), words_one v)
 
-      pub length_put_next : 10 ≤ g → length (put out o (bytes 8 v)) ≡ length d
-      length_put_next l = length_put out o (bytes 8 v) (omega (arith, room l, length_bytes 8 v)) ∙ (room l).1
+      module _ {s : Bytes} (q : s ≡ put out o (bytes 8 v)) where
+        pub at_comma : (c ≡ 10 → ⊥) → Writing text at from d (i + 1) 0 (o + 8) s
+        at_comma f = record {
+          xs = w.xs ++ v ∷ [];
+          p = fresh;
+          stands = before;
+          same = met ∙ comma_step w.xs c t w.stands there (omega arith) f;
+          wrote = q ∙ put_next;
+          place = simp length-append (omega (arith, w.place));
+        }
 
-      pub at_comma : 10 ≤ g → (c ≡ 10 → ⊥) → (s : Bytes) → s ≡ put out o (bytes 8 v) → Writing text at from d (i + 1) 0 (o + 8) s
-      at_comma l f s q = record {
-        xs = w.xs ++ v ∷ [];
-        p = fresh;
-        stands = before;
-        same = met ∙ comma_step w.xs c t w.stands there (rw e at l) f;
-        wrote = q ∙ put_next l;
-        place = simp length-append (omega (arith, w.place));
-      }
-
-      pub at_lf : 10 ≤ g → c ≡ 10 → (s : Bytes) → s ≡ put out o (bytes 8 v) → Writes (values [] fresh (drop at text)) from d t s
-      at_lf l f s q =
-          let z = met ∙ lf_step w.xs c t w.stands there (rw e at l) f in
-          record { wrote = q ∙ put_next l ∙ rw z; goes_on = rw z }
+        pub at_lf : c ≡ 10 → Writes (values [] fresh (drop at text)) from d t s
+        at_lf f =
+            let z = met ∙ lf_step w.xs c t w.stands there (omega arith) f in
+            record { wrote = q ∙ put_next ∙ rw z; goes_on = rw z }

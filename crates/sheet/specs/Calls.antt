@@ -1,8 +1,7 @@
 -- The sheet as a call (document 01, "Refused because of the state": "Sheet and clear: 1, 2, 3, 4, 5"). Assumes nothing.
 use Rattle.std.specs.Prelude.{not, ◌∷◌, ◌++◌, eqb, length}
 use Rattle.codec.specs.Bytes.{Bytes, bytes}
-use Rattle.codec.specs.Reply.{test, first, leaves}
-use Rattle.codec.specs.declared.Reply.{Reply}
+use Rattle.codec.specs.Reply.{test, first, leaves, Reply}
 use Rattle.sheet_numbers.specs.Bounds.{unknown_count}
 use Rattle.sheet_numbers.specs.Plain.{noise_bound_of, mask_bound_of}
 use Rattle.sheet.specs.Reader.{sheet_of}

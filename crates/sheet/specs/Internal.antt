@@ -5,10 +5,8 @@ use Rattle.codec.specs.Lists.{every, all_below}
 use Rattle.sheet_lines.specs.Reader.{LineFound, missing, found}
 use Rattle.sheet.specs.Reader.{formed, sheet_of}
 use Rattle.sheet_numbers.specs.Rules.{outside, unsound}
-use Rattle.sheet.specs.Sheet.{unfit, reading, polynomials}
+use Rattle.sheet.specs.Sheet.{unfit, reading, polynomials, Reading, Taken, Refused}
 use Rattle.sheet_numbers.specs.declared.Numbers.{Numbers}
-use Rattle.sheet.specs.declared.Reading.{Reading}
-use Rattle.sheet.specs.declared.Reading.TheVariants.{Taken, Refused}
 
 -- ---- for the contracts of the crate's inner functions: what is put out of the lines of a text, and what is said of it by what the code keeps of its lines
 

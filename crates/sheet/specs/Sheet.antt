@@ -1,17 +1,16 @@
 -- Document 01, "Sheet" and the refusals 1 to 5: which sheet is taken, and what is handed out of it. Assumes nothing.
-use Rattle.std.specs.Prelude.{Bool, not, ◌&&◌, ◌||◌, ℕ, ltb, eqb, length}
+use Rattle.std.specs.Prelude.{◌≡◌, Result, Ok, Err, Bool, not, ◌&&◌, ◌||◌, ℕ, ltb, eqb, length}
 use mathlib.Core.List.{List, [], ◌∷◌, flat_map}
 use Rattle.codec.specs.Bytes.{Bytes, words}
-use Rattle.codec.specs.Reply.{Test, test, first}
-use Rattle.codec.specs.declared.Reply.{Reply}
-use Rattle.codec.specs.declared.Reply.TheVariants as reply
+use Rattle.codec.specs.Reply.{Test, test, first, Reply}
+use Rattle.codec.specs.Reply as reply
+use Rattle.codec.specs.Refusal.{number_of_refusal, as_reply}
+use Rattle.codec.specs.declared.Refusal.{Refusal}
 use Rattle.codec.specs.Lists.{every, all_below}
 use Rattle.sheet.specs.Form.{Sheet}
 use Rattle.sheet.specs.Reader.{formed, sheet_of}
 use Rattle.sheet_numbers.specs.Rules.{outside, unsound}
 use Rattle.sheet_numbers.specs.declared.Numbers.{Numbers}
-use Rattle.sheet.specs.declared.Reading.{Reading}
-use Rattle.sheet.specs.declared.Reading.TheVariants.{Taken, Refused}
 
 -- 5: a list of another count than n, or with a coefficient that is not below q
 abbrev pub fits : ℕ → ℕ → List ℕ → Bool
@@ -33,6 +32,11 @@ order text =
     ∷ test 5 0 (unfit (sheet_of text))
     ∷ []
 
+-- what is said of a text: its numbers, or document 01's number of the refusal
+pub data Reading : Type 0 where
+  Taken : Numbers → Reading
+  Refused : ℕ → Reading
+
 -- the reply that a reading stands for: document 01's number, 0 for a sheet that is taken; a sheet's refusal has no place
 abbrev pub reply_of : Reading → Reply
 reply_of (Taken k) = reply.Taken
@@ -45,6 +49,15 @@ reading_by (reply.Refused n place) k = Refused n
 -- what is said of a text
 unfoldable pub reading : Bytes → Reading
 reading text = reading_by (first (order text)) (sheet_of text).numbers
+
+-- what is said by a result of the code
+abbrev pub as_reading : Result Numbers Refusal → Reading
+as_reading (Ok k) = Taken k
+as_reading (Err why) = Refused (number_of_refusal why)
+
+-- a result says it, and names no place
+abbrev pub ReadAs : Reading → Result Numbers Refusal → Type 0
+ReadAs said result = (as_reading result ≡ said) × (as_reply result ≡ reply_of said)
 
 -- a, b, k1, k2, k3 in 40N bytes, 8 to a coefficient
 unfoldable pub polynomials : Bytes → Bytes

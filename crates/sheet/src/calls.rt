@@ -1,10 +1,10 @@
 // The sheet as a call: N, D, B and L in 32 bytes.
 ghost use Rattle.std.specs.Prelude.{◌≡◌, false, length};
+ghost use Rattle.codec.specs.Refusal.{as_reply};
 ghost use Rattle.sheet_numbers.specs.Rules.{outside};
 ghost use Rattle.sheet.specs.Calls.{description, describe_reply, describe_out};
 
-use crate::Reading;
-use codec::Reply;
+use codec::{Refusal, Reply};
 use sheet_numbers::Numbers;
 
 // Writes N, D, B and L.
@@ -20,20 +20,12 @@ fn write_description(k: Numbers, out: &mut [u8])
 
 // Reads a sheet, and writes N, D, B and L into 32 lent bytes.
 pub fn describe(text: &[u8], out: &mut [u8]) -> Reply
-    ensures { (result ≡ describe_reply text.now out.old) × (out.new ≡ describe_out text.now out.old) }
+    ensures { (as_reply result ≡ describe_reply text.now out.old) × (out.new ≡ describe_out text.now out.old) }
 {
     if out.len() != 32 {
-        return Reply::Refused {
-            number: 1,
-            place: 0,
-        };
+        return Err(Refusal::WrongLength);
     }
-    let r = crate::read(text);
-    match r {
-        Reading::Refused { number } => Reply::Refused { number, place: 0 },
-        Reading::Taken(k) => {
-            write_description(k, out);
-            Reply::Taken
-        }
-    }
+    let k = crate::read(text)?;
+    write_description(k, out);
+    Ok(())
 }

@@ -14,25 +14,22 @@ fn write_values(text: &[u8], at: usize, out: &mut [u8], from: usize) -> usize
     ensures { Writes (values [] fresh (drop at text.now)) from out.old (drop result text.now)
         out.new }
 {
-    let mut i = at;
-    let mut v: u64 = 0;
+    let mut value: u64 = 0;
     let mut o = from;
-    while i < text.len() {
-        let c = text[i];
-        let d = digit_of(c);
-        i += 1;
-        if d < 10 {
-            v = 10 * v + d;
-        } else {
-            codec::write64(out, o, v);
-            if c == 10 {
-                return i;
+    for i in at..text.len() {
+        match digit_of(text[i]) {
+            Some(digit) => value = 10 * value + digit,
+            None => {
+                codec::write64(out, o, value);
+                if text[i] == b'\n' {
+                    return i + 1;
+                }
+                value = 0;
+                o += 8;
             }
-            v = 0;
-            o += 8;
         }
     }
-    i
+    text.len()
 }
 
 // The length of the key of one of the five lists, with its =.
@@ -40,10 +37,7 @@ fn key_length(k: usize) -> usize
     requires { k < 5 }
     ensures { result ≡ length (get_or list_keys k []) }
 {
-    if k < 2 {
-        return 2;
-    }
-    3
+    if k < 2 { 2 } else { 3 }
 }
 
 // Puts the five lists of a text that is taken, n numbers each, at the head of out.
@@ -54,10 +48,8 @@ pub fn write_lists(text: &[u8], n: u64, out: &mut [u8])
     let head = scan_lines(text, 0, 0);
     let mut at = head.next;
     let mut o = 0;
-    let mut i = 0;
-    while i < 5 {
+    for i in 0..5 {
         at = write_values(text, at + key_length(i), out, o);
         o += 8 * (n as usize);
-        i += 1;
     }
 }

@@ -68,11 +68,11 @@ pub record Passed (ks : List Bytes) (text : Bytes) (at i next : ℕ) (counts top
   pub counted : counts ≡ filled length rs
   pub most : tops ≡ filled (largest 0) rs
 
-module _ (ks : List Bytes) (text : Bytes) (at : ℕ) where
+module _ {ks : List Bytes} {text : Bytes} {at : ℕ} where
   pub starts : {counts tops : List ℕ} → counts ≡ zeros 5 → tops ≡ zeros 5 → Passed ks text at 0 at counts tops
   starts c t = record { rs = []; many = refl; same = sym (after_none (rows ks (drop at text))); reach = refl; counted = c; most = t }
 
-  module _ (i next : ℕ) (counts tops : List ℕ) (p : Passed ks text at i next counts tops) where
+  module _ {i next : ℕ} {counts tops : List ℕ} (p : Passed ks text at i next counts tops) where
     row : i < length ks → rows ks (drop at text) ≡ preceded_by p.rs (onward (line (get_or ks i []) (drop next text)) (rows (drop (i + 1) ks)))
     unfolding rows
     row h = p.same ∙ rw (unroll [] ks i h)
@@ -92,7 +92,7 @@ module _ (ks : List Bytes) (text : Bytes) (at : ℕ) where
     pub stops : i < length ks → bad ≡ summed (line (get_or ks i []) (drop next text)) → Scanned ks (drop at text) text (record { whole = false; counts = counts; largest = tops; next = next })
     stops h e = let m = unmet (line (get_or ks i []) (drop next text)) e in ended false (reach_row h ∙ rw m) (rw (row h, m))
 
-    module _ (h : i < length ks) (l : i < 5) (n top e : ℕ) where
+    module _ (h : i < length ks) (l : i < 5) {n top e : ℕ} where
       longer : (m : Met (line (get_or ks i []) (drop next text)) n top (drop e text)) → Passed ks text at (i + 1) e (set counts i n) (set tops i top)
       longer m = record {
         rs = p.rs ++ m.xs ∷ [];

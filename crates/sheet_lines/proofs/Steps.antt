@@ -1,7 +1,7 @@
 -- What one byte makes of a line's numbers, and the cases of a byte. Assumes nothing.
-use mathlib.Core.Path.{◌≡◌, refl}
+use mathlib.Core.Path.{◌≡◌, refl, ap}
 use mathlib.Core.Logic.{◌⊎◌, inl, inr}
-use mathlib.Core.Bool.{Bool, true, false, cond}
+use mathlib.Core.Bool.{Bool, true, false, cond, ◌&&◌}
 use mathlib.Core.List.{List, [], ◌∷◌, ◌++◌}
 use Prim.Native.Nat.{ℕ, ◌+◌, ◌*◌, ◌-◌, ◌^◌, ◌≤◌, ◌<◌}
 use native.Mathlib.Numerals.{add-one}
@@ -10,13 +10,20 @@ use borrow.Author.Tests.{le-ltb, lt-ltb, le-leb, lt-leb, eq-eqb, ne_eqb, ltb-fal
 use lib.Dec.{ltb, eqb}
 use lib.ListN.{length, drop, get_or}
 use lib.Seq.{drop-cons}
+use Rattle.std.specs.List.{list_all}
 use Rattle.codec.specs.Bytes.{Bytes}
+use Rattle.codec.specs.Lists.{every}
 use Rattle.sheet_lines.specs.Reader.{digit, fresh, within, missing, found, step, values}
 
 -- ---- a list from a place on
 
 pub unroll : {A : Type 0} (d : A) (s : List A) (i : ℕ) → i < length s → drop i s ≡ get_or s i d ∷ drop (i + 1) s
 unroll d s i h = rw (add-one, drop-cons s i d)
+
+-- std's test of each element
+pub every_is : (f : ℕ → Bool) (xs : List ℕ) → list_all f xs ≡ every f xs
+every_is f [] = refl
+every_is f (x ∷ xs) = ap (λ (b : Bool). f x && b) (every_is f xs)
 
 -- ---- the cases
 

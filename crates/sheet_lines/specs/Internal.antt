@@ -1,12 +1,16 @@
 -- What the contracts of inner functions and the proofs go by: no exported contract and no claim cites this file. Assumes nothing.
-use Rattle.std.specs.Prelude.{◌≡◌, cond, List, [], ◌∷◌, ◌++◌, map, ℕ, ◌-◌, ltb, length, drop}
+use Rattle.std.specs.Prelude.{◌≡◌, cond, List, [], ◌∷◌, ◌++◌, map, ℕ, ◌+◌, ◌*◌, ◌-◌, ◌^◌, Option, None, Some, ltb, leb, eqb, length, drop}
 use Rattle.codec.specs.Bytes.{Bytes, zeros}
 use Rattle.sheet_lines.specs.Reader.{LineFound, missing, found, line, Block, broken, block, rows}
-use Rattle.sheet_lines.specs.declared.Scan.{Scan}
+use Rattle.sheet_lines.specs.declared.Line.{Line}
 use Rattle.sheet_lines.specs.declared.Lines.{Lines}
-use Rattle.sheet_lines.specs.declared.Scan.TheVariants as scan
 
 -- ---- for the contracts of the code: what it keeps of the lines of a text. Of a line that is how many numbers it has, the largest, and the place where the text goes on; `summed` and `outlined` say the same of what the reader finds, and `reached` what was read before a line that is not there
+
+-- the value of a number's digits, of which there may be none yet, with one more: the digits of `step` of specs/Reader.antt
+abbrev pub longer : Option ℕ → ℕ → Option ℕ
+longer None d = Some d
+longer (Some v) d = cond (eqb v 0) None (cond (leb (10 ^ 16) v) None (Some (10 * v + d)))
 
 abbrev pub bigger : ℕ → ℕ → ℕ
 bigger a b = cond (ltb a b) b a
@@ -24,9 +28,9 @@ abbrev pub summed : LineFound → Summed
 summed missing = bad
 summed (found xs t) = sum (length xs) (largest 0 xs) t
 
-abbrev pub scanned : Bytes → Scan → Summed
-scanned text scan.Broken = bad
-scanned text (scan.Line n top next) = sum n top (drop next text)
+abbrev pub scanned : Bytes → Option Line → Summed
+scanned text None = bad
+scanned text (Some l) = sum l.count l.largest (drop l.next text)
 
 pub data Outline : Type 0 where
   none : Outline

@@ -1,25 +1,23 @@
 // Lines of a sheet's text: what they hold, without keeping their numbers.
 #![tactic(auto)]
 
-ghost use Rattle.std.specs.Prelude.{◌≡◌, ◌+◌, ◌≤◌, ◌<◌, [], ◌++◌, eqb, drop, take, get_or};
+ghost use Rattle.std.specs.Prelude.{◌≡◌, ◌+◌, ◌≤◌, ◌<◌, [], ◌++◌, MatchOption, eqb, drop, take, get_or};
 ghost use Rattle.sheet_lines.specs.Form.{number_keys, list_keys};
 ghost use Rattle.codec.specs.Lists.{every, all_below};
 ghost use Rattle.sheet_lines.specs.Reader.{digit, fresh, values, line};
-ghost use Rattle.sheet_lines.specs.Internal.{bigger, summed, scanned, Scanned};
+ghost use Rattle.sheet_lines.specs.Internal.{longer, summed, scanned, Scanned};
 
-// What stands at a place of the text: a line with how many numbers, the largest, and where the text goes on; or no such line.
+// A line: how many numbers it has, the largest, and where the text goes on.
 #[derive(Drop)]
-enum Scan {
-    Broken,
-    Line {
-        count: u64,
-        largest: u64,
-        next: usize,
-    },
+struct Line {
+    count: u64,
+    largest: u64,
+    next: usize,
 }
 
 // Five lines: whether they are all there, and for each how many numbers it has and the largest; and where the text goes on. Where one
 // is not there, both are 0 for it and those after it, and the text goes on where it should stand.
+// The flag stands beside the values, and is no Option of them: `Scanned` (`counts`, `tops`, `rest`) says what they are where it is false.
 #[derive(Drop)]
 pub struct Lines {
     pub whole: bool,
@@ -28,115 +26,88 @@ pub struct Lines {
     pub next: usize,
 }
 
-// The value of a digit; 10 for any other byte.
-pub fn digit_of(c: u8) -> u64
-    ensures { (result ≡ digit c) × (result < 11) }
+// The value of a digit; none for any other byte.
+#[tactic(auto, unfolding(crate::specs::Reader::digit))]
+pub fn digit_of(c: u8) -> Option<u64>
+    ensures { MatchOption result (digit c ≡ 10) (λ d. (d ≡ digit c) × (d < 10)) }
 {
-    if c < 48 {
-        return 10;
+    if c.is_ascii_digit() {
+        Some(u64::from(c - b'0'))
+    } else {
+        None
     }
-    if 57 < c {
-        return 10;
-    }
-    (c - 48) as u64
 }
 
-fn larger(a: u64, b: u64) -> u64
-    ensures { result ≡ bigger a b }
+// A number's value with one more digit; none after a 0 (no leading zero), and none after 17 digits.
+fn with_digit(value: Option<u64>, digit: u64) -> Option<u64>
+    requires { digit < 10 }
+    ensures { result ≡ longer value digit }
 {
-    if a < b {
-        return b;
+    let Some(v) = value else {
+        return Some(digit);
+    };
+    if v == 0 || 10000000000000000 <= v {
+        return None;
     }
-    a
+    Some(10 * v + digit)
 }
 
-// The numbers from a place of the text up to LF.
-fn scan_values(text: &[u8], at: usize) -> Scan
+// The numbers from a place of the text up to LF. It is a call of its own, since it is slower inside the loop over the keys.
+#[inline(never)]
+fn scan_values(text: &[u8], at: usize) -> Option<Line>
     ensures { scanned text.now result ≡ summed (values [] fresh (drop at text.now)) }
 {
-    let mut i = at;
-    let mut v: u64 = 0;
-    let mut begun = false;
-    let mut n: u64 = 0;
-    let mut top: u64 = 0;
-    while i < text.len() {
+    let mut value = None;
+    let mut count: u64 = 0;
+    let mut largest: u64 = 0;
+    for i in at..text.len() {
         let c = text[i];
-        let d = digit_of(c);
-        if d < 10 {
-            if begun {
-                if v == 0 || 10000000000000000 <= v {
-                    return Scan::Broken;
+        match digit_of(c) {
+            Some(digit) => value = Some(with_digit(value, digit)?),
+            None => {
+                count += 1;
+                largest = largest.max(value?);
+                if c == b'\n' {
+                    return Some(Line {
+                        count,
+                        largest,
+                        next: i + 1,
+                    });
                 }
-                v = 10 * v + d;
-            } else {
-                v = d;
+                if c != b',' {
+                    return None;
+                }
+                value = None;
             }
-            begun = true;
-        } else {
-            if !begun {
-                return Scan::Broken;
-            }
-            n += 1;
-            top = larger(top, v);
-            if c == 10 {
-                return Scan::Line {
-                    count: n,
-                    largest: top,
-                    next: i + 1,
-                };
-            }
-            if c != 44 {
-                return Scan::Broken;
-            }
-            begun = false;
         }
-        i += 1;
     }
-    Scan::Broken
+    None
 }
 
 // A line: the key, then its numbers.
-fn scan_line(text: &[u8], at: usize, key: &[u8]) -> Scan
+fn scan_line(text: &[u8], at: usize, key: &[u8]) -> Option<Line>
     ensures { scanned text.now result ≡ summed (line key.now (drop at text.now)) }
 {
-    let mut i = at;
-    let mut j = 0;
-    while j < key.len() {
-        if text.len() <= i {
-            return Scan::Broken;
-        }
-        if text[i] != key[j] {
-            return Scan::Broken;
-        }
-        i += 1;
-        j += 1;
+    if text.get(at..)?.starts_with(key) {
+        scan_values(text, at + key.len())
+    } else {
+        None
     }
-    scan_values(text, i)
 }
 
-// The line of one of the ten keys, counted from 0.
-fn scan_key(text: &[u8], at: usize, k: usize) -> Scan
-    requires { k < 10 }
-    ensures { scanned text.now result ≡ summed (line (get_or (number_keys ++ list_keys) k []) (drop at text.now)) }
-{
-    if k < 5 {
-        match k {
-            0 => scan_line(text, at, b"ring="),
-            1 => scan_line(text, at, b"modulus="),
-            2 => scan_line(text, at, b"drown="),
-            3 => scan_line(text, at, b"rounds="),
-            _ => scan_line(text, at, b"repeats="),
-        }
-    } else {
-        match k {
-            5 => scan_line(text, at, b"a="),
-            6 => scan_line(text, at, b"b="),
-            7 => scan_line(text, at, b"k1="),
-            8 => scan_line(text, at, b"k2="),
-            _ => scan_line(text, at, b"k3="),
-        }
-    }
-}
+// The ten keys, each with its =.
+const KEYS: [&[u8]; 10] = [
+    b"ring=",
+    b"modulus=",
+    b"drown=",
+    b"rounds=",
+    b"repeats=",
+    b"a=",
+    b"b=",
+    b"k1=",
+    b"k2=",
+    b"k3=",
+];
 
 // The lines of five keys, from one on.
 pub fn scan_lines(text: &[u8], at: usize, from: usize) -> Lines
@@ -144,33 +115,25 @@ pub fn scan_lines(text: &[u8], at: usize, from: usize) -> Lines
     ensures { Scanned (take 5 (drop from (number_keys ++ list_keys))) (drop at text.now) text.now result }
 {
     let mut counts = [0u64; 5];
-    let mut tops = [0u64; 5];
+    let mut largest = [0u64; 5];
     let mut next = at;
-    let mut i = 0;
-    while i < 5 {
-        let s = scan_key(text, next, from + i);
-        let Scan::Line {
-            count: n,
-            largest: top,
-            next: e,
-        } = s
-        else {
+    for i in 0..5 {
+        let Some(line) = scan_line(text, next, KEYS[from + i]) else {
             return Lines {
                 whole: false,
                 counts,
-                largest: tops,
+                largest,
                 next,
             };
         };
-        counts[i] = n;
-        tops[i] = top;
-        next = e;
-        i += 1;
+        counts[i] = line.count;
+        largest[i] = line.largest;
+        next = line.next;
     }
     Lines {
         whole: true,
         counts,
-        largest: tops,
+        largest,
         next,
     }
 }
@@ -179,26 +142,12 @@ pub fn scan_lines(text: &[u8], at: usize, from: usize) -> Lines
 pub fn all_are(xs: [u64; 5], v: u64) -> bool
     ensures { result ≡ every (λ x. eqb x v) xs }
 {
-    let mut i = 0;
-    while i < 5 {
-        if xs[i] != v {
-            return false;
-        }
-        i += 1;
-    }
-    true
+    xs.iter().all(|x| *x == v)
 }
 
 // Whether each of the numbers is below v.
 pub fn all_below(xs: [u64; 5], v: u64) -> bool
     ensures { result ≡ all_below v xs }
 {
-    let mut i = 0;
-    while i < 5 {
-        if v <= xs[i] {
-            return false;
-        }
-        i += 1;
-    }
-    true
+    xs.iter().all(|x| *x < v)
 }

@@ -22,10 +22,6 @@ use Rattle.sheet_numbers.specs.Rules.{any, ranges, outside, conditions, unsound}
 use Rattle.sheet_numbers.specs.declared.Numbers.{Numbers}
 use Rattle.sheet_numbers.proofs.Least.{least_largest}
 
--- (1 + 2^d) D at its largest
-pub times : (x y : ℕ) → x ≤ 1099511627777 → y ≤ 1028597 → x * y ≤ 1099511627777 * 1028597
-times x y h k = mul-le-mul h k
-
 -- ---- a ring is a power of two
 
 -- from 4 to 2048, a power of two and a divisor of 2048 are the same

@@ -1,5 +1,5 @@
 // The bounds that a sheet's numbers give, and the refusals 3 and 4.
-ghost use Rattle.std.specs.Prelude.{◌≡◌, ◌^◌, ◌≤◌, false};
+ghost use Rattle.std.specs.Prelude.{◌≡◌, ◌^◌, ◌≤◌, ◌||◌, not, ltb, false};
 ghost use Rattle.sheet_numbers.specs.Bounds as def;
 ghost use Rattle.sheet_numbers.specs.Plain as here;
 ghost use Rattle.sheet_numbers.specs.Rules as rule;
@@ -8,6 +8,7 @@ use crate::Numbers;
 use crate::repeats::least_repeats;
 
 // The plaintext modulus p.
+#[tactic(auto, unfolding(crate::specs::Plain::plain))]
 pub fn plain(k: Numbers) -> u64
     ensures { result ≡ here.plain k }
 {
@@ -47,42 +48,24 @@ pub fn unknowns(n: u64) -> u64
     14 * n
 }
 
+// A ring outside its range, or no power of two.
+#[tactic(auto, using(crate::proofs::Ranges::divides))]
+fn ring_outside(n: u64) -> bool
+    ensures { result ≡ (ltb n 4 || (ltb 2048 n || not (def.power 12 n))) }
+{
+    n < 4 || 2048 < n || 2048 % n != 0
+}
+
 // Refusal 3: a number outside its range, or a ring that is no power of two.
-#[tactic(auto, using(crate::proofs::Ranges::divides), unfolding(crate::specs::Rules::outside, crate::specs::Rules::any))]
+#[tactic(auto, unfolding(crate::specs::Rules::outside, crate::specs::Rules::any))]
 pub fn outside(k: Numbers) -> bool
     ensures { result ≡ rule.outside k }
 {
-    if k.ring < 4 {
-        return true;
-    }
-    if 2048 < k.ring {
-        return true;
-    }
-    if 2048 % k.ring != 0 {
-        return true;
-    }
-    if k.modulus < 3 {
-        return true;
-    }
-    if 72057594037927936 <= k.modulus {
-        return true;
-    }
-    if 40 < k.drown {
-        return true;
-    }
-    if k.rounds < 1 {
-        return true;
-    }
-    if 128 < k.rounds {
-        return true;
-    }
-    if k.repeats < least_repeats(k.rounds) {
-        return true;
-    }
-    if 256 < k.repeats {
-        return true;
-    }
-    false
+    ring_outside(k.ring)
+        || !(3..72057594037927936).contains(&k.modulus)
+        || 40 < k.drown
+        || !(1..=128).contains(&k.rounds)
+        || !(least_repeats(k.rounds)..=256).contains(&k.repeats)
 }
 
 // Refusal 4: 2N does not divide q - 1, or (1 + 2^d) D is not below (q - 1)/2.
@@ -91,11 +74,6 @@ pub fn unsound(k: Numbers) -> bool
     requires { rule.outside k ≡ false }
     ensures { result ≡ rule.unsound k }
 {
-    if (k.modulus - 1) % (2 * k.ring) != 0 {
-        return true;
-    }
-    if (k.modulus - 1) / 2 <= (1 + power(k.drown)) * noise_bound(k) {
-        return true;
-    }
-    false
+    (k.modulus - 1) % (2 * k.ring) != 0
+        || (k.modulus - 1) / 2 <= (1 + power(k.drown)) * noise_bound(k)
 }

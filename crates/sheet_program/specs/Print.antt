@@ -4,9 +4,7 @@ use Rattle.codec.specs.Bytes.{Bytes, put}
 use Rattle.sheet_lines.specs.Form.{decimal}
 use Rattle.sheet_numbers.specs.Bounds.{unknown_count}
 use Rattle.sheet_numbers.specs.Plain.{noise_bound_of, mask_bound_of}
-use Rattle.sheet.specs.Sheet.{reading}
-use Rattle.sheet.specs.declared.Reading.{Reading}
-use Rattle.sheet.specs.declared.Reading.TheVariants.{Taken, Refused}
+use Rattle.sheet.specs.Sheet.{reading, Reading, Taken, Refused}
 
 -- a printed line: a key with = after it, a number in decimal, LF
 unfoldable pub printed_line : Bytes → ℕ → Bytes

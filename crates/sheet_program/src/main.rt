@@ -5,10 +5,9 @@
 ghost use Rattle.std.specs.Prelude.{◌≡◌, false, ◌+◌, ◌≤◌, length, take};
 ghost use Rattle.io.specs.Counts.{IsPrefixLen};
 ghost use Rattle.sheet_numbers.specs.Rules.{outside};
-ghost use Rattle.sheet.specs.declared.Reading.TheVariants.{Taken};
+ghost use Rattle.sheet.specs.Sheet.{Taken};
 ghost use Rattle.sheet_program.specs.Print.{printed_line, printed_by, printed, Puts};
 
-use sheet::Reading;
 use sheet_numbers::Numbers;
 use std::io::Read;
 
@@ -48,10 +47,9 @@ fn report(text: &[u8], out: &mut [u8; 160]) -> usize
     if LONGEST < text.len() {
         return put_line(out, 0, b"verdict=", 1);
     }
-    let r = sheet::read(text);
-    match r {
-        Reading::Taken(k) => show(k, out),
-        Reading::Refused { number } => put_line(out, 0, b"verdict=", number as u64),
+    match sheet::read(text) {
+        Ok(k) => show(k, out),
+        Err(why) => put_line(out, 0, b"verdict=", u64::from(why.number())),
     }
 }
 

@@ -9,8 +9,7 @@ use lib.Dec.{eqb}
 use lib.ListN.{length, take, drop}
 use Rattle.codec.specs.Bytes.{Bytes, part}
 use Rattle.codec.proofs.Laws.{length_part}
-use Rattle.codec.specs.Reply.{test, first}
-use Rattle.codec.specs.declared.Reply.TheVariants.{Taken, Refused}
+use Rattle.codec.specs.Reply.{test, first, Taken, Refused}
 use Rattle.codec.specs.Lists.{all_below}
 use Rattle.vector.specs.Vector.{vector}
 use Rattle.stern.specs.Shortness.{answer_length}

@@ -98,8 +98,7 @@ pub fn masked_digest(
     ensures { (result ≡ sha3 (string3 salt.now (apply (entries p.now) (add q (ternaries q (extend (14 * n) x.now))
         (vector r.now))))) × Free work.old work.new }
 {
-    let minus = 14 * n - ring::count_of(x, 2);
-    let zeros = 14 * n - ring::count_of(x, 0);
+    let (minus, zeros) = vector::missing(x);
     vector::gather_masked(work, 0, p, x, minus, zeros, r, 42 * n, q);
     tagged(3, salt, &work[0..336 * n])
 }

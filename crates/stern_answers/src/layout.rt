@@ -20,10 +20,8 @@ pub fn answer_ranged(challenge: u8, answer: &[u8], n: usize, q: u64) -> bool
     ensures { result ≡ in_range q n challenge answer.now }
 {
     if challenge == 1 {
-        if !ring::is_ternary(&answer[0..42 * n]) {
-            return false;
-        }
-        return ring::in_range(&answer[42 * n..378 * n], q);
+        ring::is_ternary(&answer[0..42 * n]) && ring::in_range(&answer[42 * n..378 * n], q)
+    } else {
+        ring::in_range(&answer[168 * n..504 * n], q)
     }
-    ring::in_range(&answer[168 * n..504 * n], q)
 }

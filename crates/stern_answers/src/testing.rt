@@ -2,6 +2,7 @@
 ghost use Rattle.std.specs.Prelude.{◌≡◌, true, not, ◌&&◌, [], ◌∷◌, ◌+◌, ◌*◌, ◌≤◌, ◌<◌, ◌^◌, length};
 ghost use Rattle.scratch.specs.Vocabulary.{same, first, all_below, scratch_length};
 ghost use Rattle.codec.specs.Reply.{test};
+ghost use Rattle.codec.specs.Refusal.{as_reply};
 ghost use Rattle.scratch.specs.Internal.{Judged, Tried};
 ghost use Rattle.commitment.specs.Commitment.{keys_of};
 ghost use Rattle.commitment.specs.Internal.{PublicKeys};
@@ -9,7 +10,7 @@ ghost use Rattle.vector.specs.Vector.{vector};
 ghost use Rattle.stern.specs.Shortness.{answer1_of, answer2_of, tests1, answer_length, answer_tests, in_range};
 ghost use Rattle.stern_answers.specs.Internal.{balanced_tests, permuted_tests};
 
-use codec::Reply;
+use codec::{Refusal, Reply};
 use stern::digests::{equations_digest, gathered_digest, tagged};
 
 // Answer 1: there are L of each, and digests 2 and 3 are those of P(R) and of P(extended) + P(R).
@@ -27,11 +28,11 @@ fn test_balanced(
 ) -> Reply
     requires { (n ≤ 2048) × (3 ≤ q) × (q < 2 ^ 56) × (length work.old ≡ scratch_length) × (length w.now ≡ 42 * n)
         × (length t.now ≡ 336 * n) × (length salt2.now ≡ 32) × (length salt3.now ≡ 32) × (all_below q (vector t.now) ≡ true) }
-    ensures { Tried (balanced_tests q n two.now three.now w.now t.now salt2.now salt3.now place) result
-        work.old work.new }
+    ensures { Tried (balanced_tests q n two.now three.now w.now t.now salt2.now salt3.now place)
+        (as_reply result) work.old work.new }
 {
     if !vector::tests::is_balanced(w, 14 * n) {
-        return Reply::Refused { number: 10, place };
+        return Err(Refusal::NotBalanced(place));
     }
     let second = tagged(2, salt2, t);
     vector::sum(work, 0, w, t, 42 * n, q);
@@ -43,21 +44,17 @@ fn test_balanced(
 fn both_equal(a: &[u8], b: &[u8], c: &[u8], d: &[u8]) -> bool
     ensures { result ≡ (same a.now b.now && same c.now d.now) }
 {
-    if codec::equal(a, b) {
-        codec::equal(c, d)
-    } else {
-        false
-    }
+    codec::equal(a, b) && codec::equal(c, d)
 }
 
 // 11, unless two digests are two others.
 fn test_digests(a: &[u8], b: &[u8], c: &[u8], d: &[u8], place: u32) -> Reply
-    ensures { result ≡ first (test 11 place (not (same a.now b.now && same c.now d.now)) ∷ []) }
+    ensures { as_reply result ≡ first (test 11 place (not (same a.now b.now && same c.now d.now)) ∷ []) }
 {
     if both_equal(a, b, c, d) {
-        Reply::Taken
+        Ok(())
     } else {
-        Reply::Refused { number: 11, place }
+        Err(Refusal::DigestDiffers(place))
     }
 }
 
@@ -83,10 +80,10 @@ fn test_permuted(
         × (length salt1.now ≡ 32) × (length salt.now ≡ 32) × (all_below q (vector x.now) ≡ true) × (length c.now ≡ 64 * n)
         × (all_below q (vector c.now) ≡ true) }
     ensures { Tried (permuted_tests q n (keys_of n k.now) c.now less one.now lead other.now p.now x.now
-        salt1.now salt.now place) result work.old work.new }
+        salt1.now salt.now place) (as_reply result) work.old work.new }
 {
     if !vector::tests::is_permutation(p, work, 0, 42 * n) {
-        return Reply::Refused { number: 9, place };
+        return Err(Refusal::NoPermutation(place));
     }
     let first = equations_digest(work, k, c, less, x, p, salt1, n, q);
     let second = gathered_digest(lead, work, p, x, salt, n);
@@ -97,8 +94,8 @@ fn test_permuted(
 fn test_first(work: &mut [u8], d: &[u8], answer: &[u8], place: u32, n: usize, q: u64) -> Reply
     requires { (n ≤ 2048) × (3 ≤ q) × (q < 2 ^ 56) × (length work.old ≡ scratch_length) × (length d.now ≡ 96)
         × (length answer.now ≡ 378 * n + 64) × (all_below q (vector (answer1_of n answer.now).t) ≡ true) }
-    ensures { Judged (tests1 q n (keys_of n []) [] d.now place (answer1_of n answer.now)) result work.old
-        work.new }
+    ensures { Judged (tests1 q n (keys_of n []) [] d.now place (answer1_of n answer.now)) (as_reply result)
+        work.old work.new }
 {
     let reply = test_balanced(
         work,
@@ -134,7 +131,7 @@ fn test_bytes(
         × (length c.now ≡ 64 * n) × (all_below q (vector c.now) ≡ true) × (all_below q (vector (answer2_of n answer.now).u) ≡ true) }
     ensures { let x = answer2_of n answer.now in
         Judged (permuted_tests q n (keys_of n k.now) c.now less one.now lead other.now x.p x.u x.salt1 x.salt3
-        place) result work.old work.new }
+        place) (as_reply result) work.old work.new }
 {
     let reply = test_permuted(
         work,
@@ -171,8 +168,8 @@ pub fn test_answer(
     requires { PublicKeys n q k.now × (length work.old ≡ scratch_length) × (length d.now ≡ 96) × (length c.now ≡ 64 * n)
         × (all_below q (vector c.now) ≡ true) × (length answer.now ≡ answer_length n challenge)
         × (in_range q n challenge answer.now ≡ true) }
-    ensures { Judged (answer_tests q n (keys_of n k.now) c.now d.now place challenge answer.now) result
-        work.old work.new }
+    ensures { Judged (answer_tests q n (keys_of n k.now) c.now d.now place challenge answer.now)
+        (as_reply result) work.old work.new }
 {
     if challenge == 1 {
         return test_first(work, d, answer, place, n, q);

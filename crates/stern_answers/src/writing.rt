@@ -48,8 +48,7 @@ pub fn write_answer1(out: &mut [u8], x: &[u8], r: &[u8], p: &[u8], salts: &[u8],
     requires { (n ≤ 2048) × (length out.old ≡ 378 * n + 64) × RepetitionMaterial q n x.now r.now p.now salts.now }
     ensures { let drawn = drawn_of p.now r.now salts.now in out.new ≡ answer1_bytes (answer1 (14 * n) x.now drawn) }
 {
-    let minus = 14 * n - ring::count_of(x, 2);
-    let zeros = 14 * n - ring::count_of(x, 0);
+    let (minus, zeros) = vector::missing(x);
     vector::gather_extended(out, 0, p, x, minus, zeros, 42 * n);
     vector::gather(out, 42 * n, p, r, 42 * n);
     codec::copy(out, 378 * n, &salts[32..96]);
@@ -62,8 +61,7 @@ pub fn write_answer2(out: &mut [u8], x: &[u8], r: &[u8], p: &[u8], salts: &[u8],
     ensures { let drawn = drawn_of p.now r.now salts.now in
         out.new ≡ answer2_bytes (answer2 q (14 * n) x.now drawn) }
 {
-    let minus = 14 * n - ring::count_of(x, 2);
-    let zeros = 14 * n - ring::count_of(x, 0);
+    let (minus, zeros) = vector::missing(x);
     codec::copy(out, 0, p);
     vector::mask(out, 168 * n, x, minus, zeros, r, 42 * n, q);
     codec::copy(out, 504 * n, &salts[0..32]);

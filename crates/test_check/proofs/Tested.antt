@@ -3,9 +3,7 @@ use mathlib.Core.Path.{◌≡◌}
 use mathlib.Core.Bool.{Bool, true, false}
 use Prim.Native.Nat.{ℕ, ◌≤◌, ◌<◌}
 use Rattle.codec.specs.Bytes.{Bytes}
-use Rattle.codec.specs.Reply.{first}
-use Rattle.codec.specs.declared.Reply.{Reply}
-use Rattle.codec.specs.declared.Reply.TheVariants.{Refused}
+use Rattle.codec.specs.Reply.{first, Reply, Refused}
 use Rattle.round.specs.Round.{Round, round_tests}
 use Rattle.round_lengths.specs.Calls.{count_of, message_sized, second_sized}
 use Rattle.round_lengths.proofs.Sizes.{too_many, wrong_first, wrong_second, right}

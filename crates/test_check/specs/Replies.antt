@@ -2,8 +2,7 @@
 -- number that was closed, are the session's. Assumes nothing.
 use Rattle.std.specs.Prelude.{◌≡◌, ◌&&◌, List, ◌∷◌, ◌++◌, ℕ}
 use Rattle.codec.specs.Bytes.{Bytes}
-use Rattle.codec.specs.Reply.{Test, first, packed}
-use Rattle.codec.specs.declared.Reply.{Reply}
+use Rattle.codec.specs.Reply.{Test, first, packed, Reply}
 use Rattle.sheet.specs.Sheet.{order}
 use Rattle.scratch.specs.Call.{zeroized}
 use Rattle.round.specs.Round.{Round, round_tests}

@@ -3,11 +3,12 @@
 // In C a slice is `uint8_t *, size_t`, and `const` where it is lent to be read.
 #![tactic(auto)]
 
+ghost use Rattle.codec.specs.Refusal.{as_reply};
 ghost use Rattle.round.specs.Vocabulary.{round_in, first, zeroized, Loaded, parameters};
 ghost use Rattle.test_check.specs.Replies.{RoundCheckCalled, round_check_tests};
 ghost use Rattle.std.specs.Prelude.{◌≡◌};
 
-use codec::{Reply, refused};
+use codec::{Refusal, Reply};
 use round_lengths::{count_of, message_sized, second_sized};
 use sheet_numbers::Numbers;
 
@@ -30,20 +31,20 @@ fn check<'a>(
 ) -> Reply
     requires { Loaded k public.now }
     ensures { let x = round_in side challenges ballots claims head shares0 shares1 opening answers in
-        (result ≡ first (round_check_tests (parameters k public.now) x scratch.old))
-        × (scratch.new ≡ zeroized result scratch.old) }
+        (as_reply result ≡ first (round_check_tests (parameters k public.now) x scratch.old))
+        × (scratch.new ≡ zeroized (as_reply result) scratch.old) }
 {
     let n = k.ring as usize;
     let repeats = k.repeats as usize;
     let count = count_of(ballots, n);
     if count > 4096 {
-        return refused(1);
+        return Err(Refusal::WrongLength);
     }
     if !message_sized(head, shares0, shares1, ballots, claims, count, repeats, n) {
-        return refused(1);
+        return Err(Refusal::WrongLength);
     }
     if !second_sized(challenges, opening, answers, scratch, repeats, n) {
-        return refused(1);
+        return Err(Refusal::WrongLength);
     }
     round_check::check_round(
         scratch, k, public, side, challenges, ballots, claims, head, shares0, shares1, opening,
@@ -71,12 +72,11 @@ pub extern "C" fn test_check_round<'a>(
         RoundCheckCalled sheet.now x scratch.old result scratch.new }
 {
     let mut public = [0u8; 81920];
-    let reading = sheet::load(sheet, &mut public);
-    let sheet::Reading::Taken(k) = reading else {
-        return codec::pack(scratch::refuse(reading, scratch));
-    };
-    codec::pack(check(
-        k, &public, side, challenges, ballots, claims, head, shares0, shares1, opening, answers,
-        scratch,
-    ))
+    match sheet::load(sheet, &mut public) {
+        Ok(k) => codec::pack(check(
+            k, &public, side, challenges, ballots, claims, head, shares0, shares1, opening,
+            answers, scratch,
+        )),
+        Err(why) => codec::pack(scratch::finish(Err(why), scratch)),
+    }
 }

@@ -1,16 +1,14 @@
--- A polynomial in the first of four slots that were wiped, and what a reply says as a number. Assumes nothing.
-use mathlib.Core.Path.{◌≡◌, refl, sym, ap, ap₂, ◌∙◌}
-use mathlib.Core.Bool.{Bool, true, false, cond}
-use mathlib.Core.List.{List, [], ◌∷◌, ◌++◌, append-nil}
+-- A polynomial in the first of four slots that were wiped, and what a taken call has shown. Assumes nothing.
+use mathlib.Core.Path.{◌≡◌, sym, ap, ap₂, ◌∙◌}
+use mathlib.Core.Bool.{true}
+use mathlib.Core.List.{◌++◌, append-nil}
 use Prim.Native.Nat.{ℕ, ◌+◌, ◌*◌, ◌/◌, ◌^◌, ◌≤◌, ◌<◌}
 use native.Mathlib.Omega.{arith}
 use borrow.Author.Tests.{ltb-false, leb-false, eqb-true, eqb-false, not-false}
 use lib.ListN.{length, drop, length-append, length-replicate, replicate-append-replicate}
 use lib.Seq.{take_at, drop_at, drop-length}
 use Rattle.codec.specs.Bytes.{Bytes, put, zeros}
-use Rattle.codec.specs.Reply.{Test, first, None, leaves, packed}
-use Rattle.codec.specs.declared.Reply.{Reply}
-use Rattle.codec.specs.declared.Reply.TheVariants.{Taken, Refused}
+use Rattle.codec.specs.Reply.{Taken}
 use Rattle.codec.proofs.Laws.{put_put}
 use Rattle.codec.proofs.Replies.{taken_exactly}
 use Rattle.codec.specs.Lists.{list, all_below}
@@ -70,27 +68,7 @@ module _ (n : ℕ) where
         let f = modulo q (mul q n (poly a) (poly b)) in
         ap (λ (d : Bytes). put d (8 * n) (zeros (24 * n))) (outcome _ _ (alike_mul alike_loaded alike_refl)) ∙ room_wiped (encode n f) (length_encode n f)
 
--- ---- a reply as a number
-
--- a refusal leaves what was there
-pub kept : {A : Type 0} (r : Reply) (written there : A) → (packed r ≡ 0 → ⊥) → there ≡ leaves r written there
-unfolding leaves
-kept Taken written there h = absurd (h refl)
-kept (Refused number place) written there h = refl
-
--- every number of an order is positive
-abbrev pub Numbered : List Test → Type 0
-Numbered [] = Unit
-Numbered (t ∷ ts) = (0 < t.number) × Numbered ts
-
-pub none : (ts : List Test) → Numbered ts → packed (first ts) ≡ 0 → None ts
-unfolding first
-none [] p e = tt
-none (t ∷ ts) p e = go t.holds refl e (λ k. none ts p.1 k)
-  where
-    go : (b : Bool) → t.holds ≡ b → packed (cond b (Refused t.number t.place) (first ts)) ≡ 0 → (packed (first ts) ≡ 0 → None ts) → None (t ∷ ts)
-    go true h e rest = absurd (let l = p.0 in omega arith)
-    go false h e rest = (h, rest e)
+-- ---- a call that is taken
 
 -- what a taken call of two polynomials has shown
 pub record Fine (n q : ℕ) (w a b : Bytes) : Type 0 where
@@ -103,10 +81,10 @@ pub record Fine (n q : ℕ) (w a b : Bytes) : Type 0 where
   pub below_left : Below q n (poly a)
   pub below_right : Below q n (poly b)
 
-pub fine : (operation n q : ℕ) (w a b : Bytes) → packed (polynomials_reply operation n q w a b) ≡ 0 → Fine n q w a b
+pub fine : (operation n q : ℕ) (w a b : Bytes) → polynomials_reply operation n q w a b ≡ Taken → Fine n q w a b
 unfolding polynomials_reply
 fine operation n q w a b e =
-    let f = none _ (omega arith, (omega arith, (omega arith, (omega arith, (omega arith, (omega arith, (omega arith, (omega arith, (omega arith, tt))))))))) e in
+    let f = (taken_exactly _).0 e in
     let la : length a ≡ 8 * n = eqb-true (length a) (8 * n) (not-false _ f.1.1.1.1.1.0) in
     let lb : length b ≡ 8 * n = eqb-true (length b) (8 * n) (not-false _ f.1.1.1.1.1.1.0) in
     let na : length a / 8 ≡ n = omega arith in
@@ -123,10 +101,3 @@ fine operation n q w a b e =
       below_left = below_sound q n (poly a) (rw na at ba);
       below_right = below_sound q n (poly b) (rw nb at bb);
     }
-
--- and so it leaves what it writes
-pub written : {A : Type 0} (operation n q : ℕ) (w a b : Bytes) (x y : A) → packed (polynomials_reply operation n q w a b) ≡ 0 → x ≡ leaves (polynomials_reply operation n q w a b) x y
-unfolding polynomials_reply leaves
-written operation n q w a b x y e =
-    let f = none _ (omega arith, (omega arith, (omega arith, (omega arith, (omega arith, (omega arith, (omega arith, (omega arith, (omega arith, tt))))))))) e in
-    ap (λ (r : Reply). leaves r x y) (sym ((taken_exactly _).1 f))

@@ -8,8 +8,7 @@ use borrow.Author.Tests.{ltb-false, leb-false, eqb-true, not-true, not-false}
 use lib.Dec.{eqb, leb, ltb}
 use lib.ListN.{length, length-append, length-replicate}
 use Rattle.codec.specs.Bytes.{Bytes, put, zeros}
-use Rattle.codec.specs.Reply.{leaves, packed}
-use Rattle.codec.specs.declared.Reply.{Reply}
+use Rattle.codec.specs.Reply.{Taken}
 use Rattle.codec.specs.Lists.{list, all_below}
 use Rattle.codec.proofs.Laws.{both, length_put, put_put, put_append, put_whole}
 use Rattle.codec.proofs.Replies.{taken_exactly}
@@ -24,7 +23,6 @@ use Rattle.ring_transform.specs.Internal.{Transformable}
 use Rattle.ring_transform.proofs.Roots.{root_sound}
 use Rattle.sheet_numbers.proofs.Ranges.{divides, power_of}
 use Rattle.test_ring.specs.Calls.{suited, transform_reply}
-use Rattle.test_ring.proofs.Outcome.{none}
 
 pub record Suits (n q : ℕ) : Type 0 where
   pub low : 4 ≤ n
@@ -62,11 +60,11 @@ pub record Shown (n root q : ℕ) (w a b : Bytes) : Type 0 where
   pub below_left : Below q n (poly a)
   pub below_right : Below q n (poly b)
 
-module _ (n root q : ℕ) (w a b : Bytes) (e : packed (transform_reply n root q w a b) ≡ 0) where
+module _ (n root q : ℕ) (w a b : Bytes) (e : transform_reply n root q w a b ≡ Taken) where
   pub shown : Shown n root q w a b
   unfolding transform_reply
   shown =
-      let f = none _ (omega arith, (omega arith, (omega arith, (omega arith, (omega arith, (omega arith, tt)))))) e in
+      let f = (taken_exactly _).0 e in
       let s = suited_sound n q (not-false _ f.0) in
       let la : length a ≡ 8 * n = eqb-true (length a) (8 * n) (not-false _ f.1.1.0) in
       let lb : length b ≡ 8 * n = eqb-true (length b) (8 * n) (not-false _ f.1.1.1.0) in
@@ -89,12 +87,6 @@ module _ (n root q : ℕ) (w a b : Bytes) (e : packed (transform_reply n root q 
         below_left = below_sound q n (poly a) bs.0;
         below_right = below_sound q n (poly b) bb.0;
       }
-
-  pub taken : {A : Type 0} (x y : A) → x ≡ leaves (transform_reply n root q w a b) x y
-  unfolding transform_reply leaves
-  taken x y =
-      let f = none _ (omega arith, (omega arith, (omega arith, (omega arith, (omega arith, (omega arith, tt)))))) e in
-      ap (λ (r : Reply). leaves r x y) (sym ((taken_exactly _).1 f))
 
 -- the product in the first of two slots, and the other zero
 module _ (n q : ℕ) (w w₁ a b : Bytes) (lw : length w ≡ 16 * n) (la : length a ≡ 8 * n) (e₁ : w₁ ≡ put w 0 a) where

@@ -8,6 +8,7 @@
 ghost use Rattle.std.specs.Prelude.{◌≡◌, ◌+◌, ◌*◌, ◌%◌, ◌≤◌, ◌<◌, ◌^◌, pos, leb, eqb, [], ◌∷◌, ◌++◌, length};
 ghost use Rattle.codec.specs.Bytes.{zeros};
 ghost use Rattle.codec.specs.Reply.{packed, leaves, first, test};
+ghost use Rattle.codec.specs.Refusal.{as_reply};
 ghost use Rattle.modular.specs.Modulo.{centre, remainder};
 ghost use Rattle.modular.specs.Division.{divide};
 ghost use Rattle.ring.specs.Poly.{Below};
@@ -16,28 +17,22 @@ ghost use Rattle.ring.specs.Ternary.{ternary, count};
 ghost use Rattle.test_ring.specs.Calls.{answer, on_numbers, numbers_reply, divide_reply, on_polynomials, polynomials_reply};
 ghost use Rattle.test_ring.specs.Calls.{polynomials_out, ternary_reply, suited, transform_reply, transform_out};
 
+use codec::{Refusal, Reply};
+
 // ---- numbers
 
 fn on_numbers(operation: u64, x: u64, y: u64, q: u64) -> u64
     requires { (x < q) × (y < q) × (q % 2 ≡ 1) × (q < 2 ^ 56) }
     ensures { (result ≡ on_numbers operation x y q) × (result ≤ q) }
 {
-    if operation == 0 {
-        return modular::add(x, y, q);
+    match operation {
+        0 => modular::add(x, y, q),
+        1 => modular::subtract(x, y, q),
+        2 => modular::multiply(x, y, q),
+        3 => modular::negate(x, q),
+        4 => modular::size(x, q),
+        _ => modular::residue(x, 2, q),
     }
-    if operation == 1 {
-        return modular::subtract(x, y, q);
-    }
-    if operation == 2 {
-        return modular::multiply(x, y, q);
-    }
-    if operation == 3 {
-        return modular::negate(x, q);
-    }
-    if operation == 4 {
-        return modular::size(x, q);
-    }
-    modular::residue(x, 2, q)
 }
 
 // uint64_t modular_numbers(uint64_t operation, uint64_t x, uint64_t y, uint64_t q);
@@ -46,19 +41,13 @@ fn on_numbers(operation: u64, x: u64, y: u64, q: u64) -> u64
 pub extern "C" fn modular_numbers(operation: u64, x: u64, y: u64, q: u64) -> u64
     ensures { result ≡ answer (numbers_reply operation x y q) (on_numbers operation x y q) }
 {
-    if 5 < operation {
-        return 5;
-    }
-    if 72057594037927936 <= q {
+    if 5 < operation || 72057594037927936 <= q {
         return 5;
     }
     if q % 2 != 1 {
         return 5;
     }
-    if q <= x {
-        return 5;
-    }
-    if q <= y {
+    if q <= x || q <= y {
         return 5;
     }
     256 * on_numbers(operation, x, y, q)
@@ -69,16 +58,7 @@ pub extern "C" fn modular_numbers(operation: u64, x: u64, y: u64, q: u64) -> u64
 pub extern "C" fn modular_divide(x: u64, p: u64, q: u64) -> u64
     ensures { result ≡ answer (divide_reply x p q) (divide q p x) }
 {
-    if p < 2 {
-        return 5;
-    }
-    if 251 < p {
-        return 5;
-    }
-    if 72057594037927936 <= q {
-        return 5;
-    }
-    if q <= x {
+    if p < 2 || 251 < p || 72057594037927936 <= q || q <= x {
         return 5;
     }
     let m = modular::multiplier(p, q);
@@ -93,10 +73,7 @@ pub extern "C" fn modular_divide(x: u64, p: u64, q: u64) -> u64
 pub extern "C" fn modular_centred(x: u64, q: u64) -> i64
     ensures { result ≡ leaves (first (test 5 0 (leb (2 ^ 56) q) ∷ test 5 0 (leb q x) ∷ [])) (centre q x) (pos 4611686018427387904) }
 {
-    if 72057594037927936 <= q {
-        return 4611686018427387904;
-    }
-    if q <= x {
+    if 72057594037927936 <= q || q <= x {
         return 4611686018427387904;
     }
     modular::centred(x, q)
@@ -107,10 +84,7 @@ pub extern "C" fn modular_centred(x: u64, q: u64) -> i64
 pub extern "C" fn modular_reduce(e: i64, q: u64) -> u64
     ensures { result ≡ answer (first (test 5 0 (eqb q 0) ∷ test 5 0 (leb (2 ^ 56) q) ∷ [])) (remainder q e) }
 {
-    if q == 0 {
-        return 5;
-    }
-    if 72057594037927936 <= q {
+    if q == 0 || 72057594037927936 <= q {
         return 5;
     }
     256 * modular::reduce(e, q)
@@ -132,10 +106,7 @@ pub extern "C" fn ring_ternary(work: &mut [u8], t: &[u8], q: u64) -> u64
     ensures { (result ≡ packed (ternary_reply q work.old t.now))
         × (work.new ≡ leaves (ternary_reply q work.old t.now) (encode (length t.now) (ternary q t.now)) work.old) }
 {
-    if q < 2 {
-        return 5;
-    }
-    if 2048 < t.len() {
+    if q < 2 || 2048 < t.len() {
         return 5;
     }
     if work.len() != 8 * t.len() {
@@ -150,37 +121,29 @@ pub extern "C" fn ring_ternary(work: &mut [u8], t: &[u8], q: u64) -> u64
 
 // ---- polynomials
 
-fn judge(operation: u64, work: &[u8], a: &[u8], b: &[u8], n: usize, q: u64) -> u64
-    ensures { result ≡ packed (polynomials_reply operation n q work.now a.now b.now) }
+// What the call for an operation on two polynomials refuses.
+fn judge(operation: u64, work: &[u8], a: &[u8], b: &[u8], n: usize, q: u64) -> Reply
+    ensures { as_reply result ≡ polynomials_reply operation n q work.now a.now b.now }
 {
-    if 3 < operation {
-        return 5;
-    }
-    if 2048 < n {
-        return 5;
-    }
-    if q == 0 {
-        return 5;
-    }
-    if 72057594037927936 <= q {
-        return 5;
+    if 3 < operation || 2048 < n || q == 0 || 72057594037927936 <= q {
+        return Err(Refusal::ValueOutOfRange);
     }
     if work.len() != 32 * n {
-        return 1;
+        return Err(Refusal::WrongLength);
     }
     if a.len() != 8 * n {
-        return 1;
+        return Err(Refusal::WrongLength);
     }
     if b.len() != 8 * n {
-        return 1;
+        return Err(Refusal::WrongLength);
     }
     if !ring::in_range(a, q) {
-        return 5;
+        return Err(Refusal::ValueOutOfRange);
     }
     if !ring::in_range(b, q) {
-        return 5;
+        return Err(Refusal::ValueOutOfRange);
     }
-    0
+    Ok(())
 }
 
 // The result in the first slot, and zeros in the others.
@@ -192,19 +155,12 @@ fn compute(operation: u64, work: &mut [u8], a: &[u8], b: &[u8], n: usize, q: u64
 {
     codec::wipe(work);
     codec::copy(work, 0, a);
-    if operation == 0 {
-        ring::add(work, 0, b, n, q);
-        return;
+    match operation {
+        0 => ring::add(work, 0, b, n, q),
+        1 => ring::subtract(work, 0, b, n, q),
+        2 => ring_product::multiply(work, 0, 8 * n, b, n, q),
+        _ => ring_product::plain(work, 0, 8 * n, b, n, q),
     }
-    if operation == 1 {
-        ring::subtract(work, 0, b, n, q);
-        return;
-    }
-    if operation == 2 {
-        ring_product::multiply(work, 0, 8 * n, b, n, q);
-        return;
-    }
-    ring_product::plain(work, 0, 8 * n, b, n, q);
 }
 
 // uint64_t ring_polynomials(uint64_t operation, uint8_t *work, size_t, const uint8_t *a, size_t, const uint8_t *b, size_t, size_t n,
@@ -222,60 +178,48 @@ pub extern "C" fn ring_polynomials(
     ensures { (result ≡ packed (polynomials_reply operation n q work.old a.now b.now))
         × (work.new ≡ polynomials_out operation n q work.old a.now b.now) }
 {
-    let refusal = judge(operation, work, a, b, n, q);
-    if refusal != 0 {
-        return refusal;
+    match judge(operation, work, a, b, n, q) {
+        Ok(()) => {
+            compute(operation, work, a, b, n, q);
+            0
+        }
+        Err(why) => codec::pack(Err(why)),
     }
-    compute(operation, work, a, b, n, q);
-    0
 }
 
 // ---- the product by transforms
 
 // Whether a ring and a modulus are such that a product may be made by a root.
+#[tactic(auto, unfolding(crate::specs::Calls::suited))]
 fn suits(n: usize, q: u64) -> bool
     ensures { result ≡ suited n q }
 {
-    if n < 4 {
-        return false;
-    }
-    if 2048 < n {
-        return false;
-    }
-    if 2048 % n != 0 {
-        return false;
-    }
-    if q < 3 {
-        return false;
-    }
-    if 72057594037927936 <= q {
-        return false;
-    }
-    q % 2 == 1
+    (4..=2048).contains(&n) && 2048 % n == 0 && (3..72057594037927936).contains(&q) && q % 2 == 1
 }
 
-fn judge_transform(work: &[u8], a: &[u8], b: &[u8], n: usize, root: u64, q: u64) -> u64
-    ensures { result ≡ packed (transform_reply n root q work.now a.now b.now) }
+// What the call for a product by a root refuses.
+fn judge_transform(work: &[u8], a: &[u8], b: &[u8], n: usize, root: u64, q: u64) -> Reply
+    ensures { as_reply result ≡ transform_reply n root q work.now a.now b.now }
 {
     if !suits(n, q) {
-        return 5;
+        return Err(Refusal::ValueOutOfRange);
     }
     if work.len() != 16 * n {
-        return 1;
+        return Err(Refusal::WrongLength);
     }
     if a.len() != 8 * n {
-        return 1;
+        return Err(Refusal::WrongLength);
     }
     if b.len() != 8 * n {
-        return 1;
+        return Err(Refusal::WrongLength);
     }
     if !modular::is_root(root, n as u64, q) {
-        return 37;
+        return Err(Refusal::NoRoot);
     }
     if !scratch::both_in_range(a, b, n, q) {
-        return 5;
+        return Err(Refusal::ValueOutOfRange);
     }
-    0
+    Ok(())
 }
 
 // uint64_t ring_by_transform(uint8_t *work, size_t, const uint8_t *a, size_t, const uint8_t *b, size_t, size_t n, uint64_t root,
@@ -293,11 +237,12 @@ pub extern "C" fn ring_by_transform(
     ensures { (result ≡ packed (transform_reply n root q work.old a.now b.now))
         × (work.new ≡ transform_out n root q work.old a.now b.now) }
 {
-    let refusal = judge_transform(work, a, b, n, root, q);
-    if refusal != 0 {
-        return refusal;
+    match judge_transform(work, a, b, n, root, q) {
+        Ok(()) => {
+            codec::copy(work, 0, a);
+            ring_transform::multiply(work, 0, 8 * n, b, n, root, q);
+            0
+        }
+        Err(why) => codec::pack(Err(why)),
     }
-    codec::copy(work, 0, a);
-    ring_transform::multiply(work, 0, 8 * n, b, n, root, q);
-    0
 }

@@ -9,14 +9,12 @@ use lib.Dec.{eqb}
 use lib.ListN.{length, take}
 use Rattle.codec.specs.Bytes.{Bytes, put}
 use Rattle.codec.specs.Reply.{Test, test, first}
-use Rattle.codec.specs.declared.Reply.TheVariants as reply
+use Rattle.codec.specs.Reply as reply
 use Rattle.codec.proofs.Laws.{length_put, part_put}
 use Rattle.sheet.specs.Reader.{sheet_of}
-use Rattle.sheet.specs.Sheet.{reading, polynomials}
+use Rattle.sheet.specs.Sheet.{reading, polynomials, Reading, Taken, Refused}
 use Rattle.sheet.specs.Internal.{loaded}
 use Rattle.sheet_numbers.specs.declared.Numbers.{Numbers}
-use Rattle.sheet.specs.declared.Reading.{Reading}
-use Rattle.sheet.specs.declared.Reading.TheVariants.{Taken, Refused}
 use Rattle.sheet.proofs.Taken.{onwards, order_first, taken, length_polynomials}
 use Rattle.test_sheet.specs.Polynomials.{sheet_polynomials_reply}
 

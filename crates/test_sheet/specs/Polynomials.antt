@@ -1,8 +1,7 @@
 -- A call for tests that hands a sheet's polynomials out. Assumes nothing.
 use Rattle.std.specs.Prelude.{not, [], ◌∷◌, ◌++◌, ◌*◌, eqb, length}
 use Rattle.codec.specs.Bytes.{Bytes}
-use Rattle.codec.specs.Reply.{test, first, leaves}
-use Rattle.codec.specs.declared.Reply.{Reply}
+use Rattle.codec.specs.Reply.{test, first, leaves, Reply}
 use Rattle.sheet.specs.Reader.{sheet_of}
 use Rattle.sheet.specs.Sheet.{order, polynomials}
 

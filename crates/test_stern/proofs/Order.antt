@@ -8,9 +8,10 @@ use native.Mathlib.Omega.{arith}
 use lib.Dec.{eqb}
 use lib.ListN.{length}
 use Rattle.codec.specs.Bytes.{Bytes, zeros}
-use Rattle.codec.specs.Reply.{Test, test, first, leaves, packed}
-use Rattle.codec.specs.declared.Reply.{Reply}
-use Rattle.codec.specs.declared.Reply.TheVariants.{Taken, Refused}
+use Rattle.std.proofs.Common.{Result}
+use Rattle.codec.specs.Reply.{Test, test, first, leaves, packed, Reply, Taken, Refused}
+use Rattle.codec.specs.Refusal.{as_reply}
+use Rattle.codec.specs.declared.Refusal.{Refusal}
 use Rattle.scratch.specs.Call.{zeroized}
 use Rattle.scratch.proofs.Zeroizing.{zeroized_taken, zeroized_refused}
 use Rattle.commitment.specs.Commitment.{Keys}
@@ -58,10 +59,13 @@ module _ (r : Reply) (w w' : Bytes) (sized : length w' ≡ length w) where
 
 -- ---- a call, from its part before the zeroize
 
-module _ {is r r' : Reply} {answer : ℕ} (e : answer ≡ packed r') {w w'' : Bytes} (w' : Bytes) (z : (r' ≡ r) × (w'' ≡ zeroized r w')) where
-  pub answered : {writes out out' : Bytes} → r ≡ is → out' ≡ leaves r writes out → zeroized r w' ≡ zeroized r w → CallAnswered is writes answer out out' w w''
-  answered {writes} {out} i written used =
-      record { replied = e ∙ ap packed (z.0 ∙ i); written = written ∙ ap (λ (x : Reply). leaves x writes out) i; cleared = z.1 ∙ used ∙ ap (λ (x : Reply). zeroized x w) i }
+packs : {is : Reply} {r r' : Result Unit Refusal} {answer : ℕ} → answer ≡ packed (as_reply r') → r' ≡ r → as_reply r ≡ is → answer ≡ packed is
+packs e f i = e ∙ ap packed (ap as_reply f ∙ i)
 
-  pub told : Sifted is r w w' → CallTold is answer w w''
-  told m = let i = m.replied in record { replied = e ∙ ap packed (z.0 ∙ i); cleared = z.1 ∙ m.used ∙ ap (λ (x : Reply). zeroized x w) i }
+module _ {is : Reply} {r r' : Result Unit Refusal} {answer : ℕ} (e : answer ≡ packed (as_reply r')) {w w'' : Bytes} (w' : Bytes) (z : (r' ≡ r) × (w'' ≡ zeroized (as_reply r) w')) where
+  pub answered : {writes out out' : Bytes} → as_reply r ≡ is → out' ≡ leaves (as_reply r) writes out → zeroized (as_reply r) w' ≡ zeroized (as_reply r) w → CallAnswered is writes answer out out' w w''
+  answered {writes} {out} i written used =
+      record { replied = packs e z.0 i; written = written ∙ ap (λ (x : Reply). leaves x writes out) i; cleared = z.1 ∙ used ∙ ap (λ (x : Reply). zeroized x w) i }
+
+  pub told : Sifted is (as_reply r) w w' → CallTold is answer w w''
+  told m = record { replied = packs e z.0 m.replied; cleared = z.1 ∙ m.used ∙ ap (λ (x : Reply). zeroized x w) m.replied }

@@ -9,7 +9,7 @@ use borrow.Author.Tests.{leb-true, ltb-true, eqb-true, not-false}
 use lib.Dec.{leb, ltb}
 use lib.ListN.{length, length-append}
 use Rattle.codec.specs.Bytes.{Bytes, part, same}
-use Rattle.codec.specs.declared.Reply.TheVariants.{Taken}
+use Rattle.codec.specs.Reply.{Taken}
 use Rattle.codec.proofs.Laws.{both, length_part}
 use Rattle.codec.proofs.Replies.{taken_exactly}
 use Rattle.codec.specs.Lists.{all_below}

@@ -2,8 +2,7 @@
 -- what stands in the slices (5, and 9 for P). Assumes nothing.
 use Rattle.std.specs.Prelude.{◌≡◌, Bool, not, ◌&&◌, List, [], ◌∷◌, ℕ, ◌*◌, ◌^◌, eqb, leb, ltb, length}
 use Rattle.codec.specs.Bytes.{Bytes}
-use Rattle.codec.specs.Reply.{Test, test, first, leaves, packed}
-use Rattle.codec.specs.declared.Reply.{Reply}
+use Rattle.codec.specs.Reply.{Test, test, first, leaves, packed, Reply}
 use Rattle.codec.specs.Lists.{all_below}
 use Rattle.scratch.specs.Call.{scratch_length, zeroized, length_test}
 use Rattle.scratch.specs.Internal.{Free}

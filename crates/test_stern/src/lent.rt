@@ -1,26 +1,19 @@
 // What is lent to a call, one test at a time.
 ghost use Rattle.std.specs.Prelude.{◌≡◌, ◌&&◌, ◌∷◌, [], ◌*◌, ◌≤◌, length};
+ghost use Rattle.codec.specs.Refusal.{as_reply};
 ghost use Rattle.scratch.specs.Vocabulary.{same, first, all_below, scratch_length};
 ghost use Rattle.vector.specs.Vector.{vector};
 ghost use Rattle.stern.specs.Shortness.{answer_length, in_range};
 ghost use Rattle.test_stern.specs.Calls.{ring_fits, range_tests, lengths, wanted, Sifted};
 
-use codec::Reply;
+use codec::{Refusal, Reply};
 
 // Whether the ring size and the modulus are such as the code takes.
+#[tactic(auto, unfolding(crate::specs::Calls::ring_fits))]
 pub fn ring_fits(n: usize, q: u64) -> bool
     ensures { result ≡ ring_fits n q }
 {
-    if n < 4 {
-        return false;
-    }
-    if 2048 < n {
-        return false;
-    }
-    if q < 3 {
-        return false;
-    }
-    q < 72057594037927936
+    (4..=2048).contains(&n) && (3..72057594037927936).contains(&q)
 }
 
 // Whether what is lent for a repetition has its lengths, with an output of so many bytes.
@@ -54,18 +47,18 @@ pub fn material_sized(
 // Whether it is in range, and P a permutation, whose indices are marked in scratch.
 pub fn material_ranged(x: &[u8], r: &[u8], p: &[u8], scratch: &mut [u8], n: usize, q: u64) -> Reply
     requires { (n ≤ 2048) × (length p.now ≡ 168 * n) × (length scratch.old ≡ scratch_length) }
-    ensures { Sifted (first (range_tests q n x.now r.now p.now)) result scratch.old scratch.new }
+    ensures { Sifted (first (range_tests q n x.now r.now p.now)) (as_reply result) scratch.old scratch.new }
 {
     if !ring::is_ternary(x) {
-        return codec::refused(5);
+        return Err(Refusal::ValueOutOfRange);
     }
     if !ring::in_range(r, q) {
-        return codec::refused(5);
+        return Err(Refusal::ValueOutOfRange);
     }
     if !vector::tests::is_permutation(p, scratch, 0, 42 * n) {
-        return codec::refused(9);
+        return Err(Refusal::NoPermutation(0));
     }
-    Reply::Taken
+    Ok(())
 }
 
 // Whether the slices of a test have their lengths.
@@ -108,11 +101,7 @@ pub fn test_ranged(
     ensures { result ≡ all_below q (vector keys.now) && (all_below q (vector pairs.now) && in_range q n challenge
         answer.now) }
 {
-    if !ring::in_range(keys, q) {
-        return false;
-    }
-    if !ring::in_range(pairs, q) {
-        return false;
-    }
-    stern_answers::layout::answer_ranged(challenge, answer, n, q)
+    ring::in_range(keys, q)
+        && ring::in_range(pairs, q)
+        && stern_answers::layout::answer_ranged(challenge, answer, n, q)
 }

@@ -12,8 +12,6 @@ ghost use Rattle.commitment.specs.Commitment.{keys_of};
 ghost use Rattle.stern.specs.Shortness.{drawn_of, honest_digests, honest_answer};
 ghost use Rattle.test_stern.specs.Calls.{digests_reply, answer_reply, test_reply, CallAnswered, CallTold};
 
-use codec::Reply;
-
 // uint64_t stern_digests(const uint8_t *keys, size_t, const uint8_t *x, size_t, const uint8_t *r, size_t, const uint8_t *p, size_t, const
 // uint8_t *salts, size_t,
 //     uint8_t *out, size_t, uint8_t *scratch, size_t, size_t n, uint64_t q);
@@ -34,12 +32,13 @@ pub extern "C" fn stern_digests(
         let writes = honest_digests q n (keys_of n keys.now) x.now (drawn_of p.now r.now salts.now) in
         CallAnswered is writes result out.old out.new scratch.old scratch.new }
 {
-    let reply = orders::digests_tests(keys, x, r, p, salts, out, scratch, n, q);
-    let Reply::Taken = reply else {
-        return codec::pack(scratch::finish(reply, scratch));
-    };
-    stern_answers::writing::write_digests(out, 0, scratch, keys, x, r, p, salts, n, q);
-    codec::pack(scratch::finish(reply, scratch))
+    match orders::digests_tests(keys, x, r, p, salts, out, scratch, n, q) {
+        Ok(()) => {
+            stern_answers::writing::write_digests(out, 0, scratch, keys, x, r, p, salts, n, q);
+            codec::pack(scratch::finish(Ok(()), scratch))
+        }
+        Err(why) => codec::pack(scratch::finish(Err(why), scratch)),
+    }
 }
 
 // uint64_t stern_answer(uint8_t challenge, const uint8_t *x, size_t, const uint8_t *r, size_t, const uint8_t *p, size_t, const uint8_t
@@ -62,12 +61,13 @@ pub extern "C" fn stern_answer(
         let writes = honest_answer q n x.now (drawn_of p.now r.now salts.now) challenge in
         CallAnswered is writes result out.old out.new scratch.old scratch.new }
 {
-    let reply = orders::answer_tests(challenge, x, r, p, salts, out, scratch, n, q);
-    let Reply::Taken = reply else {
-        return codec::pack(scratch::finish(reply, scratch));
-    };
-    stern_answers::writing::write_answer(out, challenge, x, r, p, salts, n, q);
-    codec::pack(scratch::finish(reply, scratch))
+    match orders::answer_tests(challenge, x, r, p, salts, out, scratch, n, q) {
+        Ok(()) => {
+            stern_answers::writing::write_answer(out, challenge, x, r, p, salts, n, q);
+            codec::pack(scratch::finish(Ok(()), scratch))
+        }
+        Err(why) => codec::pack(scratch::finish(Err(why), scratch)),
+    }
 }
 
 // uint64_t stern_test(const uint8_t *keys, size_t, const uint8_t *pairs, size_t, const uint8_t *digests, size_t, uint8_t challenge, const

@@ -1,8 +1,9 @@
 // The tests of a call in their order: specs/Calls.antt.
+ghost use Rattle.codec.specs.Refusal.{as_reply};
 ghost use Rattle.test_stern.specs.Calls.{digests_reply, answer_reply, test_reply, Sifted};
 
 use crate::lent::{material_ranged, material_sized, ring_fits, test_ranged, test_sized};
-use codec::{Reply, refused};
+use codec::{Refusal, Reply};
 use stern_answers::layout::answer_length;
 
 // What the call for digests refuses.
@@ -18,19 +19,19 @@ pub fn digests_tests(
     q: u64,
 ) -> Reply
     ensures { Sifted (digests_reply n q keys.now x.now r.now p.now salts.now out.now
-        scratch.old) result scratch.old scratch.new }
+        scratch.old) (as_reply result) scratch.old scratch.new }
 {
     if !ring_fits(n, q) {
-        return refused(5);
+        return Err(Refusal::ValueOutOfRange);
     }
     if keys.len() != 24 * n {
-        return refused(1);
+        return Err(Refusal::WrongLength);
     }
     if !material_sized(x, r, p, salts, out, scratch, 96, n) {
-        return refused(1);
+        return Err(Refusal::WrongLength);
     }
     if !ring::in_range(keys, q) {
-        return refused(5);
+        return Err(Refusal::ValueOutOfRange);
     }
     material_ranged(x, r, p, scratch, n, q)
 }
@@ -47,15 +48,15 @@ pub fn answer_tests(
     n: usize,
     q: u64,
 ) -> Reply
-    ensures { Sifted (answer_reply n q challenge x.now r.now p.now salts.now out.now scratch.old) result
+    ensures { Sifted (answer_reply n q challenge x.now r.now p.now salts.now out.now scratch.old) (as_reply result)
         scratch.old scratch.new }
 {
     if !ring_fits(n, q) {
-        return refused(5);
+        return Err(Refusal::ValueOutOfRange);
     }
     let room = answer_length(n, challenge);
     if !material_sized(x, r, p, salts, out, scratch, room, n) {
-        return refused(1);
+        return Err(Refusal::WrongLength);
     }
     material_ranged(x, r, p, scratch, n, q)
 }
@@ -73,17 +74,17 @@ pub fn tested(
     q: u64,
 ) -> Reply
     ensures { Sifted (test_reply n q challenge place keys.now pairs.now digests.now answer.now
-        scratch.old) result scratch.old scratch.new }
+        scratch.old) (as_reply result) scratch.old scratch.new }
 {
     if !ring_fits(n, q) {
-        return refused(5);
+        return Err(Refusal::ValueOutOfRange);
     }
     let long = answer_length(n, challenge);
     if !test_sized(keys, pairs, digests, answer, scratch, long, n) {
-        return refused(1);
+        return Err(Refusal::WrongLength);
     }
     if !test_ranged(keys, pairs, challenge, answer, n, q) {
-        return refused(5);
+        return Err(Refusal::ValueOutOfRange);
     }
     stern_answers::testing::test_answer(
         scratch, keys, pairs, digests, challenge, answer, place, n, q,

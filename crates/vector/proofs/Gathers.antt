@@ -11,13 +11,13 @@ use lib.Dec.{ltb}
 use lib.ListN.{length, get_or, set}
 use lib.Seq.{paste, paste-suc}
 use Rattle.codec.specs.Bytes.{Bytes, words, put}
-use Rattle.codec.specs.Lists.{list, all_below}
+use Rattle.codec.specs.Lists.{all_below}
 use Rattle.codec.proofs.Lists.{list_get_d, all_below_sound}
 use Rattle.codec.proofs.Laws.{le_or}
 use Rattle.modular.specs.Modulo.{remainder}
 use Rattle.ring.specs.Slots.{encode}
 use Rattle.ring.specs.Ternary.{meaning, ternary, count}
-use Rattle.ring.proofs.Filling.{Filling, filling_all}
+use Rattle.ring.proofs.Filling.{filled, filled_whole}
 use Rattle.vector.specs.Vector.{vector, ternaries, add}
 use Rattle.vector.specs.Permutation.{entries, apply, extend}
 use Rattle.vector.proofs.Vectors.{add_within, length_add, apply_at, length_vector, length_entries, length_ternaries, get_d_ternaries}
@@ -25,14 +25,13 @@ use Rattle.vector.proofs.Balance.{extend_given, extend_minus, extend_zero, exten
 
 -- ---- a list that is written number by number
 
--- what a loop holds that writes the first i of n numbers of a list from a place of scratch on, 8 bytes each
-abbrev pub Laying : Bytes → ℕ → List ℕ → ℕ → Bytes → ℕ → Type 0
-Laying w at l n d i = Filling w at (λ k. get_or l k 0) n d i
+-- what a loop holds that writes the first i numbers of a list from a place of scratch on, 8 bytes each
+abbrev pub Laying : Bytes → ℕ → List ℕ → Bytes → ℕ → Type 0
+Laying w at l d i = d ≡ filled w at (λ k. get_or l k 0) i
 
-pub laid : (w : Bytes) (at : ℕ) (l : List ℕ) {n : ℕ} {d : Bytes} {i : ℕ} → Laying w at l n d i → n ≤ i → length l ≡ n → d ≡ put w at (words l)
+pub laid : (w : Bytes) (at : ℕ) (l : List ℕ) {d : Bytes} {i : ℕ} → Laying w at l d i → i ≡ length l → d ≡ put w at (words l)
 unfolding encode
-laid w at l s h e =
-    filling_all s h ∙ ap (λ (s : List ℕ). put w at (words s)) (ap (λ (m : ℕ). list m (λ k. get_or l k 0)) (sym e) ∙ list_get_d l)
+laid w at l s e = filled_whole w at (λ k. get_or l k 0) s e ∙ ap (λ (s : List ℕ). put w at (words s)) (list_get_d l)
 
 -- the same of bytes
 pub paste_more : (w d : Bytes) (at : ℕ) (l : Bytes) (i b : ℕ) → d ≡ paste w at l i → at + i < length w → i < length l → b ≡ get_or l i 0 → set d (at + i) b ≡ paste w at l (i + 1)
@@ -67,13 +66,6 @@ pub if_le : (b : Bool) (v : ℕ) → cond b v 0 ≤ v
 if_le true v = omega arith
 if_le false v = omega arith
 
-pub if_index : (j n : ℕ) → 0 < n → cond (ltb j n) j 0 < n
-if_index j n h = go (le_or n j)
-  where
-    go : (n ≤ j) ⊎ (j < n) → cond (ltb j n) j 0 < n
-    go (inl l) = rw (le-ltb j n l) h
-    go (inr l) = rw (lt-ltb j n l) l
-
 pub if_byte : (x : Bytes) (j n i : ℕ) → i ≡ cond (ltb j n) j 0 → cond (ltb j n) (get_or x i 0) 0 ≡ cond (ltb j n) (get_or x j 0) 0
 if_byte x j n i e = go (ltb j n) e
   where
@@ -85,13 +77,6 @@ abbrev pub chosen : (n m z j v : ℕ) → ℕ
 chosen n m z j v = cond (ltb j n) v 0 + (cond (ltb j m) 2 0 - cond (ltb j n) 2 0) + (1 - cond (ltb j z) 1 0)
 
 module _ (n m z j v : ℕ) (h : n ≤ m) (l : m ≤ z) where
-  pub if_within : cond (ltb j n) 2 0 ≤ cond (ltb j m) 2 0
-  if_within = go (le_or n j)
-    where
-      go : (n ≤ j) ⊎ (j < n) → cond (ltb j n) 2 0 ≤ cond (ltb j m) 2 0
-      go (inl k) = rw (le-ltb j n k) (omega arith)
-      go (inr k) = rw (lt-ltb j n k, lt-ltb j m (omega arith)) (omega arith)
-
   chosen_first : j < n → chosen n m z j v ≡ v
   chosen_first k = rw (lt-ltb j n k, lt-ltb j m (omega arith), lt-ltb j z (omega arith)) (omega arith)
 

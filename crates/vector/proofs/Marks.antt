@@ -41,7 +41,6 @@ count_take v (suc i) (x ∷ p) = omega (arith, count_take v i p)
 
 -- scratch w that was w₀, once i entries are marked in its n bytes from a place on; what stands beside them is as it was
 pub record Marked (p : List ℕ) (n : ℕ) (w₀ : Bytes) (at : ℕ) (w : Bytes) (i : ℕ) : Type 0 where
-  pub within : i ≤ n
   pub size : length w ≡ length w₀
   pub beside : put w at (zeros n) ≡ w₀
   pub below : (k : ℕ) → k < i → get_or p k 0 < n
@@ -59,7 +58,6 @@ module _ (p : List ℕ) (n : ℕ) (w₀ : Bytes) (at : ℕ) (all : length p ≡ 
   pub marked_first : part w₀ at n ≡ zeros n → Marked p n w₀ at w₀ 0
   unfolding count
   marked_first z = record {
-    within = omega arith;
     size = refl;
     beside = ap (put w₀ at) (sym z) ∙ put_part w₀ at n fits;
     below = λ k l. absurd (omega arith);
@@ -68,9 +66,8 @@ module _ (p : List ℕ) (n : ℕ) (w₀ : Bytes) (at : ℕ) (all : length p ≡ 
   }
 
   module _ (w : Bytes) (i x : ℕ) (m : Marked p n w₀ at w i) where
-    pub marked_all : n ≤ i → permutes n p ≡ true
+    pub marked_all : i ≡ n → permutes n p ≡ true
     marked_all h =
-        let k = m.within in
         let t : take i p ≡ p = take_all i p (omega arith) in
         let v : Each (λ x. x < n) n p = rw all at (from_at {P = λ x. x < n} p (λ k l. m.below k (omega arith))) in
         permutes_complete (pigeonhole v (λ j l. rw t at (m.once j l)))
@@ -79,7 +76,6 @@ module _ (p : List ℕ) (n : ℕ) (w₀ : Bytes) (at : ℕ) (all : length p ≡ 
     module _ (h : i < n) (e : x ≡ get_or p i 0) where
       pub marked_more : x < n → get_or w (at + x) 0 ≡ 0 → Marked p n w₀ at (set w (at + x) 1) (i + 1)
       marked_more l z = record {
-        within = omega arith;
         size = length-set w (at + x) 1 ∙ m.size;
         beside = put_set w at x n 1 l ∙ m.beside;
         below = λ k b. earlier k b (ℕ_discrete k i);

@@ -47,6 +47,16 @@ fn below(j: usize, m: usize, v: usize) -> usize
     (m + 4611686018427387903 - j) / 4611686018427387904 * v
 }
 
+// How many -1s and 0s stand behind x in its extended form.
+pub fn missing(x: &[u8]) -> (usize, usize)
+    ensures { (result.0 ≡ length x.now - count 2 x.now) × (result.1 ≡ length x.now - count 0 x.now) }
+{
+    (
+        x.len() - ring::count_of(x, 2),
+        x.len() - ring::count_of(x, 0),
+    )
+}
+
 // Byte j of the extended form of x: x itself, its n bytes; behind it `minus` bytes for -1, up to m; `zeros` bytes for 0, up to z; and
 // bytes for 1. Past x the first byte of x is read and does not count.
 pub fn extended(x: &[u8], minus: usize, zeros: usize, j: usize) -> u8
@@ -85,12 +95,10 @@ pub fn gather(work: &mut [u8], at: usize, p: &[u8], x: &[u8], n: usize)
         × (all_below n (entries p.now) ≡ true) }
     ensures { work.new ≡ put work.old at (words (apply (entries p.now) (vector x.now))) }
 {
-    let mut i = 0;
-    while i < n {
+    for i in 0..n {
         let j = entry(p, i);
         let y = component(x, j);
         codec::write64(work, at + 8 * i, y);
-        i += 1;
     }
 }
 
@@ -109,11 +117,9 @@ pub fn gather_extended(
     ensures { out.new ≡ put out.old at (apply (entries p.now) (extend (length x.now)
         x.now)) }
 {
-    let mut i = 0;
-    while i < n {
+    for i in 0..n {
         let b = extended(x, minus, zeros, entry(p, i));
         out[at + i] = b;
-        i += 1;
     }
 }
 
@@ -134,11 +140,9 @@ pub fn mask(
     ensures { out.new ≡ put out.old at
         (words (add q (ternaries q (extend (length x.now) x.now)) (vector r.now))) }
 {
-    let mut i = 0;
-    while i < n {
+    for i in 0..n {
         let v = masked(x, minus, zeros, r, i, q);
         codec::write64(out, at + 8 * i, v);
-        i += 1;
     }
 }
 
@@ -160,11 +164,9 @@ pub fn gather_masked(
     ensures { work.new ≡ put work.old at (words (apply (entries p.now)
         (add q (ternaries q (extend (length x.now) x.now)) (vector r.now)))) }
 {
-    let mut i = 0;
-    while i < n {
+    for i in 0..n {
         let v = masked(x, minus, zeros, r, entry(p, i), q);
         codec::write64(work, at + 8 * i, v);
-        i += 1;
     }
 }
 
@@ -175,11 +177,9 @@ pub fn sum(work: &mut [u8], at: usize, w: &[u8], t: &[u8], n: usize, q: u64)
     ensures { work.new ≡ put work.old at (words (add q (ternaries q w.now)
         (vector t.now))) }
 {
-    let mut i = 0;
-    while i < n {
+    for i in 0..n {
         let u = ring::from_ternary(w[i], q);
         let v = modular::add(u, component(t, i), q);
         codec::write64(work, at + 8 * i, v);
-        i += 1;
     }
 }

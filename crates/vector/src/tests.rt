@@ -9,17 +9,12 @@ fn mark(p: &[u8], work: &mut [u8], at: usize, n: usize) -> bool
     requires { (length p.now ≡ 4 * n) × (at + n ≤ length work.old) × (part work.old at n ≡ zeros n) }
     ensures { (result ≡ permutes n (entries p.now)) × (put work.new at (zeros n) ≡ work.old) }
 {
-    let mut i = 0;
-    while i < n {
+    for i in 0..n {
         let x = crate::entry(p, i);
-        if n <= x {
-            return false;
-        }
-        if work[at + x] != 0 {
+        if n <= x || work[at + x] != 0 {
             return false;
         }
         work[at + x] = 1;
-        i += 1;
     }
     true
 }
@@ -39,17 +34,9 @@ pub fn is_permutation(p: &[u8], work: &mut [u8], at: usize, n: usize) -> bool
 pub fn is_balanced(w: &[u8], l: usize) -> bool
     ensures { result ≡ balanced l w.now }
 {
-    if w.len() % 3 != 0 {
-        return false;
-    }
-    if w.len() / 3 != l {
-        return false;
-    }
-    if ring::count_of(w, 2) != l {
-        return false;
-    }
-    if ring::count_of(w, 0) != l {
-        return false;
-    }
-    ring::count_of(w, 1) == l
+    w.len() % 3 == 0
+        && w.len() / 3 == l
+        && ring::count_of(w, 2) == l
+        && ring::count_of(w, 0) == l
+        && ring::count_of(w, 1) == l
 }

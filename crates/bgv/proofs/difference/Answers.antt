@@ -5,13 +5,6 @@ use Rattle.ring.specs.Ternary.{ternary}
 use Rattle.scratch.proofs.Loads.{ternary_load, loaded_asks, subtracted}
 use Rattle.bgv.proofs.difference.Goals as goal
 
-pub load_ternary-requires : goal.load_ternary-requires
-load_ternary-requires c =
-    let p = c.requires in
-    let r = p.0.ring_high in
-    let s = p.0.modulus_low in
-    (omega arith, omega arith)
-
 pub subtract-requires : goal.subtract-requires
 subtract-requires c =
     let a = c.args in

@@ -7,22 +7,6 @@ use Rattle.scratch.proofs.Loads.{modulo_load, loaded_length, both_asks}
 use Rattle.bgv.proofs.Steps.{stands_noisy}
 use Rattle.bgv.proofs.noisy_difference.Goals as goal
 
-pub difference-requires : goal.difference-requires
-difference-requires c =
-    let p = c.requires in
-    (p.1, p.3, p.4, omega arith)
-
-pub difference-requires-2 : goal.difference-requires-2
-difference-requires-2 c =
-    let a = c.args in
-    let p = c.requires in
-    let r = p.0.ring_high in
-    let g = other a.q (ternary a.q a.x.now) (poly a.x0.now) in
-    let w1 = c.difference.new.work in
-    let x = modulo_load a.q a.n p.0.ring_high p.0.modulus_low p.0.modulus_high a.work.now w1 0 g p.3 (omega arith) c.difference.ensures in
-    let l = loaded_length a.q a.n p.0.ring_high p.0.modulus_low p.0.modulus_high g a.work.now w1 p.3 x in
-    (p.2, l, p.5, omega arith)
-
 pub combine-requires : goal.combine-requires
 combine-requires c =
     let a = c.args in

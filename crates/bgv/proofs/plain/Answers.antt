@@ -1,5 +1,5 @@
 -- `bgv::plain` meets its contract. Assumes nothing.
-use mathlib.Core.Path.{◌≡◌, refl, ap, ◌∙◌}
+use mathlib.Core.Path.{◌≡◌, ap, ◌∙◌}
 use native.Mathlib.Omega.{arith}
 use Rattle.modular.specs.Modulo.{centre, remainder}
 use Rattle.modular.proofs.Centring.{remainder_lt}
@@ -25,22 +25,15 @@ pub loop-i-preserved : goal.loop-i-preserved
 unfolding plaintext poly
 loop-i-preserved c =
     let a = c.args in
-    let l = c.loop-i in (
-      omega arith,
-      c.write8.auto.d ∙ l.invariant.1,
-      voted_more a.vote.now (plaintext a.q a.p (poly a.work.now)) l.i l.vote _ _ l.invariant.2 (omega arith)
-          (c.residue-v.ensures ∙ ap (λ x. remainder a.p (centre a.q x)) c.read64-x.ensures) c.write8.ensures,
-    )
+    let l = c.loop-i in
+    voted_more a.vote.now (plaintext a.q a.p (poly a.work.now)) l.i l.vote _ _ l.invariant (omega arith) (c.residue-v.ensures ∙ ap (λ x. remainder a.p (centre a.q x)) c.read64-x.ensures) c.write8.ensures
 
 pub returns : goal.returns
 returns c =
     let a = c.args in
     let l = c.loop-i in
     let e : l.i ≡ a.n = omega arith in
-    l.invariant.2 ∙ ap (voted a.vote.now _) e ∙ voted_all a.vote.now _ a.n c.requires.1
+    l.invariant ∙ ap (voted a.vote.now _) e ∙ voted_all a.vote.now _ a.n c.requires.1
 
 pub loop-i-init : goal.loop-i-init
-loop-i-init c = (omega arith, refl, voted_none _ _)
-
-pub shape_of-vote : goal.shape_of-vote
-shape_of-vote c = c.loop-i.invariant.1
+loop-i-init c = voted_none _ _

@@ -1,7 +1,7 @@
 -- `bgv::quotients_within` meets its contract. Assumes nothing.
 use mathlib.Core.Path.{◌≡◌, sym, ap, ◌∙◌}
 use native.Mathlib.Omega.{arith}
-use borrow.Author.Count.{below_none, below_more}
+use borrow.Author.Count.{below_more}
 use Prim.Native.Nat.{ℕ, suc}
 use lib.IntN.{nat_abs}
 use Rattle.modular.specs.Modulo.{centre}
@@ -11,9 +11,7 @@ use Rattle.ring.proofs.Ranges.{below_complete, not_below}
 use Rattle.bgv.specs.Scheme.{within}
 use Rattle.bgv.proofs.quotients_within.Invariants.{quotients}
 use Rattle.bgv.proofs.quotients_within.Goals as goal
-
-pub loop-i-init : goal.loop-i-init
-loop-i-init c = (omega arith, below_none _)
+use Rattle.bgv.proofs.quotients_within.Goals.{After-size-size}
 
 pub divide-quotient-requires : goal.divide-quotient-requires
 unfolding poly
@@ -22,25 +20,23 @@ divide-quotient-requires c =
     let m = c.multiplier-m.ensures in
     (omega (arith, c.read64-x.ensures, p.1.at c.loop-i.i (omega arith)), p.2, p.3, p.5, p.4, m.0, m.1)
 
-pub size-size-requires : goal.size-size-requires
-size-size-requires c = (c.divide-quotient.ensures.1, c.requires.5)
+size_is : (c : After-size-size) → c.size-size.result ≡ nat_abs (quotients c.args.q c.args.p c.args.work.now c.loop-i.i)
+unfolding poly
+size_is c =
+    let a = c.args in
+    c.size-size.ensures ∙ ap (λ (x : ℕ). nat_abs (centre a.q x)) (c.divide-quotient.ensures.0 ∙ ap (divide a.q a.p) c.read64-x.ensures)
 
 pub returns-then-bound-size : goal.returns-then-bound-size
-unfolding within poly
+unfolding within
 returns-then-bound-size c =
     let a = c.args in
-    let e : c.size-size.result ≡ nat_abs (quotients a.q a.p a.work.now c.loop-i.i) = c.size-size.ensures ∙ ap (λ (x : ℕ). nat_abs (centre a.q x)) (c.divide-quotient.ensures.0 ∙ ap (divide a.q a.p) c.read64-x.ensures) in
-    sym (not_below (suc a.bound) a.n (λ k. nat_abs (quotients a.q a.p a.work.now k)) c.loop-i.i (omega arith) (omega (arith, e)))
+    sym (not_below (suc a.bound) a.n (λ k. nat_abs (quotients a.q a.p a.work.now k)) c.loop-i.i (omega arith) (omega (arith, size_is (goal.at.returns-then-bound-size c).After-size-size)))
 
 pub loop-i-preserved : goal.loop-i-preserved
-unfolding poly
-loop-i-preserved c =
-    let a = c.args in
-    let e : c.size-size.result ≡ nat_abs (quotients a.q a.p a.work.now c.loop-i.i) = c.size-size.ensures ∙ ap (λ (x : ℕ). nat_abs (centre a.q x)) (c.divide-quotient.ensures.0 ∙ ap (divide a.q a.p) c.read64-x.ensures) in
-    (omega arith, below_more _ _ c.loop-i.invariant.1 (omega (arith, e)))
+loop-i-preserved c = below_more _ _ c.loop-i.invariant (omega (arith, size_is (goal.at.loop-i-preserved c).After-size-size))
 
 pub returns : goal.returns
 unfolding within
 returns c =
     let a = c.args in
-    sym (below_complete (suc a.bound) a.n (λ k. nat_abs (quotients a.q a.p a.work.now k)) (record { at = λ k l. c.loop-i.invariant.1 k (omega arith) }))
+    sym (below_complete (suc a.bound) a.n (λ k. nat_abs (quotients a.q a.p a.work.now k)) (record { at = λ k l. c.loop-i.invariant k (omega arith) }))

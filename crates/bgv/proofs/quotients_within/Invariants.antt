@@ -1,5 +1,5 @@
 -- The invariants of `quotients_within`. Assumes nothing.
-use Prim.Native.Nat.{ℕ, suc, ◌-◌, ◌≤◌, ◌<◌}
+use Prim.Native.Nat.{ℕ, suc, ◌<◌}
 use lib.IntN.{nat_abs}
 use Rattle.codec.specs.Bytes.{Bytes}
 use Rattle.modular.specs.Modulo.{centre}
@@ -12,7 +12,4 @@ abbrev pub quotients : (q p : ℕ) → Bytes → Wholes
 quotients q p w k = centre q (divide q p (poly w k))
 
 abbrev pub invariant-loop-i : goal.invariant-loop-i
-invariant-loop-i l = (l.i ≤ l.n) × ((k : ℕ) → k < l.i → nat_abs (quotients l.q l.p l.work k) < suc l.bound)
-
-abbrev pub decreases-loop-i : goal.decreases-loop-i
-decreases-loop-i l = l.n - l.i
+invariant-loop-i l = (k : ℕ) → k < l.i → nat_abs (quotients l.q l.p l.work k) < suc l.bound

@@ -1,9 +1,7 @@
 -- `codec::read64` meets its contract. Assumes nothing.
-use native.Mathlib.Omega.{arith}
-use Rattle.codec.proofs.Numbers.{number_eight}
+use mathlib.Core.Path.{◌∙◌}
+use Rattle.codec.proofs.Numbers.{from_part}
 use Rattle.codec.proofs.read64.Goals as goal
 
 pub returns : goal.returns
-returns c =
-    let a = c.args in
-    number_eight a.s.now a.at (omega arith) c.octet.ensures c.octet-2.ensures c.octet-3.ensures c.octet-4.ensures c.octet-5.ensures c.octet-6.ensures c.octet-7.ensures c.octet-8.ensures
+returns c = c.from_le_bytes.ensures ∙ from_part c.args.s.now c.args.at 7 c.requires c.array.ensures

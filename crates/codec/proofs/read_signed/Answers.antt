@@ -1,15 +1,15 @@
 -- `codec::read_signed` meets its contract. Assumes nothing.
 use mathlib.Core.Path.{ap, ◌∙◌}
-use borrow.Author.Rules.{rules}
+use native.Mathlib.Omega.{arith}
+use lib.IntN.{ℤ}
+use mir.Syntax.{w64}
+use mir.Val.{to_z, of_z}
 use Rattle.codec.specs.Bytes.{signed}
-use Rattle.codec.proofs.TwosComplement.{signed_up, signed_fits, signed_down}
+use Rattle.codec.proofs.TwosComplement.{signed_word, word_signed}
 use Rattle.codec.proofs.read_signed.Goals as goal
 
-pub overflow_sub-result-else-v-lt9223372036854775808 : goal.overflow_sub-result-else-v-lt9223372036854775808
-overflow_sub-result-else-v-lt9223372036854775808 c = signed_fits c.read64-v.result (search rules) (search rules)
-
-pub returns-then-v-lt9223372036854775808 : goal.returns-then-v-lt9223372036854775808
-returns-then-v-lt9223372036854775808 c = signed_up c.read64-v.result (search rules) ∙ ap signed c.read64-v.ensures
-
-pub returns-else-v-lt9223372036854775808 : goal.returns-else-v-lt9223372036854775808
-returns-else-v-lt9223372036854775808 c = signed_down c.read64-v.result (search rules) (search rules) ∙ ap signed c.read64-v.ensures
+pub returns : goal.returns
+returns c =
+    let v = c.read64.result in
+    let e = c.cast_signed.ensures ∙ signed_word v (omega arith) in
+    ap (λ (z : ℤ). to_z w64 (of_z w64 z)) e ∙ ap (to_z w64) (word_signed v (omega arith)) ∙ signed_word v (omega arith) ∙ ap signed c.read64.ensures

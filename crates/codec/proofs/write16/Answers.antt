@@ -1,11 +1,11 @@
 -- `codec::write16` meets its contract. Assumes nothing.
-use Prim.Native.Nat.{◌/◌, ◌%◌}
-use native.Mathlib.Omega.{arith}
-use Rattle.codec.proofs.Numbers.{put_join, bytes_one}
+use mathlib.Core.Path.{ap, ◌∙◌}
+use native.Mathlib.Nat.{div-one}
+use Rattle.codec.specs.Bytes.{bytes, put}
+use Rattle.codec.proofs.Numbers.{to_bytes}
 use Rattle.codec.proofs.write16.Goals as goal
 
 pub returns : goal.returns
 returns c =
     let a = c.args in
-    rw (c.write8-2.ensures, c.write8.ensures, ← (bytes_one (a.v % 256) (omega arith)), ← (bytes_one (a.v / 256) (omega arith)))
-    (put_join a.d.now a.at 1 1 a.v (omega arith))
+    c.copy.ensures ∙ ap (put a.d.now a.at) (c.to_le_bytes.ensures ∙ to_bytes 0 2 a.v ∙ ap (bytes 2) (div-one a.v))

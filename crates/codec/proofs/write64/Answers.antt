@@ -1,8 +1,11 @@
 -- `codec::write64` meets its contract. Assumes nothing.
-use native.Mathlib.Omega.{arith}
-use Rattle.codec.proofs.Numbers.{put_join}
+use mathlib.Core.Path.{ap, ◌∙◌}
+use native.Mathlib.Nat.{div-one}
+use Rattle.codec.specs.Bytes.{bytes, put}
+use Rattle.codec.proofs.Numbers.{to_bytes}
 use Rattle.codec.proofs.write64.Goals as goal
 
 pub returns : goal.returns
-returns c = let a = c.args in
-    rw (c.write32-2.ensures, c.write32.ensures) (put_join a.d.now a.at 4 4 a.v (omega arith))
+returns c =
+    let a = c.args in
+    c.copy.ensures ∙ ap (put a.d.now a.at) (c.to_le_bytes.ensures ∙ to_bytes 0 8 a.v ∙ ap (bytes 8) (div-one a.v))

@@ -1,21 +1,22 @@
 -- `jackdawnail::jdn_commitment` meets its contract. Assumes nothing.
-use mathlib.Core.Path.{sym}
+use mathlib.Core.Path.{refl, ap, sym}
+use Rattle.codec.specs.Refusal.{as_reply}
 use Rattle.scratch.proofs.Lent.{lent}
 use Rattle.commitment.proofs.Sheets.{sheet_loaded}
 use Rattle.scheme.specs.Calls.{commitment_tests, commitment_writes}
-use Rattle.jackdawnail.proofs.Answers.{call_refused, call_taken}
+use Rattle.jackdawnail.proofs.Answers.{call_unread, call_taken}
 use Rattle.jackdawnail.proofs.jdn_commitment.Goals as goal
 
-pub returns-in_default : goal.returns-in_default
-returns-in_default c = call_refused c.args.sheet.now c.load-reading.ensures.0 c.in_default.is c.refuse.ensures c.pack.ensures
+pub returns-in-Err : goal.returns-in-Err
+returns-in-Err c = call_unread c.args.sheet.now c.in-Err.why c.in-Err.ensures.0 c.finish-in-Err.ensures c.pack-in-Err.ensures
 
 pub slice_bounds-commitment-end : goal.slice_bounds-commitment-end
-slice_bounds-commitment-end c = sym (lent c.args.sheet.now c.load-reading.ensures c.in-Taken.is).sized
+slice_bounds-commitment-end c = sym (lent c.args.sheet.now (c.in-Ok.ensures.0.0, c.in-Ok.ensures.1) refl).sized
 
 pub commitment-reply-requires : goal.commitment-reply-requires
-commitment-reply-requires c = sheet_loaded (lent c.args.sheet.now c.load-reading.ensures c.in-Taken.is)
+commitment-reply-requires c = sheet_loaded (lent c.args.sheet.now (c.in-Ok.ensures.0.0, c.in-Ok.ensures.1) refl)
 
-pub returns : goal.returns
-returns c =
+pub returns-in-Ok : goal.returns-in-Ok
+returns-in-Ok c =
     let a = c.args in
-    call_taken a.sheet.now c.load-reading.ensures c.in-Taken.is (λ k. commitment_tests k a.m.now a.r.now a.pair.now a.scratch.now) (λ k P. commitment_writes P a.m.now a.r.now) c.commitment-reply.ensures c.finish.ensures c.pack-2.ensures
+    call_taken a.sheet.now (c.in-Ok.ensures.0.0, c.in-Ok.ensures.1) refl (λ k. commitment_tests k a.m.now a.r.now a.pair.now a.scratch.now) (λ k P. commitment_writes P a.m.now a.r.now) c.commitment-reply.ensures (ap as_reply c.finish.ensures.0, c.finish.ensures.1) c.pack.ensures

@@ -1,16 +1,18 @@
 -- `jackdawnail::jdn_share` meets its contract. Assumes nothing.
+use mathlib.Core.Path.{refl, ap}
+use Rattle.codec.specs.Refusal.{as_reply}
 use Rattle.scratch.proofs.Lent.{lent}
 use Rattle.scheme.specs.Calls.{share_tests, share_writes}
-use Rattle.jackdawnail.proofs.Answers.{call_refused, call_taken}
+use Rattle.jackdawnail.proofs.Answers.{call_unread, call_taken}
 use Rattle.jackdawnail.proofs.jdn_share.Goals as goal
 
-pub returns-in_default : goal.returns-in_default
-returns-in_default c = call_refused c.args.sheet.now c.load-reading.ensures.0 c.in_default.is c.refuse.ensures c.pack.ensures
+pub returns-in-Err : goal.returns-in-Err
+returns-in-Err c = call_unread c.args.sheet.now c.in-Err.why c.in-Err.ensures.0 c.finish-in-Err.ensures c.pack-in-Err.ensures
 
 pub share-reply-requires : goal.share-reply-requires
-share-reply-requires c = (lent c.args.sheet.now c.load-reading.ensures c.in-Taken.is).ranged
+share-reply-requires c = (lent c.args.sheet.now (c.in-Ok.ensures.0.0, c.in-Ok.ensures.1) refl).ranged
 
-pub returns : goal.returns
-returns c =
+pub returns-in-Ok : goal.returns-in-Ok
+returns-in-Ok c =
     let a = c.args in
-    call_taken a.sheet.now c.load-reading.ensures c.in-Taken.is (λ k. share_tests k a.key_share.now a.u.now a.mask.now a.t.now a.scratch.now) (λ k P. share_writes k a.key_share.now a.u.now a.mask.now) c.share-reply.ensures c.finish.ensures c.pack-2.ensures
+    call_taken a.sheet.now (c.in-Ok.ensures.0.0, c.in-Ok.ensures.1) refl (λ k. share_tests k a.key_share.now a.u.now a.mask.now a.t.now a.scratch.now) (λ k P. share_writes k a.key_share.now a.u.now a.mask.now) c.share-reply.ensures (ap as_reply c.finish.ensures.0, c.finish.ensures.1) c.pack.ensures

@@ -1,16 +1,13 @@
 -- `modular::power` meets its contract. Assumes nothing.
-use Rattle.std.proofs.Common.{◌*◌, mod-lt, arith}
-use Rattle.modular.proofs.Powers.{power_first, power_next, power_last}
+use Rattle.std.proofs.Common.{rules, arith}
+use Rattle.modular.proofs.Powers.{multiplies, power_is}
 use Rattle.modular.proofs.power.Goals as goal
 
-pub loop-left-init : goal.loop-left-init
-loop-left-init c = (omega arith, omega arith, power_first c.args.w c.args.e)
-
-pub loop-left-preserved : goal.loop-left-preserved
-loop-left-preserved c =
-    let l = c.loop-left in
-    let e = c.multiply-b.ensures in
-    (c.with_bit-r.ensures.1, rw e (mod-lt (l.b * l.b) (omega arith)), power_next l.r l.b l.left c.with_bit-r.ensures.0 e l.invariant.2)
+pub power_by-requires : goal.power_by-requires
+power_by-requires c = (c.args.q, 1, omega arith, omega arith, multiplies c.args.q (omega arith) (λ x y h l. search rules) (λ x y z h l e. search rules))
 
 pub returns : goal.returns
-returns c = let l = c.loop-left in (power_last l.b l.left (omega arith) l.invariant.0 l.invariant.2, l.invariant.0)
+returns c =
+    let a = c.args in
+    let p = c.power_by.ensures a.q 1 (omega arith) (omega arith) (multiplies a.q (omega arith) (λ x y h l. search rules) (λ x y z h l e. search rules)) in
+    (power_is a.w a.e p.0 p.1, p.0)

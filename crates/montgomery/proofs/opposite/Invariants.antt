@@ -1,10 +1,6 @@
--- The invariants of `opposite`. Assumes nothing.
-use mathlib.Core.Path.{◌≡◌}
-use Prim.Native.Nat.{◌+◌, ◌-◌, ◌*◌, ◌%◌, ◌^◌, ◌≤◌, ◌<◌}
+-- The invariants of `opposite`: x is -1 / q modulo 2^bit. Assumes nothing.
+use Rattle.std.proofs.Common.{◌≡◌, ◌+◌, ◌*◌, ◌%◌, ◌^◌, ◌<◌}
 use Rattle.montgomery.proofs.opposite.Given as goal
 
-abbrev pub invariant-loop-bits : goal.invariant-loop-bits
-invariant-loop-bits l = (l.bits ≤ 28) × (l.p ≡ 2 ^ l.bits) × (0 < l.p) × (l.x < l.p) × ((l.q0 * l.x + 1) % l.p ≡ 0)
-
-abbrev pub decreases-loop-bits : goal.decreases-loop-bits
-decreases-loop-bits l = 28 - l.bits
+abbrev pub invariant-loop-bit : goal.invariant-loop-bit
+invariant-loop-bit l = (l.x < 2 ^ l.bit) × ((l.q0 * l.x + 1) % 2 ^ l.bit ≡ 0)

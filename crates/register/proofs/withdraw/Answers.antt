@@ -5,12 +5,10 @@ use Prim.Native.Nat.{ℕ, ◌≤◌, ◌<◌}
 use native.Mathlib.Omega.{arith}
 use borrow.Author.Tests.{lt-ltb, le-ltb}
 use Rattle.codec.specs.Bytes.{Bytes}
-use Rattle.codec.specs.Reply.{first, leaves}
-use Rattle.codec.specs.declared.Reply.TheVariants.{Taken, Refused}
-use Rattle.register.specs.declared.Withdrawal.{Withdrawal}
+use Rattle.codec.specs.Reply.{first, leaves, Taken, Refused}
 use Rattle.register.specs.Register.{find, known, withdrawn, withdrawn_early, after_withdrawal}
 use Rattle.register.specs.Orders.{withdrawal_tests}
-use Rattle.register.specs.Internal.{Withdrew}
+use Rattle.register.specs.Internal.{Withdrawal, Withdrew}
 use Rattle.register.proofs.Orders.{is_withdrawn_already, is_standing_still, is_unknown_full, is_unknown_free, silent, writes}
 use Rattle.register.proofs.withdraw.Goals as goal
 
@@ -42,7 +40,7 @@ returns-then-at-eq4096 c =
     let low = f.1 in
     let most = c.requires.1 in
     let behind = c.if-at-eq4096.true in
-    refuses _ _ _ f.0 (is_unknown_full _ _ _ f.0 refl (omega arith) (omega arith)) c.refused.ensures refl
+    refuses _ _ _ f.0 (is_unknown_full _ _ _ f.0 refl (omega arith) (omega arith)) refl refl
 
 pub write_early-requires : goal.write_early-requires
 write_early-requires c =
@@ -73,7 +71,7 @@ returns-then-not-is_standing c =
     let f = c.find-at.ensures in
     let low = f.1 in
     let other = c.if-at-used.false in
-    refuses _ _ _ f.0 (is_withdrawn_already _ _ _ f.0 refl (omega arith) (sym c.is_standing.ensures ∙ c.if-not-is_standing.true)) c.refused-then-not-is_standing.ensures refl
+    refuses _ _ _ f.0 (is_withdrawn_already _ _ _ f.0 refl (omega arith) (sym c.is_standing.ensures ∙ c.if-not-is_standing.true)) refl refl
 
 pub write_withdrawn-requires : goal.write_withdrawn-requires
 write_withdrawn-requires c =

@@ -1,43 +1,41 @@
 -- `ring::combine_slot` meets its contract. Assumes nothing.
-use mathlib.Core.Path.{◌≡◌, ap₂, ◌∙◌}
-use Prim.Native.Nat.{ℕ, ◌+◌, ◌*◌, ◌%◌}
-use native.Mathlib.Omega.{arith}
-use Rattle.ring.proofs.Filling.{filling_none, filling_more, filling_stored, read_later, read_other}
+use Rattle.std.proofs.Common.{◌-◌, length, take, length-take, length-drop, arith}
+use Rattle.ring.proofs.Parts.{slot_high, slot_low, poly_high, poly_low, sum_high, sum_low}
 use Rattle.ring.specs.Internal.{sign}
-use Rattle.ring.specs.Poly.{plus, scale, modulo}
-use Rattle.ring.specs.Slots.{slot}
-use Rattle.ring.proofs.combine_slot.Goals.{After-read64-y}
 use Rattle.ring.proofs.combine_slot.Goals as goal
 
-x-is : (c : After-read64-y) → c.read64-x.result ≡ slot c.args.work.now c.args.at c.loop-i.i
-x-is c =
+pub combine_lent-requires : goal.combine_lent-requires
+combine_lent-requires c =
     let a = c.args in
-    let l = c.loop-i in
-    c.read64-x.ensures ∙ read_later a.work.now a.at _ l.i l.work l.invariant.is (omega (arith, c.requires.1.one)) a.at l.i (omega arith)
-
-y-is : (c : After-read64-y) → c.read64-y.result ≡ slot c.args.work.now c.args.from c.loop-i.i
-y-is c =
-    let a = c.args in
-    let l = c.loop-i in
-    c.read64-y.ensures ∙ read_other a.work.now a.at _ l.i l.work l.invariant.is (omega (arith, c.requires.1.one)) a.n a.from (omega arith) c.requires.1
-
-pub combine-v-requires : goal.combine-v-requires
-combine-v-requires c =
     let p = c.requires in
-    let i = c.loop-i.i in
-    (rw (x-is (goal.at.combine-v-requires c).After-read64-y) (p.2.at i (omega arith)), rw (y-is (goal.at.combine-v-requires c).After-read64-y) (p.3.at i (omega arith)), omega arith)
+    rw (c.split_at_mut-low.ensures.front, c.split_at_mut-low.ensures.back) (
+      omega arith,
+      simp length-drop (omega (arith, p.1.one)),
+      simp (length-take, length-drop) (omega (arith, p.1)),
+      record { at = λ k l. rw (slot_high a.work.now a.at k) (p.2.at k l) },
+      record { at = λ k l. rw (poly_low a.work.now a.from a.at (length (take a.at a.work.now) - a.from) k (omega (arith, p.1)) (simp length-take (omega (arith, p.1)))) (p.3.at k l) },
+    )
 
-pub loop-i-preserved : goal.loop-i-preserved
-unfolding modulo plus scale
-loop-i-preserved c =
+pub combine_lent-requires-else-from-at : goal.combine_lent-requires-else-from-at
+combine_lent-requires-else-from-at c =
     let a = c.args in
-    filling_more c.loop-i.invariant (omega arith) (omega arith) (c.combine-v.ensures ∙ ap₂ (λ (x y : ℕ). (x + sign a.q a.minus * y) % a.q) (x-is (goal.at.loop-i-preserved c).After-read64-y) (y-is (goal.at.loop-i-preserved c).After-read64-y)) c.write64.auto.d c.write64.ensures
+    let p = c.requires in
+    rw (c.split_at_mut-low-else-from-at.ensures.front, c.split_at_mut-low-else-from-at.ensures.back) (
+      omega arith,
+      simp length-take (omega (arith, p.1)),
+      simp length-drop (omega (arith, p.1)),
+      record { at = λ k l. rw (slot_low a.work.now a.at a.from k (omega (arith, p.1))) (p.2.at k l) },
+      record { at = λ k l. rw (poly_high a.work.now a.from k) (p.3.at k l) },
+    )
 
-pub loop-i-init : goal.loop-i-init
-loop-i-init c = filling_none
+pub returns-then-from-at : goal.returns-then-from-at
+returns-then-from-at c =
+    let a = c.args in
+    let s = c.split_at_mut-low.ensures in
+    rw (c.combine_lent.ensures, s.front, s.back) (sum_high a.work.now a.q a.n (sign a.q a.minus) a.at a.from _ (omega (arith, c.requires.1)) (simp length-take (omega (arith, c.requires.1))))
 
-pub shape_of-work : goal.shape_of-work
-shape_of-work c = c.loop-i.invariant.sized
-
-pub returns : goal.returns
-returns c = filling_stored _ _ c.loop-i.invariant (omega arith)
+pub returns-else-from-at : goal.returns-else-from-at
+returns-else-from-at c =
+    let a = c.args in
+    let s = c.split_at_mut-low-else-from-at.ensures in
+    rw (c.combine_lent-else-from-at.ensures, s.front, s.back) (sum_low a.work.now a.q a.n (sign a.q a.minus) a.at a.from (omega (arith, c.requires.1)) (omega (arith, c.requires.1.other)))

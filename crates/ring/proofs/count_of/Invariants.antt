@@ -1,12 +1,7 @@
 -- The invariants of `count_of`. Assumes nothing.
-use mathlib.Core.Path.{◌≡◌}
-use Prim.Native.Nat.{◌-◌, ◌≤◌}
-use lib.ListN.{length, take}
-use Rattle.ring.specs.Ternary.{count}
+use Rattle.std.proofs.Common.{◌≡◌, nat_eq, take}
+use Rattle.std.specs.Prelude.{count_by}
 use Rattle.ring.proofs.count_of.Given as goal
 
-abbrev pub invariant-loop-i : goal.invariant-loop-i
-invariant-loop-i l = (l.i ≤ length l.t) × (l.n ≤ l.i) × (l.n ≡ count l.v (take l.i l.t))
-
-abbrev pub decreases-loop-i : goal.decreases-loop-i
-decreases-loop-i l = length l.t - l.i
+abbrev pub invariant-loop-b : goal.invariant-loop-b
+invariant-loop-b l = l.n ≡ count_by (λ x. nat_eq x l.v) (take l.b-index l.t)

@@ -1,10 +1,6 @@
 -- `ring::from_ternary` meets its contract. Assumes nothing.
-use mathlib.Core.Path.{◌≡◌, sym}
-use Prim.Native.Nat.{ℕ, ◌+◌, ◌-◌, ◌*◌, ◌/◌, ◌≤◌, ◌<◌}
+use Rattle.std.proofs.Common.{◌≡◌, ℕ, ◌+◌, ◌-◌, ◌*◌, ◌/◌, ◌<◌, sym, mod-eq_of_lt, one-mul, zero-mul, eq-eqb, ne_eqb, arith}
 use native.Mathlib.Decide.{ℕ_discrete}
-use native.Mathlib.Nat.{mod-eq_of_lt, one-mul, zero-mul}
-use native.Mathlib.Omega.{arith}
-use borrow.Author.Tests.{eq-eqb, ne_eqb}
 use Rattle.modular.specs.Modulo.{remainder}
 use Rattle.ring.specs.Ternary.{meaning}
 use Rattle.ring.proofs.from_ternary.Goals as goal
@@ -17,30 +13,23 @@ is1 b = (b + 4611686018427387903) / 4611686018427387904 - (b + 46116860184273879
 abbrev is2 : ℕ → ℕ
 is2 b = (b + 4611686018427387902) / 4611686018427387904 - (b + 4611686018427387901) / 4611686018427387904
 
-told : (b q : ℕ) → b < 256 → 1 < q → (is2 b * (q - 1) ≤ q - 1) × (is1 b + is2 b * (q - 1) ≤ q - 1) × (is1 b + is2 b * (q - 1) ≡ remainder q (meaning b))
+told : (b q : ℕ) → b < 256 → 1 < q → is1 b + is2 b * (q - 1) ≡ remainder q (meaning b)
 unfolding remainder meaning
 told b q h l = go (ℕ_discrete b 1) (ℕ_discrete b 2)
   where
-    go : Dec (b ≡ 1) → Dec (b ≡ 2) → (is2 b * (q - 1) ≤ q - 1) × (is1 b + is2 b * (q - 1) ≤ q - 1) × (is1 b + is2 b * (q - 1) ≡ remainder q (meaning b))
+    go : Dec (b ≡ 1) → Dec (b ≡ 2) → is1 b + is2 b * (q - 1) ≡ remainder q (meaning b)
     go (yes e) d =
         let x : is1 b ≡ 1 = omega arith in
         let y : is2 b ≡ 0 = omega arith in
-        rw (x, y, zero-mul (q - 1), eq-eqb b 1 e) (omega arith, omega arith, sym (mod-eq_of_lt {n = 1} {m = q} l))
+        rw (x, y, zero-mul (q - 1), eq-eqb b 1 e) (sym (mod-eq_of_lt {n = 1} {m = q} l))
     go (no e) (yes d) =
         let x : is1 b ≡ 0 = omega arith in
         let y : is2 b ≡ 1 = omega arith in
-        rw (x, y, one-mul (q - 1), ne_eqb b 1 e, eq-eqb b 2 d, mod-eq_of_lt {n = 1} {m = q} l)
-        (omega arith, omega arith, omega (arith, mod-eq_of_lt {n = q - 1} {m = q} (omega arith)))
+        rw (x, y, one-mul (q - 1), ne_eqb b 1 e, eq-eqb b 2 d, mod-eq_of_lt {n = 1} {m = q} l) (omega (arith, mod-eq_of_lt {n = q - 1} {m = q} (omega arith)))
     go (no e) (no d) =
         let x : is1 b ≡ 0 = omega arith in
         let y : is2 b ≡ 0 = omega arith in
-        rw (x, y, zero-mul (q - 1), ne_eqb b 1 e, ne_eqb b 2 d) (omega arith, omega arith, sym (mod-eq_of_lt {n = 0} {m = q} (omega arith)))
-
-pub overflow_mul-result : goal.overflow_mul-result
-overflow_mul-result c = omega (arith, (told c.args.b c.args.q (omega arith) (omega arith)).0)
-
-pub overflow_add-result : goal.overflow_add-result
-overflow_add-result c = omega (arith, (told c.args.b c.args.q (omega arith) (omega arith)).1)
+        rw (x, y, zero-mul (q - 1), ne_eqb b 1 e, ne_eqb b 2 d) (sym (mod-eq_of_lt {n = 0} {m = q} (omega arith)))
 
 pub returns : goal.returns
-returns c = (told c.args.b c.args.q (omega arith) (omega arith)).2
+returns c = rw c.from-t.ensures (told c.args.b c.args.q (omega arith) (omega arith))

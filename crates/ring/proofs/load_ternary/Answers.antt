@@ -1,18 +1,15 @@
 -- `ring::load_ternary` meets its contract. Assumes nothing.
-use native.Mathlib.Omega.{arith}
-use Rattle.ring.proofs.Filling.{filling_none, filling_more, filling_all}
+use Rattle.std.proofs.Common.{arith}
+use Rattle.ring.proofs.Filling.{filled_none, filled_more, filled_whole}
 use Rattle.ring.specs.Ternary.{ternary}
 use Rattle.ring.proofs.load_ternary.Goals as goal
 
+pub loop-i-init : goal.loop-i-init
+loop-i-init c = filled_none _ _ _
+
 pub loop-i-preserved : goal.loop-i-preserved
 unfolding ternary
-loop-i-preserved c = filling_more c.loop-i.invariant (omega arith) (omega arith) c.from_ternary-v.ensures c.write64.auto.d c.write64.ensures
-
-pub loop-i-init : goal.loop-i-init
-loop-i-init c = filling_none
-
-pub shape_of-work : goal.shape_of-work
-shape_of-work c = c.loop-i.invariant.sized
+loop-i-preserved c = filled_more _ _ _ _ _ _ _ c.loop-i.invariant (omega arith) c.from_ternary.ensures c.write64.ensures
 
 pub returns : goal.returns
-returns c = filling_all c.loop-i.invariant (omega arith)
+returns c = filled_whole _ _ _ c.loop-i.invariant (omega arith)

@@ -10,7 +10,7 @@ use Rattle.ring_product.proofs.block.Goals.{After-read64-v}
 use Rattle.ring_product.proofs.block.Goals as goal
 
 pub loop-j-init : goal.loop-j-init
-loop-j-init c = (omega arith, columns_none _ _ 0 0 0 0)
+loop-j-init c = columns_none _ _ 0 0 0 0
 
 -- the columns with one more product of each kind
 more : (c : After-read64-v) → let l = c.loop-j in let u = c.read64-u.result in let v = c.read64-v.result in
@@ -22,12 +22,12 @@ unfolding slot
 more c =
     let p = c.requires.below in
     let l = c.loop-j in
-    columns_more _ _ l.j _ _ _ l.invariant.1 c.read64-u.result c.read64-v.result c.read64-u.ensures c.read64-v.ensures
+    columns_more _ _ l.j _ _ _ l.invariant c.read64-u.result c.read64-v.result c.read64-u.ensures c.read64-v.ensures
     (rw c.read64-u.ensures (p.0.at l.j (omega arith)))
     (rw c.read64-v.ensures (p.1.at l.j (omega arith)))
 
 pub loop-j-preserved : goal.loop-j-preserved
-loop-j-preserved c = (omega arith, more (goal.at.loop-j-preserved c).After-read64-v)
+loop-j-preserved c = more (goal.at.loop-j-preserved c).After-read64-v
 
 pub overflow_mul-lo : goal.overflow_mul-lo
 overflow_mul-lo c = omega (arith, digits_le (c.read64-u.result % 268435456) (c.read64-v.result % 268435456) (omega arith) (omega arith))
@@ -58,4 +58,4 @@ returns c =
     let a = c.args in
     let l = c.loop-j in
     let e : l.j ≡ a.n = omega arith in
-    subst (λ (j : ℕ). Columns (slot a.w.now a.x) (slot a.w.now a.y) j l.lo l.mid l.hi) e l.invariant.1
+    subst (λ (j : ℕ). Columns (slot a.w.now a.x) (slot a.w.now a.y) j l.lo l.mid l.hi) e l.invariant

@@ -11,8 +11,5 @@ loop-j-preserved c = filling_more c.loop-j.invariant (omega arith) (omega arith)
 pub loop-j-init : goal.loop-j-init
 loop-j-init c = filling_none
 
-pub shape_of-work : goal.shape_of-work
-shape_of-work c = c.loop-j.invariant.sized
-
 pub returns : goal.returns
 returns c = filling_stored _ _ c.loop-j.invariant (omega arith)

@@ -7,6 +7,3 @@ use Rattle.ring_product.proofs.mirror.Given as goal
 
 abbrev pub invariant-loop-j : goal.invariant-loop-j
 invariant-loop-j l = Filling l.initial.work l.room (modulo l.q (turn l.q l.n (poly l.a) (l.n - 1))) (2 * l.n) l.work l.j
-
-abbrev pub decreases-loop-j : goal.decreases-loop-j
-decreases-loop-j l = 2 * l.n - l.j

@@ -37,8 +37,5 @@ loop-k-preserved c =
 pub loop-k-init : goal.loop-k-init
 loop-k-init c = filling_none
 
-pub shape_of-work : goal.shape_of-work
-shape_of-work c = c.loop-k.invariant.sized
-
 pub returns : goal.returns
 returns c = filling_stored _ _ c.loop-k.invariant (omega arith)

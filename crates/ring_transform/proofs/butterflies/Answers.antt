@@ -33,9 +33,6 @@ product-y-requires c = let p = c.requires in (p.0, b-below (goal.at.product-y-re
 pub corrected-u-requires : goal.corrected-u-requires
 corrected-u-requires c = let p = c.requires in omega (arith, p.0.small, p.1, a-below (goal.at.corrected-u-requires c).After-read64-a, c.product-y.ensures.1)
 
-pub overflow_sub-q : goal.overflow_sub-q
-overflow_sub-q c = omega (arith, c.product-y.ensures.1)
-
 pub overflow_add-a : goal.overflow_add-a
 overflow_add-a c = let p = c.requires in omega (arith, p.0.small, a-below (goal.at.overflow_add-a c).After-read64-a, c.product-y.ensures.1)
 
@@ -52,7 +49,7 @@ loop-j-preserved c =
     let y = c.product-y.ensures.0 ∙ ap (λ (b : ℕ). a.z * radix_inverse a.q * b % a.q) (b-is (goal.at.loop-j-preserved c).After-read64-b) in
     halves_more c.loop-j.invariant c.requires.2 (omega arith)
     (c.corrected-u.ensures.0 ∙ ap₂ (λ (m n : ℕ). (m + n) % a.q) x y) (c.corrected-v.ensures.0 ∙ ap₂ (λ (m n : ℕ). (m + (a.q - n)) % a.q) x y)
-    (c.write64-in-loop-j.auto.d ∙ c.write64.auto.d) c.write64.ensures c.write64-in-loop-j.ensures
+    c.write64.ensures c.write64-in-loop-j.ensures
 
 pub returns : goal.returns
 returns c =
@@ -61,6 +58,3 @@ returns c =
 
 pub loop-j-init : goal.loop-j-init
 loop-j-init c = halves_none
-
-pub shape_of-work : goal.shape_of-work
-shape_of-work c = c.loop-j.invariant.sized

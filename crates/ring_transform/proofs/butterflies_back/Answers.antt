@@ -53,7 +53,7 @@ loop-j-preserved c =
     let d = c.corrected-d.ensures.0 ∙ ap₂ (λ (m n : ℕ). (n + (a.q - m)) % a.q) x y in
     halves_more c.loop-j.invariant c.requires.2 (omega arith)
     (c.corrected-a.ensures.0 ∙ ap₂ (λ (m n : ℕ). (m + n) % a.q) x y) (c.product-b.ensures.0 ∙ ap (λ (n : ℕ). a.y * radix_inverse a.q * n % a.q) d)
-    (c.write64-in-loop-j.auto.d ∙ c.write64.auto.d) c.write64.ensures c.write64-in-loop-j.ensures
+    c.write64.ensures c.write64-in-loop-j.ensures
 
 pub returns : goal.returns
 returns c =
@@ -62,6 +62,3 @@ returns c =
 
 pub loop-j-init : goal.loop-j-init
 loop-j-init c = halves_none
-
-pub shape_of-work : goal.shape_of-work
-shape_of-work c = c.loop-j.invariant.sized

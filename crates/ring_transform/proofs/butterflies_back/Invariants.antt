@@ -1,5 +1,5 @@
 -- The invariants of `butterflies_back`. Assumes nothing.
-use Prim.Native.Nat.{◌+◌, ◌-◌, ◌*◌}
+use Prim.Native.Nat.{◌+◌, ◌*◌}
 use Rattle.montgomery.specs.Internal.{radix_inverse}
 use Rattle.ring.specs.Slots.{slot}
 use Rattle.ring_transform.specs.Internal.{back_sum, back_twiddled}
@@ -9,6 +9,3 @@ use Rattle.ring_transform.proofs.butterflies_back.Given as goal
 abbrev pub invariant-loop-j : goal.invariant-loop-j
 invariant-loop-j l =
     Halves l.initial.work l.at l.m (λ k. back_sum l.q (slot l.initial.work l.at k) (slot l.initial.work l.at (l.m + k))) (λ k. back_twiddled l.q (l.y * radix_inverse l.q) (slot l.initial.work l.at k) (slot l.initial.work l.at (l.m + k))) l.work l.j
-
-abbrev pub decreases-loop-j : goal.decreases-loop-j
-decreases-loop-j l = l.m - l.j

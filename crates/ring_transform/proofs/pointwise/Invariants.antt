@@ -1,5 +1,5 @@
 -- The invariants of `pointwise`. Assumes nothing.
-use Prim.Native.Nat.{◌-◌, ◌*◌, ◌%◌}
+use Prim.Native.Nat.{◌*◌, ◌%◌}
 use Rattle.montgomery.specs.Internal.{radix_inverse}
 use Rattle.ring.proofs.Filling.{Filling}
 use Rattle.ring.specs.Slots.{slot}
@@ -7,6 +7,3 @@ use Rattle.ring_transform.proofs.pointwise.Given as goal
 
 abbrev pub invariant-loop-k : goal.invariant-loop-k
 invariant-loop-k l = Filling l.initial.work l.at (λ j. slot l.initial.work l.from j * radix_inverse l.q * slot l.initial.work l.at j % l.q) l.n l.work l.k
-
-abbrev pub decreases-loop-k : goal.decreases-loop-k
-decreases-loop-k l = l.n - l.k

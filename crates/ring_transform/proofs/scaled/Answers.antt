@@ -26,8 +26,5 @@ loop-k-preserved c =
 pub loop-k-init : goal.loop-k-init
 loop-k-init c = filling_none
 
-pub shape_of-work : goal.shape_of-work
-shape_of-work c = c.loop-k.invariant.sized
-
 pub returns : goal.returns
 returns c = filling_all c.loop-k.invariant (omega arith)

@@ -1,35 +1,34 @@
 -- `check_answers` meets its contract. Assumes nothing.
-use mathlib.Core.Path.{◌∙◌}
+use mathlib.Core.Path.{refl, ◌∙◌}
 use lib.ListN.{length}
+use Rattle.codec.proofs.Refusals.{handed_on}
 use Rattle.round.proofs.Many.{stopped, continued}
 use Rattle.round.proofs.Wiped.{still, again}
 use Rattle.round_check.proofs.check_answers.Goals as goal
 
-pub test_repetitions-answered-requires : goal.test_repetitions-answered-requires
-test_repetitions-answered-requires c =
+pub test_repetitions-requires : goal.test_repetitions-requires
+test_repetitions-requires c =
     let p = c.requires in
     let r = p.3 in
     (p.0, p.1, r.head.sized, r.head.pairs, r.answers)
 
-pub returns-in_default : goal.returns-in_default
-returns-in_default c =
-    let t = c.test_repetitions-answered in
-    record {
-      replied = stopped _ _ t.ensures.replied _ _ c.in_default.is;
-      cleared = t.ensures.cleared;
-    }
+pub returns-in_err-test_repetitions : goal.returns-in_err-test_repetitions
+returns-in_err-test_repetitions c =
+    let t = c.in_err-test_repetitions.ensures in
+    rw (handed_on c.from_residual.result c.from_residual.ensures.1)
+    (record { replied = stopped _ _ t.replied _ _ refl; cleared = t.cleared })
 
 pub test_votes-requires : goal.test_votes-requires
 test_votes-requires c =
     let p = c.requires in
     let r = p.3 in
-    (p.0.numbers, r.opening, still c.test_repetitions-answered.ensures.cleared ∙ p.1, p.2, r.side, r.batch, r.shares0, r.shares1)
+    (p.0.numbers, r.opening, still c.test_repetitions.ensures.cleared ∙ p.1, p.2, r.side, r.batch, r.shares0, r.shares1)
 
 pub returns : goal.returns
 returns c =
-    let t = c.test_repetitions-answered in
+    let t = c.test_repetitions in
     let v = c.test_votes in
     record {
-      replied = continued _ _ t.ensures.replied c.in-Taken.is v.ensures.replied;
+      replied = continued _ _ c.in_ok-test_repetitions.ensures.replied refl v.ensures.replied;
       cleared = again (length c.args.work.now) t.ensures.cleared v.ensures.cleared;
     }

@@ -1,8 +1,9 @@
 -- `check_ranged` meets its contract. Assumes nothing.
-use mathlib.Core.Path.{sym, ap, ◌∙◌}
+use mathlib.Core.Path.{refl, sym, ap, ◌∙◌}
 use mathlib.Core.Bool.{not}
 use native.Mathlib.Omega.{arith}
 use lib.ListN.{length}
+use Rattle.codec.proofs.Refusals.{handed_on}
 use Rattle.scratch.proofs.Order.{refuses, passes}
 use Rattle.round.proofs.Many.{stopped, continued}
 use Rattle.round.proofs.Wiped.{still, again}
@@ -15,35 +16,36 @@ pub returns-then-not-splits : goal.returns-then-not-splits
 returns-then-not-splits c =
     let s = c.splits in
     record {
-      replied = c.refused.ensures ∙ refuses 6 0 _ _ (ap not (sym s.ensures.0 ∙ c.if-not-splits.true));
+      replied = refuses 6 0 _ _ (ap not (sym s.ensures.0 ∙ c.if-not-splits.true));
       cleared = s.ensures.1;
     }
 
-pub test_opening-opened-requires : goal.test_opening-opened-requires
-test_opening-opened-requires c =
+pub test_opening-requires : goal.test_opening-requires
+test_opening-requires c =
     let p = c.requires in
     let r = p.3 in
     (p.0, r.opening, still c.splits.ensures.1 ∙ p.1, omega (arith, r.head.sized), r.side)
 
-pub returns-in_default : goal.returns-in_default
-returns-in_default c =
+pub returns-in_err-test_opening : goal.returns-in_err-test_opening
+returns-in_err-test_opening c =
     let s = c.splits in
-    let t = c.test_opening-opened in
-    record {
-      replied = stopped _ _ t.ensures.replied _ _ c.in_default.is ∙ sym (passes 6 0 _ _ (ap not (sym s.ensures.0 ∙ c.if-not-splits.false)));
-      cleared = again (length c.args.work.now) s.ensures.1 t.ensures.cleared;
-    }
+    let t = c.in_err-test_opening.ensures in
+    rw (handed_on c.from_residual.result c.from_residual.ensures.1)
+    (record {
+      replied = stopped _ _ t.replied _ _ refl ∙ sym (passes 6 0 _ _ (ap not (sym s.ensures.0 ∙ c.if-not-splits.false)));
+      cleared = again (length c.args.work.now) s.ensures.1 t.cleared;
+    })
 
 pub check_answers-requires : goal.check_answers-requires
-check_answers-requires c = let p = c.requires in (p.0, still c.test_opening-opened.ensures.cleared ∙ still c.splits.ensures.1 ∙ p.1, p.2, p.3)
+check_answers-requires c = let p = c.requires in (p.0, still c.test_opening.ensures.cleared ∙ still c.splits.ensures.1 ∙ p.1, p.2, p.3)
 
 pub returns : goal.returns
 returns c =
     let s = c.splits in
-    let t = c.test_opening-opened in
+    let t = c.test_opening in
     let v = c.check_answers in
     let l = length c.args.work.now in
     record {
-      replied = continued _ _ t.ensures.replied c.in-Taken.is v.ensures.replied ∙ sym (passes 6 0 _ _ (ap not (sym s.ensures.0 ∙ c.if-not-splits.false)));
+      replied = continued _ _ c.in_ok-test_opening.ensures.replied refl v.ensures.replied ∙ sym (passes 6 0 _ _ (ap not (sym s.ensures.0 ∙ c.if-not-splits.false)));
       cleared = again l (again l s.ensures.1 t.ensures.cleared) v.ensures.cleared;
     }

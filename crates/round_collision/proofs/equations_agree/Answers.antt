@@ -37,7 +37,7 @@ returns c =
     let f = c.pairs_agree-of_e in
     record {
       told =
-          c.both.ensures ∙ by_parts s t s' t' e.result f.result e.ensures.told f.ensures.told (length_pair_bytes a.q a.n _ ∙ sym (length_pair_bytes a.q a.n _))
+          by_parts s t s' t' e.result f.result e.ensures.told f.ensures.told (length_pair_bytes a.q a.n _ ∙ sym (length_pair_bytes a.q a.n _))
           ∙ ap₂ same (sym (covered a.q a.n z k a.c.now a.u.now p.1.sized_u true)) (sym (covered a.q a.n z k a.c.now a.r.now p.1.sized_r false));
       kept_work = f.ensures.kept_work ∙ e.ensures.kept_work;
       kept_room = f.ensures.kept_room ∙ e.ensures.kept_room;

@@ -40,7 +40,7 @@ returns c =
     let e = c.equations_agree-rest in
     record {
       told =
-          c.both.ensures ∙ by_parts (s.salt1 ++ s.p) (t.salt1 ++ t.p) v w c.starts_agree-starts.result e.result c.starts_agree-starts.ensures
+          by_parts (s.salt1 ++ s.p) (t.salt1 ++ t.p) v w c.starts_agree-starts.result e.result c.starts_agree-starts.ensures
           (e.ensures.told ∙ lent_equations a.q n k a.c.now a.answer2.now a.answer3.now (504 * n - 168 * n) (504 * n - 168 * n) (omega arith) (omega arith))
           (start_length n a.answer2.now p.1 ∙ sym (start_length n a.answer3.now p.2))
           ∙ string1_parts s.salt1 s.p v t.salt1 t.p w;

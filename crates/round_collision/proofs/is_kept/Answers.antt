@@ -16,7 +16,7 @@ returns c =
     let w = a.work.now in
     let n = a.n in
     let k = part w 49152 (8 * n) in
-    c.both.ensures ∙ by_parts (part d 0 (8 * n)) (part w 0 (8 * n)) (part d (8 * n) (8 * n)) k c.equal-one.result c.equal-two.result
+    by_parts (part d 0 (8 * n)) (part w 0 (8 * n)) (part d (8 * n) (8 * n)) k c.equal-one.result c.equal-two.result
     (c.equal-one.ensures ∙ lent_same d w 0 0 (8 * n - 0) (8 * n - 0) (8 * n) (omega arith) (omega arith))
     (c.equal-two.ensures ∙ lent_same d w (8 * n) 49152 (16 * n - 8 * n) (49152 + 8 * n - 49152) (8 * n) (omega arith) (omega arith))
     (length_part d 0 (8 * n) (omega (arith, p.0)) ∙ sym (length_part w 0 (8 * n) (omega (arith, p.1))))

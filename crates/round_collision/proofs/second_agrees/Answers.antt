@@ -33,7 +33,7 @@ returns c =
     let e = c.is_gathered-vectors in
     record {
       told =
-          c.both.ensures ∙ by_parts s.salt2 t.salt2 s.t v c.equal-salts.result e.result
+          by_parts s.salt2 t.salt2 s.t v c.equal-salts.result e.result
           (c.equal-salts.ensures ∙ lent_same x y (378 * n) (504 * n + 32) (378 * n + 32 - 378 * n) (504 * n + 32 + 32 - (504 * n + 32)) 32 (omega arith) (omega arith))
           (e.ensures.told ∙ lent_gathered n x y (378 * n - 42 * n) (168 * n - 0) (504 * n - 168 * n) (omega arith) (omega arith) (omega arith))
           (length_part x (378 * n) 32 (omega (arith, p.2)) ∙ sym (length_part y (504 * n + 32) 32 (omega (arith, p.3))))

@@ -14,7 +14,7 @@ returns c =
     let s = a.answer2.now in
     let t = a.answer3.now in
     let n = a.n in
-    c.both.ensures ∙ by_parts (part s (504 * n) 32) (part t (504 * n) 32) (part s 0 (168 * n)) (part t 0 (168 * n)) c.equal-salts.result c.equal-permutations.result
+    by_parts (part s (504 * n) 32) (part t (504 * n) 32) (part s 0 (168 * n)) (part t 0 (168 * n)) c.equal-salts.result c.equal-permutations.result
     (c.equal-salts.ensures ∙ lent_same s t (504 * n) (504 * n) (504 * n + 32 - 504 * n) (504 * n + 32 - 504 * n) 32 (omega arith) (omega arith))
     (c.equal-permutations.ensures ∙ lent_same s t 0 0 (168 * n - 0) (168 * n - 0) (168 * n) (omega arith) (omega arith))
     (length_part s (504 * n) 32 (omega (arith, p.1)) ∙ sym (length_part t (504 * n) 32 (omega (arith, p.2))))

@@ -2,7 +2,7 @@
 use mathlib.Core.Path.{◌≡◌, sym, ◌∙◌}
 use Prim.Native.Nat.{◌<◌}
 use native.Mathlib.Omega.{arith}
-use borrow.Author.Count.{below_none, below_more}
+use borrow.Author.Count.{below_more}
 use lib.ListN.{get_or}
 use Rattle.modular.proofs.Centring.{remainder_lt}
 use Rattle.ring.specs.Ternary.{meaning}
@@ -12,9 +12,6 @@ use Rattle.vector.proofs.Vectors.{length_entries}
 use Rattle.vector.proofs.Gathers.{entry_lt, component_lt, gathered, sum_at}
 use Rattle.round_collision.proofs.Agreement.{other_number, same_numbers_lem, sum_vector, permuted_vector}
 use Rattle.round_collision.proofs.sums_agree.Goals as goal
-
-pub loop-i-init : goal.loop-i-init
-loop-i-init c = (omega arith, below_none _)
 
 pub add-sum-requires : goal.add-sum-requires
 add-sum-requires c =
@@ -49,7 +46,7 @@ loop-i-preserved c =
     let i = c.loop-i.i in
     let sum = c.add-sum.ensures ∙ sum_at a.q a.w.now a.t.now i _ _ (omega arith) (omega arith) c.from_ternary-x.ensures c.component.ensures in
     let one = gathered (entries a.p.now) (vector a.u.now) i c.entry.result c.component-in-loop-i.result (omega (arith, length_entries a.p.now)) c.entry.ensures c.component-in-loop-i.ensures in
-    (omega arith, below_more _ _ c.loop-i.invariant.1 (sym sum ∙ c.if-sum-component.false ∙ one))
+    below_more _ _ c.loop-i.invariant (sym sum ∙ c.if-sum-component.false ∙ one)
 
 pub returns : goal.returns
 returns c =
@@ -58,4 +55,4 @@ returns c =
     let x = add a.q (ternaries a.q a.w.now) (vector a.t.now) in
     let y = apply (entries a.p.now) (vector a.u.now) in
     same_numbers_lem a.q a.n x y (omega arith) (sum_vector a.q a.n a.w.now a.t.now (omega arith) p.lt_q.2 p.lt_q.3 p.t_value.0) (permuted_vector a.q a.n a.p.now a.u.now p.lt_q.4 p.lt_q.5 p.t_value.2 p.t_value.1)
-    (λ k l. c.loop-i.invariant.1 k (omega arith))
+    (λ k l. c.loop-i.invariant k (omega arith))

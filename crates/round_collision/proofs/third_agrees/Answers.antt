@@ -36,7 +36,7 @@ returns c =
     let t = answer2_of n y in
     let v = words (add a.q (ternaries a.q s.w) (vector s.t)) in
     let w = words (apply (entries t.p) (vector t.u)) in
-    c.both.ensures ∙ by_parts s.salt3 t.salt3 v w c.equal-salts.result c.sums_agree-sums.result
+    by_parts s.salt3 t.salt3 v w c.equal-salts.result c.sums_agree-sums.result
     (c.equal-salts.ensures ∙ lent_same x y (378 * n + 32) (504 * n + 32) (378 * n + 32 + 32 - (378 * n + 32)) (504 * n + 32 + 32 - (504 * n + 32)) 32 (omega arith) (omega arith))
     (c.sums_agree-sums.ensures ∙ lent_sums a.q n x y (42 * n - 0) (378 * n - 42 * n) (168 * n - 0) (504 * n - 168 * n) (omega arith) (omega arith) (omega arith) (omega arith))
     (length_part x (378 * n + 32) 32 (omega (arith, p.3)) ∙ sym (length_part y (504 * n + 32) 32 (omega (arith, p.4))))

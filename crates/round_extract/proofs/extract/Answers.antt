@@ -1,7 +1,8 @@
 -- `extract` meets its contract. Assumes nothing.
-use mathlib.Core.Path.{sym, ◌∙◌}
+use mathlib.Core.Path.{refl, sym, ◌∙◌}
 use native.Mathlib.Omega.{arith}
 use Rattle.codec.specs.Bytes.{Octets}
+use Rattle.codec.proofs.Refusals.{handed_on}
 use Rattle.scratch.proofs.Zeroizing.{zeroized_taken}
 use Rattle.commitment.specs.Parameters.{Parameters, parameters}
 use Rattle.round.specs.Extractor.{Openings, openings_of, ExtractRoom, extract_room}
@@ -21,25 +22,25 @@ x s = let a = s.args in openings_of a.head.now a.shares0.now a.shares1.now a.bal
 abbrev room : Start → ExtractRoom
 room s = extract_room s.args.out.now s.args.scratch.now
 
-pub find-kind-requires : goal.find-kind-requires
-find-kind-requires c =
+pub find-requires : goal.find-requires
+find-requires c =
     let a = c.args in
     let p = c.requires in
     let o : Octets a.head.now = λ i l. omega (arith, c.shared_slice_known-2-1.given i) in
-    let e = c.openings_tests-reply.ensures in
-    let t = c.in-Taken.is in
-    let r = search_ready (P (goal.at.find-kind-requires c).Start) (x (goal.at.find-kind-requires c).Start) (room (goal.at.find-kind-requires c).Start) p.a o (sym e.0 ∙ t) in
-    (p, still (e.1 ∙ zeroized_taken _ a.scratch.now t) ∙ r.0.0, r.0.1, r.0.2, r.0.3, r.0.4, r.1.0, r.1.1)
+    let e = c.in_ok-openings_tests.ensures in
+    let r = search_ready (P (goal.at.find-requires c).Start) (x (goal.at.find-requires c).Start) (room (goal.at.find-requires c).Start) p.a o (sym e.0) in
+    (p, still (e.1 ∙ zeroized_taken _ a.scratch.now refl) ∙ r.0.0, r.0.1, r.0.2, r.0.3, r.0.4, r.1.0, r.1.1)
 
-pub returns-in-Taken : goal.returns-in-Taken
-returns-in-Taken c =
+pub returns : goal.returns
+returns c =
     let a = c.args in
-    let e = c.openings_tests-reply.ensures in
-    let f = c.find-kind.ensures in
+    let e = c.in_ok-openings_tests.ensures in
+    let f = c.find.ensures in
     let m = count_of a.k.ring a.ballots.now in
-    extract_taken (P (goal.at.returns-in-Taken c).Start) (x (goal.at.returns-in-Taken c).Start) (room (goal.at.returns-in-Taken c).Start) e.0 e.1 c.in-Taken.is (f.0.kind_is m a.shares0.now a.shares1.now a.ballots.now a.claims.now a.repetition) (f.0.out_is m a.shares0.now a.shares1.now a.ballots.now a.claims.now a.repetition) f.1
+    extract_taken (P (goal.at.returns c).Start) (x (goal.at.returns c).Start) (room (goal.at.returns c).Start) e.0 e.1 refl (f.0.kind_is m a.shares0.now a.shares1.now a.ballots.now a.claims.now a.repetition) (f.0.out_is m a.shares0.now a.shares1.now a.ballots.now a.claims.now a.repetition) f.1
 
-pub returns-in-Refused : goal.returns-in-Refused
-returns-in-Refused c =
-    let e = c.openings_tests-reply.ensures in
-    extract_refused (P (goal.at.returns-in-Refused c).Start) (x (goal.at.returns-in-Refused c).Start) (room (goal.at.returns-in-Refused c).Start) e.0 e.1 c.in-Refused.is
+pub returns-in_err-openings_tests : goal.returns-in_err-openings_tests
+returns-in_err-openings_tests c =
+    let e = c.in_err-openings_tests.ensures in
+    rw (handed_on c.from_residual.result c.from_residual.ensures.1)
+    (extract_refused (P (goal.at.returns-in_err-openings_tests c).Start) (x (goal.at.returns-in_err-openings_tests c).Start) (room (goal.at.returns-in_err-openings_tests c).Start) e.0 e.1 refl)

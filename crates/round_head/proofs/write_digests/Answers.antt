@@ -9,15 +9,12 @@ use Rattle.commitment.specs.Commitment.{Keys, keys_of}
 use Rattle.commitment.specs.Internal.{PublicKeys}
 use Rattle.round.specs.Layout.{joined}
 use Rattle.commitment.proofs.Cut.{keys_cut}
-use Rattle.round_head.proofs.Drawing.{drawn_ends, placed_fit, material, digests_of, digested_first, digested_more, digests_end}
+use Rattle.round_head.proofs.Drawing.{drawn_ends, material, digests_of, digested_first, digested_more, digests_end}
 use Rattle.round_head.proofs.write_digests.Goals as goal
 
 -- the sheet's keys as they are lent
 abbrev lent : Numbers → Bytes → Keys
 lent k s = keys_of k.ring (take (40 * k.ring - 16 * k.ring) (drop (16 * k.ring) s))
-
-pub overflow_mul-at : goal.overflow_mul-at
-overflow_mul-at c = omega (arith, c.requires.0.a.ring_high)
 
 pub loop-i-init : goal.loop-i-init
 loop-i-init c =
@@ -31,38 +28,15 @@ digests_at-requires c =
     let l = c.loop-i in
     let n = a.k.ring in
     let q = a.k.modulus in
-    let e = drawn_ends n a.k.repeats l.i l.vector l.permutation l.salt l.invariant.placed (omega arith) q a.secrets.now a.vectors.now a.permutations.now a.salts.now p.3 in (
+    let e = drawn_ends n a.k.repeats l.i (omega arith) q a.secrets.now a.vectors.now a.permutations.now a.salts.now p.3 in (
       subst (PublicKeys n q) (sym (keys_cut a.k a.public.now)) p.0.keys,
       l.invariant.long,
-      (digests_end q n a.k.repeats (lent a.k a.public.now) a.secrets.now a.vectors.now a.permutations.now a.salts.now a.head.now p.2 l.i l.at l.vector l.permutation l.salt l.head l.work l.invariant (omega arith)).0,
+      digests_end q n a.k.repeats (lent a.k a.public.now) a.secrets.now a.vectors.now a.permutations.now a.salts.now a.head.now p.2 l.i l.head l.work l.invariant (omega arith),
       e.0,
       e.1,
       e.2,
-      material n a.k.repeats l.i l.vector l.permutation l.salt l.invariant.placed (omega arith) q a.secrets.now a.vectors.now a.permutations.now a.salts.now p.3,
+      material n a.k.repeats l.i (omega arith) q a.secrets.now a.vectors.now a.permutations.now a.salts.now p.3,
     )
-
-pub overflow_add-at : goal.overflow_add-at
-overflow_add-at c =
-    let a = c.args in
-    let p = c.requires in
-    let l = c.loop-i in
-    let k = a.k in
-    omega (arith, (digests_end k.modulus k.ring k.repeats (lent k a.public.now) a.secrets.now a.vectors.now a.permutations.now a.salts.now a.head.now p.2 l.i l.at l.vector l.permutation l.salt l.head l.work l.invariant (omega arith)).1, p.0.a.ring_high, p.0.numbers.in_range.repeats_high)
-
-pub overflow_mul-vector : goal.overflow_mul-vector
-overflow_mul-vector c = omega (arith, c.requires.0.a.ring_high)
-
-pub overflow_mul-permutation : goal.overflow_mul-permutation
-overflow_mul-permutation c = omega (arith, c.requires.0.a.ring_high)
-
-pub overflow_add-vector : goal.overflow_add-vector
-overflow_add-vector c = let k = c.args.k in let p = c.requires.0 in let l = c.loop-i in omega (arith, (placed_fit k.ring k.repeats l.i l.vector l.permutation l.salt l.invariant.placed (omega arith) p.a.ring_high p.numbers.in_range.repeats_high).0)
-
-pub overflow_add-permutation : goal.overflow_add-permutation
-overflow_add-permutation c = let k = c.args.k in let p = c.requires.0 in let l = c.loop-i in omega (arith, (placed_fit k.ring k.repeats l.i l.vector l.permutation l.salt l.invariant.placed (omega arith) p.a.ring_high p.numbers.in_range.repeats_high).1)
-
-pub overflow_add-salt : goal.overflow_add-salt
-overflow_add-salt c = let k = c.args.k in let p = c.requires.0 in let l = c.loop-i in omega (arith, (placed_fit k.ring k.repeats l.i l.vector l.permutation l.salt l.invariant.placed (omega arith) p.a.ring_high p.numbers.in_range.repeats_high).2)
 
 pub loop-i-preserved : goal.loop-i-preserved
 loop-i-preserved c =
@@ -70,7 +44,7 @@ loop-i-preserved c =
     let p = c.requires in
     let l = c.loop-i in
     let d = c.digests_at in
-    digested_more a.k.modulus a.k.ring a.k.repeats (lent a.k a.public.now) a.secrets.now a.vectors.now a.permutations.now a.salts.now a.head.now p.2 l.i l.at l.vector l.permutation l.salt l.head l.work l.invariant (omega arith) p.3 d.new.out d.new.work d.auto.out d.ensures.1 d.ensures.0
+    digested_more a.k.modulus a.k.ring a.k.repeats (lent a.k a.public.now) a.secrets.now a.vectors.now a.permutations.now a.salts.now a.head.now p.2 l.i l.head l.work l.invariant (omega arith) d.new.out d.new.work d.auto.out d.ensures.1 d.ensures.0
 
 pub shape_of-head : goal.shape_of-head
 shape_of-head c = c.loop-i.invariant.written.long
@@ -83,7 +57,7 @@ returns c =
     let a = c.args in
     let k = a.k in
     let l = c.loop-i in
-    let e : l.i ≡ k.repeats = omega (arith, l.invariant.placed.within) in (
+    let e : l.i ≡ k.repeats = omega arith in (
       l.invariant.written.is
           ∙ ap₂ (λ (i : ℕ) (b : Bytes). put a.head.now (80 * k.ring) (joined i (digests_of k.modulus k.ring k.repeats (keys_of k.ring b) a.secrets.now a.vectors.now a.permutations.now a.salts.now))) e
           (keys_cut k a.public.now),

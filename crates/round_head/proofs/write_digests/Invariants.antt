@@ -1,12 +1,8 @@
 -- The invariants of `write_digests`. Assumes nothing.
-use Prim.Native.Nat.{◌-◌}
 use Rattle.commitment.specs.Commitment.{keys_of}
 use Rattle.round_head.proofs.Drawing.{Digested}
 use Rattle.round_head.proofs.write_digests.Given as goal
 
 abbrev pub invariant-loop-i : goal.invariant-loop-i
 invariant-loop-i l =
-    Digested l.q l.n l.repeats (keys_of l.n l.keys) l.secrets l.vectors l.permutations l.salts l.initial.head l.i l.at l.vector l.permutation l.salt l.head l.work
-
-abbrev pub decreases-loop-i : goal.decreases-loop-i
-decreases-loop-i l = l.repeats - l.i
+    Digested l.q l.n l.repeats (keys_of l.n l.keys) l.secrets l.vectors l.permutations l.salts l.initial.head l.i l.head l.work

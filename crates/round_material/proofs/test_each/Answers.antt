@@ -2,6 +2,7 @@
 use mathlib.Core.Path.{ap, ◌∙◌}
 use mathlib.Core.List.{◌++◌}
 use Rattle.codec.specs.Bytes.{zeros}
+use Rattle.codec.specs.Refusal.{as_reply}
 use Rattle.sheet_numbers.specs.Plain.{noise_bound_of, mask_bound_of}
 use Rattle.round.specs.Producer.{mask_tests, permutation_tests, noise_tests}
 use Rattle.round_material.proofs.Sequence.{both_decided}
@@ -19,7 +20,7 @@ returns c =
     let m = c.test_masks-masked in
     let p = c.test_permutations-permuting in
     let v = c.test_noise-quiet in
-    let d = c.decided in (
-      c.decided-2.ensures ∙ both_decided ms (ps ++ ns) m.result d.result m.ensures (d.ensures ∙ both_decided ps ns p.result v.result p.ensures.0 v.ensures.0),
+    let d = c.and in (
+      ap as_reply c.and-2.ensures ∙ both_decided ms (ps ++ ns) m.result d.result m.ensures (ap as_reply d.ensures ∙ both_decided ps ns p.result v.result p.ensures.0 v.ensures.0),
       c.wipe.ensures ∙ ap zeros (v.ensures.1 ∙ p.ensures.1),
     )

@@ -1,5 +1,7 @@
 -- `test_material` meets its contract. Assumes nothing.
-use mathlib.Core.Path.{◌∙◌}
+use mathlib.Core.Path.{ap, ◌∙◌}
+use Rattle.codec.specs.Refusal.{as_reply}
+use Rattle.codec.proofs.Refusals.{handed_on}
 use Rattle.scratch.proofs.Zeroizing.{length_zeros}
 use Rattle.round.specs.Producer.{Material, material_of}
 use Rattle.commitment.specs.Parameters.{Parameters, parameters}
@@ -13,8 +15,11 @@ x s = let a = s.args in material_of a.secrets.now a.s0.now a.e0.now a.masks0.now
 abbrev P : Start → Parameters
 P s = parameters s.args.k s.args.public.now
 
-pub returns-in-Refused : goal.returns-in-Refused
-returns-in-Refused c = stopped (P (goal.at.returns-in-Refused c).Start) c.args.count (x (goal.at.returns-in-Refused c).Start) c.args.asked c.test_secret-secret.ensures c.wipe.ensures _ _ c.in-Refused.is
+pub returns-in_err-secret : goal.returns-in_err-secret
+returns-in_err-secret c =
+    let s = (goal.at.returns-in_err-secret c).Start in
+    rw (handed_on c.from_residual.result c.from_residual.ensures.1)
+    (stopped (P s) c.args.count (x s) c.args.asked c.test_secret-secret.ensures c.wipe.ensures _ _ (ap as_reply c.in_err-secret.was))
 
 pub test_each-requires : goal.test_each-requires
 test_each-requires c =
@@ -29,9 +34,9 @@ test_each-requires c =
         masks1 = z.masks1;
         permutations = z.permutations;
         ballots = z.ballots;
-        below = ballots_passed (P (goal.at.test_each-requires c).Start) c.args.count (x (goal.at.test_each-requires c).Start) c.args.asked t.0 c.in-Taken.is;
+        below = ballots_passed (P (goal.at.test_each-requires c).Start) c.args.count (x (goal.at.test_each-requires c).Start) c.args.asked t.0 (ap as_reply c.in_ok-secret.was);
       },
     )
 
 pub returns : goal.returns
-returns c = ended (P (goal.at.returns c).Start) c.args.count (x (goal.at.returns c).Start) c.args.asked c.test_secret-secret.ensures c.wipe.ensures c.in-Taken.is c.test_each.ensures
+returns c = ended (P (goal.at.returns c).Start) c.args.count (x (goal.at.returns c).Start) c.args.asked c.test_secret-secret.ensures c.wipe.ensures (ap as_reply c.in_ok-secret.was) c.test_each.ensures

@@ -2,6 +2,7 @@
 use mathlib.Core.Path.{refl, sym, ◌∙◌}
 use mathlib.Core.Bool.{true}
 use native.Mathlib.Omega.{arith}
+use Rattle.codec.proofs.Refusals.{handed_on}
 use Rattle.commitment.specs.Parameters.{Parameters, parameters}
 use Rattle.round.specs.Producer.{Material, material_of}
 use Rattle.round.specs.Writes.{FirstRoom, first_room}
@@ -25,27 +26,28 @@ room s = let a = s.args in first_room a.head.now a.shares0.now a.shares1.now a.c
 pub returns-then-count-gt4096 : goal.returns-then-count-gt4096
 returns-then-count-gt4096 c =
     let s = (goal.at.returns-then-count-gt4096 c).Start in
-    let t = many (P s) (x s) true (first_sized c.args.k.ring c.args.k.repeats c.count_of-count.result (room s)) c.args.scratch.now c.count_of-count.ensures c.refused.ensures (omega arith) in
-    first_refused (P s) (x s) (room s) (first_tested (P s) (x s) (room s) c.count_of-count.ensures refl t) c.refused.ensures
+    let t = many (P s) (x s) true (first_sized c.args.k.ring c.args.k.repeats c.count_of-count.result (room s)) c.args.scratch.now c.count_of-count.ensures refl (omega arith) in
+    first_refused (P s) (x s) (room s) (first_tested (P s) (x s) (room s) c.count_of-count.ensures refl t) refl
 
-pub test_call-reply-requires : goal.test_call-reply-requires
-test_call-reply-requires c =
-    let s = (goal.at.test_call-reply-requires c).Start in
+pub test_call-requires : goal.test_call-requires
+test_call-requires c =
+    let s = (goal.at.test_call-requires c).Start in
     let a = c.args in
     (c.requires, c.count_of-count.ensures, omega (arith, c.if-count-gt4096.false), record { sized = λ e. (first_sizes a.k.ring a.k.repeats c.count_of-count.result (room s) (sym c.first_sized-fits.ensures ∙ e)).4 })
 
 pub write_first-requires : goal.write_first-requires
 write_first-requires c =
     let s = (goal.at.write_first-requires c).Start in
-    let t = first_tested (P s) (x s) (room s) c.count_of-count.ensures c.first_sized-fits.ensures c.test_call-reply.ensures in
-    (c.requires, first_ready c.args.k c.args.public.now (x s) c.requires (room s) t c.in-Taken.is)
+    let t = first_tested (P s) (x s) (room s) c.count_of-count.ensures c.first_sized-fits.ensures c.in_ok-test_call.ensures in
+    (c.requires, first_ready c.args.k c.args.public.now (x s) c.requires (room s) t refl)
 
-pub returns-in-Taken : goal.returns-in-Taken
-returns-in-Taken c =
-    let s = (goal.at.returns-in-Taken c).Start in
-    first_taken (P s) (x s) (room s) (first_tested (P s) (x s) (room s) c.count_of-count.ensures c.first_sized-fits.ensures c.test_call-reply.ensures) c.in-Taken.is c.write_first.ensures
+pub returns : goal.returns
+returns c =
+    let s = (goal.at.returns c).Start in
+    first_taken (P s) (x s) (room s) (first_tested (P s) (x s) (room s) c.count_of-count.ensures c.first_sized-fits.ensures c.in_ok-test_call.ensures) refl c.write_first.ensures
 
-pub returns-in-Refused : goal.returns-in-Refused
-returns-in-Refused c =
-    let s = (goal.at.returns-in-Refused c).Start in
-    first_refused (P s) (x s) (room s) (first_tested (P s) (x s) (room s) c.count_of-count.ensures c.first_sized-fits.ensures c.test_call-reply.ensures) c.in-Refused.is
+pub returns-in_err-test_call : goal.returns-in_err-test_call
+returns-in_err-test_call c =
+    let s = (goal.at.returns-in_err-test_call c).Start in
+    rw (handed_on c.from_residual.result c.from_residual.ensures.1)
+    (first_refused (P s) (x s) (room s) (first_tested (P s) (x s) (room s) c.count_of-count.ensures c.first_sized-fits.ensures c.in_err-test_call.ensures) refl)

@@ -6,6 +6,7 @@ use native.Mathlib.Omega.{arith}
 use lib.Dec.{ltb}
 use lib.ListN.{length, get_or}
 use Rattle.codec.specs.Lists.{all}
+use Rattle.codec.proofs.Refusals.{handed_on}
 use Rattle.commitment.specs.Parameters.{Parameters, parameters}
 use Rattle.round.specs.Round.{is_challenge}
 use Rattle.round.specs.Producer.{Material, material_of, asked_ranged}
@@ -43,28 +44,29 @@ pub returns-then-count-gt4096 : goal.returns-then-count-gt4096
 returns-then-count-gt4096 c =
     let s = (goal.at.returns-then-count-gt4096 c).Start in
     let m = count_of c.args.k.ring c.args.ballots.now in
-    let t = many (P s) (x s) (asked_ranged (P s) m (x s) c.args.side c.args.challenges.now) (fit s) c.args.scratch.now c.count_of-count.ensures c.refused.ensures (omega arith) in
-    second_refused c.args.k c.args.public.now (x s) c.args.side c.args.challenges.now (room s) (second_tested (P s) (x s) c.args.side c.args.challenges.now (room s) refl (λ e. refl) t) c.refused.ensures
+    let t = many (P s) (x s) (asked_ranged (P s) m (x s) c.args.side c.args.challenges.now) (fit s) c.args.scratch.now c.count_of-count.ensures refl (omega arith) in
+    second_refused c.args.k c.args.public.now (x s) c.args.side c.args.challenges.now (room s) (second_tested (P s) (x s) c.args.side c.args.challenges.now (room s) refl (λ e. refl) t) refl
 
-pub test_call-reply-requires : goal.test_call-reply-requires
-test_call-reply-requires c =
+pub test_call-requires : goal.test_call-requires
+test_call-requires c =
     let a = c.args in
     (c.requires, c.count_of-count.ensures, omega (arith, c.if-count-gt4096.false), record { sized = λ e. (second_sizes a.k.ring a.k.repeats a.challenges.now a.opening.now a.answers.now a.scratch.now (sym c.second_sized-fits.ensures ∙ e)).3 })
 
 pub write_second-requires : goal.write_second-requires
 write_second-requires c =
     let s = (goal.at.write_second-requires c).Start in
-    let t = second_tested (P s) (x s) c.args.side c.args.challenges.now (room s) c.second_sized-fits.ensures (asks s c.second_sized-fits.ensures c.asked_ranged-asked.ensures) c.test_call-reply.ensures in
-    second_ready c.args.k c.args.public.now (x s) c.requires c.args.side c.args.challenges.now (room s) t c.in-Taken.is
+    let t = second_tested (P s) (x s) c.args.side c.args.challenges.now (room s) c.second_sized-fits.ensures (asks s c.second_sized-fits.ensures c.asked_ranged-asked.ensures) c.in_ok-test_call.ensures in
+    second_ready c.args.k c.args.public.now (x s) c.requires c.args.side c.args.challenges.now (room s) t refl
 
-pub returns-in-Taken : goal.returns-in-Taken
-returns-in-Taken c =
-    let s = (goal.at.returns-in-Taken c).Start in
-    let t = second_tested (P s) (x s) c.args.side c.args.challenges.now (room s) c.second_sized-fits.ensures (asks s c.second_sized-fits.ensures c.asked_ranged-asked.ensures) c.test_call-reply.ensures in
-    second_taken c.args.k c.args.public.now (x s) c.args.side c.args.challenges.now (room s) t c.in-Taken.is c.write_second.ensures
+pub returns : goal.returns
+returns c =
+    let s = (goal.at.returns c).Start in
+    let t = second_tested (P s) (x s) c.args.side c.args.challenges.now (room s) c.second_sized-fits.ensures (asks s c.second_sized-fits.ensures c.asked_ranged-asked.ensures) c.in_ok-test_call.ensures in
+    second_taken c.args.k c.args.public.now (x s) c.args.side c.args.challenges.now (room s) t refl c.write_second.ensures
 
-pub returns-in-Refused : goal.returns-in-Refused
-returns-in-Refused c =
-    let s = (goal.at.returns-in-Refused c).Start in
-    let t = second_tested (P s) (x s) c.args.side c.args.challenges.now (room s) c.second_sized-fits.ensures (asks s c.second_sized-fits.ensures c.asked_ranged-asked.ensures) c.test_call-reply.ensures in
-    second_refused c.args.k c.args.public.now (x s) c.args.side c.args.challenges.now (room s) t c.in-Refused.is
+pub returns-in_err-test_call : goal.returns-in_err-test_call
+returns-in_err-test_call c =
+    let s = (goal.at.returns-in_err-test_call c).Start in
+    let t = second_tested (P s) (x s) c.args.side c.args.challenges.now (room s) c.second_sized-fits.ensures (asks s c.second_sized-fits.ensures c.asked_ranged-asked.ensures) c.in_err-test_call.ensures in
+    rw (handed_on c.from_residual.result c.from_residual.ensures.1)
+    (second_refused c.args.k c.args.public.now (x s) c.args.side c.args.challenges.now (room s) t refl)

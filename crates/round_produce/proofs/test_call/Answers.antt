@@ -1,5 +1,5 @@
 -- `round_produce::test_call` meets its contract. Assumes nothing.
-use mathlib.Core.Path.{sym, ◌∙◌}
+use mathlib.Core.Path.{refl, sym, ◌∙◌}
 use Rattle.commitment.specs.Parameters.{Parameters, parameters}
 use Rattle.round.specs.Producer.{Material, material_of}
 use Rattle.round_lengths.proofs.Sizes.{material_sizes}
@@ -16,12 +16,12 @@ x s = let a = s.args in material_of a.secrets.now a.s0.now a.e0.now a.masks0.now
 pub returns-then-not-material_sized : goal.returns-then-not-material_sized
 returns-then-not-material_sized c =
     let s = (goal.at.returns-then-not-material_sized c).Start in
-    missized (P s) (x s) c.args.asked c.args.fits c.args.scratch.now c.requires.1 c.refused.ensures c.requires.2 c.material_sized.ensures c.if-not-material_sized.true
+    missized (P s) (x s) c.args.asked c.args.fits c.args.scratch.now c.requires.1 refl c.requires.2 c.material_sized.ensures c.if-not-material_sized.true
 
 pub returns-then-not-fits : goal.returns-then-not-fits
 returns-then-not-fits c =
     let s = (goal.at.returns-then-not-fits c).Start in
-    misfit (P s) (x s) c.args.asked c.args.fits c.args.scratch.now c.requires.1 c.refused-then-not-fits.ensures c.requires.2 c.material_sized.ensures c.if-not-material_sized.false c.if-not-fits.true
+    misfit (P s) (x s) c.args.asked c.args.fits c.args.scratch.now c.requires.1 refl c.requires.2 c.material_sized.ensures c.if-not-material_sized.false c.if-not-fits.true
 
 pub test_material-requires : goal.test_material-requires
 test_material-requires c =

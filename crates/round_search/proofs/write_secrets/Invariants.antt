@@ -1,6 +1,6 @@
 -- The invariants of `write_secrets`. Assumes nothing.
 use mathlib.Core.Path.{◌≡◌}
-use Prim.Native.Nat.{◌-◌, ◌*◌, ◌≤◌}
+use Prim.Native.Nat.{◌*◌}
 use lib.ListN.{length}
 use lib.Seq.{paste}
 use Rattle.round.specs.Extractor.{ternary_bytes}
@@ -8,7 +8,4 @@ use Rattle.round_search.specs.Internal.{unknowns_of, from}
 use Rattle.round_search.proofs.write_secrets.Given as goal
 
 abbrev pub invariant-loop-i : goal.invariant-loop-i
-invariant-loop-i l = (l.i ≤ 2 * l.n) × (length l.out ≡ length l.initial.out) × (l.out ≡ paste l.initial.out 0 (ternary_bytes l.q (2 * l.n) (from (unknowns_of l.q l.n l.u l.r) 0)) l.i)
-
-abbrev pub decreases-loop-i : goal.decreases-loop-i
-decreases-loop-i l = 2 * l.n - l.i
+invariant-loop-i l = (length l.out ≡ length l.initial.out) × (l.out ≡ paste l.initial.out 0 (ternary_bytes l.q (2 * l.n) (from (unknowns_of l.q l.n l.u l.r) 0)) l.i)

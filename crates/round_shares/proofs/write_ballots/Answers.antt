@@ -3,7 +3,7 @@ use mathlib.Core.Path.{sym, ap, ◌∙◌}
 use native.Mathlib.Omega.{arith}
 use Rattle.codec.specs.Bytes.{zeros}
 use Rattle.sheet_numbers.specs.Plain.{plain}
-use Rattle.round_shares.proofs.BallotWriting.{sent_first, ballot_stands, room_fits, places_fit, sent_more, sent_all}
+use Rattle.round_shares.proofs.BallotWriting.{sent_first, ballot_stands, room_fits, sent_more, sent_all}
 use Rattle.round_shares.proofs.write_ballots.Goals as goal
 
 pub loop-j-init : goal.loop-j-init
@@ -16,28 +16,9 @@ ballot_at-requires c =
     let a = c.args in
     let p = c.requires in
     let l = c.loop-j in
-    let x = ballot_stands a.k.modulus a.k.ring (plain a.k) a.count a.secrets.now a.s0.now a.masks0.now a.masks1.now a.ballots.now a.shares0.now a.shares1.now a.claims.now p.4 p.5 p.6 p.7 l.j l.at l.claim l.sent l.shares0 l.shares1 l.claims l.work l.invariant (omega arith) in
-    let y = room_fits a.k.modulus a.k.ring (plain a.k) a.count a.secrets.now a.s0.now a.masks0.now a.masks1.now a.ballots.now a.shares0.now a.shares1.now a.claims.now p.4 p.5 p.6 p.7 l.j l.at l.claim l.sent l.shares0 l.shares1 l.claims l.work l.invariant (omega arith) in
+    let x = ballot_stands a.k.modulus a.k.ring (plain a.k) a.count a.secrets.now a.s0.now a.masks0.now a.masks1.now a.ballots.now a.shares0.now a.shares1.now a.claims.now p.4 p.5 p.6 p.7 l.j l.shares0 l.shares1 l.claims l.work l.invariant (omega arith) in
+    let y = room_fits a.k.modulus a.k.ring (plain a.k) a.count a.secrets.now a.s0.now a.masks0.now a.masks1.now a.ballots.now a.shares0.now a.shares1.now a.claims.now p.4 p.5 p.6 p.7 l.j l.shares0 l.shares1 l.claims l.work l.invariant (omega arith) in
     (p.0, p.1, p.2, x, y)
-
--- the places of the next ballot
-pub overflow_add-at-in-loop-j : goal.overflow_add-at-in-loop-j
-overflow_add-at-in-loop-j c = let a = c.args in let p = c.requires in let l = c.loop-j in omega (arith, (places_fit a.k.modulus a.k.ring (plain a.k) a.count a.secrets.now a.s0.now a.masks0.now a.masks1.now a.ballots.now a.shares0.now a.shares1.now a.claims.now p.4 p.5 p.6 p.7 l.j l.at l.claim l.sent l.shares0 l.shares1 l.claims l.work l.invariant (omega arith) p.0.in_range.ring_high p.3).0)
-
-pub overflow_add-claim : goal.overflow_add-claim
-overflow_add-claim c = let a = c.args in let p = c.requires in let l = c.loop-j in omega (arith, (places_fit a.k.modulus a.k.ring (plain a.k) a.count a.secrets.now a.s0.now a.masks0.now a.masks1.now a.ballots.now a.shares0.now a.shares1.now a.claims.now p.4 p.5 p.6 p.7 l.j l.at l.claim l.sent l.shares0 l.shares1 l.claims l.work l.invariant (omega arith) p.0.in_range.ring_high p.3).1)
-
-pub overflow_add-sent : goal.overflow_add-sent
-overflow_add-sent c = let a = c.args in let p = c.requires in let l = c.loop-j in omega (arith, (places_fit a.k.modulus a.k.ring (plain a.k) a.count a.secrets.now a.s0.now a.masks0.now a.masks1.now a.ballots.now a.shares0.now a.shares1.now a.claims.now p.4 p.5 p.6 p.7 l.j l.at l.claim l.sent l.shares0 l.shares1 l.claims l.work l.invariant (omega arith) p.0.in_range.ring_high p.3).2)
-
-pub overflow_mul-at : goal.overflow_mul-at
-overflow_mul-at c = omega (arith, c.requires.0.in_range.ring_high)
-
-pub overflow_add-at : goal.overflow_add-at
-overflow_add-at c = omega (arith, c.requires.0.in_range.ring_high)
-
-pub overflow_mul-sent : goal.overflow_mul-sent
-overflow_mul-sent c = omega (arith, c.requires.0.in_range.ring_high)
 
 pub loop-j-preserved : goal.loop-j-preserved
 loop-j-preserved c =
@@ -45,7 +26,7 @@ loop-j-preserved c =
     let p = c.requires in
     let l = c.loop-j in
     let b = c.ballot_at in
-    sent_more a.k.modulus a.k.ring (plain a.k) a.count a.secrets.now a.s0.now a.masks0.now a.masks1.now a.ballots.now a.shares0.now a.shares1.now a.claims.now p.4 p.5 p.6 p.7 l.j l.at l.claim l.sent l.shares0 l.shares1 l.claims l.work l.invariant (omega arith)
+    sent_more a.k.modulus a.k.ring (plain a.k) a.count a.secrets.now a.s0.now a.masks0.now a.masks1.now a.ballots.now a.shares0.now a.shares1.now a.claims.now p.4 p.5 p.6 p.7 l.j l.shares0 l.shares1 l.claims l.work l.invariant (omega arith)
     b.new.shares0 b.new.shares1 b.new.claims b.new.work b.auto.shares0 b.auto.shares1 b.auto.claims b.ensures.kept b.ensures.shares0 b.ensures.shares1 b.ensures.claims
 
 pub shape_of-shares0 : goal.shape_of-shares0
@@ -65,5 +46,5 @@ returns c =
     let a = c.args in
     let p = c.requires in
     let l = c.loop-j in
-    let e = sent_all a.k.modulus a.k.ring (plain a.k) a.count a.secrets.now a.s0.now a.masks0.now a.masks1.now a.ballots.now a.shares0.now a.shares1.now a.claims.now p.5 p.6 p.7 l.j l.at l.claim l.sent l.shares0 l.shares1 l.claims l.work l.invariant (omega arith) in
+    let e = sent_all a.k.modulus a.k.ring (plain a.k) a.count a.secrets.now a.s0.now a.masks0.now a.masks1.now a.ballots.now a.shares0.now a.shares1.now a.claims.now p.5 p.6 p.7 l.j l.shares0 l.shares1 l.claims l.work l.invariant (omega arith) in
     record { shares0 = e.0; shares1 = e.1; claims = e.2; cleared = c.wipe.ensures ∙ ap zeros (l.invariant.long ∙ sym p.8) }

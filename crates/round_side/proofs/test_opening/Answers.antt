@@ -24,7 +24,7 @@ pub returns-then-not-opens_key : goal.returns-then-not-opens_key
 returns-then-not-opens_key c =
     let o = c.opens_key in
     record {
-      replied = c.refused.ensures ∙ first_fails 7 8 0 _ _ (ap not (sym (o.ensures.0 c.args.side refl) ∙ c.if-not-opens_key.true));
+      replied = first_fails 7 8 0 _ _ (ap not (sym (o.ensures.0 c.args.side refl) ∙ c.if-not-opens_key.true));
       cleared = o.ensures.1;
     }
 
@@ -36,7 +36,7 @@ returns-then-not-opens_pairs c =
     let o = c.opens_key in
     let b = c.opens_pairs in
     record {
-      replied = c.refused-then-not-opens_pairs.ensures ∙ second_fails 7 8 0 _ _ (ap not (sym (o.ensures.0 c.args.side refl) ∙ c.if-not-opens_key.false)) (ap not (sym (b.ensures.0 c.args.side refl) ∙ c.if-not-opens_pairs.true));
+      replied = second_fails 7 8 0 _ _ (ap not (sym (o.ensures.0 c.args.side refl) ∙ c.if-not-opens_key.false)) (ap not (sym (b.ensures.0 c.args.side refl) ∙ c.if-not-opens_pairs.true));
       cleared = again (length c.args.work.now) o.ensures.1 b.ensures.1;
     }
 

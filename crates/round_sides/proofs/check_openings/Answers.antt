@@ -23,7 +23,7 @@ unfolding extract_tests
 returns-then-not-openings_ranged c =
     let t = c.openings_ranged in
     record {
-      replied = c.refused.ensures ∙ refuses 5 0 _ _ (ap not (sym (t.ensures c.args.public.now) ∙ c.if-not-openings_ranged.true));
+      replied = refuses 5 0 _ _ (ap not (sym (t.ensures c.args.public.now) ∙ c.if-not-openings_ranged.true));
       cleared = c.wipe.ensures;
     }
 

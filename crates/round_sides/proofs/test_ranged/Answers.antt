@@ -1,8 +1,9 @@
 -- `round_sides::test_ranged` meets its contract. Assumes nothing.
-use mathlib.Core.Path.{sym, ap, ◌∙◌}
+use mathlib.Core.Path.{refl, sym, ap, ◌∙◌}
 use mathlib.Core.Bool.{not}
 use native.Mathlib.Omega.{arith}
 use lib.ListN.{length}
+use Rattle.codec.proofs.Refusals.{handed_on}
 use Rattle.scratch.proofs.Order.{refuses, passes}
 use Rattle.round.proofs.Many.{stopped, continued}
 use Rattle.round.proofs.Wiped.{still, again}
@@ -15,56 +16,58 @@ pub returns-then-not-splits : goal.returns-then-not-splits
 returns-then-not-splits c =
     let s = c.splits in
     record {
-      replied = c.refused.ensures ∙ refuses 6 0 _ _ (ap not (sym s.ensures.0 ∙ c.if-not-splits.true));
+      replied = refuses 6 0 _ _ (ap not (sym s.ensures.0 ∙ c.if-not-splits.true));
       cleared = s.ensures.1;
     }
 
-pub test_side-zero-requires : goal.test_side-zero-requires
-test_side-zero-requires c =
+pub test_side-requires : goal.test_side-requires
+test_side-requires c =
     let p = c.requires in
     let r = p.3 in
     (p.0, r.opening0, still c.splits.ensures.1 ∙ p.1, omega (arith, r.head.sized), omega arith, p.2, r.batch, r.shares0, r.shares1)
 
-pub returns-in_default : goal.returns-in_default
-returns-in_default c =
+pub returns-in_err-test_side : goal.returns-in_err-test_side
+returns-in_err-test_side c =
     let s = c.splits in
-    let t = c.test_side-zero in
-    record {
-      replied = stopped _ _ t.ensures.replied _ _ c.in_default.is ∙ sym (passes 6 0 _ _ (ap not (sym s.ensures.0 ∙ c.if-not-splits.false)));
-      cleared = again (length c.args.work.now) s.ensures.1 t.ensures.cleared;
-    }
+    let t = c.in_err-test_side.ensures in
+    rw (handed_on c.from_residual.result c.from_residual.ensures.1)
+    (record {
+      replied = stopped _ _ t.replied _ _ refl ∙ sym (passes 6 0 _ _ (ap not (sym s.ensures.0 ∙ c.if-not-splits.false)));
+      cleared = again (length c.args.work.now) s.ensures.1 t.cleared;
+    })
 
-pub test_side-one-requires : goal.test_side-one-requires
-test_side-one-requires c =
+pub test_side-requires-2 : goal.test_side-requires-2
+test_side-requires-2 c =
     let p = c.requires in
     let r = p.3 in
-    (p.0, r.opening1, still c.test_side-zero.ensures.cleared ∙ still c.splits.ensures.1 ∙ p.1, omega (arith, r.head.sized), omega arith, p.2, r.batch, r.shares0, r.shares1)
+    (p.0, r.opening1, still c.test_side.ensures.cleared ∙ still c.splits.ensures.1 ∙ p.1, omega (arith, r.head.sized), omega arith, p.2, r.batch, r.shares0, r.shares1)
 
-pub returns-in_default-one : goal.returns-in_default-one
-returns-in_default-one c =
+pub returns-in_err-test_side-2 : goal.returns-in_err-test_side-2
+returns-in_err-test_side-2 c =
     let s = c.splits in
-    let t = c.test_side-zero in
-    let u = c.test_side-one in
+    let t = c.in_ok-test_side.ensures in
+    let u = c.in_err-test_side-2.ensures in
     let l = length c.args.work.now in
-    record {
-      replied = continued _ _ t.ensures.replied c.in-Taken.is (stopped _ _ u.ensures.replied _ _ c.in_default-one.is) ∙ sym (passes 6 0 _ _ (ap not (sym s.ensures.0 ∙ c.if-not-splits.false)));
-      cleared = again l (again l s.ensures.1 t.ensures.cleared) u.ensures.cleared;
-    }
+    rw (handed_on c.from_residual-in_err-test_side-2.result c.from_residual-in_err-test_side-2.ensures.1)
+    (record {
+      replied = continued _ _ t.replied refl (stopped _ _ u.replied _ _ refl) ∙ sym (passes 6 0 _ _ (ap not (sym s.ensures.0 ∙ c.if-not-splits.false)));
+      cleared = again l (again l s.ensures.1 t.cleared) u.cleared;
+    })
 
 pub test_answers-requires : goal.test_answers-requires
 test_answers-requires c =
     let p = c.requires in
     let r = p.3 in
-    (p.0, still c.test_side-one.ensures.cleared ∙ still c.test_side-zero.ensures.cleared ∙ still c.splits.ensures.1 ∙ p.1, r.repetition, r.head, r.answer1, r.answer2, r.answer3)
+    (p.0, still c.test_side-2.ensures.cleared ∙ still c.test_side.ensures.cleared ∙ still c.splits.ensures.1 ∙ p.1, r.repetition, r.head, r.answer1, r.answer2, r.answer3)
 
 pub returns : goal.returns
 returns c =
     let s = c.splits in
-    let t = c.test_side-zero in
-    let u = c.test_side-one in
+    let t = c.in_ok-test_side.ensures in
+    let u = c.in_ok-test_side-2.ensures in
     let v = c.test_answers in
     let l = length c.args.work.now in
     record {
-      replied = continued _ _ t.ensures.replied c.in-Taken.is (continued _ _ u.ensures.replied c.in-Taken-one.is v.ensures.replied) ∙ sym (passes 6 0 _ _ (ap not (sym s.ensures.0 ∙ c.if-not-splits.false)));
-      cleared = again l (again l (again l s.ensures.1 t.ensures.cleared) u.ensures.cleared) v.ensures.cleared;
+      replied = continued _ _ t.replied refl (continued _ _ u.replied refl v.ensures.replied) ∙ sym (passes 6 0 _ _ (ap not (sym s.ensures.0 ∙ c.if-not-splits.false)));
+      cleared = again l (again l (again l s.ensures.1 t.cleared) u.cleared) v.ensures.cleared;
     }

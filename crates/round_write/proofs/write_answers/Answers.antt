@@ -1,16 +1,12 @@
 -- `round_write::write_answers` meets its contract. Assumes nothing.
 use native.Mathlib.Omega.{arith}
-use Rattle.round_write.proofs.Answering.{answering_first, answer_ends, answering_more, answering_all}
-use Rattle.round_head.proofs.Drawing.{placed_fit, drawn_ends, material}
+use Rattle.round_head.proofs.Joining.{filled_first}
+use Rattle.round_head.proofs.Drawing.{drawn_ends, material}
+use Rattle.round_write.proofs.Answering.{answer_of, answer_ends, answering_more, answering_all}
 use Rattle.round_write.proofs.write_answers.Goals as goal
 
 pub loop-i-init : goal.loop-i-init
-loop-i-init c =
-    let a = c.args in
-    answering_first a.k.modulus a.k.ring a.k.repeats a.secrets.now a.vectors.now a.permutations.now a.salts.now a.challenges.now a.answers.now
-
-pub bounds-challenges-i : goal.bounds-challenges-i
-bounds-challenges-i c = omega (arith, c.requires.2)
+loop-i-init c = let a = c.args in filled_first (answer_of a.k.modulus a.k.ring a.k.repeats a.secrets.now a.vectors.now a.permutations.now a.salts.now a.challenges.now) a.answers.now 0
 
 pub answer_length-size-requires : goal.answer_length-size-requires
 answer_length-size-requires c = c.requires.0.in_range.ring_high
@@ -21,8 +17,8 @@ answer_at-requires c =
     let p = c.requires in
     let l = c.loop-i in
     let s = c.answer_length-size.ensures in
-    let e = drawn_ends a.k.ring a.k.repeats l.i l.vector l.permutation l.salt l.invariant.placed (omega arith) a.k.modulus a.secrets.now a.vectors.now a.permutations.now a.salts.now p.1 in
-    let y = answer_ends a.k.modulus a.k.ring a.k.repeats a.secrets.now a.vectors.now a.permutations.now a.salts.now a.challenges.now a.answers.now p.1 p.2 p.3 l.i l.at l.vector l.permutation l.salt l.answers l.invariant (omega arith) in (
+    let e = drawn_ends a.k.ring a.k.repeats l.i (omega arith) a.k.modulus a.secrets.now a.vectors.now a.permutations.now a.salts.now p.1 in
+    let y = answer_ends a.k.modulus a.k.ring a.k.repeats a.secrets.now a.vectors.now a.permutations.now a.salts.now a.challenges.now a.answers.now p.1 p.2 p.3 l.i l.at l.answers l.invariant (omega arith) in (
       p.0.in_range.ring_high,
       p.0.in_range.modulus_low,
       p.0.in_range.modulus_high,
@@ -31,7 +27,7 @@ answer_at-requires c =
       e.0,
       e.1,
       e.2,
-      material a.k.ring a.k.repeats l.i l.vector l.permutation l.salt l.invariant.placed (omega arith) a.k.modulus a.secrets.now a.vectors.now a.permutations.now a.salts.now p.1,
+      material a.k.ring a.k.repeats l.i (omega arith) a.k.modulus a.secrets.now a.vectors.now a.permutations.now a.salts.now p.1,
     )
 
 pub overflow_add-at : goal.overflow_add-at
@@ -39,23 +35,8 @@ overflow_add-at c =
     let a = c.args in
     let p = c.requires in
     let l = c.loop-i in
-    let y = answer_ends a.k.modulus a.k.ring a.k.repeats a.secrets.now a.vectors.now a.permutations.now a.salts.now a.challenges.now a.answers.now p.1 p.2 p.3 l.i l.at l.vector l.permutation l.salt l.answers l.invariant (omega arith) in
+    let y = answer_ends a.k.modulus a.k.ring a.k.repeats a.secrets.now a.vectors.now a.permutations.now a.salts.now a.challenges.now a.answers.now p.1 p.2 p.3 l.i l.at l.answers l.invariant (omega arith) in
     omega (arith, c.answer_length-size.ensures, c.answer_at.auto.answers)
-
-pub overflow_mul-vector : goal.overflow_mul-vector
-overflow_mul-vector c = omega (arith, c.requires.0.in_range.ring_high)
-
-pub overflow_mul-permutation : goal.overflow_mul-permutation
-overflow_mul-permutation c = omega (arith, c.requires.0.in_range.ring_high)
-
-pub overflow_add-vector : goal.overflow_add-vector
-overflow_add-vector c = let a = c.args in let l = c.loop-i in omega (arith, (placed_fit a.k.ring a.k.repeats l.i l.vector l.permutation l.salt l.invariant.placed (omega arith) c.requires.0.in_range.ring_high c.requires.0.in_range.repeats_high).0)
-
-pub overflow_add-permutation : goal.overflow_add-permutation
-overflow_add-permutation c = let a = c.args in let l = c.loop-i in omega (arith, (placed_fit a.k.ring a.k.repeats l.i l.vector l.permutation l.salt l.invariant.placed (omega arith) c.requires.0.in_range.ring_high c.requires.0.in_range.repeats_high).1)
-
-pub overflow_add-salt : goal.overflow_add-salt
-overflow_add-salt c = let a = c.args in let l = c.loop-i in omega (arith, (placed_fit a.k.ring a.k.repeats l.i l.vector l.permutation l.salt l.invariant.placed (omega arith) c.requires.0.in_range.ring_high c.requires.0.in_range.repeats_high).2)
 
 pub loop-i-preserved : goal.loop-i-preserved
 loop-i-preserved c =
@@ -63,15 +44,15 @@ loop-i-preserved c =
     let p = c.requires in
     let l = c.loop-i in
     let y = c.answer_at in
-    answering_more a.k.modulus a.k.ring a.k.repeats a.secrets.now a.vectors.now a.permutations.now a.salts.now a.challenges.now a.answers.now p.1 p.2 p.3 l.i l.at l.vector l.permutation l.salt l.answers l.invariant (omega arith)
+    answering_more a.k.modulus a.k.ring a.k.repeats a.secrets.now a.vectors.now a.permutations.now a.salts.now a.challenges.now a.answers.now p.1 p.2 p.3 l.i l.at l.answers l.invariant (omega arith)
     c.answer_length-size.result y.new.answers c.answer_length-size.ensures y.auto.answers y.ensures
 
 pub shape_of-answers : goal.shape_of-answers
-shape_of-answers c = c.loop-i.invariant.written.long
+shape_of-answers c = c.loop-i.invariant.long
 
 pub returns : goal.returns
 returns c =
     let a = c.args in
     let p = c.requires in
     let l = c.loop-i in
-    answering_all a.k.modulus a.k.ring a.k.repeats a.secrets.now a.vectors.now a.permutations.now a.salts.now a.challenges.now a.answers.now p.1 p.2 p.3 l.i l.at l.vector l.permutation l.salt l.answers l.invariant (omega arith)
+    answering_all a.k.modulus a.k.ring a.k.repeats a.secrets.now a.vectors.now a.permutations.now a.salts.now a.challenges.now a.answers.now p.1 p.2 p.3 l.i l.at l.answers l.invariant (omega arith)

@@ -3,8 +3,7 @@ use mathlib.Core.Path.{◌≡◌, refl, sym, ap, subst, ◌∙◌}
 use native.Mathlib.Omega.{arith}
 use borrow.Author.Rules.{rules}
 use Rattle.codec.specs.Bytes.{Bytes, same, zeros}
-use Rattle.codec.specs.Reply.{first}
-use Rattle.codec.specs.declared.Reply.TheVariants.{Taken}
+use Rattle.codec.specs.Reply.{first, Taken}
 use Rattle.ring.specs.Slots.{poly}
 use Rattle.scratch.proofs.Order.{length_asked, stops, follows}
 use Rattle.scratch.proofs.Zeroizing.{worked_taken, worked_refused}
@@ -27,14 +26,14 @@ overflow_mul-n-3 c = let h = c.requires.a.ring_high in search rules
 
 pub returns-then-not-sized : goal.returns-then-not-sized
 unfolding same
-returns-then-not-sized c = worked_refused (stops 1 c.sized.ensures _ c.if-not-sized.true c.refused.ensures) c.refused.ensures
+returns-then-not-sized c = worked_refused (stops 1 c.sized.ensures _ c.if-not-sized.true refl) refl
 
 pub ternary_and_in_range-requires : goal.ternary_and_in_range-requires
 ternary_and_in_range-requires c = length_asked _ _ 0 c.sized.ensures c.if-not-sized.false
 
 pub returns-then-not-ternary_and_in_range : goal.returns-then-not-ternary_and_in_range
 unfolding same
-returns-then-not-ternary_and_in_range c = worked_refused (follows 1 c.sized.ensures _ c.if-not-sized.false (stops 5 c.ternary_and_in_range.ensures _ c.if-not-ternary_and_in_range.true c.refused-then-not-ternary_and_in_range.ensures)) c.refused-then-not-ternary_and_in_range.ensures
+returns-then-not-ternary_and_in_range c = worked_refused (follows 1 c.sized.ensures _ c.if-not-sized.false (stops 5 c.ternary_and_in_range.ensures _ c.if-not-ternary_and_in_range.true refl)) refl
 
 pub slice_bounds-pair-start : goal.slice_bounds-pair-start
 slice_bounds-pair-start c = let h = c.requires.a.ring_high in search rules

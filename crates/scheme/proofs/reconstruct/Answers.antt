@@ -3,8 +3,7 @@ use mathlib.Core.Path.{◌≡◌, refl, ap, ◌∙◌}
 use Prim.Native.Nat.{ℕ}
 use native.Mathlib.Omega.{arith}
 use Rattle.codec.specs.Bytes.{same, zeros}
-use Rattle.codec.specs.Reply.{first}
-use Rattle.codec.specs.declared.Reply.TheVariants.{Taken}
+use Rattle.codec.specs.Reply.{first, Taken}
 use Rattle.codec.specs.Lists.{list}
 use Rattle.ring.specs.Slots.{poly}
 use Rattle.scratch.proofs.Order.{length_asked, stops, follows}
@@ -18,14 +17,14 @@ use Rattle.scheme.proofs.reconstruct.Goals as goal
 
 pub returns-then-not-sized : goal.returns-then-not-sized
 unfolding same
-returns-then-not-sized c = worked_refused (stops 1 c.sized.ensures _ c.if-not-sized.true c.refused.ensures) c.refused.ensures
+returns-then-not-sized c = worked_refused (stops 1 c.sized.ensures _ c.if-not-sized.true refl) refl
 
 pub reconstruct_ranged-requires : goal.reconstruct_ranged-requires
 reconstruct_ranged-requires c = (length_asked _ _ 0 c.sized.ensures c.if-not-sized.false, length_asked _ _ 1 c.sized.ensures c.if-not-sized.false, length_asked _ _ 2 c.sized.ensures c.if-not-sized.false)
 
 pub returns-then-not-reconstruct_ranged : goal.returns-then-not-reconstruct_ranged
 unfolding same
-returns-then-not-reconstruct_ranged c = worked_refused (follows 1 c.sized.ensures _ c.if-not-sized.false (stops 5 c.reconstruct_ranged.ensures _ c.if-not-reconstruct_ranged.true c.refused-then-not-reconstruct_ranged.ensures)) c.refused-then-not-reconstruct_ranged.ensures
+returns-then-not-reconstruct_ranged c = worked_refused (follows 1 c.sized.ensures _ c.if-not-sized.false (stops 5 c.reconstruct_ranged.ensures _ c.if-not-reconstruct_ranged.true refl)) refl
 
 pub rebuilt-requires : goal.rebuilt-requires
 unfolding same

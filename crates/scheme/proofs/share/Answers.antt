@@ -3,8 +3,7 @@ use mathlib.Core.Path.{◌≡◌, refl, ap, ◌∙◌}
 use Prim.Native.Nat.{ℕ}
 use native.Mathlib.Omega.{arith}
 use Rattle.codec.specs.Bytes.{same}
-use Rattle.codec.specs.Reply.{first}
-use Rattle.codec.specs.declared.Reply.TheVariants.{Taken}
+use Rattle.codec.specs.Reply.{first, Taken}
 use Rattle.ring.specs.Slots.{coefficient_bytes, poly}
 use Rattle.scratch.proofs.Order.{length_asked, stops, follows}
 use Rattle.scratch.proofs.Zeroizing.{worked_taken, worked_refused}
@@ -17,14 +16,14 @@ use Rattle.scheme.proofs.share.Goals as goal
 
 pub returns-then-not-sized : goal.returns-then-not-sized
 unfolding same
-returns-then-not-sized c = worked_refused (stops 1 c.sized.ensures _ c.if-not-sized.true c.refused.ensures) c.refused.ensures
+returns-then-not-sized c = worked_refused (stops 1 c.sized.ensures _ c.if-not-sized.true refl) refl
 
 pub both_in_range-requires : goal.both_in_range-requires
 both_in_range-requires c = (length_asked _ _ 0 c.sized.ensures c.if-not-sized.false, length_asked _ _ 1 c.sized.ensures c.if-not-sized.false)
 
 pub returns-then-not-both_in_range : goal.returns-then-not-both_in_range
 unfolding same
-returns-then-not-both_in_range c = worked_refused (follows 1 c.sized.ensures _ c.if-not-sized.false (stops 5 c.both_in_range.ensures _ c.if-not-both_in_range.true c.refused-then-not-both_in_range.ensures)) c.refused-then-not-both_in_range.ensures
+returns-then-not-both_in_range c = worked_refused (follows 1 c.sized.ensures _ c.if-not-sized.false (stops 5 c.both_in_range.ensures _ c.if-not-both_in_range.true refl)) refl
 
 pub bounded-requires : goal.bounded-requires
 bounded-requires c = omega (arith, length_asked _ _ 2 c.sized.ensures c.if-not-sized.false)
@@ -34,7 +33,7 @@ unfolding same
 returns-then-not-bounded c =
     let a = c.args in
     let bounded = c.bounded.ensures ∙ ap (λ (B : ℕ). within B a.k.ring (lent_mask a.mask.now)) c.mask_bound-bound.ensures in
-    worked_refused (follows 1 c.sized.ensures _ c.if-not-sized.false (follows 5 c.both_in_range.ensures _ c.if-not-both_in_range.false (stops 12 bounded _ c.if-not-bounded.true c.refused-then-not-bounded.ensures))) c.refused-then-not-bounded.ensures
+    worked_refused (follows 1 c.sized.ensures _ c.if-not-sized.false (follows 5 c.both_in_range.ensures _ c.if-not-both_in_range.false (stops 12 bounded _ c.if-not-bounded.true refl))) refl
 
 pub share-requires : goal.share-requires
 unfolding same

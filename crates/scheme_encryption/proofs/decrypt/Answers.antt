@@ -4,8 +4,7 @@ use Prim.Native.Nat.{ℕ, ◌-◌, ◌*◌}
 use native.Mathlib.Omega.{arith}
 use borrow.Author.Rules.{rules}
 use Rattle.codec.specs.Bytes.{same, zeros}
-use Rattle.codec.specs.Reply.{first}
-use Rattle.codec.specs.declared.Reply.TheVariants.{Taken}
+use Rattle.codec.specs.Reply.{first, Taken}
 use Rattle.codec.specs.Lists.{list}
 use Rattle.ring.specs.Slots.{slot}
 use Rattle.ring.specs.Ternary.{ternary}
@@ -23,14 +22,14 @@ use Rattle.scheme_encryption.proofs.decrypt.Goals as goal
 
 pub returns-then-not-sized : goal.returns-then-not-sized
 unfolding same
-returns-then-not-sized c = worked_refused (stops 1 c.sized.ensures _ c.if-not-sized.true c.refused.ensures) c.refused.ensures
+returns-then-not-sized c = worked_refused (stops 1 c.sized.ensures _ c.if-not-sized.true refl) refl
 
 pub ternary_and_in_range-requires : goal.ternary_and_in_range-requires
 ternary_and_in_range-requires c = omega (arith, length_asked _ _ 1 c.sized.ensures c.if-not-sized.false)
 
 pub returns-then-not-ternary_and_in_range : goal.returns-then-not-ternary_and_in_range
 unfolding same
-returns-then-not-ternary_and_in_range c = worked_refused (follows 1 c.sized.ensures _ c.if-not-sized.false (stops 5 c.ternary_and_in_range.ensures _ c.if-not-ternary_and_in_range.true c.refused-then-not-ternary_and_in_range.ensures)) c.refused-then-not-ternary_and_in_range.ensures
+returns-then-not-ternary_and_in_range c = worked_refused (follows 1 c.sized.ensures _ c.if-not-sized.false (stops 5 c.ternary_and_in_range.ensures _ c.if-not-ternary_and_in_range.true refl)) refl
 
 pub slice_bounds-noise-end : goal.slice_bounds-noise-end
 slice_bounds-noise-end c = let h = length_asked _ _ 1 c.sized.ensures c.if-not-sized.false in search rules

@@ -26,14 +26,14 @@ use Rattle.scheme_encryption.proofs.encrypt.Goals as goal
 
 pub returns-then-not-sized : goal.returns-then-not-sized
 unfolding same
-returns-then-not-sized c = worked_refused (stops 1 c.sized.ensures _ c.if-not-sized.true c.refused.ensures) c.refused.ensures
+returns-then-not-sized c = worked_refused (stops 1 c.sized.ensures _ c.if-not-sized.true refl) refl
 
 pub returns-then-not-encrypt_ranged : goal.returns-then-not-encrypt_ranged
 unfolding same
 returns-then-not-encrypt_ranged c =
     let a = c.args in
     let ranged = c.encrypt_ranged.ensures ∙ ap (λ (p : ℕ). bytes_below 3 (a.r.now ∷ a.e1.now ∷ a.e2.now ∷ []) && bytes_below p (a.m.now ∷ [])) c.plain-p.ensures in
-    worked_refused (follows 1 c.sized.ensures _ c.if-not-sized.false (stops 5 ranged _ c.if-not-encrypt_ranged.true c.refused-then-not-encrypt_ranged.ensures)) c.refused-then-not-encrypt_ranged.ensures
+    worked_refused (follows 1 c.sized.ensures _ c.if-not-sized.false (stops 5 ranged _ c.if-not-encrypt_ranged.true refl)) refl
 
 pub slice_bounds-noisy-end : goal.slice_bounds-noisy-end
 slice_bounds-noisy-end c = let h = c.requires.sized in search rules

@@ -4,8 +4,7 @@ use Prim.Native.Nat.{ℕ}
 use native.Mathlib.Omega.{arith}
 use borrow.Author.Rules.{rules}
 use Rattle.codec.specs.Bytes.{Bytes, same}
-use Rattle.codec.specs.Reply.{first}
-use Rattle.codec.specs.declared.Reply.TheVariants.{Taken}
+use Rattle.codec.specs.Reply.{first, Taken}
 use Rattle.ring.specs.Slots.{coefficient_bytes, poly}
 use Rattle.ring.specs.Ternary.{ternary}
 use Rattle.scratch.specs.Internal.{Polynomial}
@@ -24,11 +23,11 @@ overflow_mul-n c = let h = c.requires.a.ring_high in search rules
 
 pub returns-then-not-sized : goal.returns-then-not-sized
 unfolding same
-returns-then-not-sized c = worked_refused (stops 1 c.sized.ensures _ c.if-not-sized.true c.refused.ensures) c.refused.ensures
+returns-then-not-sized c = worked_refused (stops 1 c.sized.ensures _ c.if-not-sized.true refl) refl
 
 pub returns-then-not-both_ternary : goal.returns-then-not-both_ternary
 unfolding same
-returns-then-not-both_ternary c = worked_refused (follows 1 c.sized.ensures _ c.if-not-sized.false (stops 5 c.both_ternary.ensures _ c.if-not-both_ternary.true c.refused-then-not-both_ternary.ensures)) c.refused-then-not-both_ternary.ensures
+returns-then-not-both_ternary c = worked_refused (follows 1 c.sized.ensures _ c.if-not-sized.false (stops 5 c.both_ternary.ensures _ c.if-not-both_ternary.true refl)) refl
 
 pub slice_bounds-noisy-end : goal.slice_bounds-noisy-end
 slice_bounds-noisy-end c = let h = c.requires.sized in search rules

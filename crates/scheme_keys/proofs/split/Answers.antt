@@ -39,14 +39,14 @@ overflow_mul-n-3 c = let h = c.requires.a.ring_high in search rules
 
 pub returns-then-not-sized : goal.returns-then-not-sized
 unfolding same
-returns-then-not-sized c = worked_refused (stops 1 c.sized.ensures _ c.if-not-sized.true c.refused.ensures) c.refused.ensures
+returns-then-not-sized c = worked_refused (stops 1 c.sized.ensures _ c.if-not-sized.true refl) refl
 
 pub split_ranged-requires : goal.split_ranged-requires
 split_ranged-requires c = (length_asked _ _ 2 c.sized.ensures c.if-not-sized.false, length_asked _ _ 3 c.sized.ensures c.if-not-sized.false)
 
 pub returns-then-not-split_ranged : goal.returns-then-not-split_ranged
 unfolding same
-returns-then-not-split_ranged c = worked_refused (follows 1 c.sized.ensures _ c.if-not-sized.false (stops 5 c.split_ranged.ensures _ c.if-not-split_ranged.true c.refused-then-not-split_ranged.ensures)) c.refused-then-not-split_ranged.ensures
+returns-then-not-split_ranged c = worked_refused (follows 1 c.sized.ensures _ c.if-not-sized.false (stops 5 c.split_ranged.ensures _ c.if-not-split_ranged.true refl)) refl
 
 pub difference-requires : goal.difference-requires
 difference-requires c =

@@ -1,4 +1,5 @@
 -- `multiply` meets its contract. Assumes nothing.
+use mathlib.Core.Path.{refl}
 use Prim.Native.Nat.{◌*◌}
 use native.Mathlib.Omega.{arith}
 use borrow.Author.Rules.{rules}
@@ -9,16 +10,16 @@ use Rattle.scheme_products.proofs.Products.{factors, factor_length, factor_below
 use Rattle.scheme_products.proofs.multiply.Goals as goal
 
 pub returns-then-not-sized : goal.returns-then-not-sized
-returns-then-not-sized c = worked_refused (stops 1 c.sized.ensures _ c.if-not-sized.true c.refused.ensures) c.refused.ensures
+returns-then-not-sized c = worked_refused (stops 1 c.sized.ensures _ c.if-not-sized.true refl) refl
 
 pub returns-then-not-is_root : goal.returns-then-not-is_root
-returns-then-not-is_root c = worked_refused (follows 1 c.sized.ensures _ c.if-not-sized.false (stops 37 c.is_root.ensures _ c.if-not-is_root.true c.refused-then-not-is_root.ensures)) c.refused-then-not-is_root.ensures
+returns-then-not-is_root c = worked_refused (follows 1 c.sized.ensures _ c.if-not-sized.false (stops 37 c.is_root.ensures _ c.if-not-is_root.true refl)) refl
 
 pub both_in_range-requires : goal.both_in_range-requires
 both_in_range-requires c = (length_asked _ _ 0 c.sized.ensures c.if-not-sized.false, length_asked _ _ 1 c.sized.ensures c.if-not-sized.false)
 
 pub returns-then-not-both_in_range : goal.returns-then-not-both_in_range
-returns-then-not-both_in_range c = worked_refused (follows 1 c.sized.ensures _ c.if-not-sized.false (follows 37 c.is_root.ensures _ c.if-not-is_root.false (stops 5 c.both_in_range.ensures _ c.if-not-both_in_range.true c.refused-then-not-both_in_range.ensures))) c.refused-then-not-both_in_range.ensures
+returns-then-not-both_in_range c = worked_refused (follows 1 c.sized.ensures _ c.if-not-sized.false (follows 37 c.is_root.ensures _ c.if-not-is_root.false (stops 5 c.both_in_range.ensures _ c.if-not-both_in_range.true refl))) refl
 
 pub copy-requires : goal.copy-requires
 copy-requires c =

@@ -1,4 +1,5 @@
 -- `product` meets its contract. Assumes nothing.
+use mathlib.Core.Path.{refl}
 use Prim.Native.Nat.{◌*◌}
 use native.Mathlib.Omega.{arith}
 use borrow.Author.Rules.{rules}
@@ -9,13 +10,13 @@ use Rattle.scheme_products.proofs.Products.{factors, factor_length, factor_below
 use Rattle.scheme_products.proofs.product.Goals as goal
 
 pub returns-then-not-sized : goal.returns-then-not-sized
-returns-then-not-sized c = worked_refused (stops 1 c.sized.ensures _ c.if-not-sized.true c.refused.ensures) c.refused.ensures
+returns-then-not-sized c = worked_refused (stops 1 c.sized.ensures _ c.if-not-sized.true refl) refl
 
 pub both_in_range-requires : goal.both_in_range-requires
 both_in_range-requires c = (length_asked _ _ 0 c.sized.ensures c.if-not-sized.false, length_asked _ _ 1 c.sized.ensures c.if-not-sized.false)
 
 pub returns-then-not-both_in_range : goal.returns-then-not-both_in_range
-returns-then-not-both_in_range c = worked_refused (follows 1 c.sized.ensures _ c.if-not-sized.false (stops 5 c.both_in_range.ensures _ c.if-not-both_in_range.true c.refused-then-not-both_in_range.ensures)) c.refused-then-not-both_in_range.ensures
+returns-then-not-both_in_range c = worked_refused (follows 1 c.sized.ensures _ c.if-not-sized.false (stops 5 c.both_in_range.ensures _ c.if-not-both_in_range.true refl)) refl
 
 pub copy-requires : goal.copy-requires
 copy-requires c =

@@ -4,7 +4,7 @@ use mathlib.Core.List.{[], ◌∷◌}
 use Rattle.codec.specs.Lists.{list, all_below}
 use Rattle.ring.specs.Slots.{poly}
 use Rattle.scratch.specs.Call.{coefficients_below}
-use Rattle.scratch.proofs.Order.{fails, goes_on, last}
+use Rattle.scratch.proofs.Order.{goes_on, last}
 use Rattle.scratch.proofs.Ranges.{whole_range}
 use Rattle.scratch.proofs.ternary_and_in_range.Goals as goal
 
@@ -13,8 +13,3 @@ returns-then-is_ternary c =
     let a = c.args in
     goes_on (all_below 3 a.s.now && true) (coefficients_below a.q a.n (a.x.now ∷ [])) (last (all_below 3 a.s.now) c.is_ternary.ensures) c.if-is_ternary.true
     (last (all_below a.q (list a.n (poly a.x.now))) (whole_range a.q a.n a.x.now c.requires c.in_range.ensures))
-
-pub returns-else-is_ternary : goal.returns-else-is_ternary
-returns-else-is_ternary c =
-    let a = c.args in
-    fails (all_below 3 a.s.now && true) (coefficients_below a.q a.n (a.x.now ∷ [])) (last (all_below 3 a.s.now) c.is_ternary.ensures) c.if-is_ternary.false

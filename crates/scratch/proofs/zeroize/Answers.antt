@@ -1,18 +1,16 @@
 -- `scratch::zeroize` meets its contract. Assumes nothing.
-use mathlib.Core.Path.{sym, ◌∙◌}
-use Rattle.scratch.proofs.Zeroizing.{zeroized_taken, zeroized_refused, kept_length, kept_state}
+use mathlib.Core.Path.{ap, sym, ◌∙◌}
+use Rattle.codec.specs.Refusal.{as_reply}
+use Rattle.scratch.proofs.Zeroizing.{zeroized_taken, zeroized_by}
 use Rattle.scratch.proofs.zeroize.Goals as goal
 
-pub returns-in-Taken : goal.returns-in-Taken
-returns-in-Taken c = c.wipe.ensures ∙ sym (zeroized_taken _ _ c.in-Taken.is)
+pub returns-in-Ok : goal.returns-in-Ok
+returns-in-Ok c = c.wipe.ensures ∙ sym (zeroized_taken _ _ (ap as_reply c.in-Ok.is))
 
-pub returns-then-number-ne31 : goal.returns-then-number-ne31
-returns-then-number-ne31 c =
-    c.wipe-then-number-ne31.ensures
-    ∙ sym (zeroized_refused _ _ _ _ c.in-Refused.is c.if-number-ne1.true c.if-number-ne31.true)
+pub returns-then-not-keeps_scratch : goal.returns-then-not-keeps_scratch
+returns-then-not-keeps_scratch c =
+    c.wipe-then-not-keeps_scratch.ensures
+    ∙ sym (zeroized_by _ c.args.scratch.now (ap as_reply c.in-Err.is) c.if-not-keeps_scratch.ensures)
 
-pub returns-else-number-ne31 : goal.returns-else-number-ne31
-returns-else-number-ne31 c = sym (kept_state _ _ _ _ c.in-Refused.is c.if-number-ne1.true c.if-number-ne31.false)
-
-pub returns-else-number-ne1 : goal.returns-else-number-ne1
-returns-else-number-ne1 c = sym (kept_length _ _ _ _ c.in-Refused.is c.if-number-ne1.false)
+pub returns-else-not-keeps_scratch : goal.returns-else-not-keeps_scratch
+returns-else-not-keeps_scratch c = sym (zeroized_by _ c.args.scratch.now (ap as_reply c.in-Err.is) c.if-not-keeps_scratch.ensures)

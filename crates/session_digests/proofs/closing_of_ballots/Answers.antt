@@ -17,7 +17,7 @@ within size j m h = omega (arith, mul-suc size j, mul-le-mul_left {m = suc j} {n
 
 pub loop-j-init : goal.loop-j-init
 unfolding ballot_digests
-loop-j-init c = (omega arith, none c.args.sheet.now c.new.ensures c.absorbed-h.ensures)
+loop-j-init c = none c.args.sheet.now c.new.ensures c.absorbed-h.ensures
 
 pub overflow_mul-size : goal.overflow_mul-size
 overflow_mul-size c = let w = within c.args.size c.loop-j.j c.args.m (omega arith) in search rules
@@ -43,11 +43,11 @@ loop-j-preserved c =
     let p : a.size * j + a.size - a.size * j ≡ a.size = omega arith in
     let e = c.hash-digest.ensures ∙ ap (λ (n : ℕ). sha3 (part a.ballots.now (a.size * j) n)) p in
     let f = c.absorbed-h-in-loop-j.ensures ∙ ap (λ (s : Bytes). updated h s) e in
-    (omega arith, rw (ballots_more a.size j a.ballots.now) (next a.sheet.now (ballot_digests a.size j a.ballots.now) d c.loop-j.invariant.1 f))
+    rw (ballots_more a.size j a.ballots.now) (next a.sheet.now (ballot_digests a.size j a.ballots.now) d c.loop-j.invariant f)
 
 pub returns : goal.returns
 returns c =
     let a = c.args in
     let e : c.loop-j.j ≡ a.m = omega arith in
-    c.finish.ensures ∙ closing_done a.sheet.now (ballot_digests a.size c.loop-j.j a.ballots.now) c.loop-j.invariant.1
+    c.finish.ensures ∙ closing_done a.sheet.now (ballot_digests a.size c.loop-j.j a.ballots.now) c.loop-j.invariant
     ∙ ap (λ (m : ℕ). closing_digest a.sheet.now (ballot_digests a.size m a.ballots.now)) e

@@ -14,7 +14,7 @@ use Rattle.session_digests.proofs.closing_of_register.Goals as goal
 
 pub loop-i-init : goal.loop-i-init
 unfolding standing_digests standing
-loop-i-init c = (omega arith, none c.args.sheet.now c.new.ensures c.absorbed-h.ensures)
+loop-i-init c = none c.args.sheet.now c.new.ensures c.absorbed-h.ensures
 
 pub loop-i-preserved : goal.loop-i-preserved
 unfolding digest_at
@@ -24,22 +24,20 @@ loop-i-preserved c =
     let i = c.loop-i.i in
     let reg = a.reg.now in
     let ds = standing_digests reg i in
-    let p : 40 * i + 40 - (40 * i + 8) ≡ 32 = omega arith in (
-      omega arith,
-      elim c.if-stands.branch [
-        | then-stands w ↦
-            (let e = sym c.is_standing-stands.ensures ∙ w.if-stands.true in
-            let f = w.absorbed-h-then-stands.ensures ∙ ap (λ (k : ℕ). updated h (part reg (40 * i + 8) k)) p in
-            rw (w.h-is, standing_more reg i true e) (next a.sheet.now ds (digest_at reg i) c.loop-i.invariant.1 f))
-        | else-stands w ↦
-            (let e = sym c.is_standing-stands.ensures ∙ w.if-stands.false in
-            rw (w.h-is, standing_more reg i false e, append-nil ds) c.loop-i.invariant.1)
-      ],
-    )
+    let p : 40 * i + 40 - (40 * i + 8) ≡ 32 = omega arith in
+    elim c.if-stands.branch [
+      | then-stands w ↦
+          (let e = sym c.is_standing-stands.ensures ∙ w.if-stands.true in
+          let f = w.absorbed-h-then-stands.ensures ∙ ap (λ (k : ℕ). updated h (part reg (40 * i + 8) k)) p in
+          rw (w.h-is, standing_more reg i true e) (next a.sheet.now ds (digest_at reg i) c.loop-i.invariant f))
+      | else-stands w ↦
+          (let e = sym c.is_standing-stands.ensures ∙ w.if-stands.false in
+          rw (w.h-is, standing_more reg i false e, append-nil ds) c.loop-i.invariant)
+    ]
 
 pub returns : goal.returns
 returns c =
     let a = c.args in
     let e : c.loop-i.i ≡ a.n = omega arith in
-    c.finish.ensures ∙ closing_done a.sheet.now (standing_digests a.reg.now c.loop-i.i) c.loop-i.invariant.1
+    c.finish.ensures ∙ closing_done a.sheet.now (standing_digests a.reg.now c.loop-i.i) c.loop-i.invariant
     ∙ ap (λ (n : ℕ). closing_digest a.sheet.now (standing_digests a.reg.now n)) e

@@ -5,4 +5,15 @@ use Rattle.session_image.proofs.load.Goals as goal
 pub returns : goal.returns
 unfolding decode
 returns c =
-    rw (c.read_trail-trail.ensures, c.read64-checked.ensures, c.read_digest-seed.ensures, c.read64-committed.ensures, c.read_digest-claim.ensures, c.read_digest-closing.ensures, c.read64-closed.ensures, c.read64-used.ensures, c.read_digest-sheet.ensures, c.read_numbers-numbers.ensures)
+    rw (
+      c.array-5.ensures,
+      c.array-4.ensures,
+      c.array-3.ensures,
+      c.array-2.ensures,
+      c.array.ensures,
+      c.read_numbers.ensures,
+      c.read64-4.ensures,
+      c.read64-3.ensures,
+      c.read64-2.ensures,
+      c.read64.ensures,
+    )

@@ -1,20 +1,11 @@
 -- `sheet_lines::all_are` meets its contract. Assumes nothing.
-use mathlib.Core.Path.{refl}
-use native.Mathlib.Omega.{arith}
-use borrow.Author.Tests.{ne_eqb, eq-eqb}
-use lib.Dec.{eqb}
-use Rattle.sheet_lines.proofs.Each.{not_each, one_more, each}
+use Rattle.std.proofs.Common.{rules, tests, eqb, ◌∙◌}
+use Rattle.std.proofs.lemmas.Iterator.{YieldsList-from_slice}
+use Rattle.std.proofs.lemmas.Iterator.Search.{all_from_yields_List}
+use Rattle.sheet_lines.proofs.Steps.{every_is}
 use Rattle.sheet_lines.proofs.all_are.Goals as goal
 
-pub loop-i-init : goal.loop-i-init
-loop-i-init c = (omega arith, refl)
-
-pub returns-then-xs-i : goal.returns-then-xs-i
-returns-then-xs-i c = let a = c.args in not_each (λ x. eqb x a.v) a.xs c.loop-i.i (omega arith) (ne_eqb _ _ c.if-xs-i.true)
-
-pub loop-i-preserved : goal.loop-i-preserved
-loop-i-preserved c = let a = c.args in let l = c.loop-i in
-    (omega arith, one_more (λ x. eqb x a.v) a.xs l.i (omega arith) (eq-eqb _ _ c.if-xs-i.false) l.invariant.1)
-
 pub returns : goal.returns
-returns c = let a = c.args in each (λ x. eqb x a.v) a.xs c.loop-i.i (omega arith) c.loop-i.invariant.1
+returns c =
+    all_from_yields_List (λ x. eqb x c.args.v) _ _ c.all.result c.all.ensures.ran (YieldsList-from_slice c.args.xs cc) (λ x b q k. search (rules, tests))
+    ∙ every_is (λ x. eqb x c.args.v) c.args.xs

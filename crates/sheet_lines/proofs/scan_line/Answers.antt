@@ -1,33 +1,22 @@
 -- `sheet_lines::scan_line` meets its contract. Assumes nothing.
-use mathlib.Core.Path.{refl, sym, ap, ◌∙◌}
 use native.Mathlib.Omega.{arith}
-use Rattle.sheet_lines.specs.Internal.{summed}
-use Rattle.sheet_lines.proofs.Scanning.{key_byte, key_ends, key_other, key_over}
+use lib.ListN.{drop_of_length-le}
+use Rattle.sheet_lines.proofs.Scanning.{line_at, no_key}
 use Rattle.sheet_lines.proofs.scan_line.Goals as goal
 
-pub loop-j-init : goal.loop-j-init
-loop-j-init c = (omega arith, refl)
-
-pub returns-then-text-i : goal.returns-then-text-i
-returns-then-text-i c =
+pub returns-in_err-get : goal.returns-in_err-get
+returns-in_err-get c =
     let a = c.args in
-    let l = c.loop-j in
-    sym (ap summed (l.invariant.1 ∙ key_ends a.key.now a.text.now l.j l.i (omega arith) (omega arith)))
+    rw (c.from_residual.ensures, drop_of_length-le a.text.now {i = a.at} (omega (arith, c.in_err-get.ensures.lookup.0)), no_key a.key.now)
 
-pub returns-then-text-i-2 : goal.returns-then-text-i-2
-returns-then-text-i-2 c =
+pub returns-then-starts_with : goal.returns-then-starts_with
+returns-then-starts_with c =
     let a = c.args in
-    let l = c.loop-j in
-    sym (ap summed (l.invariant.1 ∙ key_other a.key.now a.text.now l.j l.i (omega arith) (omega arith) c.if-text-i-2.true))
+    let g = c.in_ok-get.ensures.lookup.0 in
+    rw (line_at a.key.now a.text.now _ a.at _ g.0 g.2 c.starts_with.ensures.value, c.if-starts_with.true) c.scan_values.ensures
 
-pub loop-j-preserved : goal.loop-j-preserved
-loop-j-preserved c =
+pub returns-else-starts_with : goal.returns-else-starts_with
+returns-else-starts_with c =
     let a = c.args in
-    let l = c.loop-j in
-    (omega arith, l.invariant.1 ∙ key_byte a.key.now a.text.now l.j l.i (omega arith) (omega arith) c.if-text-i-2.false)
-
-pub returns : goal.returns
-returns c =
-    let a = c.args in
-    let l = c.loop-j in
-    c.scan_values.ensures ∙ sym (ap summed (l.invariant.1 ∙ key_over a.key.now a.text.now l.j l.i (omega arith)))
+    let g = c.in_ok-get.ensures.lookup.0 in
+    rw (line_at a.key.now a.text.now _ a.at _ g.0 g.2 c.starts_with.ensures.value, c.if-starts_with.false)

@@ -1,7 +1,7 @@
 -- The invariants of `scan_lines`. Assumes nothing.
 use mathlib.Core.Path.{◌≡◌}
 use mathlib.Core.List.{List, ◌++◌}
-use Prim.Native.Nat.{ℕ, ◌-◌, ◌≤◌}
+use Prim.Native.Nat.{ℕ}
 use lib.ListN.{length, take, drop}
 use Rattle.codec.specs.Bytes.{Bytes}
 use Rattle.sheet_lines.specs.Form.{number_keys, list_keys}
@@ -13,7 +13,4 @@ keys from = take 5 (drop from (number_keys ++ list_keys))
 
 abbrev pub invariant-loop-i : goal.invariant-loop-i
 invariant-loop-i l =
-    (l.i ≤ 5) × (length l.counts ≡ 5) × (length l.tops ≡ 5) × Passed (keys l.from) l.text l.at l.i l.next l.counts l.tops
-
-abbrev pub decreases-loop-i : goal.decreases-loop-i
-decreases-loop-i l = 5 - l.i
+    (length l.counts ≡ 5) × (length l.largest ≡ 5) × Passed (keys l.from) l.text l.at l.i l.next l.counts l.largest

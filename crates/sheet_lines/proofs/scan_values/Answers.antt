@@ -1,71 +1,40 @@
 -- `sheet_lines::scan_values` meets its contract. Assumes nothing.
+use mathlib.Core.Path.{sym, ◌∙◌}
 use native.Mathlib.Omega.{arith}
-use borrow.Author.Tests.{leb-false}
-use Rattle.sheet_lines.proofs.Scanning.{starts, over, first_digit, next_digit, not_begun, after_zero, eighteenth, at_other, at_comma, at_lf}
-use mathlib.Core.Logic.{⊎_elim}
+use Rattle.sheet_lines.proofs.Scanning.{starts, over, goes_on, stops, not_begun, at_other, at_comma, at_lf}
 use Rattle.sheet_lines.proofs.scan_values.Goals as goal
+use Rattle.sheet_lines.proofs.scan_values.Goals.{in-Some+in_ok-with_digit-in-Some, in-None+in_ok-value-in-None+else-c-eq10+else-c-ne44}
 
 pub loop-i-init : goal.loop-i-init
 loop-i-init c = starts c.args.text.now c.args.at
 
-pub returns-then-v-eq0 : goal.returns-then-v-eq0
-returns-then-v-eq0 c =
-    let a = c.args in
-    let l = c.loop-i in
-    let g = c.digit_of-d in
-    ⊎_elim
-    (λ w. after_zero a.text.now a.at l.i l.v l.begun l.n l.top l.invariant (omega arith) g.result g.ensures.0 c.if-begun.true (omega arith) w)
-    (λ w. eighteenth a.text.now a.at l.i l.v l.begun l.n l.top l.invariant (omega arith) g.result g.ensures.0 c.if-begun.true (omega arith) w.0 w.1)
-    c.then-v-eq0.either
+pub returns-in_err-with_digit-in-Some : goal.returns-in_err-with_digit-in-Some
+returns-in_err-with_digit-in-Some c =
+    rw c.from_residual.ensures
+    (stops c.loop-i.invariant (omega arith) c.in-Some.ensures.0 c.in-Some.ensures.1 (sym c.with_digit.ensures ∙ c.in_err-with_digit-in-Some.was))
 
-pub returns-then-not-begun : goal.returns-then-not-begun
-returns-then-not-begun c =
-    let a = c.args in
-    let l = c.loop-i in
-    let g = c.digit_of-d in
-    not_begun a.text.now a.at l.i l.v l.begun l.n l.top l.invariant (omega arith) g.result g.ensures.0 c.if-not-begun.true (omega arith)
+pub returns-in_err-value-in-None : goal.returns-in_err-value-in-None
+returns-in_err-value-in-None c =
+    rw c.from_residual-in_err-value-in-None.ensures (not_begun c.loop-i.invariant (omega arith) c.in-None.ensures c.in_err-value-in-None.was)
 
 pub returns-then-c-eq10 : goal.returns-then-c-eq10
 returns-then-c-eq10 c =
-    let a = c.args in
-    let l = c.loop-i in
-    let g = c.digit_of-d in
-    rw c.larger-top.ensures
-    (at_lf a.text.now a.at l.i l.v l.begun l.n l.top l.invariant (omega arith) g.result g.ensures.0 c.if-not-begun.false (omega arith) c.if-c-eq10.true)
+    rw c.max-largest.ensures (at_lf c.loop-i.invariant (omega arith) c.in-None.ensures c.in_ok-value-in-None.was c.if-c-eq10.true)
 
 pub returns-then-c-ne44 : goal.returns-then-c-ne44
 returns-then-c-ne44 c =
-    let a = c.args in
-    let l = c.loop-i in
-    let g = c.digit_of-d in
-    at_other a.text.now a.at l.i l.v l.begun l.n l.top l.invariant (omega arith) g.result g.ensures.0 c.if-not-begun.false (omega arith) c.if-c-eq10.false c.if-c-ne44.true
+    at_other c.loop-i.invariant (omega arith) c.in-None.ensures c.in_ok-value-in-None.was c.if-c-eq10.false c.if-c-ne44.true
 
 pub loop-i-preserved : goal.loop-i-preserved
 loop-i-preserved c =
-    let a = c.args in
-    let l = c.loop-i in
-    let g = c.digit_of-d in
-    ⊎_elim
-    (λ w.
-    rw (w.v-is, w.begun-is, w.n-is, w.top-is)
-    (next_digit a.text.now a.at l.i l.v l.begun l.n l.top l.invariant (omega arith) g.result g.ensures.0 w.if-begun.true w.if-d-lt10.true (omega arith) (omega arith)))
-    (⊎_elim
-    (λ w.
-    rw (w.v-is, w.begun-is, w.n-is, w.top-is)
-    (first_digit a.text.now a.at l.i l.v l.begun l.n l.top l.invariant (omega arith) g.result g.ensures.0 w.if-begun.false w.if-d-lt10.true))
-    (λ w.
-    rw (w.v-is, w.begun-is, w.n-is, w.top-is, w.larger-top.ensures)
-    (at_comma a.text.now a.at l.i l.v l.begun l.n l.top l.invariant (omega arith) g.result g.ensures.0 w.if-not-begun.false w.if-d-lt10.false w.if-c-ne44.false)))
-    c.if-d-lt10.branch-raw
+    elim c.match-digit_of.branch [
+      | in-Some+in_ok-with_digit-in-Some w ↦
+          rw (w.value-is, w.count-is, w.largest-is)
+          (goes_on c.loop-i.invariant (omega arith) w.in-Some.ensures.0 w.in-Some.ensures.1 (sym w.with_digit.ensures ∙ w.in_ok-with_digit-in-Some.was))
+      | in-None+in_ok-value-in-None+else-c-eq10+else-c-ne44 w ↦
+          rw (w.value-is, w.count-is, w.largest-is, w.max-largest.ensures)
+          (at_comma c.loop-i.invariant (omega arith) w.in-None.ensures w.in_ok-value-in-None.was w.if-c-ne44.false)
+    ]
 
 pub returns : goal.returns
-returns c =
-    let a = c.args in
-    let l = c.loop-i in
-    over a.text.now a.at l.i l.v l.begun l.n l.top l.invariant (omega arith)
-
-pub overflow_mul-v : goal.overflow_mul-v
-overflow_mul-v c = omega (arith, leb-false)
-
-pub overflow_add-v : goal.overflow_add-v
-overflow_add-v c = omega (arith, leb-false)
+returns c = over c.loop-i.invariant (omega arith)

@@ -15,19 +15,17 @@ returns-then-text-gt-LONGEST c =
     (puts_counts c.put_line.ensures.0, rw (lt-ltb 65536 (length t) c.if-text-gt-LONGEST.true) (puts_head c.put_line.ensures.0))
 
 pub show-requires : goal.show-requires
-show-requires c = ((taken _ (sym c.read-r.ensures ∙ c.in-Taken.is)).inside, search rules)
+show-requires c = ((taken _ (sym c.in-Ok.ensures.0)).inside, search rules)
 
-pub returns-in-Taken : goal.returns-in-Taken
+pub returns-in-Ok : goal.returns-in-Ok
 unfolding printed
-returns-in-Taken c =
-    let t = c.args.text.now in
-    let e = sym c.read-r.ensures ∙ c.in-Taken.is in
-    (puts_counts c.show.ensures, rw (le-ltb 65536 (length t) c.if-text-gt-LONGEST.false, e) (puts_head c.show.ensures))
+returns-in-Ok c =
+    let e = sym c.in-Ok.ensures.0 in
+    (puts_counts c.show.ensures, rw (le-ltb 65536 (length c.args.text.now) c.if-text-gt-LONGEST.false, e) (puts_head c.show.ensures))
 
-pub returns-in-Refused : goal.returns-in-Refused
+pub returns-in-Err : goal.returns-in-Err
 unfolding printed printed_by
-returns-in-Refused c =
-    let t = c.args.text.now in
-    let e = sym c.read-r.ensures ∙ c.in-Refused.is in
-    let p = c.put_line-in-Refused.ensures.0 in
-    (puts_counts p, rw (le-ltb 65536 (length t) c.if-text-gt-LONGEST.false, e) (puts_head p))
+returns-in-Err c =
+    let e = sym c.in-Err.ensures.0 in
+    let p = c.put_line-in-Err.ensures.0 in
+    (puts_counts p, rw (le-ltb 65536 (length c.args.text.now) c.if-text-gt-LONGEST.false, e, ← c.number.ensures, ← c.from.ensures) (puts_head p))

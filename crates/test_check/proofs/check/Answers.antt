@@ -1,5 +1,5 @@
 -- `test_check::check` meets its contract. Assumes nothing.
-use mathlib.Core.Path.{sym, ◌∙◌}
+use mathlib.Core.Path.{refl, sym, ◌∙◌}
 use native.Mathlib.Omega.{arith}
 use Rattle.round.specs.Round.{Round}
 use Rattle.round.specs.Internal.{round_of}
@@ -18,18 +18,18 @@ x s = let a = s.args in round_of a.side a.challenges.now a.ballots.now a.claims.
 
 pub returns-then-count-gt4096 : goal.returns-then-count-gt4096
 returns-then-count-gt4096 c =
-    (check_many (P (goal.at.returns-then-count-gt4096 c).Start) (x (goal.at.returns-then-count-gt4096 c).Start) c.args.scratch.now c.count_of-count.ensures c.refused.ensures (omega (arith, c.if-count-gt4096.true)), unzeroized c.refused.ensures)
+    (check_many (P (goal.at.returns-then-count-gt4096 c).Start) (x (goal.at.returns-then-count-gt4096 c).Start) c.args.scratch.now c.count_of-count.ensures refl (omega (arith, c.if-count-gt4096.true)), unzeroized refl)
 
 pub returns-then-not-message_sized : goal.returns-then-not-message_sized
 returns-then-not-message_sized c =
     let z = c.message_sized in
-    (check_message (P (goal.at.returns-then-not-message_sized c).Start) (x (goal.at.returns-then-not-message_sized c).Start) c.args.scratch.now c.count_of-count.ensures c.refused-then-not-message_sized.ensures (omega (arith, c.if-count-gt4096.false)) z.ensures c.if-not-message_sized.true, unzeroized c.refused-then-not-message_sized.ensures)
+    (check_message (P (goal.at.returns-then-not-message_sized c).Start) (x (goal.at.returns-then-not-message_sized c).Start) c.args.scratch.now c.count_of-count.ensures refl (omega (arith, c.if-count-gt4096.false)) z.ensures c.if-not-message_sized.true, unzeroized refl)
 
 pub returns-then-not-second_sized : goal.returns-then-not-second_sized
 returns-then-not-second_sized c =
     let z = c.message_sized in
     let t = c.second_sized in
-    (check_second (P (goal.at.returns-then-not-second_sized c).Start) (x (goal.at.returns-then-not-second_sized c).Start) c.args.scratch.now c.count_of-count.ensures c.refused-then-not-second_sized.ensures (omega (arith, c.if-count-gt4096.false)) z.ensures c.if-not-message_sized.false t.ensures c.if-not-second_sized.true, unzeroized c.refused-then-not-second_sized.ensures)
+    (check_second (P (goal.at.returns-then-not-second_sized c).Start) (x (goal.at.returns-then-not-second_sized c).Start) c.args.scratch.now c.count_of-count.ensures refl (omega (arith, c.if-count-gt4096.false)) z.ensures c.if-not-message_sized.false t.ensures c.if-not-second_sized.true, unzeroized refl)
 
 pub check_round-requires : goal.check_round-requires
 check_round-requires c =

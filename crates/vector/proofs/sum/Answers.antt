@@ -3,7 +3,7 @@ use mathlib.Core.Path.{◌∙◌}
 use Prim.Native.Nat.{◌<◌}
 use native.Mathlib.Omega.{arith}
 use lib.ListN.{get_or}
-use Rattle.ring.proofs.Filling.{filling_none, filling_more}
+use Rattle.ring.proofs.Filling.{filled_none, filled_more}
 use Rattle.modular.proofs.Centring.{remainder_lt}
 use Rattle.ring.specs.Ternary.{meaning}
 use Rattle.vector.proofs.Gathers.{laid, component_lt, sum_at, length_sum}
@@ -21,15 +21,12 @@ pub loop-i-preserved : goal.loop-i-preserved
 loop-i-preserved c =
     let a = c.args in
     let l = c.loop-i in
-    filling_more l.invariant (omega arith) (omega arith) (c.add-v.ensures ∙ sum_at a.q a.w.now a.t.now l.i _ _ (omega arith) (omega arith) c.from_ternary-u.ensures c.component.ensures) c.write64.auto.d c.write64.ensures
+    filled_more _ _ _ _ _ _ _ l.invariant (omega arith) (c.add-v.ensures ∙ sum_at a.q a.w.now a.t.now l.i _ _ (omega arith) (omega arith) c.from_ternary-u.ensures c.component.ensures) c.write64.ensures
 
 pub returns : goal.returns
 returns c =
     let a = c.args in
-    laid a.work.now a.at _ c.loop-i.invariant (omega arith) (length_sum a.q a.w.now a.t.now a.n (omega arith) (omega arith))
+    laid a.work.now a.at _ c.loop-i.invariant (omega (arith, length_sum a.q a.w.now a.t.now a.n (omega arith) (omega arith)))
 
 pub loop-i-init : goal.loop-i-init
-loop-i-init c = filling_none
-
-pub shape_of-work : goal.shape_of-work
-shape_of-work c = c.loop-i.invariant.sized
+loop-i-init c = filled_none _ _ _

@@ -1,16 +1,17 @@
 -- `jackdawnail::products::jdn_product` meets its contract. Assumes nothing.
-use mathlib.Core.Path.{sym, ◌∙◌}
+use mathlib.Core.Path.{ap, sym}
+use Rattle.codec.specs.Refusal.{as_reply}
 use Rattle.scheme.specs.Calls.{product_tests, product_writes}
-use Rattle.jackdawnail.proofs.Answers.{call_refused, read_usable, call_read}
+use Rattle.jackdawnail.proofs.Answers.{call_unread, read_usable, call_read}
 use Rattle.jackdawnail.proofs.products.jdn_product.Goals as goal
 
-pub returns-in_default : goal.returns-in_default
-returns-in_default c = call_refused c.args.sheet.now c.read-reading.ensures c.in_default.is c.refuse.ensures c.pack.ensures
+pub returns-in-Err : goal.returns-in-Err
+returns-in-Err c = call_unread c.args.sheet.now c.in-Err.why c.in-Err.ensures c.finish-in-Err.ensures c.pack-in-Err.ensures
 
 pub product-reply-requires : goal.product-reply-requires
-product-reply-requires c = read_usable c.args.sheet.now (sym c.read-reading.ensures ∙ c.in-Taken.is)
+product-reply-requires c = read_usable c.args.sheet.now (sym c.in-Ok.ensures.0)
 
-pub returns : goal.returns
-returns c =
+pub returns-in-Ok : goal.returns-in-Ok
+returns-in-Ok c =
     let a = c.args in
-    call_read a.sheet.now (sym c.read-reading.ensures ∙ c.in-Taken.is) (λ k. product_tests k a.x.now a.y.now a.product.now a.scratch.now) (λ k. product_writes k a.x.now a.y.now) c.product-reply.ensures c.finish.ensures c.pack-2.ensures
+    call_read a.sheet.now (sym c.in-Ok.ensures.0) (λ k. product_tests k a.x.now a.y.now a.product.now a.scratch.now) (λ k. product_writes k a.x.now a.y.now) c.product-reply.ensures (ap as_reply c.finish.ensures.0, c.finish.ensures.1) c.pack.ensures

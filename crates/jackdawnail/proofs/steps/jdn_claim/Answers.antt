@@ -1,9 +1,11 @@
 -- `steps::jdn_claim` meets its contract. Assumes nothing.
-use Rattle.session_image.proofs.Over.{wrong, over}
+use borrow.Author.Rules.{rules}
+use Rattle.session.specs.Machine.{claim}
+use Rattle.jackdawnail.proofs.OverImage.{stepped_over}
 use Rattle.jackdawnail.proofs.steps.jdn_claim.Goals as goal
 
-pub returns-then-image-ne-IMAGE : goal.returns-then-image-ne-IMAGE
-returns-then-image-ne-IMAGE c = λ register. wrong _ _ c.if-image-ne-IMAGE.true
-
 pub returns : goal.returns
-returns c = λ register. over _ _ c.if-image-ne-IMAGE.false c.load-session.ensures (c.claim-stepped.ensures register) c.keep.ensures
+returns c =
+    let a = c.args in
+    let o = c.over_image.ensures in
+    λ register. stepped_over _ _ (claim a.claims.now) a.image.now register o.wrong o.stepped (λ p q r e m. search rules)

@@ -1,9 +1,11 @@
 -- `steps::jdn_close` meets its contract. Assumes nothing.
-use Rattle.session_image.proofs.Over.{wrong, over}
+use borrow.Author.Rules.{rules}
+use Rattle.session.specs.Machine.{close}
+use Rattle.jackdawnail.proofs.OverImage.{stepped_over}
 use Rattle.jackdawnail.proofs.steps.jdn_close.Goals as goal
 
-pub returns-then-image-ne-IMAGE : goal.returns-then-image-ne-IMAGE
-returns-then-image-ne-IMAGE c = wrong _ _ c.if-image-ne-IMAGE.true
-
 pub returns : goal.returns
-returns c = over _ _ c.if-image-ne-IMAGE.false c.load-session.ensures c.close-stepped.ensures c.keep.ensures
+returns c =
+    let a = c.args in
+    let o = c.over_image.ensures in
+    stepped_over _ _ close a.image.now a.reg.now o.wrong o.stepped (λ p q r e m. search rules)

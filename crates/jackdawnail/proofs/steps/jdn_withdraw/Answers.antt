@@ -1,9 +1,11 @@
 -- `steps::jdn_withdraw` meets its contract. Assumes nothing.
-use Rattle.session_image.proofs.Over.{wrong, over}
+use borrow.Author.Rules.{rules}
+use Rattle.session.specs.Machine.{withdraw}
+use Rattle.jackdawnail.proofs.OverImage.{stepped}
 use Rattle.jackdawnail.proofs.steps.jdn_withdraw.Goals as goal
 
-pub returns-then-image-ne-IMAGE : goal.returns-then-image-ne-IMAGE
-returns-then-image-ne-IMAGE c = wrong _ _ c.if-image-ne-IMAGE.true
-
 pub returns : goal.returns
-returns c = over _ _ c.if-image-ne-IMAGE.false c.load-session.ensures c.withdraw-stepped.ensures c.keep.ensures
+returns c =
+    let a = c.args in
+    let o = c.over_image.ensures in
+    stepped _ _ (withdraw a.mark) a.image.now a.reg.now o.wrong o.stepped (λ p q r e m. rw (← e) (search rules))

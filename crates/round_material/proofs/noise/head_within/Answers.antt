@@ -2,16 +2,13 @@
 use mathlib.Core.Path.{sym, ap, ◌∙◌}
 use Prim.Native.Nat.{ℕ, suc}
 use native.Mathlib.Omega.{arith}
-use borrow.Author.Count.{below_none, below_more}
+use borrow.Author.Count.{below_more}
 use lib.IntN.{nat_abs}
 use Rattle.modular.specs.Modulo.{centre}
 use Rattle.ring.specs.Slots.{poly}
 use Rattle.ring.proofs.Ranges.{below_complete, not_below}
 use Rattle.bgv.specs.Scheme.{centred, within}
 use Rattle.round_material.proofs.noise.head_within.Goals as goal
-
-pub loop-i-init : goal.loop-i-init
-loop-i-init c = (omega arith, below_none _)
 
 pub size-requires : goal.size-requires
 unfolding poly
@@ -29,10 +26,10 @@ pub loop-i-preserved : goal.loop-i-preserved
 unfolding poly
 loop-i-preserved c =
     let a = c.args in
-    (omega arith, below_more _ _ c.loop-i.invariant.1 (omega (arith, c.size.ensures ∙ ap (λ (x : ℕ). nat_abs (centre a.q x)) c.read64-x.ensures)))
+    below_more _ _ c.loop-i.invariant (omega (arith, c.size.ensures ∙ ap (λ (x : ℕ). nat_abs (centre a.q x)) c.read64-x.ensures))
 
 pub returns : goal.returns
 unfolding within
 returns c =
     let a = c.args in
-    sym (below_complete (suc a.bound) a.n (λ k. nat_abs (centred a.q (poly a.work.now) k)) (record { at = λ k l. c.loop-i.invariant.1 k (omega arith) }))
+    sym (below_complete (suc a.bound) a.n (λ k. nat_abs (centred a.q (poly a.work.now) k)) (record { at = λ k l. c.loop-i.invariant k (omega arith) }))

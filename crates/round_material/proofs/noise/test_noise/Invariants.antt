@@ -1,7 +1,7 @@
 -- The invariants of `test_noise`. Assumes nothing.
 use mathlib.Core.Path.{◌≡◌}
 use mathlib.Core.Bool.{Bool}
-use Prim.Native.Nat.{ℕ, ◌+◌, ◌-◌, ◌*◌}
+use Prim.Native.Nat.{ℕ, ◌+◌, ◌*◌}
 use lib.ListN.{length}
 use Rattle.codec.specs.Bytes.{Bytes}
 use Rattle.ring.specs.Slots.{slot}
@@ -18,7 +18,5 @@ quiet q n bound secrets ballots at = within bound n (centred q (noise_in q n (te
 
 abbrev pub invariant-loop-j : goal.invariant-loop-j
 invariant-loop-j l =
-    (length l.work ≡ length l.initial.work) × Walked (λ i. quiet l.q l.n l.bound l.secrets l.ballots (ballot_length l.n * i)) (ballot_length l.n) l.count l.j l.at
-
-abbrev pub decreases-loop-j : goal.decreases-loop-j
-decreases-loop-j l = l.count - l.j
+    (length l.work ≡ length l.initial.work)
+    × Walked (λ i. quiet l.q l.n l.bound l.secrets l.ballots (ballot_length l.n * i)) (ballot_length l.n) l.count l.j (ballot_length l.n * l.j)

@@ -1,6 +1,6 @@
 -- The invariants of `test_permutations`. Assumes nothing.
 use mathlib.Core.Path.{◌≡◌}
-use Prim.Native.Nat.{◌-◌, ◌*◌}
+use Prim.Native.Nat.{◌*◌}
 use lib.ListN.{length}
 use Rattle.codec.specs.Bytes.{part}
 use Rattle.vector.specs.Permutation.{entries, permutes}
@@ -9,7 +9,5 @@ use Rattle.round_material.proofs.permutations.test_permutations.Given as goal
 
 abbrev pub invariant-loop-i : goal.invariant-loop-i
 invariant-loop-i l =
-    (length l.work ≡ length l.initial.work) × Walked (λ j. permutes (42 * l.n) (entries (part l.permutations (168 * l.n * j) (168 * l.n)))) (168 * l.n) l.repeats l.i l.at
-
-abbrev pub decreases-loop-i : goal.decreases-loop-i
-decreases-loop-i l = l.repeats - l.i
+    (length l.work ≡ length l.initial.work)
+    × Walked (λ j. permutes (42 * l.n) (entries (part l.permutations (168 * l.n * j) (168 * l.n)))) (168 * l.n) l.fn.k.repeats l.i (168 * l.n * l.i)

@@ -1,17 +1,20 @@
 -- `ranges::ballots_in_range` meets its contract. Assumes nothing.
-use mathlib.Core.Path.{◌≡◌, sym, ap, ◌∙◌}
+use mathlib.Core.Path.{◌≡◌, refl, sym, ap, ◌∙◌}
 use mathlib.Core.Bool.{Bool}
-use Prim.Native.Nat.{ℕ, ◌+◌, ◌-◌, ◌*◌, ◌/◌, ◌≤◌}
+use Prim.Native.Nat.{ℕ, ◌+◌, ◌-◌, ◌*◌, ◌/◌, ◌≤◌, ◌<◌}
+use native.Mathlib.Nat.{mul-le-mul}
 use native.Mathlib.Omega.{arith}
+use borrow.Author.Count.{below_more}
 use lib.ListN.{length, take, drop}
 use Rattle.codec.specs.Bytes.{Bytes}
 use Rattle.codec.specs.Lists.{list, all_below}
-use Rattle.codec.proofs.Lists.{list_cong}
+use Rattle.codec.proofs.Lists.{list_cong, all_complete}
 use Rattle.ring.specs.Slots.{poly, slot}
 use Rattle.ring.proofs.Bridge.{poly_part}
 use Rattle.scratch.proofs.Ranges.{whole_range}
 use Rattle.stern.proofs.Answered.{lent_length}
-use Rattle.round.proofs.Walk.{walked_first, walked_more, walked_ends, walked_fails, walked_holds}
+use Rattle.round.proofs.Many.{stretch}
+use Rattle.round.proofs.Walk.{walked_fails}
 use Rattle.round_tests.proofs.ranges.ballots_in_range.Goals as goal
 
 -- u and v of a ballot, lent with a length that is a difference of places
@@ -22,36 +25,32 @@ ranged q n ballots at m e h r =
     whole_range q (2 * n) (take m (drop at ballots)) (lent_length ballots at m (8 * (2 * n)) f (omega arith)) r
     ∙ ap (λ (k : ℕ). all_below q (list (2 * n) (poly (take k (drop at ballots))))) f ∙ ap (all_below q) (list_cong (2 * n) (λ k l. poly_part ballots at (2 * n) k l))
 
-pub loop-j-init : goal.loop-j-init
-loop-j-init c = walked_first
-
-pub overflow_add-end : goal.overflow_add-end
-overflow_add-end c = omega (arith, walked_ends c.loop-j.invariant (omega arith), c.requires.2)
-
-pub overflow_add-end-in-loop-j : goal.overflow_add-end-in-loop-j
-overflow_add-end-in-loop-j c = omega (arith, walked_ends c.loop-j.invariant (omega arith), c.requires.2)
-
-pub overflow_add-at : goal.overflow_add-at
-overflow_add-at c = omega (arith, walked_ends c.loop-j.invariant (omega arith), c.requires.2)
+-- ballot j ends within all, far below 2^64
+ends : (n count j : ℕ) → n ≤ 2048 → count ≤ 4096 → j < count → ((4 + 16 * n) * j + (4 + 16 * n) ≤ (4 + 16 * n) * count) × ((4 + 16 * n) * count ≤ 134234112)
+ends n count j high few h = (stretch (4 + 16 * n) j count h, mul-le-mul {n₁ = 4 + 16 * n} {m₁ = count} {n₂ = 32772} {m₂ = 4096} (omega arith) few)
 
 pub slice_bounds-in_range-end : goal.slice_bounds-in_range-end
-slice_bounds-in_range-end c = omega (arith, walked_ends c.loop-j.invariant (omega arith), c.requires.2)
+slice_bounds-in_range-end c = let p = c.requires in let e = ends c.args.n c.args.count c.loop-j.j p.0 p.1 (omega arith) in omega arith
 
 pub returns-then-not-in_range : goal.returns-then-not-in_range
 returns-then-not-in_range c =
     let a = c.args in
-    let l = c.loop-j in
-    let b = c.in_range in
-    let r = ranged a.q a.n a.ballots.now (l.at + 4) (l.at + 4 + 16 * a.n - (l.at + 4)) (omega arith) (omega (arith, walked_ends l.invariant (omega arith), c.requires.2)) b.ensures in
-    walked_fails l.invariant (omega arith) (sym (r ∙ ap (λ (x : ℕ). all_below a.q (list (2 * a.n) (slot a.ballots.now (x + 4)))) l.invariant.place) ∙ c.if-not-in_range.true)
+    let p = c.requires in
+    let j = c.loop-j.j in
+    let at = (4 + 16 * a.n) * j in
+    let e = ends a.n a.count j p.0 p.1 (omega arith) in
+    let r = ranged a.q a.n a.ballots.now (at + 4) (at + (4 + 16 * a.n) - (at + 4)) (omega arith) (omega arith) c.in_range.ensures in
+    walked_fails {step = 4 + 16 * a.n} (record { within = omega arith; place = refl; held = c.loop-j.invariant }) (omega arith) (sym r ∙ c.if-not-in_range.true)
 
 pub loop-j-preserved : goal.loop-j-preserved
 loop-j-preserved c =
     let a = c.args in
-    let l = c.loop-j in
-    let b = c.in_range in
-    let r = ranged a.q a.n a.ballots.now (l.at + 4) (l.at + 4 + 16 * a.n - (l.at + 4)) (omega arith) (omega (arith, walked_ends l.invariant (omega arith), c.requires.2)) b.ensures in
-    walked_more l.invariant _ (omega arith) (omega arith) (sym (r ∙ ap (λ (x : ℕ). all_below a.q (list (2 * a.n) (slot a.ballots.now (x + 4)))) l.invariant.place) ∙ c.if-not-in_range.false)
+    let p = c.requires in
+    let j = c.loop-j.j in
+    let at = (4 + 16 * a.n) * j in
+    let e = ends a.n a.count j p.0 p.1 (omega arith) in
+    let r = ranged a.q a.n a.ballots.now (at + 4) (at + (4 + 16 * a.n) - (at + 4)) (omega arith) (omega arith) c.in_range.ensures in
+    below_more _ _ c.loop-j.invariant (sym r ∙ c.if-not-in_range.false)
 
 pub returns : goal.returns
-returns c = walked_holds c.loop-j.invariant (omega arith)
+returns c = sym (all_complete c.args.count _ (λ i l. c.loop-j.invariant i (omega arith)))

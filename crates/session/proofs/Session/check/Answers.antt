@@ -1,7 +1,7 @@
 -- `Session::check` meets its contract. Assumes nothing.
 use mathlib.Core.Path.{sym, ◌∙◌}
 use native.Mathlib.Omega.{arith}
-use Rattle.session_check.specs.Stored.{inputs_of}
+use Rattle.session_check.specs.Stored.{inputs_lent}
 use Rattle.session_progress.proofs.Limits.{within_due, round_known, bounds}
 use Rattle.session.specs.Session.{trail_at}
 use Rattle.session.proofs.CheckTests.{check_undue, check_judged}
@@ -10,8 +10,8 @@ use Rattle.session.proofs.Session.check.Goals as goal
 pub returns-then-not-may_check : goal.returns-then-not-may_check
 returns-then-not-may_check c = check_undue _ _ _ (sym c.may_check.ensures ∙ c.if-not-may_check.true) c.refused.ensures
 
-pub read-message-requires : goal.read-message-requires
-read-message-requires c = let d = sym c.may_check.ensures ∙ c.if-not-may_check.false in omega (arith, (round_known c.args.self.numbers c.args.self.progress 3 c.args.self.progress.checked c.args.round d).1.1, (bounds (within_due _ _ _ d)).rounds_high)
+pub read-requires : goal.read-requires
+read-requires c = let d = sym c.may_check.ensures ∙ c.if-not-may_check.false in omega (arith, (round_known c.args.self.numbers c.args.self.progress 3 c.args.self.progress.checked c.args.round d).1.1, (bounds (within_due _ _ _ d)).rounds_high)
 
 pub overflow_cast-held : goal.overflow_cast-held
 overflow_cast-held c = let d = sym c.may_check.ensures ∙ c.if-not-may_check.false in omega (arith, (round_known c.args.self.numbers c.args.self.progress 3 c.args.self.progress.checked c.args.round d).1.1, (bounds (within_due _ _ _ d)).rounds_high)
@@ -26,6 +26,5 @@ pub returns : goal.returns
 unfolding trail_at
 returns c =
     let a = c.args in
-    let x = inputs_of a.sheet.now a.ballots.now a.claims.now a.head.now a.shares0.now a.shares1.now a.opening.now a.answers.now a.scratch.now in
     let k = c.check-verdict.ensures in
-    check_judged a.self a.round x (sym c.may_check.ensures ∙ c.if-not-may_check.false) c.read-message.ensures k.0 c.judged.ensures k.1
+    check_judged a.self a.round (inputs_lent a.lent a.scratch.now) (sym c.may_check.ensures ∙ c.if-not-may_check.false) c.read.ensures k.0 c.judged.ensures k.1

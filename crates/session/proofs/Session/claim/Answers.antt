@@ -27,4 +27,4 @@ unfolding claimed_by
 returns c =
     let m = c.is_message in
     let ranged = rw c.plain-p.ensures at m.ensures in
-    λ register. moves _ _ (claim_taken _ _ (sym c.is_in.ensures ∙ c.if-not-is_in.false) (c.if-claims-times.false ∙ c.times.ensures) (sym ranged ∙ c.if-not-is_message.false)) refl (rw (c.with_claims-next.ensures, c.claim_digest-claim.ensures)) refl
+    λ register. moves _ _ (claim_taken _ _ (sym c.is_in.ensures ∙ c.if-not-is_in.false) (c.if-claims-times.false ∙ c.times.ensures) (sym ranged ∙ c.if-not-is_message.false)) refl (rw (c.with_claims.ensures, c.claim_digest.ensures)) refl

@@ -2,6 +2,8 @@
 use mathlib.Core.Path.{refl, sym, ap, ◌∙◌}
 use Prim.Native.Nat.{ℕ}
 use Rattle.codec.specs.Bytes.{zeros}
+use Rattle.codec.specs.Refusal.{as_reply}
+use Rattle.sheet.specs.Sheet.{as_reading, reply_of}
 use Rattle.sheet.proofs.Taken.{taken}
 use Rattle.session.specs.Steps.{cleared}
 use Rattle.session.proofs.Stepping.{stays, moves}
@@ -11,11 +13,14 @@ use Rattle.session.proofs.Session.clear.Goals as goal
 pub returns-then-reg-ne-REGISTER : goal.returns-then-reg-ne-REGISTER
 returns-then-reg-ne-REGISTER c = stays _ _ (clear_length _ _ c.if-reg-ne-REGISTER.true) refl c.refused.ensures
 
-pub returns-in-Taken : goal.returns-in-Taken
+pub returns-in-Ok : goal.returns-in-Ok
 unfolding cleared
-returns-in-Taken c =
-    let f = sym c.read.ensures ∙ c.in-Taken.is in
-    moves _ _ (clear_taken _ _ c.if-reg-ne-REGISTER.false f) refl (rw (c.start-progress.ensures, ← (taken _ f).numbers, c.hash-sheet.ensures)) (c.wipe.ensures ∙ ap (λ (n : ℕ). zeros n) c.if-reg-ne-REGISTER.false)
+returns-in-Ok c =
+    let f = sym c.read.ensures.0 ∙ ap as_reading c.in-Ok.is in
+    moves _ _ (clear_taken _ _ c.if-reg-ne-REGISTER.false f) refl (rw (c.start.ensures, ← (taken _ f).numbers, c.hash-sheet.ensures)) (c.wipe.ensures ∙ ap (λ (n : ℕ). zeros n) c.if-reg-ne-REGISTER.false)
 
-pub returns-in-Refused : goal.returns-in-Refused
-returns-in-Refused c = stays _ _ (clear_refused _ _ c.if-reg-ne-REGISTER.false (sym c.read.ensures ∙ c.in-Refused.is)) refl c.refused-in-Refused.ensures
+pub returns-in-Err : goal.returns-in-Err
+returns-in-Err c =
+    let f = sym c.read.ensures.0 ∙ ap as_reading c.in-Err.is in
+    let said = sym (ap as_reply c.in-Err.is) ∙ c.read.ensures.1 ∙ ap reply_of f in
+    stays _ _ (clear_refused _ _ c.if-reg-ne-REGISTER.false f) refl (c.refused-in-Err.ensures.0, c.refused-in-Err.ensures.1 ∙ said)

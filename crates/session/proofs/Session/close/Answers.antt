@@ -19,12 +19,12 @@ count_standing-count-requires c = omega (arith, (within_due _ _ _ (sym c.is_in.e
 pub returns-then-count-eq0 : goal.returns-then-count-eq0
 returns-then-count-eq0 c = stays _ _ (close_none _ _ (sym c.is_in.ensures ∙ c.if-not-is_in.false) c.if-reg-ne-REGISTER.false c.count_standing-count.ensures.0 c.if-count-eq0.true) refl c.refused-then-count-eq0.ensures
 
-pub closing_of_register-closing-requires : goal.closing_of_register-closing-requires
-closing_of_register-closing-requires c = omega (arith, (within_due _ _ _ (sym c.is_in.ensures ∙ c.if-not-is_in.false)).used)
+pub closing_of_register-requires : goal.closing_of_register-requires
+closing_of_register-requires c = omega (arith, (within_due _ _ _ (sym c.is_in.ensures ∙ c.if-not-is_in.false)).used)
 
 pub returns : goal.returns
 unfolding closed_by
 returns c =
     let a = c.args in
     moves _ _ (close_taken _ _ (sym c.is_in.ensures ∙ c.if-not-is_in.false) c.if-reg-ne-REGISTER.false c.count_standing-count.ensures.0 c.if-count-eq0.false)
-    refl (rw (c.with_batch-next.ensures, c.count_standing-count.ensures.0, ← (digests_counted a.reg.now a.self.progress.used), c.closing_of_register-closing.ensures)) refl
+    refl (rw (c.with_batch.ensures, c.count_standing-count.ensures.0, ← (digests_counted a.reg.now a.self.progress.used), c.closing_of_register.ensures)) refl

@@ -23,9 +23,9 @@ overflow_cast-round c = let d = sym c.may_commit.ensures ∙ c.if-not-may_commit
 pub write-requires : goal.write-requires
 write-requires c = let d = sym c.may_commit.ensures ∙ c.if-not-may_commit.false in omega (arith, (round_known c.args.self.numbers c.args.self.progress 2 c.args.self.progress.committed c.args.round d).1.1, (bounds (within_due _ _ _ d)).rounds_high)
 
-pub with_message-next-requires : goal.with_message-next-requires
-with_message-next-requires c = let w = within_due _ _ _ (sym c.may_commit.ensures ∙ c.if-not-may_commit.false) in omega (arith, w.committed, (bounds w).rounds_high)
+pub with_message-requires : goal.with_message-requires
+with_message-requires c = let w = within_due _ _ _ (sym c.may_commit.ensures ∙ c.if-not-may_commit.false) in omega (arith, w.committed, (bounds w).rounds_high)
 
 pub returns : goal.returns
 unfolding committed_by
-returns c = λ register. moves _ _ (commit_taken _ _ _ _ _ (sym c.may_commit.ensures ∙ c.if-not-may_commit.false) c.message_sized.ensures c.if-not-message_sized.false) refl (rw (c.with_message-next.ensures, c.write.ensures, c.round_digest-digest.ensures)) refl
+returns c = λ register. moves _ _ (commit_taken _ _ _ _ _ (sym c.may_commit.ensures ∙ c.if-not-may_commit.false) c.message_sized.ensures c.if-not-message_sized.false) refl (rw (c.with_message.ensures, c.write.ensures, c.round_digest-digest.ensures)) refl

@@ -1,6 +1,7 @@
 -- `Session::draw` meets its contract. Assumes nothing.
 use mathlib.Core.Path.{refl, sym, ◌∙◌}
-use Rattle.codec.proofs.Laws.{put_whole}
+use native.Mathlib.Omega.{arith}
+use lib.Seq.{take_all}
 use Rattle.session.specs.Steps.{drawn_by}
 use Rattle.session.proofs.Stepping.{stays, moves}
 use Rattle.session.proofs.CountingTests.{draw_undue, draw_length, draw_taken}
@@ -14,4 +15,4 @@ returns-then-seed-ne32 c = λ register. stays _ _ (draw_length _ _ (sym c.may_dr
 
 pub returns : goal.returns
 unfolding drawn_by
-returns c = λ register. moves _ _ (draw_taken _ _ (sym c.may_draw.ensures ∙ c.if-not-may_draw.false) c.if-seed-ne32.false) refl (rw (c.with_seed-next.ensures, c.copy.ensures ∙ put_whole _ _ c.if-seed-ne32.false)) refl
+returns c = λ register. moves _ _ (draw_taken _ _ (sym c.may_draw.ensures ∙ c.if-not-may_draw.false) c.if-seed-ne32.false) refl (rw (c.with_seed.ensures, c.array.ensures ∙ take_all 32 c.args.seed.now (omega arith))) refl

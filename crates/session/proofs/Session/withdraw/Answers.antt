@@ -3,12 +3,9 @@ use mathlib.Core.Path.{◌≡◌, refl, sym, ap, ◌∙◌}
 use mathlib.Core.Bool.{Bool, true, false, cond, not}
 use Prim.Native.Nat.{ℕ}
 use Rattle.codec.specs.Bytes.{Bytes}
-use Rattle.codec.specs.Reply.{leaves}
-use Rattle.codec.specs.declared.Reply.{Reply}
-use Rattle.codec.specs.declared.Reply.TheVariants.{Taken, Refused}
-use Rattle.register.specs.declared.Withdrawal.{Withdrawal}
+use Rattle.codec.specs.Reply.{leaves, Reply, Taken, Refused}
 use Rattle.register.specs.Register.{known}
-use Rattle.register.specs.Internal.{Withdrew}
+use Rattle.register.specs.Internal.{Withdrawal, Withdrew}
 use Rattle.session_progress.proofs.Limits.{within_due}
 use Rattle.session.specs.declared.Session.{Session}
 use Rattle.session.specs.Steps.{entered_by, withdrawn_by}
@@ -33,25 +30,28 @@ returns-then-not-is_in c = stays _ _ (withdraw_phase _ _ _ (sym c.is_in.ensures 
 pub returns-then-reg-ne-REGISTER : goal.returns-then-reg-ne-REGISTER
 returns-then-reg-ne-REGISTER c = stays _ _ (withdraw_register _ _ _ (sym c.is_in.ensures ∙ c.if-not-is_in.false) c.if-reg-ne-REGISTER.true) refl c.refused-then-reg-ne-REGISTER.ensures
 
-pub withdraw-withdrawal-requires : goal.withdraw-withdrawal-requires
-withdraw-withdrawal-requires c = (c.if-reg-ne-REGISTER.false, (within_due _ _ _ (sym c.is_in.ensures ∙ c.if-not-is_in.false)).used)
+pub withdraw-requires : goal.withdraw-requires
+withdraw-requires c = (c.if-reg-ne-REGISTER.false, (within_due _ _ _ (sym c.is_in.ensures ∙ c.if-not-is_in.false)).used)
 
-pub with_entry-counted-requires : goal.with_entry-counted-requires
-with_entry-counted-requires c = (within_due _ _ _ (sym c.is_in.ensures ∙ c.if-not-is_in.false)).used
+pub entered-requires : goal.entered-requires
+entered-requires c = (within_due _ _ _ (sym c.is_in.ensures ∙ c.if-not-is_in.false)).used
 
-pub returns-then-withdrawal : goal.returns-then-withdrawal
-unfolding entered_by
-returns-then-withdrawal c =
+pub returns-in-Ok-Entered : goal.returns-in-Ok-Entered
+returns-in-Ok-Entered c =
     let a = c.args in
-    let s = a.self in
-    let w = c.withdraw-withdrawal in
-    decides _ _ _ (withdraw_on _ _ _ (sym c.is_in.ensures ∙ c.if-not-is_in.false) c.if-reg-ne-REGISTER.false) refl w.ensures.wrote
-    (rw c.with_entry-counted.ensures (ap (λ (x : Bool). cond x (entered_by s) s) (sym c.if-withdrawal.true) ∙ entering s a.reg.now a.mark w.ensures))
+    let w = rw c.in-Ok-Entered.field-0-is at (rw c.in-Ok-Entered.is at c.withdraw.ensures) in
+    rw (c.entered.ensures.0, c.entered.ensures.1)
+    (decides _ _ _ (withdraw_on _ _ _ (sym c.is_in.ensures ∙ c.if-not-is_in.false) c.if-reg-ne-REGISTER.false) refl w.wrote (entering a.self a.reg.now a.mark w))
 
-pub returns-else-withdrawal : goal.returns-else-withdrawal
-returns-else-withdrawal c =
+pub returns-in-Ok-Struck : goal.returns-in-Ok-Struck
+returns-in-Ok-Struck c =
     let a = c.args in
-    let s = a.self in
-    let w = c.withdraw-withdrawal in
-    decides _ _ _ (withdraw_on _ _ _ (sym c.is_in.ensures ∙ c.if-not-is_in.false) c.if-reg-ne-REGISTER.false) refl w.ensures.wrote
-    (ap (λ (x : Bool). cond x (entered_by s) s) (sym c.if-withdrawal.false) ∙ entering s a.reg.now a.mark w.ensures)
+    let w = rw c.in-Ok-Struck.field-0-is at (rw c.in-Ok-Struck.is at c.withdraw.ensures) in
+    decides _ _ _ (withdraw_on _ _ _ (sym c.is_in.ensures ∙ c.if-not-is_in.false) c.if-reg-ne-REGISTER.false) refl w.wrote (entering a.self a.reg.now a.mark w)
+
+pub returns-in-Err : goal.returns-in-Err
+unfolding leaves
+returns-in-Err c =
+    let w = rw c.in-Err.is at c.withdraw.ensures in
+    rw (c.refused-in-Err.ensures.0, c.refused-in-Err.ensures.1)
+    (decides _ _ _ (withdraw_on _ _ _ (sym c.is_in.ensures ∙ c.if-not-is_in.false) c.if-reg-ne-REGISTER.false) refl w.wrote refl)

@@ -21,5 +21,5 @@ unfolding inputs_sized
 returns c =
     let a = c.args in
     let drawn = c.requires.1 in
-    let sized = c.second_sized.ensures ∙ ap (λ (d : Bytes). second_sized a.held.numbers.ring a.held.numbers.repeats d a.opening.now a.answers.now a.scratch.now) drawn in
+    let sized = c.second_sized.ensures ∙ ap (λ (d : Bytes). second_sized a.held.numbers.ring a.held.numbers.repeats d a.lent.opening.now a.lent.answers.now a.scratch.now) drawn in
     goes_on _ _ c.message_sized.ensures c.if-not-message_sized.false sized

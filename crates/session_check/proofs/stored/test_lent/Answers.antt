@@ -1,6 +1,5 @@
 -- `test_lent` meets its contract. Assumes nothing.
-use mathlib.Core.List.{[]}
-use Rattle.session_check.specs.Stored.{inputs_of, inputs_sized, stored_tests}
+use Rattle.session_check.specs.Stored.{inputs_lent, inputs_sized, stored_tests}
 use Rattle.session_check.proofs.Order.{refused_by_lem, passed_by, ballots_sized}
 use Rattle.session_check.proofs.stored.test_lent.Goals as goal
 
@@ -13,8 +12,7 @@ test_stored-requires c =
     let a = c.args in
     let p = c.requires in
     let t = c.inputs_sized in
-    let x = inputs_of [] a.ballots.now a.claims.now a.head.now a.shares0.now a.shares1.now a.opening.now a.answers.now a.scratch.now in
-    (p.0, p.1, ballots_sized a.held x t.ensures c.if-not-inputs_sized.false)
+    (p.0, p.1, ballots_sized a.held (inputs_lent a.lent a.scratch.now) t.ensures c.if-not-inputs_sized.false)
 
 pub returns : goal.returns
 unfolding inputs_sized stored_tests

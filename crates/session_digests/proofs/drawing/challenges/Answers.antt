@@ -1,7 +1,6 @@
 -- `drawing::challenges` meets its contract. Assumes nothing.
 use mathlib.Core.Path.{◌≡◌, refl, sym, ap, ◌∙◌}
 use Prim.Native.Nat.{ℕ, ◌+◌, ◌*◌, ◌/◌, ◌%◌}
-use native.Mathlib.Nat.{le_antisymm}
 use native.Mathlib.Omega.{arith}
 use lib.ListN.{length, set, length-set}
 use Rattle.codec.specs.Bytes.{Bytes, number, part}
@@ -19,7 +18,7 @@ renewed c =
     let i = c.loop-i.i in
     elim c.if-i-eq0.branch [
       | then-i-eq0 w ↦ w.digest-is ∙ w.block-next.ensures
-      | else-i-eq0 w ↦ (let e : i / 4 ≡ (i + 1) / 4 = omega arith in w.digest-is ∙ c.loop-i.invariant.3 ∙ ap (def.block a.seed.now a.round) e)
+      | else-i-eq0 w ↦ (let e : i / 4 ≡ (i + 1) / 4 = omega arith in w.digest-is ∙ c.loop-i.invariant.2 ∙ ap (def.block a.seed.now a.round) e)
     ]
 
 renewed-length : (c : Joined-i-eq0) → length c.if-i-eq0.digest ≡ 32
@@ -29,7 +28,7 @@ pub loop-i-init : goal.loop-i-init
 loop-i-init c =
     let a = c.args in
     let e = c.block-digest.ensures in
-    (omega arith, drawn_first a.seed.now a.round a.out.now, refl, e, ap length e ∙ length_block a.seed.now a.round 0)
+    (drawn_first a.seed.now a.round a.out.now, refl, e, ap length e ∙ length_block a.seed.now a.round 0)
 
 pub slice_bounds-read64-end : goal.slice_bounds-read64-end
 slice_bounds-read64-end c = sym (renewed-length (goal.at.slice_bounds-read64-end c).Joined-i-eq0)
@@ -44,8 +43,7 @@ loop-i-preserved c =
     let l = c.loop-i in
     let i = l.i in
     let v = c.read64.ensures ∙ ap (λ (s : Bytes). number (part s (8 * ((i + 1) % 4)) 8)) (renewed (goal.at.loop-i-preserved c).Joined-i-eq0) in (
-      omega arith,
-      ap (λ (s : Bytes). set s i (c.read64.result % 3 + 1)) l.invariant.1
+      ap (λ (s : Bytes). set s i (c.read64.result % 3 + 1)) l.invariant.0
           ∙ drawn_more a.seed.now a.round a.out.now i (c.read64.result % 3 + 1) (omega arith) (ap (λ (n : ℕ). n % 3 + 1) v),
       simp length-set (omega arith),
       renewed (goal.at.loop-i-preserved c).Joined-i-eq0,
@@ -56,4 +54,4 @@ pub returns : goal.returns
 returns c =
     let a = c.args in
     let l = c.loop-i in
-    l.invariant.1 ∙ ap (drawn a.seed.now a.round a.out.now) (le_antisymm l.invariant.0 (omega arith)) ∙ drawn_all a.seed.now a.round a.out.now
+    l.invariant.0 ∙ ap (drawn a.seed.now a.round a.out.now) (omega arith) ∙ drawn_all a.seed.now a.round a.out.now

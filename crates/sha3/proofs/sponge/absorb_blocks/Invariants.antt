@@ -1,13 +1,8 @@
 -- The invariants of `absorb_blocks`. Assumes nothing.
 use mathlib.Core.Path.{◌≡◌}
-use Prim.Native.Nat.{◌≤◌, ◌-◌, ◌%◌}
-use lib.ListN.{length, take}
-use Rattle.sha3.specs.Absorb.{absorb}
-use Rattle.keccak.proofs.Shape.{Shape}
+use Rattle.std.specs.Slice.Iter.{chunks_exact_rest, chunks_exact_size}
+use Rattle.sha3.proofs.Blocks.{Left}
 use Rattle.sha3.proofs.sponge.absorb_blocks.Given as goal
 
-abbrev pub invariant-loop-i : goal.invariant-loop-i
-invariant-loop-i l = (l.i ≤ length l.m) × (l.i % 136 ≡ 0) × (l.t ≡ absorb l.initial.t 0 (take l.i l.m)) × Shape l.t
-
-abbrev pub decreases-loop-i : goal.decreases-loop-i
-decreases-loop-i l = length l.m - l.i
+abbrev pub invariant-loop-block : goal.invariant-loop-block
+invariant-loop-block l = (chunks_exact_size l.block-iterator ≡ 136) × Left l.fn.s l.m l.t (chunks_exact_rest l.block-iterator)

@@ -15,7 +15,7 @@ returns c =
     let a = c.args in
     let r = a.r in
     row5
-    (ap (bit_xor (get_or r 0 0)) (c.read64.ensures ∙ ap (λ (k : ℕ). number (part a.m.now k 8)) (sym (add-zero a.at))))
+    (ap (bit_xor (get_or r 0 0)) (c.read64.ensures ∙ ap (λ (k : ℕ). number (part a.p.now k 8)) (sym (add-zero a.at))))
     (ap (bit_xor (get_or r 1 0)) c.read64-2.ensures)
     (ap (bit_xor (get_or r 2 0)) c.read64-3.ensures)
     (ap (bit_xor (get_or r 3 0)) c.read64-4.ensures)

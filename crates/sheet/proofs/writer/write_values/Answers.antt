@@ -1,74 +1,36 @@
 -- `writer::write_values` meets its contract. Assumes nothing.
-use mathlib.Core.Path.{ap}
 use native.Mathlib.Omega.{arith}
-use lib.ListN.{length}
-use Rattle.sheet.proofs.Writing.{starts, never_over, small, at_digit, room, length_put_next, at_comma, at_lf}
+use Rattle.sheet.proofs.Writing.{starts, never_over, small, at_digit, room, at_comma, at_lf}
 use Rattle.sheet.proofs.writer.write_values.Goals as goal
+use Rattle.sheet.proofs.writer.write_values.Goals.{in-Some, in-None+else-text-i-eq10}
 
 pub loop-i-init : goal.loop-i-init
-loop-i-init c =
-    let a = c.args in
-    starts a.text.now a.at a.from a.out.now
+loop-i-init c = starts c.args.text.now c.args.at c.args.from c.args.out.now
 
-pub loop-i-preserved-then-d-lt10 : goal.loop-i-preserved-then-d-lt10
-loop-i-preserved-then-d-lt10 c =
-    let a = c.args in
-    let l = c.loop-i in
-    let g = c.digit_of-d in
-    at_digit a.text.now a.at a.from a.out.now c.requires l.i l.v l.o l.out l.invariant (omega arith) g.result g.ensures.0 (omega arith)
+pub overflow_mul-value : goal.overflow_mul-value
+overflow_mul-value c = omega (arith, small c.requires c.loop-i.invariant c.loop-i-test.true c.in-Some.ensures.0 c.in-Some.ensures.1)
+
+pub overflow_add-value : goal.overflow_add-value
+overflow_add-value c = omega (arith, small c.requires c.loop-i.invariant c.loop-i-test.true c.in-Some.ensures.0 c.in-Some.ensures.1)
 
 pub write64-requires : goal.write64-requires
-write64-requires c =
-    let a = c.args in
-    let l = c.loop-i in
-    let g = c.digit_of-d in
-    let r = room a.text.now a.at a.from a.out.now c.requires l.i l.v l.o l.out l.invariant (omega arith) g.result g.ensures.0 (omega arith) in
-    omega arith
+write64-requires c = omega (arith, room c.requires c.loop-i.invariant c.loop-i-test.true c.in-None.ensures)
 
-pub shape_of-out-then-c-eq10 : goal.shape_of-out-then-c-eq10
-shape_of-out-then-c-eq10 c =
-    let a = c.args in
-    let l = c.loop-i in
-    let g = c.digit_of-d in
-    omega (arith, ap length c.write64.ensures, length_put_next a.text.now a.at a.from a.out.now c.requires l.i l.v l.o l.out l.invariant (omega arith) g.result g.ensures.0 (omega arith))
-
-pub returns-then-c-eq10 : goal.returns-then-c-eq10
-returns-then-c-eq10 c =
-    let a = c.args in
-    let l = c.loop-i in
-    let g = c.digit_of-d in
-    let w = c.write64 in
-    at_lf a.text.now a.at a.from a.out.now c.requires l.i l.v l.o l.out l.invariant (omega arith) g.result g.ensures.0 (omega arith) c.if-c-eq10.true w.new.d w.ensures
+pub returns-then-text-i-eq10 : goal.returns-then-text-i-eq10
+returns-then-text-i-eq10 c = at_lf c.requires c.loop-i.invariant c.loop-i-test.true c.in-None.ensures c.write64.ensures c.if-text-i-eq10.true
 
 pub overflow_add-o : goal.overflow_add-o
-overflow_add-o c =
-    let a = c.args in
-    let l = c.loop-i in
-    let g = c.digit_of-d in
-    omega (arith, (room a.text.now a.at a.from a.out.now c.requires l.i l.v l.o l.out l.invariant (omega arith) g.result g.ensures.0 (omega arith)).0)
+overflow_add-o c = omega (arith, room c.requires c.loop-i.invariant c.loop-i-test.true c.in-None.ensures)
 
 pub loop-i-preserved : goal.loop-i-preserved
 loop-i-preserved c =
-    let a = c.args in
-    let l = c.loop-i in
-    let g = c.digit_of-d in
-    let w = c.write64 in
-    at_comma a.text.now a.at a.from a.out.now c.requires l.i l.v l.o l.out l.invariant (omega arith) g.result g.ensures.0 (omega arith) c.if-c-eq10.false w.new.d w.ensures
-
-pub shape_of-out : goal.shape_of-out
-shape_of-out c =
-    let a = c.args in
-    let l = c.loop-i in
-    absurd (never_over a.text.now a.at a.from a.out.now c.requires l.i l.v l.o l.out l.invariant (omega arith))
+    elim c.match-digit_of.branch [
+      | in-Some w ↦
+          rw (w.out-is, w.value-is, w.o-is) (at_digit c.requires c.loop-i.invariant c.loop-i-test.true w.in-Some.ensures.0 w.in-Some.ensures.1)
+      | in-None+else-text-i-eq10 w ↦
+          rw (w.out-is, w.value-is, w.o-is)
+          (at_comma c.requires c.loop-i.invariant c.loop-i-test.true w.in-None.ensures w.write64.ensures w.if-text-i-eq10.false)
+    ]
 
 pub returns : goal.returns
-returns c =
-    let a = c.args in
-    let l = c.loop-i in
-    absurd (never_over a.text.now a.at a.from a.out.now c.requires l.i l.v l.o l.out l.invariant (omega arith))
-
-pub overflow_mul-v : goal.overflow_mul-v
-overflow_mul-v c = let a = c.args in let l = c.loop-i in let g = c.digit_of-d in omega (arith, small a.text.now a.at a.from a.out.now c.requires l.i l.v l.o l.out l.invariant (omega arith) g.result g.ensures.0 (omega arith))
-
-pub overflow_add-v : goal.overflow_add-v
-overflow_add-v c = let a = c.args in let l = c.loop-i in let g = c.digit_of-d in omega (arith, small a.text.now a.at a.from a.out.now c.requires l.i l.v l.o l.out l.invariant (omega arith) g.result g.ensures.0 (omega arith))
+returns c = absurd (never_over c.requires c.loop-i.invariant (omega arith))

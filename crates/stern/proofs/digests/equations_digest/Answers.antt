@@ -8,36 +8,6 @@ use Rattle.stern.specs.Internal.{equation_pair}
 use Rattle.stern.proofs.Strings.{stands_bytes, covered, equations_taken}
 use Rattle.stern.proofs.digests.equations_digest.Goals as goal
 
-pub equation_pair-requires : goal.equation_pair-requires
-equation_pair-requires c =
-    let p = c.requires in
-    let l = p.public_keys.2 in
-    record {
-      public_keys = (p.public_keys.0, p.public_keys.1, omega arith, omega arith, p.public_keys.3);
-      n_in_bounds = λ t. (omega (arith, (p.c_len.0 t).0), (p.c_len.0 t).1);
-    }
-
-pub overflow_mul-n-2 : goal.overflow_mul-n-2
-overflow_mul-n-2 c = let h = c.requires.public_keys.0.one.ring_high in omega arith
-
-pub overflow_mul-n-3 : goal.overflow_mul-n-3
-overflow_mul-n-3 c = let h = c.requires.public_keys.0.one.ring_high in omega arith
-
-pub equation_pair-requires-2 : goal.equation_pair-requires-2
-equation_pair-requires-2 c =
-    let p = c.requires in
-    let l = p.public_keys.2 in
-    record {
-      public_keys = (p.public_keys.0, c.equation_pair.ensures.sized ∙ p.public_keys.1, omega arith, omega arith, p.public_keys.3);
-      n_in_bounds = λ t. (omega (arith, (p.c_len.0 t).0), (p.c_len.0 t).1);
-    }
-
-pub absorb_pair-requires : goal.absorb_pair-requires
-absorb_pair-requires c =
-    let p = c.requires in
-    let h = p.public_keys.0.one.ring_high in
-    omega (arith, c.equation_pair-2.ensures.sized, c.equation_pair.ensures.sized, p.public_keys.1)
-
 pub returns : goal.returns
 returns c =
     let a = c.args in

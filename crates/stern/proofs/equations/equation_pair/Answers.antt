@@ -1,9 +1,8 @@
 -- `equations::equation_pair` meets its contract. Assumes nothing.
 use Prim.Native.Nat.{◌<◌}
 use native.Mathlib.Omega.{arith}
-use borrow.Author.Rules.{rules}
 use Rattle.commitment.specs.Commitment.{keys_of}
-use Rattle.stern.proofs.Pairs.{row_below, second_length, second_below, pairs_less, when_less, when_not_less}
+use Rattle.stern.proofs.Pairs.{row_below, second_length, second_below, pairs_less, when_less}
 use Rattle.stern.proofs.equations.equation_pair.Goals as goal
 
 pub subtract_two-requires : goal.subtract_two-requires
@@ -29,15 +28,6 @@ subtract_two-requires-then-less c =
     (t, p.0.one.modulus_high, omega (arith, l), second_below a.q a.n h z p.0.one.modulus_high a.work.now _ a.c.now _ a.from p.1 c.sums.ensures _ c.subtract_two.ensures, omega (arith, r.0), omega (arith, r.0), r.1)
 
 -- the places of the pairs fit
-pub overflow_add-from : goal.overflow_add-from
-overflow_add-from c = let r = (c.requires.n_in_bounds c.if-less.true).0 in search rules
-
-pub overflow_add-from-then-less : goal.overflow_add-from-then-less
-overflow_add-from-then-less c = let r = (c.requires.n_in_bounds c.if-less.true).0 in search rules
-
-pub overflow_add-from-then-less-2 : goal.overflow_add-from-then-less-2
-overflow_add-from-then-less-2 c = let r = (c.requires.n_in_bounds c.if-less.true).0 in search rules
-
 pub returns-then-less : goal.returns-then-less
 returns-then-less c =
     let a = c.args in
@@ -46,8 +36,3 @@ returns-then-less c =
     let z : 0 < a.q = omega arith in
     let m = pairs_less a.q a.n p.0.one.ring_high z p.0.one.modulus_high a.work.now _ a.c.now _ a.from p.1 c.sums.ensures _ c.subtract_two.ensures _ c.subtract_two-then-less.ensures in
     when_less a.q a.n (keys_of a.n a.k.now) a.c.now a.less a.x.now a.first a.message a.from a.work.now _ c.if-less.true m
-
-pub returns-else-less : goal.returns-else-less
-returns-else-less c =
-    let a = c.args in
-    when_not_less a.q a.n (keys_of a.n a.k.now) a.c.now a.less a.x.now a.first a.message a.from a.work.now _ c.if-less.false c.sums.ensures

@@ -5,21 +5,6 @@ use Rattle.codec.specs.Bytes.{Octets}
 use Rattle.stern.proofs.Pairs.{sums_ask, sums_made}
 use Rattle.stern.proofs.equations.sums.Goals as goal
 
-pub load_sum-requires : goal.load_sum-requires
-load_sum-requires c =
-    let p = c.requires in
-    (p.0.one.modulus_low, p.0.one.modulus_high, omega arith, omega arith, omega arith, p.4)
-
-pub load_sum-requires-2 : goal.load_sum-requires-2
-load_sum-requires-2 c =
-    let p = c.requires in
-    (p.0.one.modulus_low, p.0.one.modulus_high, omega arith, omega arith, omega arith, p.4)
-
-pub load_sum-requires-3 : goal.load_sum-requires-3
-load_sum-requires-3 c =
-    let p = c.requires in
-    (p.0.one.modulus_low, p.0.one.modulus_high, omega arith, omega arith, omega arith, p.4)
-
 pub commit-requires : goal.commit-requires
 commit-requires c =
     let a = c.args in

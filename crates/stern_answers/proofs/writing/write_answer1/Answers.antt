@@ -5,7 +5,6 @@ use native.Mathlib.Omega.{arith}
 use lib.ListN.{length, length-append}
 use Rattle.codec.specs.Bytes.{Bytes, part, put, words}
 use Rattle.codec.proofs.Laws.{length_part, part_append, written_length}
-use Rattle.ring.proofs.Ranges.{count_le}
 use Rattle.vector.specs.Vector.{vector}
 use Rattle.vector.specs.Permutation.{entries, apply, extend}
 use Rattle.vector.proofs.Vectors.{length_apply, length_entries}
@@ -18,12 +17,6 @@ use Rattle.stern_answers.proofs.writing.write_answer1.Goals as goal
 w-length : (n L : ℕ) (p x : Bytes) → length p ≡ 168 * n → length (apply (entries p) (extend L x)) ≡ 42 * n
 w-length n L p x l = length_apply (entries p) (extend L x) ∙ omega (arith, length_entries p)
 
-pub overflow_sub-minus : goal.overflow_sub-minus
-overflow_sub-minus c = let a = c.args in let l = c.requires.2.size_x in omega (arith, c.count_of.ensures, count_le 2 a.x.now)
-
-pub overflow_sub-zeros : goal.overflow_sub-zeros
-overflow_sub-zeros c = let a = c.args in let l = c.requires.2.size_x in omega (arith, c.count_of-2.ensures, count_le 0 a.x.now)
-
 pub gather_extended-requires : goal.gather_extended-requires
 gather_extended-requires c =
     let a = c.args in
@@ -31,7 +24,7 @@ gather_extended-requires c =
     let m = p.2 in
     let l = m.size_x in
     let h = p.0 in record {
-      n_value = (omega arith, omega (arith, c.count_of.ensures), omega (arith, c.count_of-2.ensures));
+      n_value = (omega arith, c.missing-minus.ensures.0, c.missing-minus.ensures.1);
       p_len = (omega (arith, m.size_p), omega (arith, p.1), permutes_below (42 * a.n) (entries a.p.now) m.permutes);
     }
 

@@ -4,9 +4,8 @@ use Prim.Native.Nat.{ℕ, ◌+◌, ◌*◌}
 use native.Mathlib.Omega.{arith}
 use lib.ListN.{length}
 use Rattle.codec.specs.Bytes.{Bytes, part, put, words}
-use Rattle.codec.proofs.Laws.{length_part, written_length}
+use Rattle.codec.proofs.Laws.{length_part}
 use Rattle.codec.proofs.Numbers.{length_words}
-use Rattle.ring.proofs.Ranges.{count_le}
 use Rattle.vector.specs.Vector.{vector, ternaries, add}
 use Rattle.vector.specs.Permutation.{extend}
 use Rattle.vector.proofs.Vectors.{length_add, length_vector, length_ternaries}
@@ -21,25 +20,6 @@ u-length : (q n L : ℕ) (x r : Bytes) → length x ≡ L → L ≡ 14 * n → l
 u-length q n L x r lx e lr =
     length_words (add q (ternaries q (extend L x)) (vector r))
     ∙ omega (arith, length_add q (ternaries q (extend L x)) (vector r) (omega (arith, length_vector r, length_ternaries q (extend L x), length_extend_le L x lx)), length_vector r)
-
-pub overflow_sub-minus : goal.overflow_sub-minus
-overflow_sub-minus c = let a = c.args in let l = c.requires.4.size_x in omega (arith, c.count_of.ensures, count_le 2 a.x.now)
-
-pub overflow_sub-zeros : goal.overflow_sub-zeros
-overflow_sub-zeros c = let a = c.args in let l = c.requires.4.size_x in omega (arith, c.count_of-2.ensures, count_le 0 a.x.now)
-
-pub mask-requires : goal.mask-requires
-mask-requires c =
-    let a = c.args in
-    let p = c.requires in
-    let m = p.4 in
-    let l = m.size_x in
-    let h = p.0 in
-    let t = p.1 in
-    let d = written_length a.out.now c.copy.new.d a.p.now 0 (omega (arith, p.3, m.size_p)) c.copy.ensures in record {
-      n_value = (omega arith, omega (arith, c.count_of.ensures), omega (arith, c.count_of-2.ensures));
-      lt_q = (omega arith, p.2, omega (arith, m.size_r), m.below, omega (arith, d, p.3));
-    }
 
 pub returns : goal.returns
 returns c =

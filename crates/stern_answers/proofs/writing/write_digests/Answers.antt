@@ -2,8 +2,6 @@
 use mathlib.Core.Path.{◌≡◌, ap, ◌∙◌}
 use Prim.Native.Nat.{ℕ, ◌+◌, ◌*◌}
 use native.Mathlib.Omega.{arith}
-use borrow.Author.Rules.{rules}
-use lib.ListN.{length}
 use Rattle.codec.specs.Bytes.{put, zeros}
 use Rattle.codec.proofs.Laws.{length_part}
 use Rattle.sha3.proofs.Squeezing.{length_sha3}
@@ -30,9 +28,6 @@ gathered_digest-two-requires c =
     let m = p.3 in
     (p.0.one.ring_high, c.equations_digest-one.ensures.1 ∙ p.1, m.size_p, m.size_r, length_part a.salts.now 32 32 (omega (arith, m.size_salts)), permutes_below (42 * a.n) (entries a.p.now) m.permutes)
 
-pub slice_bounds-masked_digest-end : goal.slice_bounds-masked_digest-end
-slice_bounds-masked_digest-end c = let m = c.requires.3.size_salts in search rules
-
 pub masked_digest-three-requires : goal.masked_digest-three-requires
 masked_digest-three-requires c =
     let a = c.args in
@@ -41,12 +36,6 @@ masked_digest-three-requires c =
       n_bound = (p.0.one.ring_high, p.0.one.modulus_low, p.0.one.modulus_high, c.gathered_digest-two.ensures.1 ∙ c.equations_digest-one.ensures.1 ∙ p.1, m.size_p, m.size_x, m.size_r, length_part a.salts.now 64 32 (omega (arith, m.size_salts)));
       p_value = (permutes_below (42 * a.n) (entries a.p.now) m.permutes, m.below);
     }
-
-pub copy-requires-3 : goal.copy-requires-3
-copy-requires-3 c =
-    let p = c.requires in
-    let r3 = ap length c.masked_digest-three.ensures.0 ∙ length_sha3 _ in
-    omega (arith, r3, p.2)
 
 pub returns : goal.returns
 returns c =

@@ -12,7 +12,7 @@ use Rattle.test_stern.proofs.orders.answer_tests.Goals as goal
 
 pub returns-then-not-ring_fits : goal.returns-then-not-ring_fits
 unfolding answer_reply
-returns-then-not-ring_fits c = record { replied = stops 5 _ _ c.ring_fits.ensures c.refused.ensures c.if-not-ring_fits.true; used = refl; kept = refl }
+returns-then-not-ring_fits c = record { replied = stops 5 _ _ c.ring_fits.ensures refl c.if-not-ring_fits.true; used = refl; kept = refl }
 
 pub answer_length-room-requires : goal.answer_length-room-requires
 answer_length-room-requires c =
@@ -29,7 +29,7 @@ unfolding answer_reply
 returns-then-not-material_sized c =
     let a = c.args in
     let at : List ℕ = lengths a.x.now a.r.now a.p.now a.salts.now a.out.now a.scratch.now in
-    record { replied = goes 5 _ _ c.ring_fits.ensures c.if-not-ring_fits.false (stops 1 _ _ (c.material_sized.ensures ∙ ap (λ (m : ℕ). same at (wanted a.n m)) c.answer_length-room.ensures) c.refused-then-not-material_sized.ensures c.if-not-material_sized.true); used = refl; kept = refl }
+    record { replied = goes 5 _ _ c.ring_fits.ensures c.if-not-ring_fits.false (stops 1 _ _ (c.material_sized.ensures ∙ ap (λ (m : ℕ). same at (wanted a.n m)) c.answer_length-room.ensures) refl c.if-not-material_sized.true); used = refl; kept = refl }
 
 pub material_ranged-requires : goal.material_ranged-requires
 material_ranged-requires c =

@@ -16,7 +16,7 @@ use Rattle.test_stern.proofs.orders.digests_tests.Goals as goal
 
 pub returns-then-not-ring_fits : goal.returns-then-not-ring_fits
 unfolding digests_reply
-returns-then-not-ring_fits c = record { replied = stops 5 _ _ c.ring_fits.ensures c.refused.ensures c.if-not-ring_fits.true; used = refl; kept = refl }
+returns-then-not-ring_fits c = record { replied = stops 5 _ _ c.ring_fits.ensures refl c.if-not-ring_fits.true; used = refl; kept = refl }
 
 pub overflow_mul-n : goal.overflow_mul-n
 overflow_mul-n c =
@@ -28,7 +28,7 @@ pub returns-then-keys-n : goal.returns-then-keys-n
 unfolding digests_reply
 returns-then-keys-n c =
     let a = c.args in
-    record { replied = goes 5 _ _ c.ring_fits.ensures c.if-not-ring_fits.false (stops 1 _ _ refl c.refused-then-keys-n.ensures (ne_eqb (length a.keys.now) (24 * a.n) c.if-keys-n.true)); used = refl; kept = refl }
+    record { replied = goes 5 _ _ c.ring_fits.ensures c.if-not-ring_fits.false (stops 1 _ _ refl refl (ne_eqb (length a.keys.now) (24 * a.n) c.if-keys-n.true)); used = refl; kept = refl }
 
 pub material_sized-requires : goal.material_sized-requires
 material_sized-requires c =
@@ -39,13 +39,13 @@ pub returns-then-not-material_sized : goal.returns-then-not-material_sized
 unfolding digests_reply
 returns-then-not-material_sized c =
     let a = c.args in
-    record { replied = goes 5 _ _ c.ring_fits.ensures c.if-not-ring_fits.false (goes 1 _ _ refl (eq-eqb (length a.keys.now) (24 * a.n) c.if-keys-n.false) (stops 1 _ _ c.material_sized.ensures c.refused-then-not-material_sized.ensures c.if-not-material_sized.true)); used = refl; kept = refl }
+    record { replied = goes 5 _ _ c.ring_fits.ensures c.if-not-ring_fits.false (goes 1 _ _ refl (eq-eqb (length a.keys.now) (24 * a.n) c.if-keys-n.false) (stops 1 _ _ c.material_sized.ensures refl c.if-not-material_sized.true)); used = refl; kept = refl }
 
 pub returns-then-not-in_range : goal.returns-then-not-in_range
 unfolding digests_reply vector
 returns-then-not-in_range c =
     let a = c.args in
-    record { replied = goes 5 _ _ c.ring_fits.ensures c.if-not-ring_fits.false (goes 1 _ _ refl (eq-eqb (length a.keys.now) (24 * a.n) c.if-keys-n.false) (goes 1 _ _ c.material_sized.ensures c.if-not-material_sized.false (stops 5 _ _ c.in_range.ensures c.refused-then-not-in_range.ensures c.if-not-in_range.true))); used = refl; kept = refl }
+    record { replied = goes 5 _ _ c.ring_fits.ensures c.if-not-ring_fits.false (goes 1 _ _ refl (eq-eqb (length a.keys.now) (24 * a.n) c.if-keys-n.false) (goes 1 _ _ c.material_sized.ensures c.if-not-material_sized.false (stops 5 _ _ c.in_range.ensures refl c.if-not-in_range.true))); used = refl; kept = refl }
 
 pub material_ranged-requires : goal.material_ranged-requires
 material_ranged-requires c =

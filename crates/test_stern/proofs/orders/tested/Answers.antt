@@ -18,7 +18,7 @@ use Rattle.test_stern.proofs.orders.tested.Goals as goal
 
 pub returns-then-not-ring_fits : goal.returns-then-not-ring_fits
 unfolding test_reply
-returns-then-not-ring_fits c = record { replied = stops 5 _ _ c.ring_fits.ensures c.refused.ensures c.if-not-ring_fits.true; used = refl; kept = refl }
+returns-then-not-ring_fits c = record { replied = stops 5 _ _ c.ring_fits.ensures refl c.if-not-ring_fits.true; used = refl; kept = refl }
 
 pub answer_length-long-requires : goal.answer_length-long-requires
 answer_length-long-requires c =
@@ -35,7 +35,7 @@ unfolding test_reply
 returns-then-not-test_sized c =
     let a = c.args in
     let at : List ℕ = length a.keys.now ∷ length a.pairs.now ∷ length a.digests.now ∷ length a.answer.now ∷ length a.scratch.now ∷ [] in
-    record { replied = goes 5 _ _ c.ring_fits.ensures c.if-not-ring_fits.false (stops 1 _ _ (c.test_sized.ensures ∙ ap (λ (m : ℕ). same at (24 * a.n ∷ 64 * a.n ∷ 96 ∷ m ∷ 1048576 ∷ [])) c.answer_length-long.ensures) c.refused-then-not-test_sized.ensures c.if-not-test_sized.true); used = refl; kept = refl }
+    record { replied = goes 5 _ _ c.ring_fits.ensures c.if-not-ring_fits.false (stops 1 _ _ (c.test_sized.ensures ∙ ap (λ (m : ℕ). same at (24 * a.n ∷ 64 * a.n ∷ 96 ∷ m ∷ 1048576 ∷ [])) c.answer_length-long.ensures) refl c.if-not-test_sized.true); used = refl; kept = refl }
 
 pub test_ranged-requires : goal.test_ranged-requires
 test_ranged-requires c =
@@ -50,7 +50,7 @@ unfolding test_reply
 returns-then-not-test_ranged c =
     let a = c.args in
     let at : List ℕ = length a.keys.now ∷ length a.pairs.now ∷ length a.digests.now ∷ length a.answer.now ∷ length a.scratch.now ∷ [] in
-    record { replied = goes 5 _ _ c.ring_fits.ensures c.if-not-ring_fits.false (goes 1 _ _ (c.test_sized.ensures ∙ ap (λ (m : ℕ). same at (24 * a.n ∷ 64 * a.n ∷ 96 ∷ m ∷ 1048576 ∷ [])) c.answer_length-long.ensures) c.if-not-test_sized.false (stops 5 _ _ c.test_ranged.ensures c.refused-then-not-test_ranged.ensures c.if-not-test_ranged.true)); used = refl; kept = refl }
+    record { replied = goes 5 _ _ c.ring_fits.ensures c.if-not-ring_fits.false (goes 1 _ _ (c.test_sized.ensures ∙ ap (λ (m : ℕ). same at (24 * a.n ∷ 64 * a.n ∷ 96 ∷ m ∷ 1048576 ∷ [])) c.answer_length-long.ensures) c.if-not-test_sized.false (stops 5 _ _ c.test_ranged.ensures refl c.if-not-test_ranged.true)); used = refl; kept = refl }
 
 pub test_answer-requires : goal.test_answer-requires
 test_answer-requires c =

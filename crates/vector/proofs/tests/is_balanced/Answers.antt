@@ -1,44 +1,29 @@
 -- `tests::is_balanced` meets its contract. Assumes nothing.
-use mathlib.Core.Path.{◌∙◌}
+use mathlib.Core.Path.{◌≡◌}
+use mathlib.Core.Bool.{◌&&◌}
 use Prim.Native.Nat.{◌*◌}
 use native.Mathlib.Omega.{arith}
-use borrow.Author.Tests.{eq-eqb, ne_eqb}
+use lib.Dec.{eqb}
 use lib.ListN.{length}
+use Rattle.std.proofs.lemmas.Bool.Decides.{nat_tests}
 use Rattle.ring.specs.Ternary.{count}
 use Rattle.vector.specs.Permutation.{balanced}
 use Rattle.vector.proofs.tests.is_balanced.Goals as goal
+use Rattle.vector.proofs.tests.is_balanced.Goals.{Joined-count_of-l, then-w-eq0, else-w-eq0, then-w-l, else-w-l, then-count_of-l, else-count_of-l}
 
-pub returns-then-w-ne0 : goal.returns-then-w-ne0
-unfolding balanced
-returns-then-w-ne0 c =
-    let a = c.args in
-    let w = a.w.now in
-    rw (ne_eqb (length w) (3 * a.l) (λ e. c.if-w-ne0.true (omega arith)))
-
-pub returns-then-w-l : goal.returns-then-w-l
-unfolding balanced
-returns-then-w-l c =
-    let a = c.args in
-    let w = a.w.now in
-    rw (ne_eqb (length w) (3 * a.l) (λ e. c.if-w-l.true (omega arith)))
-
-pub returns-then-count_of-l : goal.returns-then-count_of-l
-unfolding balanced
-returns-then-count_of-l c =
-    let a = c.args in
-    let w = a.w.now in
-    rw (eq-eqb (length w) (3 * a.l) (omega arith), ne_eqb (count 2 w) a.l (λ e. c.if-count_of-l.true (c.count_of.ensures ∙ e)))
+counted : (c : Joined-count_of-l)
+    → c.if-count_of-l.value ≡ (eqb (length c.args.w.now) (3 * c.args.l) && (eqb (count 2 c.args.w.now) c.args.l && eqb (count 0 c.args.w.now) c.args.l))
+counted c =
+    let w = c.args.w.now in
+    let l = c.args.l in
+    let long : c.if-w-eq0.value ≡ eqb (length w) (3 * l) = elim c.if-w-eq0.branch [ then-w-eq0 w ↦ grind (arith, nat_tests) | else-w-eq0 w ↦ grind (arith, nat_tests) ] in
+    let minus : c.if-w-l.value ≡ (eqb (length w) (3 * l) && eqb (count 2 w) l) = elim c.if-w-l.branch [ then-w-l w ↦ grind (arith, nat_tests) | else-w-l w ↦ grind (arith, nat_tests) ] in
+    elim c.if-count_of-l.branch [ then-count_of-l w ↦ grind (arith, nat_tests) | else-count_of-l w ↦ grind (arith, nat_tests) ]
 
 pub returns-then-count_of-l-2 : goal.returns-then-count_of-l-2
 unfolding balanced
-returns-then-count_of-l-2 c =
-    let a = c.args in
-    let w = a.w.now in
-    rw (eq-eqb (length w) (3 * a.l) (omega arith), eq-eqb (count 2 w) a.l (omega arith), ne_eqb (count 0 w) a.l (λ e. c.if-count_of-l-2.true (c.count_of-2.ensures ∙ e)))
+returns-then-count_of-l-2 c = let l = counted (goal.at.returns-then-count_of-l-2 c).Joined-count_of-l in grind (arith, nat_tests)
 
-pub returns : goal.returns
+pub returns-else-count_of-l-2 : goal.returns-else-count_of-l-2
 unfolding balanced
-returns c =
-    let a = c.args in
-    let w = a.w.now in
-    rw (eq-eqb (length w) (3 * a.l) (omega arith), eq-eqb (count 2 w) a.l (omega arith), eq-eqb (count 0 w) a.l (omega arith), c.count_of-3.ensures)
+returns-else-count_of-l-2 c = let l = counted (goal.at.returns-else-count_of-l-2 c).Joined-count_of-l in grind (arith, nat_tests)

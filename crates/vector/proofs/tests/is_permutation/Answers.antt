@@ -16,6 +16,3 @@ mark-answer-requires c =
       omega arith,
       ap₂ (λ (d : Bytes) (k : ℕ). part d a.at k) c.clear.ensures (sym l) ∙ part_put w a.at (zeros a.n) (omega arith),
     )
-
-pub returns : goal.returns
-returns c = (c.mark-answer.ensures.0, c.clear-2.ensures ∙ c.mark-answer.ensures.1 ∙ c.clear.ensures)

@@ -1,9 +1,0 @@
--- `chi::chi_row3` meets its contract. Assumes nothing.
-use borrow.Author.Rules.{rules}
-use Rattle.keccak.specs.Internal.{chi_row3}
-use Rattle.keccak.specs.Steps.{complement}
-use Rattle.keccak.proofs.chi.chi_row3.Goals as goal
-
-pub returns : goal.returns
-unfolding chi_row3 complement
-returns c = search rules

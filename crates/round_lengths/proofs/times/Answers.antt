@@ -1,7 +1,0 @@
--- `times` meets its contract. Assumes nothing.
-use native.Mathlib.Nat.{mul-le-mul}
-use native.Mathlib.Omega.{arith}
-use Rattle.round_lengths.proofs.times.Goals as goal
-
-pub overflow_mul-result : goal.overflow_mul-result
-overflow_mul-result c = let p = c.requires in omega (arith, mul-le-mul {n₁ = c.args.a} {m₁ = c.args.b} {n₂ = 1048576} {m₂ = 4096} p.0 p.1)
