@@ -8,6 +8,8 @@ ghost use Rattle.round_produce.specs.Replies.{first_reply, FirstCalled, second_r
 ghost use Rattle.round_extract.specs.Replies.{extract_found, ExtractCalled};
 ghost use Rattle.round_tests.specs.Opened.{opened_reply};
 
+use round::LentMaterial;
+
 // The producer's first call: the first message and the claims.
 #[unsafe(no_mangle)]
 pub extern "C" fn jdn_produce_first(
@@ -32,24 +34,20 @@ pub extern "C" fn jdn_produce_first(
         let reply = first_reply sheet.now x before in (result ≡ packed reply) × FirstCalled sheet.now x before reply after }
 {
     let mut public = [0u8; 81920];
+    let lent = LentMaterial {
+        secrets,
+        s0,
+        e0,
+        masks0,
+        masks1,
+        vectors,
+        permutations,
+        salts,
+        ballots,
+    };
     match sheet::load(sheet, &mut public) {
         Ok(k) => codec::pack(round_produce::produce_first(
-            k,
-            &public,
-            secrets,
-            s0,
-            e0,
-            masks0,
-            masks1,
-            vectors,
-            permutations,
-            salts,
-            ballots,
-            head,
-            shares0,
-            shares1,
-            claims,
-            scratch,
+            k, &public, lent, head, shares0, shares1, claims, scratch,
         )),
         Err(why) => codec::pack(scratch::finish(Err(why), scratch)),
     }
@@ -80,24 +78,20 @@ pub extern "C" fn jdn_produce_second(
         (result ≡ packed reply) × SecondCalled sheet.now x side challenges.now before reply after }
 {
     let mut public = [0u8; 81920];
+    let lent = LentMaterial {
+        secrets,
+        s0,
+        e0,
+        masks0,
+        masks1,
+        vectors,
+        permutations,
+        salts,
+        ballots,
+    };
     match sheet::load(sheet, &mut public) {
         Ok(k) => codec::pack(round_produce::produce_second(
-            k,
-            &public,
-            secrets,
-            s0,
-            e0,
-            masks0,
-            masks1,
-            vectors,
-            permutations,
-            salts,
-            ballots,
-            side,
-            challenges,
-            opening,
-            answers,
-            scratch,
+            k, &public, lent, side, challenges, opening, answers, scratch,
         )),
         Err(why) => codec::pack(scratch::finish(Err(why), scratch)),
     }

@@ -8,8 +8,9 @@ use Rattle.ring.specs.Poly.{Poly, Below}
 use Rattle.stern.specs.Argument.{Drawn}
 use Rattle.stern.specs.Shortness.{in_range, answer_tests}
 use Rattle.round.specs.Layout.{ballot_length, u_at, head_length, share_at, answers_length, pairs_of, digests_at, opening_of, answer_at}
-use Rattle.std.specs.Borrow.{Bor, MutBor}
+use Rattle.std.specs.Borrow.{MutBor}
 use Rattle.codec.specs.Slices.{Slice, given}
+use Rattle.round.specs.declared.LentMaterial.{LentMaterial}
 use Rattle.round.specs.Producer.{Material, material_of, half_of, s_in, e_in, hides_sin, hides_ein, drawn_in, committed_pair, pairs_bytes, opening_bytes, answers_bytes, produced_head, produced_shares, produced_claims}
 use Rattle.round.specs.Writes.{FirstRoom, first_room, SecondRoom, second_room}
 use Rattle.commitment.specs.Parameters.{Parameters}
@@ -36,9 +37,10 @@ pub record Answers (q N repeats : ℕ) (challenges answers : Bytes) : Type 0 whe
   pub answers_sized : length answers ≡ answers_length N challenges
   pub below : (i : ℕ) → i < repeats → in_range q N (get_or challenges i 0) (answer_at N challenges answers i) ≡ true
 
-abbrev pub material_now : (secrets s0 e0 masks0 masks1 vectors permutations salts ballots : Bor Bytes) → Material
-material_now secrets s0 e0 masks0 masks1 vectors permutations salts ballots =
-    material_of secrets.now s0.now e0.now masks0.now masks1.now vectors.now permutations.now salts.now ballots.now
+-- what both calls of a producer are lent, from the code's own `LentMaterial`
+abbrev pub material_lent : LentMaterial → Material
+material_lent x =
+    material_of x.secrets.now x.s0.now x.e0.now x.masks0.now x.masks1.now x.vectors.now x.permutations.now x.salts.now x.ballots.now
 
 abbrev pub first_now : (head shares0 shares1 claims scratch : MutBor Bytes) → FirstRoom
 first_now head shares0 shares1 claims scratch = first_room head.now shares0.now shares1.now claims.now scratch.now

@@ -18,9 +18,9 @@ pub use Rattle.commitment.specs.Loaded.{key_bytes}
 pub use Rattle.commitment.specs.Parameters.{parameters}
 pub use Rattle.stern.specs.Internal.{RepetitionMaterial}
 pub use Rattle.stern.specs.Shortness.{answer_length, answer_tests, drawn_of, in_range}
-pub use Rattle.round.specs.Internal.{Batch, SharesLent, material_now, round_in}
+pub use Rattle.round.specs.Internal.{Batch, SharesLent, material_lent, round_in}
 pub use Rattle.round.specs.Layout.{answers_length, ballot_length, head_length, opening_of, pairs_of}
-pub use Rattle.round.specs.Lent.{first_in, first_out, material_in, second_in, second_out}
+pub use Rattle.round.specs.Lent.{first_in, first_out, second_in, second_out}
 pub use Rattle.round.specs.Producer.{mask_tests, noise_tests, permutation_tests, s_in}
 pub use Rattle.round.specs.Round.{answers_tests, is_challenge, of_side, votes_tests}
 pub use Rattle.round.specs.RoundSlices.{extract_in, openings_in}

@@ -26,9 +26,9 @@ use Rattle.round_head.proofs.Joining.{Filled, filled_first, filled_more}
 -- ---- lent with lengths that are differences of places
 
 module _ (q n : ℕ) (x r p s : Bytes) (r_at p_at s_at r_long p_long s_long : ℕ) (er : r_long ≡ 336 * n) (ep : p_long ≡ 168 * n) (es : s_long ≡ 96) where
-  pub material_lent : RepetitionMaterial q n x (part r r_at (336 * n)) (part p p_at (168 * n)) (part s s_at 96)
+  pub repetition_lent : RepetitionMaterial q n x (part r r_at (336 * n)) (part p p_at (168 * n)) (part s s_at 96)
       → RepetitionMaterial q n x (take r_long (drop r_at r)) (take p_long (drop p_at p)) (take s_long (drop s_at s))
-  material_lent m = rw (er, ep, es) m
+  repetition_lent m = rw (er, ep, es) m
 
   pub drawn_lent : drawn_of (take p_long (drop p_at p)) (take r_long (drop r_at r)) (take s_long (drop s_at s)) ≡ drawn_of (part p p_at (168 * n)) (part r r_at (336 * n)) (part s s_at 96)
   drawn_lent = rw (er, ep, es)

@@ -5,7 +5,7 @@
 ghost use Rattle.std.specs.Prelude.{◌≡◌, ◌+◌, ◌*◌, ◌≤◌, length, ◌++◌};
 ghost use Rattle.round.specs.Vocabulary.{part, put, scratch_length, Free, keys_of, PublicKeys, Loaded, drawn_of, RepetitionMaterial};
 ghost use Rattle.round.specs.Vocabulary.{key_bytes, head_length, poly, ternary, Polynomial, other, three_of, zeros, plain};
-ghost use Rattle.round.specs.Vocabulary.{parameters};
+ghost use Rattle.round.specs.Vocabulary.{parameters, material_lent};
 ghost use Rattle.stern.specs.Shortness.{honest_digests};
 ghost use Rattle.round.specs.Producer.{digests_bytes, committed_pair, pairs_bytes, key_bytes_of, head_bytes};
 ghost use Rattle.round_head.specs.Internal.{Drawings};
@@ -13,6 +13,7 @@ ghost use Rattle.commitment.specs.Commitment.{committed};
 ghost use Rattle.commitment.specs.Internal.{PairInSlots};
 ghost use Rattle.commitment.specs.Loaded.{a_of};
 
+use round::LentMaterial;
 use sheet_numbers::Numbers;
 
 // ---- The digests of every repetition, end to end.
@@ -23,55 +24,43 @@ fn digests_at(
     at: usize,
     work: &mut [u8],
     k: &[u8],
-    secrets: &[u8],
-    vectors: &[u8],
+    lent: LentMaterial,
     vector: usize,
-    permutations: &[u8],
     permutation: usize,
-    salts: &[u8],
     salt: usize,
     n: usize,
     q: u64,
 )
-    requires { PublicKeys n q k.now × (length work.old ≡ scratch_length) × (at + 96 ≤ length out.old)
-        × (vector + 336 * n ≤ length vectors.now)
-        × (permutation + 168 * n ≤ length permutations.now) × (salt + 96 ≤ length salts.now)
-        × RepetitionMaterial q n secrets.now (part vectors.now vector (336 * n)) (part permutations.now permutation (168 * n))
-        (part salts.now salt 96) }
-    ensures { let drawn = drawn_of (part permutations.now permutation (168 * n)) (part vectors.now vector (336 * n))
-        (part salts.now salt 96) in
-        (out.new ≡ put out.old at (honest_digests q n (keys_of n k.now) secrets.now drawn))
-        × Free work.old work.new }
+    requires { let x = material_lent lent in PublicKeys n q k.now × (length work.old ≡ scratch_length) × (at + 96 ≤ length out.old)
+        × (vector + 336 * n ≤ length x.vectors)
+        × (permutation + 168 * n ≤ length x.permutations) × (salt + 96 ≤ length x.salts)
+        × RepetitionMaterial q n x.secrets (part x.vectors vector (336 * n)) (part x.permutations permutation (168 * n))
+        (part x.salts salt 96) }
+    ensures { let x = material_lent lent.entry in
+        let drawn = drawn_of (part x.permutations permutation (168 * n)) (part x.vectors vector (336 * n)) (part x.salts salt 96) in
+        (out.new ≡ put out.old at (honest_digests q n (keys_of n k.now) x.secrets drawn)) × Free work.old work.new }
 {
     stern_answers::writing::write_digests(
         out,
         at,
         work,
         k,
-        secrets,
-        &vectors[vector..vector + 336 * n],
-        &permutations[permutation..permutation + 168 * n],
-        &salts[salt..salt + 96],
+        lent.secrets,
+        &lent.vectors[vector..vector + 336 * n],
+        &lent.permutations[permutation..permutation + 168 * n],
+        &lent.salts[salt..salt + 96],
         n,
         q,
     );
 }
 
 // Every repetition, behind the keys and the pairs in the head of the first message.
-fn write_digests(
-    k: Numbers,
-    public: &[u8],
-    secrets: &[u8],
-    vectors: &[u8],
-    permutations: &[u8],
-    salts: &[u8],
-    head: &mut [u8],
-    work: &mut [u8],
-)
-    requires { Loaded k public.now × (length work.old ≡ scratch_length) × (length head.old ≡ head_length k.ring k.repeats)
-        × Drawings k.modulus k.ring k.repeats secrets.now vectors.now permutations.now salts.now }
-    ensures { let digests = digests_bytes k.modulus k.ring k.repeats secrets.now vectors.now permutations.now
-        salts.now in
+fn write_digests(k: Numbers, public: &[u8], lent: LentMaterial, head: &mut [u8], work: &mut [u8])
+    requires { let x = material_lent lent in Loaded k public.now × (length work.old ≡ scratch_length)
+        × (length head.old ≡ head_length k.ring k.repeats)
+        × Drawings k.modulus k.ring k.repeats x.secrets x.vectors x.permutations x.salts }
+    ensures { let x = material_lent lent.entry in
+        let digests = digests_bytes k.modulus k.ring k.repeats x.secrets x.vectors x.permutations x.salts in
         (head.new ≡ put head.old (80 * k.ring) (digests (keys_of k.ring (key_bytes k public.now))))
         × Free work.old work.new }
 {
@@ -85,12 +74,9 @@ fn write_digests(
             80 * n + 96 * i,
             work,
             keys,
-            secrets,
-            vectors,
+            lent,
             336 * n * i,
-            permutations,
             168 * n * i,
-            salts,
             96 * i,
             n,
             q,
@@ -228,27 +214,15 @@ fn write_keys(
 }
 
 // The whole head. Scratch is given back zeroed.
-pub fn write_head(
-    k: Numbers,
-    public: &[u8],
-    secrets: &[u8],
-    s0: &[u8],
-    e0: &[u8],
-    vectors: &[u8],
-    permutations: &[u8],
-    salts: &[u8],
-    head: &mut [u8],
-    work: &mut [u8],
-)
-    requires { Loaded k public.now × Polynomial k.ring k.modulus s0.now × Polynomial k.ring k.modulus e0.now
+pub fn write_head(k: Numbers, public: &[u8], lent: LentMaterial, head: &mut [u8], work: &mut [u8])
+    requires { let x = material_lent lent in Loaded k public.now × Polynomial k.ring k.modulus x.s0 × Polynomial k.ring k.modulus x.e0
         × (length work.old ≡ scratch_length) × (length head.old ≡ head_length k.ring k.repeats)
-        × Drawings k.modulus k.ring k.repeats secrets.now vectors.now permutations.now salts.now }
-    ensures { let P = parameters k public.now in
-        (head.new ≡ head_bytes P secrets.now s0.now e0.now vectors.now permutations.now salts.now)
-        × (work.new ≡ zeros (length work.old)) }
+        × Drawings k.modulus k.ring k.repeats x.secrets x.vectors x.permutations x.salts }
+    ensures { let P = parameters k public.now in let x = material_lent lent.entry in
+        (head.new ≡ head_bytes P x.secrets x.s0 x.e0 x.vectors x.permutations x.salts) × (work.new ≡ zeros (length work.old)) }
 {
-    write_keys(k, public, secrets, s0, e0, head, work);
-    write_pairs(k, public, secrets, s0, e0, head, work);
-    write_digests(k, public, secrets, vectors, permutations, salts, head, work);
+    write_keys(k, public, lent.secrets, lent.s0, lent.e0, head, work);
+    write_pairs(k, public, lent.secrets, lent.s0, lent.e0, head, work);
+    write_digests(k, public, lent, head, work);
     codec::wipe(work);
 }

@@ -3,10 +3,11 @@
 #![tactic(auto)]
 
 ghost use Rattle.std.specs.Prelude.{◌≡◌, ◌+◌, ◌*◌, ◌/◌, ◌≤◌, length};
-ghost use Rattle.round.specs.Vocabulary.{answers_length, material_in, Usable};
+ghost use Rattle.round.specs.Vocabulary.{answers_length, material_lent, Usable};
 ghost use Rattle.round.specs.Writes.{first_room};
 ghost use Rattle.round_lengths.specs.Calls.{count_of, material_sized, first_sized, second_sized, message_sized, openings_sized};
 
+use round::LentMaterial;
 use sheet_numbers::Numbers;
 
 // How many ballots stand in a slice.
@@ -19,22 +20,9 @@ pub fn count_of(ballots: &[u8], n: usize) -> usize
 
 // The material of the producer.
 #[tactic(auto, unfolding(codec::specs::Bytes::same, crate::specs::Calls::material_sized))]
-pub fn material_sized(
-    k: Numbers,
-    secrets: &[u8],
-    s0: &[u8],
-    e0: &[u8],
-    masks0: &[u8],
-    masks1: &[u8],
-    vectors: &[u8],
-    permutations: &[u8],
-    salts: &[u8],
-    ballots: &[u8],
-    count: usize,
-) -> bool
+pub fn material_sized(k: Numbers, lent: LentMaterial, count: usize) -> bool
     requires { Usable k × (count ≤ 4096) }
-    ensures { let x = material_in secrets s0 e0 masks0 masks1 vectors permutations salts ballots in
-        result ≡ material_sized k.ring k.repeats count x }
+    ensures { result ≡ material_sized k.ring k.repeats count (material_lent lent.entry) }
 {
     let n = k.ring as usize;
     let repeats = k.repeats as usize;
@@ -42,16 +30,23 @@ pub fn material_sized(
     let sent = (4 + 16 * n) * count;
     scratch::sized(
         [
-            secrets.len(),
-            s0.len(),
-            e0.len(),
-            masks0.len(),
-            masks1.len(),
-            ballots.len(),
+            lent.secrets.len(),
+            lent.s0.len(),
+            lent.e0.len(),
+            lent.masks0.len(),
+            lent.masks1.len(),
+            lent.ballots.len(),
         ],
         [14 * n, 8 * n, 8 * n, share, share, sent],
     ) && scratch::sized(
-        [vectors.len(), permutations.len(), salts.len(), 0, 0, 0],
+        [
+            lent.vectors.len(),
+            lent.permutations.len(),
+            lent.salts.len(),
+            0,
+            0,
+            0,
+        ],
         [336 * n * repeats, 168 * n * repeats, 96 * repeats, 0, 0, 0],
     )
 }

@@ -3,12 +3,13 @@
 
 ghost use Rattle.std.specs.Prelude.{◌≡◌, ◌+◌, ◌*◌, ◌≤◌, ◌<◌, ◌^◌, length};
 ghost use Rattle.round.specs.Vocabulary.{part, put, list, Below, coefficient_bytes, poly, slot, ternary, scratch_length, Polynomial, Free};
-ghost use Rattle.round.specs.Vocabulary.{Usable, s_in};
+ghost use Rattle.round.specs.Vocabulary.{Usable, s_in, material_lent};
 ghost use Rattle.ring.specs.Poly.{minus, mul};
 ghost use Rattle.bgv.specs.Scheme.{plaintext};
 ghost use Rattle.round_shares.specs.Internal.{room_now, room_in, room_out, Fits, BallotWritten, masked_product, TwoStand, Masked};
 ghost use Rattle.round_shares.specs.Internal.{BallotPlaces, BallotsWritten};
 
+use round::LentMaterial;
 use sheet_numbers::Numbers;
 
 // ---- The decryption shares and the claim of one ballot. s u and s0 u are made once each, and s1 u is their difference. What is made from
@@ -142,19 +143,15 @@ fn ballot_at(
     claim: usize,
     work: &mut [u8],
     k: Numbers,
-    secrets: &[u8],
-    s0: &[u8],
-    masks0: &[u8],
-    masks1: &[u8],
-    ballots: &[u8],
+    lent: LentMaterial,
     at: usize,
 )
-    requires { let n = k.ring in Usable k × Polynomial n k.modulus s0.now × (length secrets.now ≡ 14 * n)
-        × BallotPlaces k.modulus n at sent ballots.now masks0.now masks1.now
+    requires { let n = k.ring in let x = material_lent lent in Usable k × Polynomial n k.modulus x.s0 × (length x.secrets ≡ 14 * n)
+        × BallotPlaces k.modulus n at sent x.ballots x.masks0 x.masks1
         × Fits n sent claim (room_now shares0 shares1 claims work) }
-    ensures { let n = k.ring in let s = ternary k.modulus (s_in n secrets.now) in
-        let u = slot ballots.now (at + 4) in let v = slot ballots.now (at + 4 + 8 * n) in
-        BallotWritten k s (poly s0.now) u v (part masks0.now sent (8 * n)) (part masks1.now sent (8 * n)) sent claim
+    ensures { let n = k.ring in let x = material_lent lent.entry in let s = ternary k.modulus (s_in n x.secrets) in
+        let u = slot x.ballots (at + 4) in let v = slot x.ballots (at + 4 + 8 * n) in
+        BallotWritten k s (poly x.s0) u v (part x.masks0 sent (8 * n)) (part x.masks1 sent (8 * n)) sent claim
         (room_in shares0 shares1 claims work) (room_out shares0 shares1 claims work) }
 {
     let n = k.ring as usize;
@@ -167,12 +164,12 @@ fn ballot_at(
         claim,
         work,
         k,
-        &secrets[0..n],
-        s0,
-        &ballots[at + 4..at + 4 + 8 * n],
-        &ballots[at + 4 + 8 * n..at + 4 + 16 * n],
-        &masks0[sent..end],
-        &masks1[sent..end],
+        &lent.secrets[0..n],
+        lent.s0,
+        &lent.ballots[at + 4..at + 4 + 8 * n],
+        &lent.ballots[at + 4 + 8 * n..at + 4 + 16 * n],
+        &lent.masks0[sent..end],
+        &lent.masks1[sent..end],
     );
 }
 
@@ -183,29 +180,23 @@ pub fn write_ballots(
     claims: &mut [u8],
     work: &mut [u8],
     k: Numbers,
-    secrets: &[u8],
-    s0: &[u8],
-    masks0: &[u8],
-    masks1: &[u8],
-    ballots: &[u8],
+    lent: LentMaterial,
     count: usize,
 )
-    requires { Usable k × Polynomial k.ring k.modulus s0.now × (length secrets.now ≡ 14 * k.ring) × (count ≤ 4096)
-        × Masked k.modulus k.ring count ballots.now masks0.now masks1.now × (length shares0.old ≡ 8 * k.ring * count)
+    requires { let x = material_lent lent in Usable k × Polynomial k.ring k.modulus x.s0 × (length x.secrets ≡ 14 * k.ring)
+        × (count ≤ 4096) × Masked k.modulus k.ring count x.ballots x.masks0 x.masks1 × (length shares0.old ≡ 8 * k.ring * count)
         × (length shares1.old ≡ 8 * k.ring * count) × (length claims.old ≡ k.ring * count)
         × (length work.old ≡ scratch_length) }
     ensures { let before = room_in shares0 shares1 claims work in let after = room_out shares0 shares1 claims work in
-        BallotsWritten k count secrets.now s0.now masks0.now masks1.now ballots.now before after }
+        let x = material_lent lent.entry in
+        BallotsWritten k count x.secrets x.s0 x.masks0 x.masks1 x.ballots before after }
 {
     let n = k.ring as usize;
     for j in 0..count {
         let sent = 8 * n * j;
         let claim = n * j;
         let at = (4 + 16 * n) * j;
-        ballot_at(
-            shares0, shares1, sent, claims, claim, work, k, secrets, s0, masks0, masks1, ballots,
-            at,
-        );
+        ballot_at(shares0, shares1, sent, claims, claim, work, k, lent, at);
     }
     codec::wipe(work);
 }

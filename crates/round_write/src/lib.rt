@@ -2,7 +2,7 @@
 // crates/round/specs/Producer.antt.
 #![tactic(auto)]
 
-ghost use Rattle.round.specs.Vocabulary.{Loaded, material_in, first_in, first_out, second_in, second_out, material_now, parameters};
+ghost use Rattle.round.specs.Vocabulary.{Loaded, material_lent, first_in, first_out, second_in, second_out, parameters};
 ghost use Rattle.round.specs.Vocabulary.{part, put, coefficient_bytes, poly, ternary, scratch_length, Polynomial, Free, other, s_in};
 ghost use Rattle.round.specs.Vocabulary.{Usable, drawn_of, answer_length, RepetitionMaterial, answers_length};
 ghost use Rattle.round.specs.Internal.{first_now, second_now, FirstProduced, SecondProduced};
@@ -13,6 +13,7 @@ ghost use Rattle.round.specs.Producer.{e_in, opening_bytes, answers_bytes};
 ghost use Rattle.stern.specs.Shortness.{honest_answer};
 ghost use Rattle.round_head.specs.Internal.{Drawings};
 
+use round::LentMaterial;
 use sheet_numbers::Numbers;
 
 // ---- The opening of a side: s_i, e_i, the three r of s_i, then of e_i.
@@ -95,51 +96,41 @@ fn answer_at(
     at: usize,
     size: usize,
     challenge: u8,
-    secrets: &[u8],
-    vectors: &[u8],
+    lent: LentMaterial,
     vector: usize,
-    permutations: &[u8],
     permutation: usize,
-    salts: &[u8],
     salt: usize,
     n: usize,
     q: u64,
 )
-    requires { (n ≤ 2048) × (3 ≤ q) × (q < 2 ^ 56) × (size ≡ answer_length n challenge) × (at + size ≤ length answers.old)
-        × (vector + 336 * n ≤ length vectors.now) × (permutation + 168 * n ≤ length permutations.now)
-        × (salt + 96 ≤ length salts.now)
-        × RepetitionMaterial q n secrets.now (part vectors.now vector (336 * n)) (part permutations.now permutation (168 * n))
-        (part salts.now salt 96) }
-    ensures { let drawn = drawn_of (part permutations.now permutation (168 * n)) (part vectors.now vector (336 * n))
-        (part salts.now salt 96) in
-        answers.new ≡ put answers.old at (honest_answer q n secrets.now drawn challenge) }
+    requires { let x = material_lent lent in (n ≤ 2048) × (3 ≤ q) × (q < 2 ^ 56) × (size ≡ answer_length n challenge)
+        × (at + size ≤ length answers.old)
+        × (vector + 336 * n ≤ length x.vectors) × (permutation + 168 * n ≤ length x.permutations)
+        × (salt + 96 ≤ length x.salts)
+        × RepetitionMaterial q n x.secrets (part x.vectors vector (336 * n)) (part x.permutations permutation (168 * n))
+        (part x.salts salt 96) }
+    ensures { let x = material_lent lent.entry in
+        let drawn = drawn_of (part x.permutations permutation (168 * n)) (part x.vectors vector (336 * n)) (part x.salts salt 96) in
+        answers.new ≡ put answers.old at (honest_answer q n x.secrets drawn challenge) }
 {
     stern_answers::writing::write_answer(
         &mut answers[at..at + size],
         challenge,
-        secrets,
-        &vectors[vector..vector + 336 * n],
-        &permutations[permutation..permutation + 168 * n],
-        &salts[salt..salt + 96],
+        lent.secrets,
+        &lent.vectors[vector..vector + 336 * n],
+        &lent.permutations[permutation..permutation + 168 * n],
+        &lent.salts[salt..salt + 96],
         n,
         q,
     );
 }
 
 // Every repetition, in order.
-fn write_answers(
-    answers: &mut [u8],
-    k: Numbers,
-    challenges: &[u8],
-    secrets: &[u8],
-    vectors: &[u8],
-    permutations: &[u8],
-    salts: &[u8],
-)
-    requires { Usable k × Drawings k.modulus k.ring k.repeats secrets.now vectors.now permutations.now salts.now
+fn write_answers(answers: &mut [u8], k: Numbers, challenges: &[u8], lent: LentMaterial)
+    requires { let x = material_lent lent in Usable k × Drawings k.modulus k.ring k.repeats x.secrets x.vectors x.permutations x.salts
         × (length challenges.now ≡ k.repeats) × (length answers.old ≡ answers_length k.ring challenges.now) }
-    ensures { let drawn = answers_bytes k.modulus k.ring k.repeats secrets.now vectors.now permutations.now
-        salts.now in
+    ensures { let x = material_lent lent.entry in
+        let drawn = answers_bytes k.modulus k.ring k.repeats x.secrets x.vectors x.permutations x.salts in
         answers.new ≡ drawn challenges.now }
 {
     let n = k.ring as usize;
@@ -152,12 +143,9 @@ fn write_answers(
             at,
             size,
             *challenge,
-            secrets,
-            vectors,
+            lent,
             336 * n * i,
-            permutations,
             168 * n * i,
-            salts,
             96 * i,
             n,
             q,
@@ -170,75 +158,40 @@ fn write_answers(
 pub fn write_first(
     k: Numbers,
     public: &[u8],
-    secrets: &[u8],
-    s0: &[u8],
-    e0: &[u8],
-    masks0: &[u8],
-    masks1: &[u8],
-    vectors: &[u8],
-    permutations: &[u8],
-    salts: &[u8],
-    ballots: &[u8],
+    lent: LentMaterial,
     head: &mut [u8],
     shares0: &mut [u8],
     shares1: &mut [u8],
     claims: &mut [u8],
     scratch: &mut [u8],
 )
-    requires { let x = material_now secrets s0 e0 masks0 masks1 vectors permutations salts ballots in
-        Loaded k public.now × FirstReady k x (first_now head shares0 shares1 claims scratch) }
-    ensures { let x = material_in secrets s0 e0 masks0 masks1 vectors permutations salts ballots in
+    requires { Loaded k public.now × FirstReady k (material_lent lent) (first_now head shares0 shares1 claims scratch) }
+    ensures { let x = material_lent lent.entry in
         let before = first_in head shares0 shares1 claims scratch in let after = first_out head shares0 shares1 claims scratch in
-        FirstProduced (parameters k public.now) (count_of k.ring ballots.now) x before after }
+        FirstProduced (parameters k public.now) (count_of k.ring x.ballots) x before after }
 {
-    round_head::write_head(
-        k,
-        public,
-        secrets,
-        s0,
-        e0,
-        vectors,
-        permutations,
-        salts,
-        head,
-        scratch,
-    );
-    let count = round_lengths::count_of(ballots, k.ring as usize);
-    round_shares::write_ballots(
-        shares0, shares1, claims, scratch, k, secrets, s0, masks0, masks1, ballots, count,
-    );
+    round_head::write_head(k, public, lent, head, scratch);
+    let count = round_lengths::count_of(lent.ballots, k.ring as usize);
+    round_shares::write_ballots(shares0, shares1, claims, scratch, k, lent, count);
 }
 
 // The opening of a side, and the answers to challenges. Scratch is given back zeroed.
 pub fn write_second(
     k: Numbers,
-    secrets: &[u8],
-    s0: &[u8],
-    e0: &[u8],
-    vectors: &[u8],
-    permutations: &[u8],
-    salts: &[u8],
+    lent: LentMaterial,
     side: u64,
     challenges: &[u8],
     opening: &mut [u8],
     answers: &mut [u8],
     scratch: &mut [u8],
 )
-    requires { let room = second_now opening answers scratch in
-        SecondReady k secrets.now s0.now e0.now vectors.now permutations.now salts.now side challenges.now room }
-    ensures { let before = second_in opening answers scratch in let after = second_out opening answers scratch in
-        SecondProduced k secrets.now s0.now e0.now vectors.now permutations.now salts.now side
-        challenges.now before after }
+    requires { let x = material_lent lent in let room = second_now opening answers scratch in
+        SecondReady k x.secrets x.s0 x.e0 x.vectors x.permutations x.salts side challenges.now room }
+    ensures { let x = material_lent lent.entry in
+        let before = second_in opening answers scratch in let after = second_out opening answers scratch in
+        SecondProduced k x.secrets x.s0 x.e0 x.vectors x.permutations x.salts side challenges.now before after }
 {
-    write_opening(opening, scratch, k, secrets, s0, e0, side);
+    write_opening(opening, scratch, k, lent.secrets, lent.s0, lent.e0, side);
     codec::wipe(scratch);
-    write_answers(
-        answers,
-        k,
-        challenges,
-        secrets,
-        vectors,
-        permutations,
-        salts,
-    );
+    write_answers(answers, k, challenges, lent);
 }

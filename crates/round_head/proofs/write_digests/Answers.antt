@@ -19,7 +19,7 @@ lent k s = keys_of k.ring (take (40 * k.ring - 16 * k.ring) (drop (16 * k.ring) 
 pub loop-i-init : goal.loop-i-init
 loop-i-init c =
     let a = c.args in
-    digested_first a.k.modulus a.k.ring a.k.repeats (lent a.k a.public.now) a.secrets.now a.vectors.now a.permutations.now a.salts.now a.head.now a.work.now c.requires.1
+    digested_first a.k.modulus a.k.ring a.k.repeats (lent a.k a.public.now) a.lent.secrets.now a.lent.vectors.now a.lent.permutations.now a.lent.salts.now a.head.now a.work.now c.requires.1
 
 pub digests_at-requires : goal.digests_at-requires
 digests_at-requires c =
@@ -28,14 +28,14 @@ digests_at-requires c =
     let l = c.loop-i in
     let n = a.k.ring in
     let q = a.k.modulus in
-    let e = drawn_ends n a.k.repeats l.i (omega arith) q a.secrets.now a.vectors.now a.permutations.now a.salts.now p.3 in (
+    let e = drawn_ends n a.k.repeats l.i (omega arith) q a.lent.secrets.now a.lent.vectors.now a.lent.permutations.now a.lent.salts.now p.3 in (
       subst (PublicKeys n q) (sym (keys_cut a.k a.public.now)) p.0.keys,
       l.invariant.long,
-      digests_end q n a.k.repeats (lent a.k a.public.now) a.secrets.now a.vectors.now a.permutations.now a.salts.now a.head.now p.2 l.i l.head l.work l.invariant (omega arith),
+      digests_end q n a.k.repeats (lent a.k a.public.now) a.lent.secrets.now a.lent.vectors.now a.lent.permutations.now a.lent.salts.now a.head.now p.2 l.i l.head l.work l.invariant (omega arith),
       e.0,
       e.1,
       e.2,
-      material n a.k.repeats l.i (omega arith) q a.secrets.now a.vectors.now a.permutations.now a.salts.now p.3,
+      material n a.k.repeats l.i (omega arith) q a.lent.secrets.now a.lent.vectors.now a.lent.permutations.now a.lent.salts.now p.3,
     )
 
 pub loop-i-preserved : goal.loop-i-preserved
@@ -44,7 +44,7 @@ loop-i-preserved c =
     let p = c.requires in
     let l = c.loop-i in
     let d = c.digests_at in
-    digested_more a.k.modulus a.k.ring a.k.repeats (lent a.k a.public.now) a.secrets.now a.vectors.now a.permutations.now a.salts.now a.head.now p.2 l.i l.head l.work l.invariant (omega arith) d.new.out d.new.work d.auto.out d.ensures.1 d.ensures.0
+    digested_more a.k.modulus a.k.ring a.k.repeats (lent a.k a.public.now) a.lent.secrets.now a.lent.vectors.now a.lent.permutations.now a.lent.salts.now a.head.now p.2 l.i l.head l.work l.invariant (omega arith) d.new.out d.new.work d.auto.out d.ensures.1 d.ensures.0
 
 pub shape_of-head : goal.shape_of-head
 shape_of-head c = c.loop-i.invariant.written.long
@@ -59,7 +59,7 @@ returns c =
     let l = c.loop-i in
     let e : l.i ≡ k.repeats = omega arith in (
       l.invariant.written.is
-          ∙ ap₂ (λ (i : ℕ) (b : Bytes). put a.head.now (80 * k.ring) (joined i (digests_of k.modulus k.ring k.repeats (keys_of k.ring b) a.secrets.now a.vectors.now a.permutations.now a.salts.now))) e
+          ∙ ap₂ (λ (i : ℕ) (b : Bytes). put a.head.now (80 * k.ring) (joined i (digests_of k.modulus k.ring k.repeats (keys_of k.ring b) a.lent.secrets.now a.lent.vectors.now a.lent.permutations.now a.lent.salts.now))) e
           (keys_cut k a.public.now),
       l.invariant.long ∙ sym c.requires.1,
     )

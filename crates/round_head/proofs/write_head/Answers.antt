@@ -28,7 +28,7 @@ returns c =
     let w = c.write_keys in
     let t = c.write_pairs in
     let d = c.write_digests in (
-      head_whole (parameters a.k a.public.now) a.secrets.now a.s0.now a.e0.now a.vectors.now a.permutations.now a.salts.now a.head.now w.new.head t.new.head d.new.head c.requires.4
+      head_whole (parameters a.k a.public.now) a.lent.secrets.now a.lent.s0.now a.lent.e0.now a.lent.vectors.now a.lent.permutations.now a.lent.salts.now a.head.now w.new.head t.new.head d.new.head c.requires.4
           w.ensures.0 t.ensures.0 d.ensures.0,
       c.wipe.ensures ∙ ap zeros (d.ensures.1 ∙ t.ensures.1 ∙ w.ensures.1),
     )

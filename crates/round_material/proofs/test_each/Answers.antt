@@ -14,9 +14,9 @@ test_noise-quiet-requires c = let p = c.requires in (p.0, p.2, c.test_permutatio
 pub returns : goal.returns
 returns c =
     let a = c.args in
-    let ms = mask_tests a.k.ring (mask_bound_of a.k) a.count a.masks0.now a.masks1.now in
-    let ps = permutation_tests a.k.ring a.k.repeats a.permutations.now in
-    let ns = noise_tests a.k.modulus a.k.ring (noise_bound_of a.k) a.count a.secrets.now a.ballots.now in
+    let ms = mask_tests a.k.ring (mask_bound_of a.k) a.count a.lent.masks0.now a.lent.masks1.now in
+    let ps = permutation_tests a.k.ring a.k.repeats a.lent.permutations.now in
+    let ns = noise_tests a.k.modulus a.k.ring (noise_bound_of a.k) a.count a.lent.secrets.now a.lent.ballots.now in
     let m = c.test_masks-masked in
     let p = c.test_permutations-permuting in
     let v = c.test_noise-quiet in

@@ -3,14 +3,15 @@ use mathlib.Core.Path.{ap, ◌∙◌}
 use Rattle.codec.specs.Refusal.{as_reply}
 use Rattle.codec.proofs.Refusals.{handed_on}
 use Rattle.scratch.proofs.Zeroizing.{length_zeros}
-use Rattle.round.specs.Producer.{Material, material_of}
+use Rattle.round.specs.Producer.{Material}
+use Rattle.round.specs.Internal.{material_lent}
 use Rattle.commitment.specs.Parameters.{Parameters, parameters}
 use Rattle.round_material.proofs.Sequence.{stopped, ended, ballots_passed}
 use Rattle.round_material.proofs.test_material.Goals.{Start}
 use Rattle.round_material.proofs.test_material.Goals as goal
 
 abbrev x : Start → Material
-x s = let a = s.args in material_of a.secrets.now a.s0.now a.e0.now a.masks0.now a.masks1.now a.vectors.now a.permutations.now a.salts.now a.ballots.now
+x s = material_lent s.args.lent
 
 abbrev P : Start → Parameters
 P s = parameters s.args.k s.args.public.now

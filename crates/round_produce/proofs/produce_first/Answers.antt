@@ -4,7 +4,8 @@ use mathlib.Core.Bool.{true}
 use native.Mathlib.Omega.{arith}
 use Rattle.codec.proofs.Refusals.{handed_on}
 use Rattle.commitment.specs.Parameters.{Parameters, parameters}
-use Rattle.round.specs.Producer.{Material, material_of}
+use Rattle.round.specs.Producer.{Material}
+use Rattle.round.specs.Internal.{material_lent}
 use Rattle.round.specs.Writes.{FirstRoom, first_room}
 use Rattle.round_lengths.specs.Calls.{first_sized}
 use Rattle.round_lengths.proofs.Sizes.{first_sizes}
@@ -18,7 +19,7 @@ abbrev P : Start → Parameters
 P s = parameters s.args.k s.args.public.now
 
 abbrev x : Start → Material
-x s = let a = s.args in material_of a.secrets.now a.s0.now a.e0.now a.masks0.now a.masks1.now a.vectors.now a.permutations.now a.salts.now a.ballots.now
+x s = material_lent s.args.lent
 
 abbrev room : Start → FirstRoom
 room s = let a = s.args in first_room a.head.now a.shares0.now a.shares1.now a.claims.now a.scratch.now

@@ -9,7 +9,8 @@ use Rattle.codec.specs.Lists.{all}
 use Rattle.codec.proofs.Refusals.{handed_on}
 use Rattle.commitment.specs.Parameters.{Parameters, parameters}
 use Rattle.round.specs.Round.{is_challenge}
-use Rattle.round.specs.Producer.{Material, material_of, asked_ranged}
+use Rattle.round.specs.Producer.{Material, asked_ranged}
+use Rattle.round.specs.Internal.{material_lent}
 use Rattle.round.specs.Writes.{SecondRoom, second_room}
 use Rattle.round_lengths.specs.Calls.{count_of, second_sized}
 use Rattle.round_lengths.proofs.Sizes.{second_sizes}
@@ -23,7 +24,7 @@ abbrev P : Start → Parameters
 P s = parameters s.args.k s.args.public.now
 
 abbrev x : Start → Material
-x s = let a = s.args in material_of a.secrets.now a.s0.now a.e0.now a.masks0.now a.masks1.now a.vectors.now a.permutations.now a.salts.now a.ballots.now
+x s = material_lent s.args.lent
 
 abbrev room : Start → SecondRoom
 room s = let a = s.args in second_room a.opening.now a.answers.now a.scratch.now
@@ -33,7 +34,7 @@ fit s = let a = s.args in second_sized a.k.ring a.k.repeats a.challenges.now a.o
 
 -- there are as many challenges as repetitions where the lengths are right
 asks : (s : Start) {fits asked : Bool} → fits ≡ fit s → asked ≡ (ltb s.args.side 2 && all (length s.args.challenges.now) (λ i. is_challenge (get_or s.args.challenges.now i 0)))
-    → fits ≡ true → asked ≡ asked_ranged (P s) (count_of s.args.k.ring s.args.ballots.now) (x s) s.args.side s.args.challenges.now
+    → fits ≡ true → asked ≡ asked_ranged (P s) (count_of s.args.k.ring s.args.lent.ballots.now) (x s) s.args.side s.args.challenges.now
 unfolding asked_ranged
 asks s e h t =
     let a = s.args in
@@ -43,7 +44,7 @@ asks s e h t =
 pub returns-then-count-gt4096 : goal.returns-then-count-gt4096
 returns-then-count-gt4096 c =
     let s = (goal.at.returns-then-count-gt4096 c).Start in
-    let m = count_of c.args.k.ring c.args.ballots.now in
+    let m = count_of c.args.k.ring c.args.lent.ballots.now in
     let t = many (P s) (x s) (asked_ranged (P s) m (x s) c.args.side c.args.challenges.now) (fit s) c.args.scratch.now c.count_of-count.ensures refl (omega arith) in
     second_refused c.args.k c.args.public.now (x s) c.args.side c.args.challenges.now (room s) (second_tested (P s) (x s) c.args.side c.args.challenges.now (room s) refl (λ e. refl) t) refl
 

@@ -1,7 +1,8 @@
 -- `round_produce::test_call` meets its contract. Assumes nothing.
 use mathlib.Core.Path.{refl, sym, ◌∙◌}
 use Rattle.commitment.specs.Parameters.{Parameters, parameters}
-use Rattle.round.specs.Producer.{Material, material_of}
+use Rattle.round.specs.Producer.{Material}
+use Rattle.round.specs.Internal.{material_lent}
 use Rattle.round_lengths.proofs.Sizes.{material_sizes}
 use Rattle.round_produce.proofs.Testing.{missized, misfit, tried}
 use Rattle.round_produce.proofs.test_call.Goals.{Start}
@@ -11,7 +12,7 @@ abbrev P : Start → Parameters
 P s = parameters s.args.k s.args.public.now
 
 abbrev x : Start → Material
-x s = let a = s.args in material_of a.secrets.now a.s0.now a.e0.now a.masks0.now a.masks1.now a.vectors.now a.permutations.now a.salts.now a.ballots.now
+x s = material_lent s.args.lent
 
 pub returns-then-not-material_sized : goal.returns-then-not-material_sized
 returns-then-not-material_sized c =

@@ -9,15 +9,15 @@ use Rattle.round_shares.proofs.write_ballots.Goals as goal
 pub loop-j-init : goal.loop-j-init
 loop-j-init c =
     let a = c.args in
-    sent_first a.k.modulus a.k.ring (plain a.k) a.count a.secrets.now a.s0.now a.masks0.now a.masks1.now a.ballots.now a.shares0.now a.shares1.now a.claims.now a.work.now c.requires.8
+    sent_first a.k.modulus a.k.ring (plain a.k) a.count a.lent.secrets.now a.lent.s0.now a.lent.masks0.now a.lent.masks1.now a.lent.ballots.now a.shares0.now a.shares1.now a.claims.now a.work.now c.requires.8
 
 pub ballot_at-requires : goal.ballot_at-requires
 ballot_at-requires c =
     let a = c.args in
     let p = c.requires in
     let l = c.loop-j in
-    let x = ballot_stands a.k.modulus a.k.ring (plain a.k) a.count a.secrets.now a.s0.now a.masks0.now a.masks1.now a.ballots.now a.shares0.now a.shares1.now a.claims.now p.4 p.5 p.6 p.7 l.j l.shares0 l.shares1 l.claims l.work l.invariant (omega arith) in
-    let y = room_fits a.k.modulus a.k.ring (plain a.k) a.count a.secrets.now a.s0.now a.masks0.now a.masks1.now a.ballots.now a.shares0.now a.shares1.now a.claims.now p.4 p.5 p.6 p.7 l.j l.shares0 l.shares1 l.claims l.work l.invariant (omega arith) in
+    let x = ballot_stands a.k.modulus a.k.ring (plain a.k) a.count a.lent.secrets.now a.lent.s0.now a.lent.masks0.now a.lent.masks1.now a.lent.ballots.now a.shares0.now a.shares1.now a.claims.now p.4 p.5 p.6 p.7 l.j l.shares0 l.shares1 l.claims l.work l.invariant (omega arith) in
+    let y = room_fits a.k.modulus a.k.ring (plain a.k) a.count a.lent.secrets.now a.lent.s0.now a.lent.masks0.now a.lent.masks1.now a.lent.ballots.now a.shares0.now a.shares1.now a.claims.now p.4 p.5 p.6 p.7 l.j l.shares0 l.shares1 l.claims l.work l.invariant (omega arith) in
     (p.0, p.1, p.2, x, y)
 
 pub loop-j-preserved : goal.loop-j-preserved
@@ -26,7 +26,7 @@ loop-j-preserved c =
     let p = c.requires in
     let l = c.loop-j in
     let b = c.ballot_at in
-    sent_more a.k.modulus a.k.ring (plain a.k) a.count a.secrets.now a.s0.now a.masks0.now a.masks1.now a.ballots.now a.shares0.now a.shares1.now a.claims.now p.4 p.5 p.6 p.7 l.j l.shares0 l.shares1 l.claims l.work l.invariant (omega arith)
+    sent_more a.k.modulus a.k.ring (plain a.k) a.count a.lent.secrets.now a.lent.s0.now a.lent.masks0.now a.lent.masks1.now a.lent.ballots.now a.shares0.now a.shares1.now a.claims.now p.4 p.5 p.6 p.7 l.j l.shares0 l.shares1 l.claims l.work l.invariant (omega arith)
     b.new.shares0 b.new.shares1 b.new.claims b.new.work b.auto.shares0 b.auto.shares1 b.auto.claims b.ensures.kept b.ensures.shares0 b.ensures.shares1 b.ensures.claims
 
 pub shape_of-shares0 : goal.shape_of-shares0
@@ -46,5 +46,5 @@ returns c =
     let a = c.args in
     let p = c.requires in
     let l = c.loop-j in
-    let e = sent_all a.k.modulus a.k.ring (plain a.k) a.count a.secrets.now a.s0.now a.masks0.now a.masks1.now a.ballots.now a.shares0.now a.shares1.now a.claims.now p.5 p.6 p.7 l.j l.shares0 l.shares1 l.claims l.work l.invariant (omega arith) in
+    let e = sent_all a.k.modulus a.k.ring (plain a.k) a.count a.lent.secrets.now a.lent.s0.now a.lent.masks0.now a.lent.masks1.now a.lent.ballots.now a.shares0.now a.shares1.now a.claims.now p.5 p.6 p.7 l.j l.shares0 l.shares1 l.claims l.work l.invariant (omega arith) in
     record { shares0 = e.0; shares1 = e.1; claims = e.2; cleared = c.wipe.ensures ∙ ap zeros (l.invariant.long ∙ sym p.8) }

@@ -8,7 +8,7 @@ use Rattle.codec.proofs.Laws.{put_between}
 use Rattle.stern.specs.Argument.{Drawn}
 use Rattle.stern.specs.Shortness.{honest_answer}
 use Rattle.stern.proofs.Answered.{lent_length}
-use Rattle.round_head.proofs.Drawing.{material_lent, drawn_lent}
+use Rattle.round_head.proofs.Drawing.{repetition_lent, drawn_lent}
 use Rattle.round_write.proofs.answer_at.Goals as goal
 
 pub write_answer-requires : goal.write_answer-requires
@@ -22,7 +22,7 @@ write_answer-requires c =
       p.1,
       p.2,
       lent_length a.answers.now a.at (a.at + a.size - a.at) a.size (omega arith) p.4 ∙ p.3,
-      material_lent a.q a.n a.secrets.now a.vectors.now a.permutations.now a.salts.now r t s (r + 336 * a.n - r) (t + 168 * a.n - t) (s + 96 - s) (omega arith) (omega arith) (omega arith) c.requires.8,
+      repetition_lent a.q a.n a.lent.secrets.now a.lent.vectors.now a.lent.permutations.now a.lent.salts.now r t s (r + 336 * a.n - r) (t + 168 * a.n - t) (s + 96 - s) (omega arith) (omega arith) (omega arith) c.requires.8,
     )
 
 pub returns : goal.returns
@@ -36,5 +36,5 @@ returns c =
     let y = a.answers.now in
     let long : length w.new.out ≡ a.at + a.size - a.at = w.auto.out ∙ lent_length y a.at (a.at + a.size - a.at) (a.at + a.size - a.at) (omega arith) (omega (arith, p.4)) in
     put_between y w.new.out a.at (a.at + a.size) (omega arith) long
-    ∙ ap (put y a.at) (w.ensures ∙ ap (λ (x : Drawn). honest_answer a.q a.n a.secrets.now x a.challenge)
-    (drawn_lent a.q a.n a.secrets.now a.vectors.now a.permutations.now a.salts.now r t s (r + 336 * a.n - r) (t + 168 * a.n - t) (s + 96 - s) (omega arith) (omega arith) (omega arith)))
+    ∙ ap (put y a.at) (w.ensures ∙ ap (λ (x : Drawn). honest_answer a.q a.n a.lent.secrets.now x a.challenge)
+    (drawn_lent a.q a.n a.lent.secrets.now a.lent.vectors.now a.lent.permutations.now a.lent.salts.now r t s (r + 336 * a.n - r) (t + 168 * a.n - t) (s + 96 - s) (omega arith) (omega arith) (omega arith)))

@@ -6,7 +6,7 @@ use Rattle.round_write.proofs.Answering.{answer_of, answer_ends, answering_more,
 use Rattle.round_write.proofs.write_answers.Goals as goal
 
 pub loop-i-init : goal.loop-i-init
-loop-i-init c = let a = c.args in filled_first (answer_of a.k.modulus a.k.ring a.k.repeats a.secrets.now a.vectors.now a.permutations.now a.salts.now a.challenges.now) a.answers.now 0
+loop-i-init c = let a = c.args in filled_first (answer_of a.k.modulus a.k.ring a.k.repeats a.lent.secrets.now a.lent.vectors.now a.lent.permutations.now a.lent.salts.now a.challenges.now) a.answers.now 0
 
 pub answer_length-size-requires : goal.answer_length-size-requires
 answer_length-size-requires c = c.requires.0.in_range.ring_high
@@ -17,8 +17,8 @@ answer_at-requires c =
     let p = c.requires in
     let l = c.loop-i in
     let s = c.answer_length-size.ensures in
-    let e = drawn_ends a.k.ring a.k.repeats l.i (omega arith) a.k.modulus a.secrets.now a.vectors.now a.permutations.now a.salts.now p.1 in
-    let y = answer_ends a.k.modulus a.k.ring a.k.repeats a.secrets.now a.vectors.now a.permutations.now a.salts.now a.challenges.now a.answers.now p.1 p.2 p.3 l.i l.at l.answers l.invariant (omega arith) in (
+    let e = drawn_ends a.k.ring a.k.repeats l.i (omega arith) a.k.modulus a.lent.secrets.now a.lent.vectors.now a.lent.permutations.now a.lent.salts.now p.1 in
+    let y = answer_ends a.k.modulus a.k.ring a.k.repeats a.lent.secrets.now a.lent.vectors.now a.lent.permutations.now a.lent.salts.now a.challenges.now a.answers.now p.1 p.2 p.3 l.i l.at l.answers l.invariant (omega arith) in (
       p.0.in_range.ring_high,
       p.0.in_range.modulus_low,
       p.0.in_range.modulus_high,
@@ -27,7 +27,7 @@ answer_at-requires c =
       e.0,
       e.1,
       e.2,
-      material a.k.ring a.k.repeats l.i (omega arith) a.k.modulus a.secrets.now a.vectors.now a.permutations.now a.salts.now p.1,
+      material a.k.ring a.k.repeats l.i (omega arith) a.k.modulus a.lent.secrets.now a.lent.vectors.now a.lent.permutations.now a.lent.salts.now p.1,
     )
 
 pub overflow_add-at : goal.overflow_add-at
@@ -35,7 +35,7 @@ overflow_add-at c =
     let a = c.args in
     let p = c.requires in
     let l = c.loop-i in
-    let y = answer_ends a.k.modulus a.k.ring a.k.repeats a.secrets.now a.vectors.now a.permutations.now a.salts.now a.challenges.now a.answers.now p.1 p.2 p.3 l.i l.at l.answers l.invariant (omega arith) in
+    let y = answer_ends a.k.modulus a.k.ring a.k.repeats a.lent.secrets.now a.lent.vectors.now a.lent.permutations.now a.lent.salts.now a.challenges.now a.answers.now p.1 p.2 p.3 l.i l.at l.answers l.invariant (omega arith) in
     omega (arith, c.answer_length-size.ensures, c.answer_at.auto.answers)
 
 pub loop-i-preserved : goal.loop-i-preserved
@@ -44,7 +44,7 @@ loop-i-preserved c =
     let p = c.requires in
     let l = c.loop-i in
     let y = c.answer_at in
-    answering_more a.k.modulus a.k.ring a.k.repeats a.secrets.now a.vectors.now a.permutations.now a.salts.now a.challenges.now a.answers.now p.1 p.2 p.3 l.i l.at l.answers l.invariant (omega arith)
+    answering_more a.k.modulus a.k.ring a.k.repeats a.lent.secrets.now a.lent.vectors.now a.lent.permutations.now a.lent.salts.now a.challenges.now a.answers.now p.1 p.2 p.3 l.i l.at l.answers l.invariant (omega arith)
     c.answer_length-size.result y.new.answers c.answer_length-size.ensures y.auto.answers y.ensures
 
 pub shape_of-answers : goal.shape_of-answers
@@ -55,4 +55,4 @@ returns c =
     let a = c.args in
     let p = c.requires in
     let l = c.loop-i in
-    answering_all a.k.modulus a.k.ring a.k.repeats a.secrets.now a.vectors.now a.permutations.now a.salts.now a.challenges.now a.answers.now p.1 p.2 p.3 l.i l.at l.answers l.invariant (omega arith)
+    answering_all a.k.modulus a.k.ring a.k.repeats a.lent.secrets.now a.lent.vectors.now a.lent.permutations.now a.lent.salts.now a.challenges.now a.answers.now p.1 p.2 p.3 l.i l.at l.answers l.invariant (omega arith)

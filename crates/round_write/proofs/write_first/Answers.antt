@@ -1,12 +1,13 @@
 -- `write_first` meets its contract. Assumes nothing.
-use Rattle.round.specs.Producer.{Material, material_of}
+use Rattle.round.specs.Producer.{Material}
+use Rattle.round.specs.Internal.{material_lent}
 use Rattle.round.specs.Writes.{FirstRoom, first_room}
 use Rattle.round_write.proofs.Produced.{first_produced, ballots_asked}
 use Rattle.round_write.proofs.write_first.Goals.{Start}
 use Rattle.round_write.proofs.write_first.Goals as goal
 
 abbrev x : Start → Material
-x s = let a = s.args in material_of a.secrets.now a.s0.now a.e0.now a.masks0.now a.masks1.now a.vectors.now a.permutations.now a.salts.now a.ballots.now
+x s = material_lent s.args.lent
 
 abbrev room : Start → FirstRoom
 room s = let a = s.args in first_room a.head.now a.shares0.now a.shares1.now a.claims.now a.scratch.now
