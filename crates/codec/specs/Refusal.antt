@@ -76,12 +76,20 @@ place_of_refusal RegisterFull = 0
 place_of_refusal NoneStanding = 0
 place_of_refusal NoRoot = 0
 
--- the reply that a result is
-abbrev pub as_reply : {A : Type 0} → Result A Refusal → Reply
-as_reply (Ok value) = Taken
-as_reply (Err why) = Refused (number_of_refusal why) (place_of_refusal why)
+-- the reply that a result is, by the number and the place of what refuses
+abbrev pub reply_by : {A E : Type 0} → (E → ℕ) → (E → ℕ) → Result A E → Reply
+reply_by number place (Ok value) = Taken
+reply_by number place (Err why) = Refused (number why) (place why)
 
--- the one number that the C host is answered: a value times 256, or a refusal's number and 256 times its place
+-- the reply that a result of the code is
+abbrev pub as_reply : {A : Type 0} → Result A Refusal → Reply
+as_reply = reply_by number_of_refusal place_of_refusal
+
+-- the one number that the C host is answered: a value times 256, or the number of what refuses and 256 times its place
+abbrev pub packed_value_by : {E : Type 0} → (E → ℕ) → (E → ℕ) → Result ℕ E → ℕ
+packed_value_by number place (Ok value) = 256 * value
+packed_value_by number place (Err why) = number why + 256 * place why
+
+-- the same of a result of the code
 abbrev pub packed_value : Result ℕ Refusal → ℕ
-packed_value (Ok value) = 256 * value
-packed_value (Err why) = number_of_refusal why + 256 * place_of_refusal why
+packed_value = packed_value_by number_of_refusal place_of_refusal

@@ -1,10 +1,10 @@
 // Little-endian numbers in byte slices, parts, copies, and the reply of a call (document 01, "Layouts" and "Refused").
 #![tactic(auto)]
 
-ghost use Rattle.std.specs.Prelude.{◌≡◌, ◌+◌, ◌≤◌, ◌<◌, [], ◌∷◌, length};
+ghost use Rattle.std.specs.Prelude.{◌≡◌, ℕ, ◌+◌, ◌≤◌, ◌<◌, [], ◌∷◌, length};
 ghost use Rattle.codec.specs.Bytes.{bytes, number, signed, part, put, zeros, same};
 ghost use Rattle.codec.specs.Reply.{packed};
-ghost use Rattle.codec.specs.Refusal.{number_of_refusal, place_of_refusal, as_reply, packed_value};
+ghost use Rattle.codec.specs.Refusal.{number_of_refusal, place_of_refusal, reply_by, packed_value_by};
 
 // Why a call is refused (document 01, "Refused because of the input" and "Refused because of the state"). What is found at a repetition or
 // a ballot names the lowest one; where a call is lent one mask alone, that is 0.
@@ -84,16 +84,64 @@ impl Refusal {
     }
 }
 
+// A refusal by number and place alone: any that the one number for C has room for, whether document 01 knows it or not.
+#[derive(Clone, Copy, PartialEq, Eq)]
+pub struct Numbered {
+    pub number: u8,
+    pub place: u32,
+}
+
+// What a call can be refused by, a `Refusal` or a `Numbered`: whoever answers C or ends a call asks for its number and its place alone.
+pub trait Refuses: Copy {
+    ghost number: { Self → ℕ };
+
+    ghost place: { Self → ℕ };
+
+    fn number(self) -> u8
+        ensures { result ≡ number self };
+
+    fn place(self) -> u32
+        ensures { result ≡ place self };
+}
+
+impl Refuses for Refusal {
+    ghost number = { number_of_refusal };
+
+    ghost place = { place_of_refusal };
+
+    fn number(self) -> u8 {
+        Refusal::number(self)
+    }
+
+    fn place(self) -> u32 {
+        Refusal::place(self)
+    }
+}
+
+impl Refuses for Numbered {
+    ghost number = { λ why. why.number };
+
+    ghost place = { λ why. why.place };
+
+    fn number(self) -> u8 {
+        self.number
+    }
+
+    fn place(self) -> u32 {
+        self.place
+    }
+}
+
 // A reply as the one number that the C host is answered.
-pub fn pack(reply: Reply) -> u64
-    ensures { result ≡ packed (as_reply reply) }
+pub fn pack<E: Refuses>(reply: Result<(), E>) -> u64
+    ensures { result ≡ packed (reply_by E.number E.place reply) }
 {
     pack_value(reply.map(|_| 0))
 }
 
 // A value, or a refusal, as the one number that the C host is answered: the value stands where a refusal has its place.
-pub fn pack_value(answer: Result<u32, Refusal>) -> u64
-    ensures { result ≡ packed_value answer }
+pub fn pack_value<E: Refuses>(answer: Result<u32, E>) -> u64
+    ensures { result ≡ packed_value_by E.number E.place answer }
 {
     match answer {
         Ok(value) => 256 * u64::from(value),
@@ -107,7 +155,7 @@ pub fn array<const N: usize>(s: &[u8], at: usize) -> [u8; N]
     ensures { result ≡ part s.now at N }
 {
     let mut bytes = [0u8; N];
-    bytes.copy_from_slice(&s[at..at + N]);
+    copy(&mut bytes, 0, &s[at..at + N]);
     bytes
 }
 
@@ -127,7 +175,7 @@ pub fn read32(s: &[u8], at: usize) -> u32
     requires { at + 4 ≤ length s.now }
     ensures { result ≡ number (part s.now at 4) }
 {
-    u32::from_le_bytes(array(s, at))
+    u32::from(read16(s, at)) + 65536 * u32::from(read16(s, at + 2))
 }
 
 // The 8-byte number at a place.
@@ -178,13 +226,15 @@ pub fn write64(d: &mut [u8], at: usize, v: u64)
     copy(d, at, &u64::to_le_bytes(v));
 }
 
-// Copies all of s into d from a place on.
-#[tactic(auto, using(crate::proofs::Laws::put_between))]
+// Copies all of s into d from a place on. The library's `copy_from_slice` would ask the host for C's memmove, which nothing else here
+// needs.
 pub fn copy(d: &mut [u8], at: usize, s: &[u8])
     requires { at + length s.now ≤ length d.old }
     ensures { d.new ≡ put d.old at s.now }
 {
-    d[at..at + s.len()].copy_from_slice(s);
+    for (i, b) in s.iter().enumerate() {
+        d[at + i] = *b;
+    }
 }
 
 // Writes zero over every byte.

@@ -10,14 +10,14 @@ use borrow.Author.Tests.{eqb-true, eqb-false}
 use denote.Ref.{MutBor}
 use Rattle.std.specs.Fn.{Once}
 use Rattle.codec.specs.Bytes.{Bytes}
-use Rattle.session_check.specs.Stored.{Inputs}
+use Rattle.codec.specs.declared.Refusal.{Refusal}
 use Rattle.session.specs.declared.Session.{Session}
 use Rattle.session.specs.declared.Stepped.{Stepped}
 use Rattle.session.specs.Machine.{Step, state}
-use Rattle.session.specs.Internal.{Done, CheckDone, as_stepped}
+use Rattle.session.specs.Internal.{Done, as_stepped}
 use Rattle.session_image.specs.Image.{image_length, decode}
-use Rattle.session_image.specs.Images.{host, StepCalled, CheckCalled}
-use Rattle.session_image.proofs.Over.{wrong, over, wrong_check, over_check}
+use Rattle.session_image.specs.Images.{host, StepCalled}
+use Rattle.session_image.proofs.Over.{wrong, over}
 use Rattle.jackdawnail.specs.OverImage.{StepTaken}
 
 by_length : {P : Type 0} (n m : ℕ) → (n ≢ m → P) → (n ≡ m → P) → P
@@ -31,10 +31,10 @@ by_length {P} n m other same = go (eqb n m) refl
 abbrev Left : (image lent : Bytes) (answer : ℕ) (image' lent' : Bytes) → Type 0
 Left image lent answer image' lent' = length image ≢ image_length → (answer ≡ 1) × (image' ≡ image) × (lent' ≡ lent)
 
-module _ {F : Type 0} (g : Once F (Session × (MutBor Bytes × Unit {0})) (Stepped × (MutBor Bytes × Unit {0}))) (f : F) where
+module _ {F : Type 0} (g : Once F (Session × (MutBor Bytes × Unit {0})) (Stepped Refusal × (MutBor Bytes × Unit {0}))) (f : F) where
   -- what a call of the closure gives, at the session of an image
-  abbrev Gives : (image lent : Bytes) → (Stepped → Bytes → Type 0) → Type 0
-  Gives image lent Q = (p q : MutBor Bytes) (r : Stepped) → p.now ≡ lent → g.post f (decode image, (p, tt)) (r, (q, tt)) → Q r q.now
+  abbrev Gives : (image lent : Bytes) → (Stepped Refusal → Bytes → Type 0) → Type 0
+  Gives image lent Q = (p q : MutBor Bytes) (r : Stepped Refusal) → p.now ≡ lent → g.post f (decode image, (p, tt)) (r, (q, tt)) → Q r q.now
 
   -- a step that is lent the register
   pub stepped : (x : Step) (image register : Bytes) {answer : ℕ} {image' register' : Bytes} → Left image register answer image' register'
@@ -53,13 +53,3 @@ module _ {F : Type 0} (g : Once F (Session × (MutBor Bytes × Unit {0})) (Stepp
   stepped_over x image register left taken gives = by_length (length image) image_length
       (λ short. let e = left short in rw (e.0, e.1) (wrong x (host image register) short))
       (λ long. let t = taken long in over x (host image register) long refl (gives t.bytes t.bytes_left t.stepped t.bytes_are t.met) (t.replied, t.stored))
-
-  -- a check, with scratch
-  pub checked : (round : ℕ) (x : Inputs) (image : Bytes) {answer : ℕ} {image' scratch' : Bytes} → Left image x.scratch answer image' scratch'
-      → (length image ≡ image_length → StepTaken g f image x.scratch answer image' scratch') → Gives image x.scratch (λ r scratch'. CheckDone round x (decode image) (as_stepped r) scratch')
-      → CheckCalled round x image answer image' scratch'
-  checked round x image left taken gives = by_length (length image) image_length
-      (λ short. let e = left short in rw (e.0, e.1, e.2) (wrong_check round x image short))
-      (λ long.
-      let t = taken long in
-      rw t.left (over_check round x image long refl (gives t.bytes t.bytes_left t.stepped t.bytes_are t.met) (t.replied, t.stored)))

@@ -123,7 +123,8 @@ pub extern "C" fn jdn_draw(image: &mut [u8], seed: &[u8]) -> u64
     over_image(image, &mut [], |session, _| session.draw(seed))
 }
 
-// Checks a round.
+// Checks a round. Not by `over_image`: with a closure one copy more of the session stands on the stack, and no call goes deeper than
+// this.
 #[unsafe(no_mangle)]
 pub extern "C" fn jdn_check<'a>(
     image: &mut [u8],
@@ -141,24 +142,22 @@ pub extern "C" fn jdn_check<'a>(
     ensures { let x = inputs_in sheet ballots claims head shares0 shares1 opening answers scratch in
         CheckCalled round x image.old result image.new scratch.new }
 {
-    over_image(
-        image,
-        scratch,
-        |session, scratch| session.check(
-            round,
-            Lent {
-                sheet,
-                ballots,
-                claims,
-                head,
-                shares0,
-                shares1,
-                opening,
-                answers,
-            },
-            scratch,
-        ),
-    )
+    if image.len() != IMAGE {
+        return codec::pack(Err(Refusal::WrongLength));
+    }
+    let lent = Lent {
+        sheet,
+        ballots,
+        claims,
+        head,
+        shares0,
+        shares1,
+        opening,
+        answers,
+    };
+    let session = load(image);
+    let stepped = session.check(round, lent, scratch);
+    keep(stepped, image)
 }
 
 // Writes the side and the challenges that were drawn for a round.

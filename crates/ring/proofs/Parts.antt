@@ -1,7 +1,6 @@
--- A slot that is copied, and slots of scratch that is split in two. Assumes nothing.
+-- Slots of scratch that is split in two. Assumes nothing.
 use Rattle.std.proofs.Common.{◌≡◌, ◌∙◌, ℕ, ◌+◌, ◌*◌, ◌≤◌, ◌<◌, ◌++◌, length, take, drop, sym, ap, append_assoc, take-append-drop, length-take, zero-add, arith}
 use Rattle.std.proofs.lemmas.List.{drop-drop, take-append-le, drop-append-le}
-use lib.Seq.{paste}
 use Rattle.codec.specs.Bytes.{Bytes, Octets, number, part, put}
 use Rattle.codec.proofs.Laws.{part_part, length_part, octets_part}
 use Rattle.modular.proofs.Congruence.{same_eq}
@@ -22,13 +21,6 @@ alike_at : {q n : ℕ} {a b : Poly} → ((k : ℕ) → k < n → a k ≡ b k) �
 alike_at h = record { at = λ k l. same_eq (h k l) }
 
 module _ (w : Bytes) where
-  -- as `copy_within` copies m bytes
-  pub copied : (to from n m : ℕ) → m ≡ 8 * n → Octets w → from + 8 * n ≤ length w → paste w to (drop from w) m ≡ put w to (encode n (slot w from))
-  unfolding put
-  copied to from n m e o h =
-      let is : encode n (slot w from) ≡ part w from (8 * n) = encode_cong n (λ k l. sym (poly_part w from n k l)) ∙ encode_poly (part w from (8 * n)) n (octets_part w from (8 * n) o) (length_part w from (8 * n) h) in
-      rw (e, length_encode n (slot w from), is) (append_assoc (take to w) (part w from (8 * n)) (drop (to + 8 * n) w))
-
   -- ---- what stands in a slot of the second part, and of the first
 
   pub poly_high : (from k : ℕ) → poly (drop from w) k ≡ slot w from k

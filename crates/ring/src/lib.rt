@@ -83,12 +83,15 @@ pub fn load_signed(work: &mut [u8], at: usize, e: &[u8], n: usize, q: u64)
     }
 }
 
-// Copies a slot into another.
+// Copies a slot into another. `copy_within` would ask the host for C's memmove, which nothing else here needs.
 pub fn copy_slot(work: &mut [u8], to: usize, from: usize, n: usize)
     requires { Slots n to from work.old }
     ensures { work.new ≡ put work.old to (encode n (slot work.old from)) }
 {
-    work.copy_within(from..from + 8 * n, to);
+    for i in 0..n {
+        let x = codec::read64(work, from + 8 * i);
+        codec::write64(work, to + 8 * i, x);
+    }
 }
 
 // x + y or x - y.

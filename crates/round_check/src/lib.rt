@@ -71,10 +71,12 @@ fn check_answers<'a>(
         ++ votes_tests k.modulus k.ring (plain k) (mask_bound_of k) count (slot opening.now 0) ballots.now claims.now
         shares0.now shares1.now (of_side side shares0.now shares1.now)) (as_reply result) work.old work.new }
 {
-    test_repetitions(work, k, public, head, challenges, answers)?;
-    test_votes(
-        work, k, opening, ballots, claims, side, shares0, shares1, count,
-    )
+    match test_repetitions(work, k, public, head, challenges, answers) {
+        Ok(()) => test_votes(
+            work, k, opening, ballots, claims, side, shares0, shares1, count,
+        ),
+        Err(unanswered) => Err(unanswered),
+    }
 }
 
 // 6, 7, 8, then the answers and the ballots, of a round that is in range; and scratch zeroed.
@@ -102,11 +104,13 @@ fn check_ranged<'a>(
     if !splits(work, k, public, head) {
         return Err(Refusal::HalvesNotAdding);
     }
-    test_opening(work, k, public, head, side as usize, opening)?;
-    check_answers(
-        work, k, public, side, challenges, ballots, claims, head, shares0, shares1, opening,
-        answers, count,
-    )
+    match test_opening(work, k, public, head, side as usize, opening) {
+        Ok(()) => check_answers(
+            work, k, public, side, challenges, ballots, claims, head, shares0, shares1, opening,
+            answers, count,
+        ),
+        Err(unopened) => Err(unopened),
+    }
 }
 
 // The whole check of a round whose lengths are right, for a sheet that was taken and `count` ballots; and scratch zeroed.

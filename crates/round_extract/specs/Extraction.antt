@@ -17,10 +17,14 @@ pub data Extraction : Type 0 where
   Found : ℕ → Extraction
   Refused : ℕ → ℕ → Extraction
 
+-- the one that a result is, by the kind of what is found, and the number and the place of what refuses
+abbrev pub extraction_by : {K E : Type 0} → (K → ℕ) → (E → ℕ) → (E → ℕ) → Result K E → Extraction
+extraction_by kind number place (Ok found) = Found (kind found)
+extraction_by kind number place (Err why) = Refused (number why) (place why)
+
 -- the one that a result of the code is
 abbrev pub as_extraction : Result Finding Refusal → Extraction
-as_extraction (Ok found) = Found (number_of_finding found)
-as_extraction (Err why) = Refused (number_of_refusal why) (place_of_refusal why)
+as_extraction = extraction_by number_of_finding number_of_refusal place_of_refusal
 
 -- by the reply of its tests, and the kind of what openings and answers give where they are taken
 unfoldable pub extraction : Reply → (kind : ℕ) → Extraction

@@ -1,16 +1,17 @@
 // The extractor's call once the sheet is taken: the tests of lengths, then the order of refusals, then the work.
 #![tactic(auto)]
 
-ghost use Rattle.std.specs.Prelude.{◌≡◌};
+ghost use Rattle.std.specs.Prelude.{◌≡◌, ℕ};
 ghost use Rattle.round.specs.Vocabulary.{Loaded, openings_in, extract_in, parameters, first, zeroized};
 ghost use Rattle.round.specs.Extractor.{extract_room};
 ghost use Rattle.round.specs.RoundSlices.{extract_out};
 ghost use Rattle.codec.specs.Refusal.{as_reply};
-ghost use Rattle.round_extract.specs.Extraction.{answered, as_extraction};
+ghost use Rattle.round_extract.specs.Extraction.{answered, extraction_by, as_extraction};
+ghost use Rattle.round_search.specs.Finding.{number_of_finding};
 ghost use Rattle.round_extract.specs.Internal.{ExtractWritten};
 ghost use Rattle.round_lengths.specs.Calls.{openings_tests};
 
-use codec::{Refusal, Reply};
+use codec::{Refusal, Refuses, Reply};
 use round_lengths::{count_of, message_sized, openings_sized};
 use round_search::Finding;
 use sheet_numbers::Numbers;
@@ -18,11 +19,38 @@ use sheet_numbers::Numbers;
 // The most ballots of a batch.
 const MOST_BALLOTS: usize = 4096;
 
+// What an extractor can have found: document 01's number of its kind, of a `Finding` or by itself.
+pub trait Kind: Copy {
+    ghost kind: { Self → ℕ };
+
+    fn kind(self) -> u8
+        ensures { result ≡ kind self };
+}
+
+impl Kind for Finding {
+    ghost kind = { number_of_finding };
+
+    fn kind(self) -> u8 {
+        Finding::number(self)
+    }
+}
+
+impl Kind for u8 {
+    ghost kind = { λ kind. kind };
+
+    fn kind(self) -> u8 {
+        self
+    }
+}
+
 // What the extractor's call answers, the kind of what it found or why it is refused, as the one number that the C host is answered.
-pub fn pack_extraction(answer: Result<Finding, Refusal>) -> u64
-    ensures { result ≡ answered (as_extraction answer) }
+pub fn pack_extraction<K: Kind, E: Refuses>(answer: Result<K, E>) -> u64
+    ensures { result ≡ answered (extraction_by K.kind E.number E.place answer) }
 {
-    codec::pack_value(answer.map(|found| u32::from(found.number())))
+    match answer {
+        Ok(found) => codec::pack_value::<E>(Ok(u32::from(found.kind()))),
+        Err(why) => codec::pack_value(Err(why)),
+    }
 }
 
 // ---- What the extractor's call refuses, before anything is looked for.

@@ -4,10 +4,10 @@
 
 ghost use Rattle.std.specs.Prelude.{◌≡◌, eqb, ◌&&◌, ◌||◌, [], ◌∷◌, ◌+◌, ◌*◌, ◌≤◌, length};
 ghost use Rattle.codec.specs.Bytes.{part, put, same};
-ghost use Rattle.codec.specs.Refusal.{number_of_refusal, as_reply};
+ghost use Rattle.codec.specs.Refusal.{reply_by};
 ghost use Rattle.scratch.specs.Call.{bytes_below, coefficients_below, zeroized};
 
-use codec::{Refusal, Reply};
+use codec::Refuses;
 
 // The length of scratch, for every call that is lent one: 64 slots of 16,384 bytes, each with room for a polynomial of 2048 coefficients.
 pub const SCRATCH: usize = 1048576;
@@ -45,15 +45,16 @@ pub fn ternary_and_in_range(s: &[u8], x: &[u8], n: usize, q: u64) -> bool
 }
 
 // Whether a refusal leaves scratch as it is: 1 and 31 do.
-fn keeps_scratch(why: Refusal) -> bool
-    ensures { result ≡ (eqb (number_of_refusal why) 1 || eqb (number_of_refusal why) 31) }
+fn keeps_scratch<E: Refuses>(why: E) -> bool
+    ensures { result ≡ (eqb (E.number why) 1 || eqb (E.number why) 31) }
 {
-    matches!(why, Refusal::WrongLength | Refusal::NotDue)
+    let number = why.number();
+    number == 1 || number == 31
 }
 
 // Zeroes scratch as a call ends, unless the call was refused 1 or 31.
-pub fn zeroize(reply: Reply, scratch: &mut [u8])
-    ensures { scratch.new ≡ zeroized (as_reply reply) scratch.old }
+pub fn zeroize<E: Refuses>(reply: Result<(), E>, scratch: &mut [u8])
+    ensures { scratch.new ≡ zeroized (reply_by E.number E.place reply) scratch.old }
 {
     match reply {
         Ok(()) => codec::wipe(scratch),
@@ -66,8 +67,8 @@ pub fn zeroize(reply: Reply, scratch: &mut [u8])
 }
 
 // Ends a call: scratch is zeroed by its reply, and the reply handed on.
-pub fn finish(reply: Reply, scratch: &mut [u8]) -> Reply
-    ensures { (result ≡ reply) × (scratch.new ≡ zeroized (as_reply reply) scratch.old) }
+pub fn finish<E: Refuses>(reply: Result<(), E>, scratch: &mut [u8]) -> Result<(), E>
+    ensures { (result ≡ reply) × (scratch.new ≡ zeroized (reply_by E.number E.place reply) scratch.old) }
 {
     zeroize(reply, scratch);
     reply

@@ -3,6 +3,7 @@ use Rattle.std.specs.Prelude.{◌≡◌, ℕ}
 use Rattle.codec.specs.Bytes.{Bytes}
 use Rattle.codec.specs.Reply.{Reply}
 use Rattle.codec.specs.Refusal.{as_reply}
+use Rattle.codec.specs.declared.Refusal.{Refusal}
 use Rattle.session.specs.declared.Stepped as code
 use Rattle.scratch.specs.Call.{zeroized}
 use Rattle.session_check.specs.Stored.{Inputs}
@@ -17,7 +18,7 @@ pub record Stepped : Type 0 where
   pub reply : Reply
 
 -- what the code hands back
-abbrev pub as_stepped : code.Stepped → Stepped
+abbrev pub as_stepped : code.Stepped Refusal → Stepped
 as_stepped r = record { session = r.session; reply = as_reply r.reply }
 
 pub record Done (x : Step) (st : State) (r : Stepped) (register : Bytes) : Type 0 where

@@ -21,21 +21,25 @@ impl Session {
         ensures { let v = as_verdict verdict in
             (as_reply result.reply ≡ reply_of_verdict v) × (result.session ≡ judged_by v self) }
     {
+        let reply = session_check::reply_of(verdict);
         match verdict {
-            Verdict::Stopped(why) => self.refused(why),
-            Verdict::Failed(why) => Stepped {
+            Verdict::Stopped(_) => Stepped {
+                session: self,
+                reply,
+            },
+            Verdict::Failed(_) => Stepped {
                 session: Session {
                     progress: self.progress.with_refusal(),
                     ..self
                 },
-                reply: Err(why),
+                reply,
             },
             Verdict::Passed => Stepped {
                 session: Session {
                     progress: self.progress.with_acceptance(self.numbers.rounds),
                     ..self
                 },
-                reply: Ok(()),
+                reply,
             },
         }
     }

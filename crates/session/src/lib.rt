@@ -10,7 +10,7 @@ ghost use Rattle.std.specs.Prelude.{◌≡◌};
 ghost use Rattle.codec.specs.Reply.{Refused};
 ghost use Rattle.codec.specs.Refusal.{as_reply, number_of_refusal, place_of_refusal};
 
-use codec::{Refusal, Reply};
+use codec::Refusal;
 use session_progress::Progress;
 use sheet_numbers::Numbers;
 
@@ -30,9 +30,9 @@ pub struct Session {
 // What a step answers, and the session that it leaves.
 // By value, and not `&mut self`: document 01 asks for it ("A caller passes a session in by value and each step returns it").
 #[derive(Clone, Copy)]
-pub struct Stepped {
+pub struct Stepped<E = Refusal> {
     pub session: Session,
-    pub reply: Reply,
+    pub reply: Result<(), E>,
 }
 
 impl Session {

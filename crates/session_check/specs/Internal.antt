@@ -12,6 +12,7 @@ use Rattle.session_check.specs.Check.{early_tests, late_tests}
 unfoldable pub use Rattle.session_check.specs.Stored.{inputs_sized, stored_tests}
 use Rattle.session_check.specs.declared.Verdict.TheVariants as verdicts
 use Rattle.codec.specs.Refusal.{number_of_refusal, place_of_refusal}
+use Rattle.codec.specs.declared.Refusal.{Refusal}
 use Rattle.codec.specs.Reply as reply
 use Rattle.commitment.specs.Parameters.{Parameters}
 
@@ -21,11 +22,14 @@ pub data Verdict : Type 0 where
   Failed : ℕ → ℕ → Verdict
   Passed : Verdict
 
--- what a verdict of the code stands for
-abbrev pub as_verdict : code.Verdict → Verdict
-as_verdict (verdicts.Stopped why) = Stopped (number_of_refusal why) (place_of_refusal why)
-as_verdict (verdicts.Failed why) = Failed (number_of_refusal why) (place_of_refusal why)
-as_verdict verdicts.Passed = Passed
+-- what a verdict of the code stands for, by the number and the place of what refuses
+abbrev pub verdict_by : {E : Type 0} → (E → ℕ) → (E → ℕ) → code.Verdict E → Verdict
+verdict_by number place (verdicts.Stopped why) = Stopped (number why) (place why)
+verdict_by number place (verdicts.Failed why) = Failed (number why) (place why)
+verdict_by number place verdicts.Passed = Passed
+
+abbrev pub as_verdict : code.Verdict Refusal → Verdict
+as_verdict = verdict_by number_of_refusal place_of_refusal
 
 -- what a check comes to, from the replies of the tests before the round and of those of the round: stopped before the round was looked at, failed by the round itself, or accepted
 abbrev pub verdict : (early late : Reply) → Verdict

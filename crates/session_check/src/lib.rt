@@ -5,16 +5,16 @@ pub mod stored;
 
 ghost use Rattle.std.specs.Prelude.{◌≡◌, ◌≤◌, take};
 ghost use Rattle.round.specs.Vocabulary.{Loaded, parameters};
-ghost use Rattle.session_check.specs.Internal.{reply_of_verdict, CheckMade, Within, verdict, TakenChecked, as_verdict, Stopped};
+ghost use Rattle.session_check.specs.Internal.{reply_of_verdict, CheckMade, Within, verdict, TakenChecked, verdict_by, as_verdict, Stopped};
 ghost use Rattle.codec.specs.Reply.{Taken, Refused};
-ghost use Rattle.codec.specs.Refusal.{as_reply, number_of_refusal, place_of_refusal};
+ghost use Rattle.codec.specs.Refusal.{as_reply, reply_by, number_of_refusal, place_of_refusal};
 ghost use Rattle.scratch.specs.Call.{zeroized};
 ghost use Rattle.sheet.specs.Reader.{sheet_of};
 ghost use Rattle.session_digests.specs.Draw.{drawn_challenges};
 ghost use Rattle.session_check.specs.Stored.{side_of, challenges_of, inputs_lent};
 
 use crate::stored::Stored;
-use codec::{Refusal, Reply};
+use codec::{Refusal, Refuses, Reply};
 use sheet_numbers::Numbers;
 
 // What is lent to the check of a round, beside scratch: the sheet, the batch, the claims, and the round's two messages.
@@ -32,10 +32,21 @@ pub struct Lent<'a> {
 
 // What a check comes to: stopped before the round was looked at, failed by the round itself, or passed.
 #[derive(Clone, Copy, PartialEq, Eq)]
-pub enum Verdict {
-    Stopped(Refusal),
-    Failed(Refusal),
+pub enum Verdict<E = Refusal> {
+    Stopped(E),
+    Failed(E),
     Passed,
+}
+
+// The reply that a verdict stands for.
+pub fn reply_of<E: Refuses>(verdict: Verdict<E>) -> Result<(), E>
+    ensures { reply_by E.number E.place result ≡ reply_of_verdict (verdict_by E.number E.place verdict) }
+{
+    match verdict {
+        Verdict::Stopped(why) => Err(why),
+        Verdict::Failed(why) => Err(why),
+        Verdict::Passed => Ok(()),
+    }
 }
 
 // A check that is stopped before the round was looked at zeroes scratch by its refusal.

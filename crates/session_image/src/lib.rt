@@ -4,10 +4,11 @@
 ghost use mathlib.Core.List.{flatten};
 ghost use Rattle.std.specs.Prelude.{◌≡◌, ◌+◌, ◌≤◌, length};
 ghost use Rattle.codec.specs.Reply.{packed};
-ghost use Rattle.codec.specs.Refusal.{as_reply};
+ghost use Rattle.codec.specs.Refusal.{reply_by};
 ghost use Rattle.scratch.specs.Vocabulary.{put};
 ghost use Rattle.session_image.specs.Image.{image_length, size, contents_of, image_of, decode, head_fields, batch_fields, round_fields};
 
+use codec::Refuses;
 use session::{Session, Stepped};
 use session_progress::Progress;
 use sheet_numbers::Numbers;
@@ -130,9 +131,9 @@ pub fn store(session: Session, image: &mut [u8])
 }
 
 // Stores the session that a step leaves, and answers for the step.
-pub fn keep(stepped: Stepped, image: &mut [u8]) -> u64
+pub fn keep<E: Refuses>(stepped: Stepped<E>, image: &mut [u8]) -> u64
     requires { length image.old ≡ image_length }
-    ensures { (result ≡ packed (as_reply stepped.reply)) × (image.new ≡ image_of stepped.session) }
+    ensures { (result ≡ packed (reply_by E.number E.place stepped.reply)) × (image.new ≡ image_of stepped.session) }
 {
     store(stepped.session, image);
     codec::pack(stepped.reply)

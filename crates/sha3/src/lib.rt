@@ -59,6 +59,6 @@ pub fn digest(m: &[u8], out: &mut [u8]) -> Reply
     if out.len() != 32 {
         return Err(Refusal::WrongLength);
     }
-    out.copy_from_slice(&hash(m));
+    codec::copy(out, 0, &hash(m));
     Ok(())
 }

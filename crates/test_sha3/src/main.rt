@@ -4,12 +4,16 @@
 use hasher::Hasher;
 use std::io;
 
-// Writes a digest as a line.
+const DIGITS: [u8; 16] = *b"0123456789abcdef";
+
+// Writes a digest as a line, in one piece.
 fn line(rt: &impl Print, digest: [u8; 32]) -> io::Result<()> {
-    for byte in digest {
-        print!(rt; "{byte:02x}")?;
+    let mut text = [b'\n'; 65];
+    for i in 0..32 {
+        text[2 * i] = DIGITS[usize::from(digest[i] / 16)];
+        text[2 * i + 1] = DIGITS[usize::from(digest[i] % 16)];
     }
-    println!(rt; "")
+    rt.write_all(&text)
 }
 
 // A message of n times the same bytes, taken in part by part.

@@ -35,7 +35,8 @@ pub extern "C" fn stern_digests(
     match orders::digests_tests(keys, x, r, p, salts, out, scratch, n, q) {
         Ok(()) => {
             stern_answers::writing::write_digests(out, 0, scratch, keys, x, r, p, salts, n, q);
-            codec::pack(scratch::finish(Ok(()), scratch))
+            let taken: codec::Reply = Ok(());
+            codec::pack(scratch::finish(taken, scratch))
         }
         Err(why) => codec::pack(scratch::finish(Err(why), scratch)),
     }
@@ -64,7 +65,8 @@ pub extern "C" fn stern_answer(
     match orders::answer_tests(challenge, x, r, p, salts, out, scratch, n, q) {
         Ok(()) => {
             stern_answers::writing::write_answer(out, challenge, x, r, p, salts, n, q);
-            codec::pack(scratch::finish(Ok(()), scratch))
+            let taken: codec::Reply = Ok(());
+            codec::pack(scratch::finish(taken, scratch))
         }
         Err(why) => codec::pack(scratch::finish(Err(why), scratch)),
     }

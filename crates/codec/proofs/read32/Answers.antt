@@ -1,7 +1,7 @@
 -- `codec::read32` meets its contract. Assumes nothing.
-use mathlib.Core.Path.{◌∙◌}
-use Rattle.codec.proofs.Numbers.{from_part}
+use native.Mathlib.Omega.{arith}
+use Rattle.codec.proofs.Numbers.{number_join}
 use Rattle.codec.proofs.read32.Goals as goal
 
 pub returns : goal.returns
-returns c = c.from_le_bytes.ensures ∙ from_part c.args.s.now c.args.at 3 c.requires c.array.ensures
+returns c = let a = c.args in omega (arith, number_join a.s.now a.at 2 2 (omega arith))

@@ -1,12 +1,9 @@
 -- `steps::jdn_check` meets its contract. Assumes nothing.
-use borrow.Author.Rules.{rules}
-use Rattle.session_check.specs.Stored.{inputs_of}
-use Rattle.jackdawnail.proofs.OverImage.{checked}
+use Rattle.session_image.proofs.Over.{wrong_check, over_check}
 use Rattle.jackdawnail.proofs.steps.jdn_check.Goals as goal
 
+pub returns-then-image-ne-IMAGE : goal.returns-then-image-ne-IMAGE
+returns-then-image-ne-IMAGE c = rw c.pack.ensures (wrong_check _ _ _ c.if-image-ne-IMAGE.true)
+
 pub returns : goal.returns
-returns c =
-    let a = c.args in
-    let o = c.over_image.ensures in
-    checked _ _ a.round (inputs_of a.sheet.now a.ballots.now a.claims.now a.head.now a.shares0.now a.shares1.now a.opening.now a.answers.now a.scratch.now) a.image.now o.wrong o.stepped
-    (λ p q r e m. rw (← e) (search rules))
+returns c = over_check _ _ _ c.if-image-ne-IMAGE.false c.load-session.ensures c.check-stepped.ensures c.keep.ensures

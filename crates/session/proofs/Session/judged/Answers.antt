@@ -4,12 +4,12 @@ use Rattle.session.specs.Steps.{accepted_by, refused_by}
 use Rattle.session.proofs.Session.judged.Goals as goal
 
 pub returns-in-Stopped : goal.returns-in-Stopped
-returns-in-Stopped c = rw c.in-Stopped.is (c.refused.ensures.1, c.refused.ensures.0)
+returns-in-Stopped c = (c.reply_of-reply.ensures, rw c.in-Stopped.is refl)
 
 pub returns-in-Failed : goal.returns-in-Failed
 unfolding refused_by
-returns-in-Failed c = rw c.in-Failed.is (refl, rw c.with_refusal.ensures refl)
+returns-in-Failed c = (c.reply_of-reply.ensures, rw c.in-Failed.is (rw c.with_refusal.ensures refl))
 
 pub returns-in-Passed : goal.returns-in-Passed
 unfolding accepted_by
-returns-in-Passed c = rw c.in-Passed.is (refl, rw c.with_acceptance.ensures refl)
+returns-in-Passed c = (c.reply_of-reply.ensures, rw c.in-Passed.is (rw c.with_acceptance.ensures refl))
